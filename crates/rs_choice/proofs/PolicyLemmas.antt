@@ -1,0 +1,61 @@
+-- Refusals by name, as an exchange keeps them, and the policy at two known peers.
+use Rattle.std.proofs.Common.{◌≡◌, ◌∙◌, sym, ap, arith, ℕ, ◌<◌, ◌==◌, Bool, false, not, ◌&&◌, ◌≢◌, List, [], length, map, get_or, Some, refl}
+use Rattle.std.specs.Prelude.{slice_get}
+use Rattle.std.specs.Option.{option_map}
+use Rattle.std.proofs.lemmas.Option.{slice_get-map, slice_get-get_or, get_or_from_slice_get, slice_get_read, slice_get_within}
+use Rattle.std.proofs.lemmas.List.{length-map}
+use Rattle.std.proofs.lemmas.Bool.Decides.{nat_tests}
+use Rattle.rs_update.specs.PathAttributes.{PathAttributes}
+use Rattle.rs_choice.specs.Plan.{Peer, Plan}
+use Rattle.rs_choice.specs.Refusal.{refuses, refusals_of, IsRefusal}
+use Rattle.rs_choice.specs.Policy.{is_permitted, is_permitted_from, permits_by_communities}
+
+-- the row of a client says of each peer whether the client refuses it
+pub row_of_client : {R : Type 0} (f : R → List Bool) (rows : List R) (peers : List Peer) (client : ℕ) (row : R) (one : Peer) →
+    map f rows ≡ refusals_of peers → slice_get peers client ≡ Some one → row ≡ get_or rows client row → f row ≡ map (refuses one) peers
+row_of_client f rows peers client row one agree at_one at_row =
+    let counts : length rows ≡ length peers = sym (length-map rows f) ∙ ap length agree ∙ length-map peers (λ one. map (refuses one) peers) in
+    let known = slice_get_within peers client one at_one in
+    let read = slice_get_read rows (length peers) client row (sym counts) known at_row in
+    let row_is : slice_get (map f rows) client ≡ Some (f row) = slice_get-map f rows client ∙ ap (option_map f) read in
+    let said_is : slice_get (refusals_of peers) client ≡ Some (map (refuses one) peers) =
+    slice_get-map (λ one. map (refuses one) peers) peers client ∙ ap (option_map (λ (one : Peer). map (refuses one) peers)) at_one in
+    let same : Some (f row) ≡ Some (map (refuses one) peers) = sym row_is ∙ ap (λ (all : List (List Bool)). slice_get all client) agree ∙ said_is in
+    cc
+
+abbrev nobody : Peer
+nobody = record { name = []; asn = 0; address = 0; id = 0; preference = 0; refuse_from = [] }
+
+-- such a row has a place for each peer
+pub length_of_row : {R : Type 0} (f : R → List Bool) (rows : List R) (peers : List Peer) (client : ℕ) (row : R) →
+    map f rows ≡ refusals_of peers → client < length peers → row ≡ get_or rows client row → length (f row) ≡ length peers
+length_of_row f rows peers client row agree known at_row =
+    let one = get_or peers client nobody in
+    let at_one = slice_get-get_or peers client nobody known in
+    ap length (row_of_client f rows peers client row one agree at_one at_row) ∙ length-map peers (refuses one)
+
+-- and at each place it has the answer
+pub answer_of_row : {R : Type 0} (f : R → List Bool) (rows : List R) (peers : List Peer) (client sender : ℕ) (row : R) (answer : Bool) →
+    map f rows ≡ refusals_of peers → row ≡ get_or rows client row → answer ≡ get_or (f row) sender answer → IsRefusal peers client sender answer
+answer_of_row f rows peers client sender row answer agree at_row at_answer one other at_one at_other =
+    let row_is = row_of_client f rows peers client row one agree at_one at_row in
+    let sender_known = slice_get_within peers sender other at_other in
+    let said : slice_get (map (refuses one) peers) sender ≡ Some (refuses one other) = slice_get-map (refuses one) peers sender ∙ ap (option_map (refuses one)) at_other in
+    at_answer ∙ ap (λ (row : List Bool). get_or row sender answer) row_is ∙ get_or_from_slice_get (map (refuses one) peers) sender (refuses one other) answer said
+
+-- the policy at two known peers
+pub is_permitted-known : (plan : Plan) (client number : ℕ) (attributes : PathAttributes) (one other : Peer) →
+    slice_get plan.peers client ≡ Some one → slice_get plan.peers number ≡ Some other →
+    is_permitted plan client number attributes ≡ (not (client == number) && is_permitted_from plan.local one other attributes)
+is_permitted-known plan client number attributes one other at_one at_other = rw (at_one, at_other) refl
+
+-- for another client that doesn't refuse the sender, the communities decide
+pub is_permitted-not-refused : (plan : Plan) (client number : ℕ) (attributes : PathAttributes) (one : Peer) (refused answer : Bool) →
+    slice_get plan.peers client ≡ Some one → number < length plan.peers → client ≢ number → IsRefusal plan.peers client number refused → refused ≡ false →
+    answer ≡ permits_by_communities plan.local.asn one.asn attributes.communities → answer ≡ is_permitted plan client number attributes
+is_permitted-not-refused plan client number attributes one refused answer at_one known differ refusal refuses_not at_answer =
+    let other = get_or plan.peers number nobody in
+    let at_other : slice_get plan.peers number ≡ Some other = slice_get-get_or plan.peers number nobody known in
+    let says : refuses one other ≡ false = sym (refusal one other at_one at_other) ∙ refuses_not in
+    let others : (client == number) ≡ false = grind (arith, nat_tests) in
+    at_answer ∙ sym (is_permitted-known plan client number attributes one other at_one at_other ∙ rw (others, says) refl)

@@ -1,0 +1,86 @@
+-- The decision process (RFC 4271, sections 9.1.1 and 9.1.2.2).
+use Rattle.std.specs.Prelude.{ℕ, ◌==◌, nat_lt, Bool, not, ◌&&◌, List, [], ◌∷◌, filter, Option, None, Some, slice_get, unwrap_or}
+use Rattle.std.specs.List.{list_any, enumerate_from}
+use Rattle.std.specs.Option.{option_map, option_map_or}
+use Rattle.rs_update.specs.declared.values.Origin.{Origin}
+use Rattle.rs_update.specs.declared.values.Origin.TheVariants.{Igp, Egp, Incomplete}
+use Rattle.rs_update.specs.PathAttributes.{PathAttributes}
+use Rattle.rs_update.specs.AsPath.{path_length_of, neighbour_of}
+use Rattle.rs_choice.specs.declared.candidate.Candidate.{Candidate}
+use Rattle.rs_choice.specs.declared.candidate.Standing.{Standing}
+use Rattle.rs_choice.specs.declared.step.Step.{Step}
+use Rattle.rs_choice.specs.declared.step.Step.TheVariants as steps
+use Rattle.rs_choice.specs.Plan.{Peer, Plan}
+
+-- the code of an origin (section 4.3)
+abbrev pub origin_code : Origin → ℕ
+origin_code Igp = 0
+origin_code Egp = 1
+origin_code Incomplete = 2
+
+-- at this step, one removes other
+abbrev pub beats : Step → Standing → Standing → Bool
+beats steps.Preference one other = nat_lt other.preference one.preference
+beats steps.PathLength one other = nat_lt one.path_length other.path_length
+beats steps.Origin one other = nat_lt (origin_code one.origin) (origin_code other.origin)
+beats steps.Med one other = one.neighbour == other.neighbour && nat_lt one.med other.med
+beats steps.Identifier one other = nat_lt one.id other.id
+beats steps.Address one other = nat_lt one.address other.address
+
+-- the steps in their order
+abbrev pub decision_steps : List Step
+decision_steps = steps.Preference ∷ steps.PathLength ∷ steps.Origin ∷ steps.Med ∷ steps.Identifier ∷ steps.Address ∷ []
+
+-- the members of a set that no member of that set beats at a step
+unfoldable pub unbeaten : {M : Type 0} → (M → Standing) → Step → List M → List M
+unbeaten standing step set = filter (λ one. not (list_any (λ other. beats step (standing other) (standing one)) set)) set
+
+-- what steps leave of a set, each looking at the whole set that the one before left
+unfoldable pub remaining : {M : Type 0} → (M → Standing) → List Step → List M → List M
+remaining standing [] set = set
+remaining standing (step ∷ later) set = remaining standing later (unbeaten standing step set)
+
+-- the first of a list
+abbrev pub first_member : {M : Type 0} → List M → Option M
+first_member [] = None
+first_member (first ∷ later) = Some first
+
+-- the choice among the members of a set: the first of those that all steps leave; none of an empty set
+unfoldable pub choice : {M : Type 0} → (M → Standing) → List M → Option M
+choice standing set = first_member (remaining standing decision_steps set)
+
+-- the place of the choice in a list of members: the least one where several are left
+unfoldable pub place_of_choice : {M : Type 0} → (M → Standing) → List M → Option ℕ
+place_of_choice standing members = option_map (λ (place, member). place) (choice (λ (place, member). standing member) (enumerate_from 0 members))
+
+-- the member at a place of a list, where there is a place
+abbrev pub member_at : {M : Type 0} → List M → Option ℕ → Option M
+member_at members None = None
+member_at members (Some place) = slice_get members place
+
+-- what the decision process asks of a route of a sender; a missing MED counts as 0 (section 9.1.2.2, c)
+abbrev pub standing_from : Peer → PathAttributes → Standing
+standing_from sender attributes = record {
+  preference = sender.preference;
+  path_length = path_length_of attributes.path;
+  origin = attributes.origin;
+  neighbour = neighbour_of attributes.path sender.asn;
+  med = unwrap_or attributes.med 0;
+  id = sender.id;
+  address = sender.address;
+}
+
+-- a route of a peer, by the peer's number
+pub record SentRoute : Type 0 where
+  pub peer : ℕ
+  pub attributes : PathAttributes
+
+-- where no peer has the number
+abbrev pub no_standing : Standing
+no_standing = record { preference = 0; path_length = 0; origin = Igp; neighbour = 0; med = 0; id = 0; address = 0 }
+
+abbrev pub standing_of : Plan → SentRoute → Standing
+standing_of plan route = option_map_or (λ sender. standing_from sender route.attributes) (slice_get plan.peers route.peer) no_standing
+
+abbrev pub sent_route_of : Candidate → SentRoute
+sent_route_of candidate = record { peer = candidate.peer; attributes = candidate.attributes.now }

@@ -1,0 +1,31 @@
+-- Eligible routes (RFC 4271, section 9.1.2; the second and third condition are our choice).
+use Rattle.std.specs.Prelude.{ℕ, ◌==◌, Bool, true, false, not, ◌&&◌, ◌||◌, Option, None, Some, slice_get}
+use Rattle.std.specs.Option.{option_map_or}
+use Rattle.rs_update.specs.IpPrefix.{IpPrefix}
+use Rattle.rs_update.specs.Prefix.{network_of}
+use Rattle.rs_update.specs.PathAttributes.{PathAttributes}
+use Rattle.rs_update.specs.AsPath.{holds_as_in}
+use Rattle.rs_choice.specs.declared.plan.Local.{Local}
+use Rattle.rs_choice.specs.Plan.{Peer, Plan}
+
+-- an address is inside a prefix where both have the same first bits, as many as count
+abbrev pub is_inside : IpPrefix → ℕ → Bool
+is_inside prefix address = (network_of address prefix.len).address == prefix.address
+
+-- an address is on the exchange where no subnet is configured, or where it is the sender's own or inside the subnet
+abbrev pub is_on_exchange : Option IpPrefix → ℕ → ℕ → Bool
+is_on_exchange None sender_address address = true
+is_on_exchange (Some subnet) sender_address address = address == sender_address || is_inside subnet address
+
+-- a route of a sender is eligible where the server's AS is in no segment of its AS_PATH, and its NEXT_HOP isn't the server's
+-- address, and its NEXT_HOP is on the exchange
+abbrev pub is_eligible_from : Local → Peer → PathAttributes → Bool
+is_eligible_from local sender attributes =
+    not (holds_as_in attributes.path local.asn)
+    && (not (attributes.next_hop == local.address)
+    && is_on_exchange local.subnet sender.address attributes.next_hop)
+
+-- the same by the sender's number; no route of an unknown peer is eligible
+abbrev pub is_eligible : Plan → ℕ → PathAttributes → Bool
+is_eligible plan number attributes =
+    option_map_or (λ sender. is_eligible_from plan.local sender attributes) (slice_get plan.peers number) false

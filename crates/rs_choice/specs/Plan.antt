@@ -1,0 +1,86 @@
+-- The plan of an exchange, and its first fault (our choice: RFC 4271 leaves configuration to the implementation).
+use Rattle.std.specs.Prelude.{ℕ, ◌==◌, nat_lt, nat_le, Bool, not, ◌&&◌, ◌||◌, if◌then◌else◌, List, [], ◌∷◌, ◌++◌, length, map, take, Option, None, Some, string_bytes}
+use Rattle.std.specs.List.{list_any, list_all, flat_map, enumerate_from}
+use Rattle.std.specs.Char.{is_ascii_alphanumeric}
+use Rattle.std.specs.Str.{bytes_eq}
+use Rattle.rs_choice.specs.declared.plan.Local.{Local}
+use Rattle.rs_choice.specs.declared.plan.PeerSpec.{PeerSpec}
+use Rattle.rs_choice.specs.declared.plan.TheConstants.{MAX_PEERS, MAX_NAME_LEN, HYPHEN, UNDERSCORE}
+use Rattle.rs_choice.specs.declared.fault.PlanFault.{PlanFault}
+use Rattle.rs_choice.specs.declared.fault.PlanFault.TheVariants.{NoPeer, TooManyPeers, InvalidName, RepeatedName, RepeatedAddress, ZeroAs, UnknownName}
+
+-- a peer by its values: names are their octets
+pub record Peer : Type 0 where
+  pub name : List ℕ
+  pub asn : ℕ
+  pub address : ℕ
+  pub id : ℕ
+  pub preference : ℕ
+  pub refuse_from : List (List ℕ)
+
+-- the server and its peers, numbered from 0 in their order
+pub record Plan : Type 0 where
+  pub local : Local
+  pub peers : List Peer
+
+abbrev pub peer_of : PeerSpec → Peer
+peer_of spec = record {
+  name = string_bytes spec.name;
+  asn = spec.asn;
+  address = spec.address;
+  id = spec.id;
+  preference = spec.preference;
+  refuse_from = map (λ name. string_bytes name) spec.refuse_from.items;
+}
+
+-- a letter, a digit or one of two marks
+abbrev pub is_name_octet : ℕ → Bool
+is_name_octet octet = is_ascii_alphanumeric octet || (octet == HYPHEN || octet == UNDERSCORE)
+
+-- a name is not empty, not long, and of such octets alone
+abbrev pub is_name : List ℕ → Bool
+is_name name = nat_lt 0 (length name) && (nat_le (length name) MAX_NAME_LEN && list_all is_name_octet name)
+
+abbrev pub has_name : List Peer → List ℕ → Bool
+has_name peers name = list_any (λ peer. bytes_eq peer.name name) peers
+
+abbrev pub has_address : List Peer → ℕ → Bool
+has_address peers address = list_any (λ peer. peer.address == address) peers
+
+-- a test, and the fault of a plan where it is true
+abbrev pub Test : Type 0
+Test = Bool × PlanFault
+
+-- the tests of the whole plan
+abbrev pub whole_tests : Local → List Peer → List Test
+whole_tests local peers =
+    (length peers == 0, NoPeer)
+    ∷ (nat_lt MAX_PEERS (length peers), TooManyPeers)
+    ∷ (local.asn == 0, ZeroAs None) ∷ []
+
+-- the tests of one peer by itself and beside the peers before it
+abbrev pub peer_tests : List Peer → ℕ → Peer → List Test
+peer_tests earlier number peer =
+    (not (is_name peer.name), InvalidName number)
+    ∷ (has_name earlier peer.name, RepeatedName number)
+    ∷ (has_address earlier peer.address, RepeatedAddress number)
+    ∷ (peer.asn == 0, ZeroAs (Some number)) ∷ []
+
+-- the test of the names that a peer refuses routes from: each is the name of some peer
+abbrev pub name_tests : List Peer → ℕ → Peer → List Test
+name_tests peers number peer = (not (list_all (λ name. has_name peers name) peer.refuse_from), UnknownName number) ∷ []
+
+-- all tests of a plan in their order: of the whole, then of peer by peer, then of the names that peer by peer refuses
+abbrev pub plan_tests : Local → List Peer → List Test
+plan_tests local peers =
+    (whole_tests local peers
+    ++ flat_map (λ (number, peer). peer_tests (take number peers) number peer) (enumerate_from 0 peers))
+    ++ flat_map (λ (number, peer). name_tests peers number peer) (enumerate_from 0 peers)
+
+-- the fault of the first test that is true, or none
+abbrev pub first_fault : List Test → Option PlanFault
+first_fault [] = None
+first_fault ((fails, fault) ∷ later) = if fails then Some fault else first_fault later
+
+abbrev pub plan_fault : Local → List Peer → Option PlanFault
+plan_fault local peers = first_fault (plan_tests local peers)

@@ -1,0 +1,31 @@
+//! A candidate of the decision process, and what the process asks of it (RFC 4271, sections 9.1.1 and 9.1.2.2).
+
+use rs_update::{Attributes, Origin};
+
+/// A route that a client may get: the number of the peer that sent it, and its attributes.
+#[derive(Clone, Copy)]
+pub struct Candidate<'a> {
+    /// The number of the sending peer.
+    pub peer: usize,
+    /// The route's attributes.
+    pub attributes: &'a Attributes,
+}
+
+/// What the decision process asks of a candidate.
+#[derive(Clone, Copy, Debug, PartialEq, Eq)]
+pub(crate) struct Standing {
+    // The configured preference of the sending peer: more is better.
+    pub(crate) preference: u32,
+    // AS numbers in AS_PATH, an AS_SET counting 1.
+    pub(crate) path_length: u32,
+    // ORIGIN: lower is better.
+    pub(crate) origin: Origin,
+    // The neighbour AS.
+    pub(crate) neighbour: u32,
+    // MULTI_EXIT_DISC, 0 where it is missing.
+    pub(crate) med: u32,
+    // The BGP Identifier of the sending peer.
+    pub(crate) id: u32,
+    // The address of the sending peer.
+    pub(crate) address: u32,
+}

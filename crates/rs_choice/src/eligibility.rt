@@ -1,0 +1,45 @@
+//! Which routes may be candidates at all (RFC 4271, section 9.1.2).
+//!
+//! A route that isn't eligible still takes the place of the peer's earlier route (our choice).
+
+ghost use Rattle.std.specs.Prelude.{◌≡◌, ◌<◌, length};
+ghost use Rattle.rs_choice.specs.Eligibility.{is_eligible, is_inside, is_on_exchange};
+
+use crate::exchange::Exchange;
+use rs_update::{Attributes, Prefix};
+
+impl Exchange {
+    /// Whether a route of the peer of number `peer` is eligible: the server's AS isn't in its AS_PATH (RFC 4271, section 9.1.2), and
+    /// its NEXT_HOP isn't the server's address, and, where a subnet is configured, its NEXT_HOP is the peer's address or inside
+    /// the subnet (section 5.1.3). It takes no memory.
+    pub fn eligible(&self, peer: usize, attributes: &Attributes) -> bool
+        requires { peer < length self.now.peers }
+        ensures { result ≡ is_eligible self.now peer attributes.now }
+    {
+        let local = self.local();
+        let next_hop = attributes.next_hop();
+        !attributes.holds_as(local.asn)
+            && next_hop != local.address
+            && on_exchange(local.subnet, self.peer(peer).address, next_hop)
+    }
+}
+
+// Whether an address is on the exchange: the sender's own or inside the subnet, where one is configured.
+fn on_exchange(subnet: Option<Prefix>, sender_address: u32, address: u32) -> bool
+    ensures { result ≡ is_on_exchange subnet sender_address address }
+{
+    match subnet {
+        None => true,
+        Some(subnet) => address == sender_address || inside(&subnet, address),
+    }
+}
+
+// Whether an address is inside a prefix.
+fn inside(prefix: &Prefix, address: u32) -> bool
+    ensures { result ≡ is_inside prefix.now address }
+{
+    match Prefix::new(address, prefix.len()) {
+        Some(network) => network.address() == prefix.address(),
+        None => false,
+    }
+}

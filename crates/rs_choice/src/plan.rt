@@ -1,0 +1,44 @@
+//! The plan of an exchange: the server and its peers, as they are configured.
+
+use rs_update::Prefix;
+
+/// The most peers that a plan may have.
+pub const MAX_PEERS: usize = 256;
+
+/// The most octets that a peer's name may have.
+pub const MAX_NAME_LEN: usize = 64;
+
+// The two marks that a peer's name may hold beside letters and digits.
+pub(crate) const HYPHEN: u8 = b'-';
+
+pub(crate) const UNDERSCORE: u8 = b'_';
+
+/// The route server itself. Addresses and identifiers are IPv4 addresses in host order.
+#[derive(Clone, Copy, Debug, PartialEq, Eq)]
+pub struct Local {
+    /// Its AS number.
+    pub asn: u32,
+    /// Its address on the exchange.
+    pub address: u32,
+    /// Its BGP Identifier (RFC 4271, section 4.2).
+    pub id: u32,
+    /// The subnet of the exchange, in which a NEXT_HOP must lie, where one is configured.
+    pub subnet: Option<Prefix>,
+}
+
+/// A peer: a neighbour that sends routes, and a client with a table of its own. Peers are numbered from 0 in their order.
+#[derive(Debug, Drop)]
+pub struct PeerSpec {
+    /// Its name: 1 to 64 ASCII letters, digits, `-` and `_`.
+    pub name: String,
+    /// Its AS number.
+    pub asn: u32,
+    /// Its address on the exchange, in host order.
+    pub address: u32,
+    /// Its BGP Identifier, an IPv4 address in host order. Several peers may have the same one.
+    pub id: u32,
+    /// How much its routes are preferred: more is better (RFC 4271, section 9.1.1).
+    pub preference: u32,
+    /// The names of the peers whose routes it refuses. Its own name and repeated names have no effect.
+    pub refuse_from: Vec<String>,
+}

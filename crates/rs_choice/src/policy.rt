@@ -1,0 +1,35 @@
+//! Export policy: which routes a client may get (RFC 7947, section 2.3). The five cases are our choice.
+
+ghost use Rattle.std.specs.Prelude.{◌≡◌, ◌<◌, length};
+ghost use Rattle.rs_choice.specs.Policy.{is_permitted, permits_by_communities};
+
+use crate::exchange::Exchange;
+use rs_update::Attributes;
+
+impl Exchange {
+    /// Whether the peer of number `client` may get a route of the peer of number `peer`; no client gets a route of its own. The
+    /// first case that holds decides: the client refuses all routes of that peer; the community (0, client's AS) refuses;
+    /// (server's AS, client's AS) permits; (0, server's AS) refuses; else the route is permitted. It takes no memory.
+    pub fn permits(&self, client: usize, peer: usize, attributes: &Attributes) -> bool
+        requires client_known { client < length self.now.peers }
+        requires peer_known { peer < length self.now.peers }
+        ensures { result ≡ is_permitted self.now client peer attributes.now }
+    {
+        client != peer
+            && !self.refuses(client, peer)
+            && permitted_by_communities(self.local().asn, self.peer(client).asn, attributes)
+    }
+}
+
+// Whether the communities of a route permit it to a client.
+fn permitted_by_communities(local_asn: u32, client_asn: u32, attributes: &Attributes) -> bool
+    ensures { result ≡ permits_by_communities local_asn client_asn attributes.now.communities }
+{
+    if attributes.has_community(0, client_asn) {
+        false
+    } else if attributes.has_community(local_asn, client_asn) {
+        true
+    } else {
+        !attributes.has_community(0, local_asn)
+    }
+}
