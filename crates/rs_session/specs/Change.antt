@@ -1,0 +1,34 @@
+-- The changes of a peer's routes, without where they lie in memory (RFC 4271, sections 3.1 and 4.3).
+use Rattle.std.specs.Prelude.{◌≡◌, ℕ, List, [], ◌∷◌, Option, Some, None}
+use Rattle.rs_update.specs.IpPrefix.{IpPrefix}
+use Rattle.rs_update.specs.PathAttributes.{PathAttributes}
+use Rattle.rs_session.specs.declared.word.Body.{Body}
+use Rattle.rs_session.specs.declared.word.Body.TheVariants.{Announce, Withdraw, Close}
+use Rattle.rs_session.specs.declared.word.Reason.{Reason}
+use Rattle.rs_session.specs.declared.word.Word.{Word}
+
+-- what changed: a prefix has these attributes, it has none, or the session ended
+pub data ChangeBody : Type 0 where
+  Announced : IpPrefix → PathAttributes → ChangeBody
+  Withdrawn : IpPrefix → ChangeBody
+  Closed : Reason → ChangeBody
+
+-- a change and its time, in seconds since 1970
+pub record Change : Type 0 where
+  pub time : ℕ
+  pub body : ChangeBody
+
+-- what a program's value says changed: of attributes in shared memory, their value
+abbrev pub body_of : Body → ChangeBody
+body_of (Announce prefix attributes) = Announced prefix attributes.value
+body_of (Withdraw prefix) = Withdrawn prefix
+body_of (Close reason) = Closed reason
+
+-- the change that a program's value is
+abbrev pub change_of : Word → Change
+change_of word = record { time = word.time; body = body_of word.body }
+
+-- of the changes to come, the first one is given and the others are left; none is given only where none was to come
+abbrev pub GivesFirst : List Change → Option Word → List Change → Type 0
+GivesFirst before (Some word) after = before ≡ change_of word ∷ after
+GivesFirst before None after = (before ≡ []) × (after ≡ [])

@@ -1,0 +1,41 @@
+-- The changes that one UPDATE says (RFC 4271, sections 3.1 and 4.3).
+use Rattle.std.specs.Prelude.{ℕ, Bool, not, ◌&&◌, ◌==◌, List, [], ◌++◌, Option, Some, None, map, filter}
+use Rattle.std.specs.List.{list_any}
+use Rattle.rs_update.specs.IpPrefix.{IpPrefix}
+use Rattle.rs_update.specs.Message.{UpdateContent}
+use Rattle.rs_update.specs.PathAttributes.{PathAttributes}
+use Rattle.rs_update.specs.Prefix.{is_multicast}
+use Rattle.rs_session.specs.Change.{Change, Announced, Withdrawn}
+
+-- whether two prefixes are the same
+abbrev pub is_prefix : IpPrefix → IpPrefix → Bool
+is_prefix one other = (one.address == other.address) && (one.len == other.len)
+
+-- whether a prefix stands in a list
+abbrev pub is_listed : List IpPrefix → IpPrefix → Bool
+is_listed prefixes prefix = list_any (λ other. is_prefix other prefix) prefixes
+
+-- the prefixes that routes can have: multicast prefixes give no change (our choice)
+abbrev pub unicast : List IpPrefix → List IpPrefix
+unicast prefixes = filter (λ prefix. not (is_multicast prefix)) prefixes
+
+-- the prefixes that an UPDATE withdraws: those in its Withdrawn Routes field that it doesn't announce too (section 4.3)
+abbrev pub withdrawn_only : List IpPrefix → List IpPrefix → List IpPrefix
+withdrawn_only withdrawn nlri = filter (λ prefix. not (is_multicast prefix) && not (is_listed nlri prefix)) withdrawn
+
+abbrev pub withdraws : ℕ → IpPrefix → Change
+withdraws time prefix = record { time = time; body = Withdrawn prefix }
+
+abbrev pub announces : ℕ → PathAttributes → IpPrefix → Change
+announces time attributes prefix = record { time = time; body = Announced prefix attributes }
+
+-- the routes that it announces, with the attributes that all of them have
+abbrev pub announcements : ℕ → Option PathAttributes → List IpPrefix → List Change
+announcements time None prefixes = []
+announcements time (Some attributes) prefixes = map (announces time attributes) prefixes
+
+-- the changes of an UPDATE, each with the time of its record: first what it withdraws, then what it announces (our choice), in order
+abbrev pub changes_of_update : ℕ → UpdateContent → List Change
+changes_of_update time update =
+    map (withdraws time) (withdrawn_only update.withdrawn update.nlri)
+    ++ announcements time update.attributes (unicast update.nlri)

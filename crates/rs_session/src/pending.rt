@@ -1,0 +1,108 @@
+//! The changes of one UPDATE, given one after another (RFC 4271, sections 3.1 and 4.3).
+//!
+//! Our choices: first what is withdrawn, then what is announced; a multicast prefix gives no change.
+
+ghost use Rattle.std.specs.Prelude.{◌≡◌, [], IfOk, OnErr};
+ghost use Rattle.std.specs.Option.{option_map};
+ghost use Rattle.rs_update.specs.Message.{update_content_of};
+ghost use Rattle.rs_session.specs.Change.{GivesFirst};
+ghost use Rattle.rs_session.specs.UpdateChanges.{changes_of_update};
+
+use crate::withdrawn::{keep_unicast, keep_withdrawn_only};
+use crate::word::{Body, Word};
+use rs_update::{Attributes, Prefix, Update};
+use std::alloc::{AllocError, Global};
+use std::marker::Model;
+use std::sync::Arc;
+use std::vec::IntoIter;
+
+// The changes of an UPDATE that haven't been given yet.
+#[derive(Drop)]
+pub(crate) struct Pending {
+    time: u32,
+    withdrawn: IntoIter<Prefix>,
+    announced: IntoIter<Prefix>,
+    attributes: Option<Arc<Attributes>>,
+}
+
+impl Model for Pending {
+    ghost use Rattle.std.specs.Prelude.{List};
+    ghost use Rattle.rs_session.specs.Change.{Change};
+
+    ghost Value = { List Change };
+
+    ghost use Rattle.rs_session.specs.PendingView.{pending_changes};
+
+    ghost view = { pending_changes };
+}
+
+impl Pending {
+    // No changes.
+    pub(crate) fn none(alloc: Global) -> Pending
+        ensures { result ≡ [] }
+    {
+        Pending {
+            time: 0,
+            withdrawn: Vec::new(alloc).into_iter(),
+            announced: Vec::new(alloc).into_iter(),
+            attributes: None,
+        }
+    }
+
+    // The changes of an UPDATE, with the time of its record.
+    pub(crate) fn of_update(alloc: Global, time: u32, update: Update) -> Result<Pending, AllocError>
+        ensures { IfOk result (λ changes. changes ≡ changes_of_update time (update_content_of update)) }
+    {
+        let mut withdrawn = update.withdrawn;
+        let mut announced = update.nlri;
+        let attributes = share(alloc, update.attributes)?;
+        keep_withdrawn_only(alloc, &mut withdrawn, &announced)?;
+        keep_unicast(&mut announced);
+        Ok(Pending {
+            time,
+            withdrawn: withdrawn.into_iter(),
+            announced: announced.into_iter(),
+            attributes,
+        })
+    }
+
+    // The next change. Refused, nothing is given, and the changes are as before.
+    pub(crate) fn next(&mut self) -> Result<Option<Word>, AllocError>
+        ensures ok { IfOk result (λ given. GivesFirst self.old given self.new) }
+        ensures err { OnErr result (self.new ≡ self.old) }
+    {
+        if let Some(prefix) = self.withdrawn.next() {
+            return Ok(Some(Word {
+                time: self.time,
+                body: Body::Withdraw(prefix),
+            }));
+        }
+        let Some(attributes) = &self.attributes else {
+            return Ok(None);
+        };
+        if self.announced.len() == 0 {
+            return Ok(None);
+        }
+        let shared = attributes.clone()?;
+        let time = self.time;
+        Ok(
+            self.announced.next().map(|prefix| Word {
+                time,
+                body: Body::Announce(prefix, shared),
+            }),
+        )
+    }
+}
+
+// Puts the attributes where all announcements of an UPDATE can share them.
+fn share(
+    alloc: Global,
+    attributes: Option<Attributes>,
+) -> Result<Option<Arc<Attributes>>, AllocError>
+    ensures { IfOk result (λ shared. option_map (λ a. a.value) shared ≡ attributes) }
+{
+    match attributes {
+        None => Ok(None),
+        Some(attributes) => Ok(Some(Arc::new(alloc, attributes)?)),
+    }
+}
