@@ -1,0 +1,5 @@
+pub use Rattle.byteorder.specs.Endian
+pub mod Fault
+pub mod Record
+pub mod Source
+pub mod Stream

@@ -1,0 +1,16 @@
+-- What a writer has taken, and when a call on it has failed. Nothing here is of a standard: all of it is our choice.
+use Rattle.std.specs.Prelude.{◌≤◌, ℕ, zero, suc, List, [], ◌∷◌, length, take, Option, Result, Ok, Err}
+use Rattle.std.specs.Io.KnownBytes.{Appends}
+use Rattle.rs_mrt.specs.declared.stream.Failed.{Failed}
+
+-- How many calls failed in a call to write the piece: one where it answers an error, and where it takes nothing of a
+-- piece that isn't empty.
+abbrev pub failed_calls : Result ℕ Failed → List ℕ → ℕ
+failed_calls (Err failed) piece = 1
+failed_calls (Ok zero) (octet ∷ octets) = 1
+failed_calls (Ok zero) [] = 0
+failed_calls (Ok (suc n)) piece = 0
+
+-- Known octets grew by a beginning of the piece.
+abbrev pub AppendsBeginning : Option (List ℕ) → Option (List ℕ) → List ℕ → Type 0
+AppendsBeginning old new piece = (n : ℕ) × (n ≤ length piece) × Appends old new (take n piece)

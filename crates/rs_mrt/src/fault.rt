@@ -1,0 +1,67 @@
+//! What can be wrong with recorded octets, and with a source of records.
+
+ghost use Rattle.std.specs.Prelude.{◌≡◌};
+ghost use Rattle.rs_mrt.specs.Fault.{number_of};
+
+use std::error::Error;
+use std::fmt;
+
+/// What is wrong with the octets of a file or of a record.
+#[derive(Clone, Copy, Debug, PartialEq, Eq, Drop)]
+pub enum MrtFault {
+    /// The file ends in the header of a record: 1 to 11 octets are left (RFC 6396, section 2).
+    HeaderCutShort,
+    /// The file ends in the body of a record: fewer octets than its Length are left (RFC 6396, section 2).
+    BodyCutShort,
+    /// The body of a BGP4MP record is shorter than its fields (RFC 6396, sections 4.4.2 and 4.4.3).
+    FieldsCutShort,
+    /// The body of a BGP4MP_ET record is shorter than its Microsecond Timestamp (RFC 6396, section 3).
+    MicrosecondsCutShort,
+}
+
+impl MrtFault {
+    /// Gives the fault's number, 1 to 4, in the order in which the faults stand above (our choice).
+    pub fn number(&self) -> u8
+        ensures { result ≡ number_of self.now }
+    {
+        match self {
+            MrtFault::HeaderCutShort => 1,
+            MrtFault::BodyCutShort => 2,
+            MrtFault::FieldsCutShort => 3,
+            MrtFault::MicrosecondsCutShort => 4,
+        }
+    }
+}
+
+impl fmt::Display for MrtFault {
+    fn fmt<W: fmt::Write>(&self, f: &mut fmt::Formatter<W>) -> fmt::Result {
+        f.write_str(match self {
+            MrtFault::HeaderCutShort => "the file ends in the header of a record",
+            MrtFault::BodyCutShort => "the file ends in the body of a record",
+            MrtFault::FieldsCutShort => "a BGP4MP record is shorter than its fields",
+            MrtFault::MicrosecondsCutShort => "a BGP4MP_ET record is shorter than its microseconds",
+        })
+    }
+}
+
+impl Error for MrtFault {}
+
+/// Why a source stopped before the end of its records.
+#[derive(Clone, Copy, Debug, PartialEq, Eq, Drop)]
+pub enum SourceFault {
+    /// The octets that it read are at fault.
+    Mrt(MrtFault),
+    /// A read failed, or the source takes no more octets.
+    Read,
+}
+
+impl fmt::Display for SourceFault {
+    fn fmt<W: fmt::Write>(&self, f: &mut fmt::Formatter<W>) -> fmt::Result {
+        match self {
+            SourceFault::Mrt(fault) => write!(f, "{fault}"),
+            SourceFault::Read => f.write_str("records could not be read"),
+        }
+    }
+}
+
+impl Error for SourceFault {}
