@@ -3,7 +3,7 @@
 //! Our choice: a file is the longest list of whole records at its front, and a rest. The rest is empty at the end of
 //! the file; else the header or the body of a record is cut short there.
 
-ghost use Rattle.std.specs.Prelude.{◌≡◌, ◌+◌, ◌≤◌, List, length, None, refl};
+ghost use Rattle.std.specs.Prelude.{◌≡◌, ◌+◌, ◌≤◌, List, length, None, refl, ◌^◌, ◌<◌};
 ghost use Rattle.rs_mrt.specs.Source.{IsLeft, stopped_at};
 ghost use Rattle.rs_mrt.specs.Record.{reading_of, next_of, after_next, record_of, octets_of, seen, taken_from};
 
@@ -67,6 +67,7 @@ impl<'a> Records<'a> {
         ensures answer { seen record_of result ≡ next_of self.old.left self.old.end }
         ensures left { self.new ≡ after_next self.old.left self.old }
         ensures room { self.new.octets + octets_of self.new.shown ≤ self.old.octets }
+        ensures bound { self.old.octets < 2 ^ 64 }
     {
         self.shown = None;
         let Some((record, left)) = take_record(self.left)? else {
@@ -80,7 +81,8 @@ impl<'a> Records<'a> {
 
 // The record at the front and the octets after it; none where no octets are left.
 fn take_record(octets: &[u8]) -> Result<Option<(Record<'_>, &[u8])>, MrtFault>
-    ensures { seen (λ f. (record_of f.0, f.1.now)) result ≡ taken_from octets.now }
+    ensures value { seen (λ f. (record_of f.0, f.1.now)) result ≡ taken_from octets.now }
+    ensures bound { length octets.now < 2 ^ 64 }
 {
     if octets.is_empty() {
         return Ok(None);

@@ -1,6 +1,6 @@
 //! A source of records: whatever gives MRT records one after another.
 
-ghost use Rattle.std.specs.Prelude.{◌≡◌, ◌+◌, ◌≤◌, ℕ, Bool, List, Option, Result};
+ghost use Rattle.std.specs.Prelude.{◌≡◌, ◌+◌, ◌^◌, ◌<◌, ◌≤◌, ℕ, Bool, List, Option, Result};
 ghost use Rattle.std.specs.Option.{option_map};
 ghost use Rattle.rs_mrt.specs.declared.fault.MrtFault.{MrtFault};
 ghost use Rattle.rs_mrt.specs.declared.fault.SourceFault.{SourceFault};
@@ -27,15 +27,16 @@ pub trait Source {
     // It has taken as many octets as it ever takes.
     ghost full: { Self → Type 0 };
 
-    // At least as many octets as spell the records that it will still show.
+    // At least as many octets as spell the records that it will still show, fewer than 2 to the 64th.
     ghost room: { Self → ℕ };
 
     /// Goes to the next record and answers whether there is one. At the end it answers `false` from then on, after a
     /// fault that fault.
     fn advance(&mut self) -> Result<bool, SourceFault>
         ensures records { Advances comes self.old self.new (shows self.new) result }
+        ensures bound { room self.old < 2 ^ 64 }
         ensures room { room self.new + octets_of (shows self.new) ≤ room self.old }
-        ensures failures { CountsFailure (failures self.old) (failures self.new) (full self.old) (stopped self.old) result }
+        ensures failures { CountsFailure (failures self.old) (failures self.new) (full self.new) (stopped self.old) result }
         ensures stays { Stays (stopped self.old) (failures self.old) (failures self.new) result }
         ensures stops { Stops (stopped self.new) result };
 
