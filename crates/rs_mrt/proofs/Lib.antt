@@ -1,2 +1,4 @@
 pub mod RecordLemmas
 pub mod StreamLemmas
+pub mod SplitLemmas
+pub mod EntryLemmas

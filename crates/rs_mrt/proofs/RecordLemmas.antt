@@ -1,6 +1,6 @@
 -- What the records of a file are, one record at a time.
-use Rattle.std.proofs.Common.{◌≡◌, ℕ, zero, suc, ◌+◌, ◌-◌, ◌<◌, ◌≤◌, Bool, true, false, ◌&&◌, cond, List, [], ◌∷◌, length, take, drop, Option, Some, None, Result, Ok, Err, refl, ap, subst, sym, ◌∙◌, arith, inl, inr}
-use Rattle.std.specs.Prelude.{nat_le, nat_lt, slice_index}
+use Rattle.std.proofs.Common.{◌≡◌, ℕ, zero, suc, ◌+◌, ◌-◌, ◌≤◌, true, false, List, [], ◌∷◌, length, drop, Option, Some, None, Result, Ok, Err, refl, ap, subst, sym, ◌∙◌, arith, inl, inr}
+use Rattle.std.specs.Prelude.{nat_le}
 use Rattle.std.proofs.lemmas.Bool.{and_parts, leb-true, cases_Bool, cond-true, cond-false}
 use Rattle.std.proofs.lemmas.List.{length-drop, length-take}
 use Rattle.rs_mrt.specs.declared.fault.MrtFault.{MrtFault}
@@ -22,7 +22,7 @@ length-after_record octets h =
     omega (arith, length-drop (length_field octets) (drop 12 octets), length-drop 12 octets, length-take (length_field octets) (drop 12 octets))
 
 -- a record takes 12 octets at least
-after_record-shorter : (octets : List ℕ) → has_record octets ≡ true → length (after_record octets) + 12 ≤ length octets
+pub after_record-shorter : (octets : List ℕ) → has_record octets ≡ true → length (after_record octets) + 12 ≤ length octets
 after_record-shorter octets h =
     let long = has_record-long octets h in
     omega (arith, length-drop (length_field octets) (drop 12 octets), length-drop 12 octets)

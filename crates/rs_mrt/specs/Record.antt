@@ -100,6 +100,14 @@ abbrev pub fault_of_rest : List ℕ → Option MrtFault
 fault_of_rest [] = None
 fault_of_rest (octet ∷ octets) = if nat_lt (length (octet ∷ octets)) HEADER_LEN then Some HeaderCutShort else Some BodyCutShort
 
+-- the computed split is one
+abbrev pub SplitIsFound : Type 0
+SplitIsFound = (file : List ℕ) → AreOctets file → Splits file (records_of file) (rest_of file)
+
+-- and there is no other
+abbrev pub SplitIsTheOnlyOne : Type 0
+SplitIsTheOnlyOne = (records : List MrtRecord) (file rest : List ℕ) → AreOctets file → Splits file records rest → (records ≡ records_of file) × (rest ≡ rest_of file)
+
 -- how the records of a file end
 abbrev pub end_of : List ℕ → Option MrtFault
 end_of file = fault_of_rest (rest_of file)

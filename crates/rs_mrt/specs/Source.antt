@@ -1,10 +1,10 @@
 -- What a source of records may give. Our choice: a relation, so that it also has a meaning where the octets to come
 -- aren't known, as those of a reader.
-use Rattle.std.specs.Prelude.{◌≡◌, ◌⊎◌, ℕ, ◌+◌, ◌≤◌, Bool, true, false, List, [], ◌∷◌, Option, Some, None, Result, Ok, Err}
+use Rattle.std.specs.Prelude.{◌≡◌, ◌⊎◌, ℕ, ◌+◌, Bool, true, false, List, [], ◌∷◌, Option, Some, None, Result, Ok, Err}
 use Rattle.rs_mrt.specs.declared.fault.MrtFault.{MrtFault}
 use Rattle.rs_mrt.specs.declared.fault.SourceFault.{SourceFault}
 use Rattle.rs_mrt.specs.declared.fault.SourceFault.TheVariants.{Mrt, Read}
-use Rattle.rs_mrt.specs.Record.{MrtRecord, octets_of, Reading}
+use Rattle.rs_mrt.specs.Record.{MrtRecord, Reading}
 
 -- What this answer to `advance` says of the records that may come, where `shown` is the record that is shown after it:
 -- whatever may come afterwards may come before with the record in front; at the end, and at a fault, no record may be all.

@@ -5,12 +5,22 @@
 //! Standards: RFC 6396, sections 2, 3, 4.4.2, 4.4.3 (BGP4MP with AS numbers of four octets) and 4.5 (BGP4MP_ET).
 #![tactic(auto)]
 
+mod bgp4mp;
 mod fault;
+mod laws;
+mod meaning;
+mod memory;
 mod record;
 mod source;
+mod spelling;
 mod stream;
 
+pub use bgp4mp::{AFI_IPV4, BGP4MP, BGP4MP_ET, FRONT_LEN, MESSAGE_AS4, STATE_CHANGE_AS4, entry};
 pub use fault::{MrtFault, SourceFault};
-pub use record::{Record, Records};
+pub use laws::{file_splits_in_one_way, front_of_a_record_says_the_same};
+pub use meaning::Entry;
+pub use memory::{Limits, MemoryWriter};
+pub use record::{HEADER_LEN, Record, Records};
 pub use source::Source;
+pub use spelling::write_header;
 pub use stream::{Failed, IoWriter, Write, write_all};

@@ -16,11 +16,11 @@ use std::marker::Model;
 pub const HEADER_LEN: usize = 12;
 
 // Where the fields of the header begin.
-const KIND_AT: usize = 4;
+pub(crate) const KIND_AT: usize = 4;
 
-const SUBTYPE_AT: usize = 6;
+pub(crate) const SUBTYPE_AT: usize = 6;
 
-const LENGTH_AT: usize = 8;
+pub(crate) const LENGTH_AT: usize = 8;
 
 /// A record, whose body stands in the octets that it was read from.
 #[derive(Clone, Copy, Debug, Drop)]

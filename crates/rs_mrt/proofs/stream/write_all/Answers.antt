@@ -1,4 +1,4 @@
-use Rattle.std.proofs.Common.{◌+◌, ◌∙◌, ap, arith}
+use Rattle.std.proofs.Common.{arith}
 use Rattle.rs_mrt.proofs.StreamLemmas.{Written-more, Written-stopped, Keeps-from_nothing, took_some}
 use Rattle.rs_mrt.proofs.stream.write_all.Goals as goal
 
