@@ -1,0 +1,4 @@
+pub mod LeftLemmas
+pub mod PrefixLemmas
+pub mod RibLemmas
+pub mod TableLemmas

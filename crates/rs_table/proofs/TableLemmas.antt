@@ -1,0 +1,159 @@
+-- A client's table: it is the one that is computed.
+use Rattle.std.proofs.Common.{◌≡◌, ℕ, Bool, true, false, T, ◌&&◌, List, [], ◌∷◌, ◌++◌, ◌+◌, map, Option, Some, None, refl, sym, ap, subst, ◌∙◌, inl, inr}
+use Rattle.std.specs.List.{filter_map, cons_option, list_any, flat_map, enumerate_from, AllByRecursion}
+use Rattle.std.specs.List.Sorted.{IsStrictlySortedBy}
+use Rattle.std.specs.Option.{option_map, is_some}
+use Rattle.std.specs.Ordering.{is_lt, eq_by_cmp}
+use Rattle.std.specs.FinMap as fin
+use Rattle.std.specs.FinMap.Entries.{same_entries, below_all}
+use Rattle.std.specs.declared.cmp.Ordering.{Ordering}
+use Rattle.std.specs.declared.cmp.Ordering.TheVariants.{Less, Equal, Greater}
+use Rattle.std.proofs.lemmas.Bool.{cases_Bool}
+use Rattle.rs_update.specs.IpPrefix.{IpPrefix}
+use Rattle.rs_session.specs.PrefixOrder.{prefix_cmp}
+use Rattle.rs_choice.specs.Plan.{Plan}
+use Rattle.rs_choice.specs.Decision.{SentRoute, standing_of, choice, remaining, unbeaten}
+use Rattle.rs_table.specs.Left.{same_prefix, RouteLeft}
+use Rattle.rs_table.specs.Content.{RibContent, TablesContent}
+use Rattle.rs_table.specs.Table.{PeerRoute, peer_route, sent_route, TableRow, IsTable, entry_of_row, best_of, prefixes_held, table_of}
+use Rattle.rs_table.proofs.PrefixLemmas.{prefix_total, prefix_cmp-IsAntisymmetric, find-entries}
+
+-- ---- ascending lists, by the test and by the fact
+
+abbrev Below : IpPrefix → List IpPrefix → Type 0
+Below prefix prefixes = AllByRecursion (λ other. prefix_cmp prefix other ≡ Less) prefixes
+
+less : (order : Ordering) → T (is_lt order) → order ≡ Less
+less Less h = refl
+less Equal h = absurd h
+less Greater h = absurd h
+
+first_true : (a b : Bool) → T (a && b) → T a
+first_true true b h = tt
+first_true false b h = absurd h
+
+second_true : (a b : Bool) → T (a && b) → T b
+second_true true b h = h
+second_true false b h = absurd h
+
+both_true : (a b : Bool) → T a → T b → T (a && b)
+both_true true b g h = h
+both_true false b g h = absurd g
+
+module _ {X : Type 0} where
+  Below-keys : (prefix : IpPrefix) (entries : List (IpPrefix × X)) → T (below_all prefix_cmp prefix entries) → Below prefix (map (λ entry. entry.0) entries)
+  Below-keys prefix [] h = tt
+  Below-keys prefix (e ∷ es) h = (less _ (first_true _ _ h), Below-keys prefix es (second_true _ _ h))
+
+  ascending-keys : (entries : List (IpPrefix × X)) → T (fin.is_sorted prefix_cmp entries) → IsStrictlySortedBy prefix_cmp (map (λ entry. entry.0) entries)
+  unfolding IsStrictlySortedBy
+  ascending-keys [] h = tt
+  ascending-keys (e ∷ es) h = (Below-keys e.0 es (first_true _ _ h), ascending-keys es (second_true _ _ h))
+
+  below_all-keys : (prefix : IpPrefix) (entries : List (IpPrefix × X)) → Below prefix (map (λ entry. entry.0) entries) → T (below_all prefix_cmp prefix entries)
+  below_all-keys prefix [] h = tt
+  below_all-keys prefix (e ∷ es) h = both_true _ _ (subst (λ order. T (is_lt order)) (sym h.0) tt) (below_all-keys prefix es h.1)
+
+  is_sorted-keys : (entries : List (IpPrefix × X)) → IsStrictlySortedBy prefix_cmp (map (λ entry. entry.0) entries) → T (fin.is_sorted prefix_cmp entries)
+  unfolding IsStrictlySortedBy
+  is_sorted-keys [] h = tt
+  is_sorted-keys (e ∷ es) h = both_true _ _ (below_all-keys e.0 es h.0) (is_sorted-keys es h.1)
+
+-- ---- a prefix on which no peer has a route
+
+find-append : {X : Type 0} (q : IpPrefix) (xs ys : List (IpPrefix × X)) → fin.find prefix_cmp q (xs ++ ys) ≡ None → (fin.find prefix_cmp q xs ≡ None) × (fin.find prefix_cmp q ys ≡ None)
+find-append q [] ys e = (refl, e)
+find-append q (x ∷ xs) ys e =
+    elim (cases_Bool (eq_by_cmp prefix_cmp q x.0)) [
+      | inl here ↦ absurd (cc (rw here at e))
+      | inr apart ↦ rw (apart) (find-append q xs ys (rw apart at e))
+    ]
+
+no_routes : (q : IpPrefix) (n : ℕ) (ribs : List RibContent) → fin.find prefix_cmp q (flat_map (λ rib. fin.entries rib.routes) ribs) ≡ None →
+    filter_map (λ (peer, rib). option_map (peer_route peer) (fin.get rib.routes q)) (enumerate_from n ribs) ≡ []
+no_routes q n [] e = refl
+no_routes q n (rib ∷ ribs) e =
+    let parts = find-append q (fin.entries rib.routes) (flat_map (λ rib. fin.entries rib.routes) ribs) e in
+    let none : fin.get rib.routes q ≡ None = fin.get-entries rib.routes q ∙ parts.0 in
+    rw none (no_routes q (n + 1) ribs parts.1)
+
+pub choice-nil : {M : Type 0} (plan : Plan) (sent : M → SentRoute) → choice (λ route. standing_of plan (sent route)) [] ≡ None
+unfolding choice remaining unbeaten
+choice-nil plan sent = refl
+
+best-none : (tables : TablesContent) (client : ℕ) (q : IpPrefix) → list_any (same_prefix q) (prefixes_held tables.ribs) ≡ false → best_of tables client q ≡ None
+best-none tables client q none =
+    let found : List (IpPrefix × RouteLeft) = flat_map (λ rib. fin.entries rib.routes) tables.ribs in
+    let absent : is_some (fin.find prefix_cmp q found) ≡ false =
+    ap is_some (sym (fin.get-from_entries prefix_total found q)) ∙ fin.contains_key-keys (fin.from_entries {R = prefix_cmp} found) q ∙ none in
+    let nothing : fin.find prefix_cmp q found ≡ None = elim (fin.find prefix_cmp q found) as (λ o. is_some o ≡ false → o ≡ None) [ None ↦ λ _. refl | Some route ↦ λ e. absurd (cc e) ] absent in
+    rw (no_routes q 0 tables.ribs nothing) (choice-nil tables.plan sent_route)
+
+-- ---- the computed table is the table
+
+module _ (f : IpPrefix → Option PeerRoute) where
+  abbrev row_on : IpPrefix → Option TableRow
+  row_on prefix = option_map (λ route. record { prefix = prefix; route = route }) (f prefix)
+
+  entries-rows : (prefixes : List IpPrefix) → map entry_of_row (filter_map row_on prefixes) ≡ filter_map (λ prefix. option_map (λ route. (prefix, route)) (f prefix)) prefixes
+  entries-rows [] = refl
+  entries-rows (p ∷ ps) =
+      elim (f p) as (λ o. map entry_of_row (cons_option (option_map (λ route. record { prefix = p; route = route }) o) (filter_map row_on ps)) ≡ cons_option (option_map (λ route. (p, route)) o) (filter_map (λ prefix. option_map (λ route. (prefix, route)) (f prefix)) ps)) [
+        | None ↦ entries-rows ps
+        | Some route ↦ ap (λ es. (p, route) ∷ es) (entries-rows ps)
+      ]
+
+  Below-rows : (prefix : IpPrefix) (prefixes : List IpPrefix) → Below prefix prefixes → Below prefix (map (λ row. row.prefix) (filter_map row_on prefixes))
+  Below-rows prefix [] h = tt
+  Below-rows prefix (p ∷ ps) h =
+      elim (f p) as (λ o. Below prefix (map (λ row. row.prefix) (cons_option (option_map (λ route. record { prefix = p; route = route }) o) (filter_map row_on ps)))) [
+        | None ↦ Below-rows prefix ps h.1
+        | Some route ↦ (h.0, Below-rows prefix ps h.1)
+      ]
+
+  ascending-rows : (prefixes : List IpPrefix) → IsStrictlySortedBy prefix_cmp prefixes → IsStrictlySortedBy prefix_cmp (map (λ row. row.prefix) (filter_map row_on prefixes))
+  unfolding IsStrictlySortedBy
+  ascending-rows [] h = tt
+  ascending-rows (p ∷ ps) h =
+      elim (f p) as (λ o. IsStrictlySortedBy prefix_cmp (map (λ row. row.prefix) (cons_option (option_map (λ route. record { prefix = p; route = route }) o) (filter_map row_on ps)))) [
+        | None ↦ ascending-rows ps h.1
+        | Some route ↦ (Below-rows p ps h.0, ascending-rows ps h.1)
+      ]
+
+pub table_of-IsTable : (tables : TablesContent) (client : ℕ) → IsTable tables client (table_of tables client)
+unfolding table_of
+table_of-IsTable tables client =
+    let best : IpPrefix → Option PeerRoute = best_of tables client in
+    let held : List IpPrefix = prefixes_held tables.ribs in
+    record {
+      ascending = ascending-rows best held (ascending-keys _ (fin.entries_sorted (fin.from_entries {R = prefix_cmp} (flat_map (λ rib. fin.entries rib.routes) tables.ribs))));
+      best = λ q.
+          ap (fin.find prefix_cmp q) (entries-rows best held)
+          ∙ find-entries best q held
+          ∙ elim (cases_Bool (list_any (same_prefix q) held)) [
+            | inl some ↦ rw some refl
+            | inr none ↦ rw none (sym (best-none tables client q none))
+          ];
+    }
+
+-- ---- and there is no other
+
+row_from : IpPrefix × PeerRoute → TableRow
+row_from entry = record { prefix = entry.0; route = entry.1 }
+
+rows_again : (rows : List TableRow) → map row_from (map entry_of_row rows) ≡ rows
+unfolding row_from
+rows_again [] = refl
+rows_again (row ∷ rows) = ap (λ more. row ∷ more) (rows_again rows)
+
+keys-rows : (rows : List TableRow) → map (λ entry. entry.0) (map entry_of_row rows) ≡ map (λ row. row.prefix) rows
+keys-rows [] = refl
+keys-rows (row ∷ rows) = ap (λ more. row.prefix ∷ more) (keys-rows rows)
+
+pub same_tables : (tables : TablesContent) (client : ℕ) (rows others : List TableRow) → IsTable tables client rows → IsTable tables client others → rows ≡ others
+same_tables tables client rows others one other =
+    let sorted : (rows : List TableRow) → IsTable tables client rows → T (fin.is_sorted prefix_cmp (map entry_of_row rows)) =
+    λ rows is. is_sorted-keys (map entry_of_row rows) (subst (IsStrictlySortedBy prefix_cmp) (sym (keys-rows rows)) is.ascending) in
+    sym (rows_again rows)
+    ∙ ap (map row_from) (same_entries prefix_cmp prefix_total prefix_cmp-IsAntisymmetric (map entry_of_row rows) (map entry_of_row others) (sorted rows one) (sorted others other) (λ q. one.best q ∙ sym (other.best q)))
+    ∙ rows_again others

@@ -1,0 +1,21 @@
+-- Codes of what tables hold, by which a proof tells values apart.
+use Rattle.std.specs.Prelude.{ℕ, Bool, refl}
+use Rattle.std.specs.Coded.{Coded, code_by, coded×, coded_ℕ, coded_bool}
+use Rattle.std.specs.FinMap as map
+use Rattle.rs_update.specs.IpPrefix.{IpPrefix}
+use Rattle.rs_update.specs.PathAttributes.{PathAttributes}
+use Rattle.rs_update.specs.contracts.attributes.Attributes as attributes
+use Rattle.rs_table.specs.Left.{Routes, RouteLeft}
+use Rattle.rs_table.specs.Content.{RibContent}
+
+abbrev pub prefix_code : Coded IpPrefix
+prefix_code = code_by (ℕ × ℕ) (coded× coded_ℕ coded_ℕ) (λ p. (p.address, p.len)) (λ p. record { address = p.0; len = p.1 }) (λ _. refl)
+
+abbrev pub route_code : Coded RouteLeft
+route_code = code_by (ℕ × PathAttributes) (coded× coded_ℕ attributes.the_row.coded) (λ r. (r.time, r.attributes)) (λ p. record { time = p.0; attributes = p.1 }) (λ _. refl)
+
+abbrev pub routes_code : Coded Routes
+routes_code = map.code prefix_code route_code
+
+abbrev pub rib_code : Coded RibContent
+rib_code = code_by (Routes × Bool) (coded× routes_code coded_bool) (λ r. (r.routes, r.closed)) (λ p. record { routes = p.0; closed = p.1 }) (λ _. refl)

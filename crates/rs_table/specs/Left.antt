@@ -1,0 +1,112 @@
+-- The routes that a peer's list of changes leaves: its Adj-RIB-In (RFC 4271, sections 3.2 and 9.1).
+--
+-- An announcement replaces the peer's earlier route on that prefix and a withdrawal removes it, so the last change on a prefix
+-- decides. Our choice: a session that closes at the end of its file leaves its routes, and one that closes for any other reason
+-- leaves none.
+use Rattle.std.specs.Prelude.{◌≡◌, ℕ, Bool, true, false, List, ◌∷◌, ◌++◌, reverse, Option, Some, None, if◌then◌else◌}
+use Rattle.std.specs.List.{find, filter_map, list_any}
+use Rattle.std.specs.Option.{option_map, option_and_then, option_map_or}
+use Rattle.std.specs.Ordering.{eq_by_cmp}
+use Rattle.std.specs.FinMap.{FinMap, empty, get, insert, remove, from_entries}
+use Rattle.rs_update.specs.IpPrefix.{IpPrefix}
+use Rattle.rs_update.specs.PathAttributes.{PathAttributes}
+use Rattle.rs_session.specs.declared.word.Reason.{Reason}
+use Rattle.rs_session.specs.declared.word.Reason.TheVariants as reasons
+use Rattle.rs_session.specs.Change.{Change, ChangeBody, Announced, Withdrawn, Closed}
+use Rattle.rs_session.specs.PrefixOrder.{prefix_cmp}
+
+-- whether two prefixes are one and the same
+abbrev pub same_prefix : IpPrefix → IpPrefix → Bool
+same_prefix = eq_by_cmp prefix_cmp
+
+-- a route that is left on a prefix: when it was announced, in seconds, and its attributes
+pub record RouteLeft : Type 0 where
+  pub time : ℕ
+  pub attributes : PathAttributes
+
+-- the routes of one peer, by prefix
+abbrev pub Routes : Type 0
+Routes = FinMap prefix_cmp RouteLeft
+
+abbrev pub announcement : IpPrefix → RouteLeft → Change
+announcement prefix route = record { time = route.time; body = Announced prefix route.attributes }
+
+-- the prefix that a change is on, and the route that it leaves there
+abbrev pub body_prefix : ChangeBody → Option IpPrefix
+body_prefix (Announced prefix attributes) = Some prefix
+body_prefix (Withdrawn prefix) = Some prefix
+body_prefix (Closed reason) = None
+
+abbrev pub body_route : ℕ → ChangeBody → Option RouteLeft
+body_route time (Announced prefix attributes) = Some (record { time = time; attributes = attributes })
+body_route time (Withdrawn prefix) = None
+body_route time (Closed reason) = None
+
+-- a close for any reason but the end of the file takes all routes with it
+abbrev pub reason_drops : Reason → Bool
+reason_drops reasons.EndOfFile = false
+reason_drops reason = true
+
+abbrev pub body_drops : ChangeBody → Bool
+body_drops (Announced prefix attributes) = false
+body_drops (Withdrawn prefix) = false
+body_drops (Closed reason) = reason_drops reason
+
+abbrev pub body_closes : ChangeBody → Bool
+body_closes (Announced prefix attributes) = false
+body_closes (Withdrawn prefix) = false
+body_closes (Closed reason) = true
+
+abbrev pub drops_routes : Change → Bool
+drops_routes change = body_drops change.body
+
+abbrev pub is_close : Change → Bool
+is_close change = body_closes change.body
+
+abbrev pub is_on : IpPrefix → Change → Bool
+is_on prefix change = option_map_or (same_prefix prefix) (body_prefix change.body) false
+
+abbrev pub HasNoClose : List Change → Type 0
+HasNoClose changes = list_any is_close changes ≡ false
+
+-- what it means: a list leaves a route on a prefix where the route is announced at some place of the list, no later place has a
+-- change on that prefix, and nowhere does the session close but at the end of its file
+pub record Leaves (changes : List Change) (prefix : IpPrefix) (route : RouteLeft) : Type 0 where
+  pub earlier : List Change
+  pub later : List Change
+  pub is_announced : changes ≡ earlier ++ announcement prefix route ∷ later
+  pub is_last : list_any (is_on prefix) later ≡ false
+  pub keeps_routes : list_any drops_routes changes ≡ false
+
+-- the same computed: the last change on a prefix, and the route that it leaves
+abbrev pub last_change_on : IpPrefix → List Change → Option Change
+last_change_on prefix changes = find (is_on prefix) (reverse changes)
+
+abbrev pub route_left_on : IpPrefix → List Change → Option RouteLeft
+route_left_on prefix changes =
+    if list_any drops_routes changes then None
+    else option_and_then (λ change. body_route change.time change.body) (last_change_on prefix changes)
+
+-- and for all prefixes that the list names
+unfoldable pub left : List Change → Routes
+left changes =
+    from_entries (filter_map (λ prefix. option_map (λ route. (prefix, route)) (route_left_on prefix changes))
+    (filter_map (λ change. body_prefix change.body) changes))
+
+-- what one more change makes of the routes that a list without a close left
+abbrev pub after_body : Routes → ℕ → ChangeBody → Routes
+after_body routes time (Announced prefix attributes) = insert routes prefix (record { time = time; attributes = attributes })
+after_body routes time (Withdrawn prefix) = remove routes prefix
+after_body routes time (Closed reason) = if reason_drops reason then empty else routes
+
+abbrev pub after : Routes → Change → Routes
+after routes change = after_body routes change.time change.body
+
+-- a change is new where it announces a prefix on which nothing is left: it alone can want memory
+abbrev pub IsNewBody : Routes → ChangeBody → Type 0
+IsNewBody routes (Announced prefix attributes) = get routes prefix ≡ None
+IsNewBody routes (Withdrawn prefix) = ⊥
+IsNewBody routes (Closed reason) = ⊥
+
+abbrev pub IsNewAnnouncement : Routes → Change → Type 0
+IsNewAnnouncement routes change = IsNewBody routes change.body

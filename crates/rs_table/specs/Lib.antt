@@ -1,0 +1,15 @@
+pub use Rattle.rs_update.specs.IpPrefix
+pub use Rattle.rs_update.specs.PathAttributes
+pub use Rattle.rs_session.specs.Change
+pub use Rattle.rs_session.specs.PrefixOrder
+pub use Rattle.rs_choice.specs.Decision
+pub use Rattle.rs_choice.specs.Eligibility
+pub use Rattle.rs_choice.specs.Plan
+pub use Rattle.rs_choice.specs.Policy
+pub mod Codes
+pub mod Content
+pub mod Laws
+pub mod Left
+pub mod RibView
+pub mod RouteView
+pub mod Table

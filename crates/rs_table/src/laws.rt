@@ -1,0 +1,19 @@
+//! Laws of this crate's definitions. Each function does nothing: its contract is the law.
+
+ghost use Rattle.rs_table.specs.Laws.{LeftByLastChanges, LeftAfterOneMore, TableIsComputed};
+
+/// The routes that a list of changes leaves are those announced last on their prefix (RFC 4271, section 9.1), none where the list
+/// closes but at the end of its file.
+pub fn left_by_last_changes()
+    ensures { LeftByLastChanges }
+{}
+
+/// A list with one more change leaves what that change makes of what the list left.
+pub fn left_after_one_more()
+    ensures { LeftAfterOneMore }
+{}
+
+/// A client has one table: the rows that ascend strictly and say of each prefix what the client gets are those that are computed.
+pub fn table_is_computed()
+    ensures { TableIsComputed }
+{}
