@@ -1,6 +1,9 @@
+pub mod Comparison
 pub mod Decision
 pub mod Eligibility
 pub mod Exchange
+pub mod Naturality
 pub mod Plan
 pub mod Policy
 pub mod Refusal
+pub mod Scan

@@ -1,5 +1,9 @@
 //! A candidate of the decision process, and what the process asks of it (RFC 4271, sections 9.1.1 and 9.1.2.2).
 
+ghost use Rattle.std.specs.Prelude.{◌≡◌, ◌<◌, length};
+ghost use Rattle.rs_choice.specs.Decision.{sent_route_of, standing_of};
+
+use crate::exchange::Exchange;
 use rs_update::{Attributes, Origin};
 
 /// A route that a client may get: the number of the peer that sent it, and its attributes.
@@ -28,4 +32,31 @@ pub(crate) struct Standing {
     pub(crate) id: u32,
     // The address of the sending peer.
     pub(crate) address: u32,
+}
+
+// A candidate by its place in a list, and its standing.
+#[derive(Clone, Copy)]
+pub(crate) struct Placed {
+    pub(crate) place: usize,
+    pub(crate) standing: Standing,
+}
+
+impl Exchange {
+    // What the decision process asks of a candidate.
+    pub(crate) fn standing(&self, candidate: &Candidate) -> Standing
+        requires { candidate.now.peer < length self.now.peers }
+        ensures { result ≡ standing_of self.now (sent_route_of candidate.now) }
+    {
+        let sender = self.peer(candidate.peer);
+        let attributes = candidate.attributes;
+        Standing {
+            preference: sender.preference,
+            path_length: attributes.path_length(),
+            origin: attributes.origin(),
+            neighbour: attributes.neighbour(sender.asn),
+            med: attributes.med().unwrap_or(0),
+            id: sender.id,
+            address: sender.address,
+        }
+    }
 }

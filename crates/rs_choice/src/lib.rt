@@ -8,6 +8,7 @@
 #![tactic(auto)]
 
 mod candidate;
+mod decision;
 mod eligibility;
 mod exchange;
 mod fault;

@@ -1,0 +1,168 @@
+-- The choice by its place in a list.
+use Rattle.std.proofs.Common.{◌≡◌, ◌∙◌, sym, ap, refl, ℕ, ◌+◌, ◌<◌, ◌≤◌, suc, zero, arith, not, ◌⊎◌, inl, inr, List, [], ◌∷◌, length, get_or, Some, None}
+use Rattle.std.specs.Prelude.{slice_get}
+use Rattle.std.specs.List.{list_any, enumerate_from, AllPairs}
+use Rattle.std.specs.Option.{option_map}
+use Rattle.std.proofs.lemmas.List.Kept.{AllPairs-filter}
+use Rattle.std.proofs.lemmas.List.FromFn.{get_or-enumerate_from, length-enumerate_from}
+use Rattle.rs_choice.specs.declared.candidate.Standing.{Standing}
+use Rattle.rs_choice.specs.declared.step.Step.{Step}
+use Rattle.rs_choice.specs.Decision.{beats, decision_steps, unbeaten, remaining, first_member, choice, place_of_choice, member_at}
+use Rattle.rs_choice.specs.Naturality.{choice-map, map-enumerate}
+use Rattle.rs_choice.specs.Comparison.{IsAheadByMed, Precedes}
+use Rattle.rs_choice.proofs.Members.{Mem}
+use Rattle.rs_choice.proofs.Eliminations.{Unbeaten, Left, LeftByMed, By, same_remaining}
+
+-- the numbered members of a list are those at their numbers
+pub at-enumerate : {M : Type 0} (n : ℕ) (xs : List M) (numbered : ℕ × M) → Mem (enumerate_from n xs) numbered →
+    (j : ℕ) × (numbered.0 ≡ n + j) × (slice_get xs j ≡ Some numbered.1)
+at-enumerate n [] numbered h = absurd h
+at-enumerate n (x ∷ xs) numbered (inl same) = (0, ap (λ (p : ℕ × _). p.0) (sym same) ∙ omega arith, ap (λ (p : ℕ × _). Some p.1) same)
+at-enumerate n (x ∷ xs) numbered (inr h) =
+    let found = at-enumerate (n + 1) xs numbered h in
+    (suc found.0, omega (arith, found.1), found.2)
+
+pub enumerate-at : {M : Type 0} (n : ℕ) (xs : List M) (j : ℕ) (x : M) → slice_get xs j ≡ Some x → Mem (enumerate_from n xs) (n + j, x)
+enumerate-at n [] j x at = absurd (cc (at))
+enumerate-at n (y ∷ ys) zero x at = inl (let e : n + 0 ≡ n = omega arith in rw e (cc))
+enumerate-at n (y ∷ ys) (suc j) x at = inr (let e : n + suc j ≡ n + 1 + j = omega arith in rw e (enumerate-at (n + 1) ys j x at))
+
+-- the first of a list, where there is one, is a member
+pub first_cases : {M : Type 0} (xs : List M) → ((first_member xs ≡ None) × ((x : M) → Mem xs x → ⊥)) ⊎ ((x : M) × (first_member xs ≡ Some x) × Mem xs x)
+first_cases [] = inl (refl, λ x h. h)
+first_cases (x ∷ xs) = inr (x, refl, inl refl)
+
+-- a member's standing, whatever its number
+abbrev pub numbered : {M : Type 0} → (M → Standing) → ℕ × M → Standing
+numbered standing (place, member) = standing member
+
+member_cases : {M : Type 0} (xs : List M) (left : List (ℕ × M)) →
+    ((p : ℕ × M) → Mem left p → slice_get xs p.0 ≡ Some p.1) →
+    member_at xs (option_map (λ (place, member). place) (first_member left)) ≡ option_map (λ (place, member). member) (first_member left)
+member_cases xs [] at = refl
+member_cases xs (p ∷ left) at = at p (inl refl)
+
+at_place : {M : Type 0} (standing : M → Standing) (xs : List M) (p : ℕ × M) →
+    Mem (remaining (numbered standing) decision_steps (enumerate_from 0 xs)) p → slice_get xs p.0 ≡ Some p.1
+at_place standing xs p h =
+    let left = (same_remaining (numbered standing) (enumerate_from 0 xs)).to p h in
+    let found = at-enumerate 0 xs p left.member.member in
+    let e : p.0 ≡ found.0 = omega (arith, found.1) in
+    rw e found.2
+
+-- the member at the place of the choice is the choice
+pub member_at-place_of_choice : {M : Type 0} (standing : M → Standing) (xs : List M) → member_at xs (place_of_choice standing xs) ≡ choice standing xs
+unfolding place_of_choice choice
+member_at-place_of_choice standing xs =
+    member_cases xs (remaining (numbered standing) decision_steps (enumerate_from 0 xs)) (at_place standing xs)
+    ∙ sym (ap (λ all. choice standing all) (sym (map-enumerate 0 xs)) ∙ choice-map (λ (place, member). member) standing (enumerate_from 0 xs))
+
+-- numbers ascend
+abbrev pub Ascends : {M : Type 0} → ℕ × M → ℕ × M → Type 0
+Ascends one other = one.0 < other.0
+
+ascends-enumerate : {M : Type 0} (n : ℕ) (xs : List M) → AllPairs Ascends (enumerate_from n xs)
+ascends-enumerate n xs i j d below within =
+    let counts = length-enumerate_from n xs in
+    let first : i < length xs = omega arith in
+    let second : j < length xs = omega arith in
+    rw (get_or-enumerate_from n xs i d first, get_or-enumerate_from n xs j d second) (omega arith)
+
+ascends-remaining : {M : Type 0} (standing : ℕ × M → Standing) (steps : List Step) (xs : List (ℕ × M)) →
+    AllPairs Ascends xs → AllPairs Ascends (remaining standing steps xs)
+unfolding remaining unbeaten
+ascends-remaining standing [] xs ascends = ascends
+ascends-remaining standing (step ∷ later) xs ascends =
+    ascends-remaining standing later (unbeaten standing step xs) (AllPairs-filter Ascends (λ one. not (list_any (λ other. beats step (standing other) (standing one)) xs)) xs ascends)
+
+mem-at : {M : Type 0} (xs : List M) (x : M) → Mem xs x → (k : ℕ) × (k < length xs) × ((d : M) → get_or xs k d ≡ x)
+mem-at [] x h = absurd h
+mem-at (y ∷ ys) x (inl same) = (0, omega arith, λ d. same)
+mem-at (y ∷ ys) x (inr h) = let found = mem-at ys x h in (suc found.0, omega (arith, found.1), found.2)
+
+-- the member of the least number is the first
+first_least : {M : Type 0} (xs : List (ℕ × M)) (x : ℕ × M) → AllPairs Ascends xs → Mem xs x → ((y : ℕ × M) → Mem xs y → x.0 ≤ y.0) → first_member xs ≡ Some x
+first_least [] x ascends h least = absurd h
+first_least (y ∷ ys) x ascends (inl same) least = ap Some same
+first_least (y ∷ ys) x ascends (inr h) least =
+    let found = mem-at ys x h in
+    let within : suc found.0 < suc (length ys) = omega (arith, found.1) in
+    let above = ascends 0 (suc found.0) y (omega arith) within in
+    let e = found.2 y in
+    let below : y.0 < x.0 = rw e at above in
+    absurd (omega (arith, below, least y (inl refl)))
+
+unbeaten_member : {M : Type 0} (standing : M → Standing) (Beats : Standing → Standing → Type 0) (InPairs : ℕ × M → Type 0) (In : M → Type 0) →
+    ((p : ℕ × M) → InPairs p → In p.1) → ((x : M) → In x → (k : ℕ) × InPairs (k, x)) → (p : ℕ × M) →
+    Unbeaten (By (numbered standing) Beats) InPairs p → Unbeaten (By standing Beats) In p.1
+unbeaten_member standing Beats InPairs In to from p left = record {
+  member = to p left.member;
+  best = λ w h. let found = from w h in left.best (found.0, w) found.1;
+}
+
+unbeaten_pair : {M : Type 0} (standing : M → Standing) (Beats : Standing → Standing → Type 0) (InPairs : ℕ × M → Type 0) (In : M → Type 0) →
+    ((p : ℕ × M) → InPairs p → In p.1) → (p : ℕ × M) → InPairs p →
+    Unbeaten (By standing Beats) In p.1 → Unbeaten (By (numbered standing) Beats) InPairs p
+unbeaten_pair standing Beats InPairs In to p member left = record { member = member; best = λ q h. left.best q.1 (to q h) }
+
+pub mem-slice_get : {M : Type 0} (xs : List M) (k : ℕ) (x : M) → slice_get xs k ≡ Some x → Mem xs x
+mem-slice_get [] k x at = absurd (cc (at))
+mem-slice_get (y ∷ ys) zero x at = inl (cc)
+mem-slice_get (y ∷ ys) (suc k) x at = inr (mem-slice_get ys k x at)
+
+pub slice_get-mem : {M : Type 0} (xs : List M) (x : M) → Mem xs x → (k : ℕ) × (slice_get xs k ≡ Some x)
+slice_get-mem [] x h = absurd h
+slice_get-mem (y ∷ ys) x (inl same) = (0, ap Some same)
+slice_get-mem (y ∷ ys) x (inr h) = let found = slice_get-mem ys x h in (suc found.0, found.1)
+
+module _ {M : Type 0} (standing : M → Standing) (xs : List M) where
+  abbrev pairs : List (ℕ × M)
+  pairs = enumerate_from 0 xs
+
+  pair_to : (p : ℕ × M) → Mem pairs p → Mem xs p.1
+  pair_to p h = let found = at-enumerate 0 xs p h in mem-slice_get xs found.0 p.1 found.2
+
+  pair_from : (x : M) → Mem xs x → (k : ℕ) × Mem pairs (k, x)
+  pair_from x h = let found = slice_get-mem xs x h in (0 + found.0, enumerate-at 0 xs found.0 x found.1)
+
+  by_med_to : (p : ℕ × M) → LeftByMed (numbered standing) (Mem pairs) p → LeftByMed standing (Mem xs) p.1
+  by_med_to p left = unbeaten_member standing IsAheadByMed (Mem pairs) (Mem xs) pair_to pair_from p left
+
+  by_med_from : (x : M) → LeftByMed standing (Mem xs) x → (k : ℕ) × LeftByMed (numbered standing) (Mem pairs) (k, x)
+  by_med_from x left =
+      let found = pair_from x left.member in
+      (found.0, unbeaten_pair standing IsAheadByMed (Mem pairs) (Mem xs) pair_to (found.0, x) found.1 left)
+
+  left_to : (p : ℕ × M) → Left (numbered standing) (Mem pairs) p → Left standing (Mem xs) p.1
+  left_to p left = unbeaten_member standing Precedes (LeftByMed (numbered standing) (Mem pairs)) (LeftByMed standing (Mem xs)) by_med_to by_med_from p left
+
+  left_from : (p : ℕ × M) → Mem pairs p → Left standing (Mem xs) p.1 → Left (numbered standing) (Mem pairs) p
+  left_from p member left =
+      unbeaten_pair standing Precedes (LeftByMed (numbered standing) (Mem pairs)) (LeftByMed standing (Mem xs)) by_med_to p
+      (unbeaten_pair standing IsAheadByMed (Mem pairs) (Mem xs) pair_to p member left.member) left
+
+-- the least place at which a member is left is the place of the choice
+pub place_of_choice-Some : {M : Type 0} (standing : M → Standing) (xs : List M) (place : ℕ) (x : M) → slice_get xs place ≡ Some x →
+    Left standing (Mem xs) x → ((k : ℕ) (w : M) → slice_get xs k ≡ Some w → Left standing (Mem xs) w → place ≤ k) → place_of_choice standing xs ≡ Some place
+unfolding place_of_choice choice
+place_of_choice-Some standing xs place x at left least =
+    let all = remaining (numbered standing) decision_steps (enumerate_from 0 xs) in
+    let same = same_remaining (numbered standing) (enumerate_from 0 xs) in
+    let numbered_x = enumerate-at 0 xs place x at in
+    let e : 0 + place ≡ place = omega arith in
+    let member : Mem (enumerate_from 0 xs) (place, x) = rw e at numbered_x in
+    let kept = same.from (place, x) (left_from standing xs (place, x) member left) in
+    let first = first_least all (place, x) (ascends-remaining (numbered standing) decision_steps (enumerate_from 0 xs) (ascends-enumerate 0 xs)) kept
+    (λ y h.
+    least y.0 y.1 (at_place standing xs y h) (left_to standing xs y (same.to y h))) in
+    ap (option_map (λ ((place, member) : ℕ × _). place)) first
+
+-- where no member is left, there is no choice
+pub place_of_choice-None : {M : Type 0} (standing : M → Standing) (xs : List M) → ((x : M) → Left standing (Mem xs) x → ⊥) → place_of_choice standing xs ≡ None
+unfolding place_of_choice choice
+place_of_choice-None standing xs none =
+    let same = same_remaining (numbered standing) (enumerate_from 0 xs) in
+    elim (first_cases (remaining (numbered standing) decision_steps (enumerate_from 0 xs))) [
+      | inl empty ↦ ap (option_map (λ ((place, member) : ℕ × _). place)) empty.0
+      | inr found ↦ absurd (none found.0.1 (left_to standing xs found.0 (same.to found.0 found.2)))
+    ]
