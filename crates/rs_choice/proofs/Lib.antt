@@ -1,5 +1,6 @@
 pub mod Eliminations
 pub mod Members
-pub mod PolicyLemmas
 pub mod Places
+pub mod PlanLemmas
+pub mod PolicyLemmas
 pub mod ScanLemmas

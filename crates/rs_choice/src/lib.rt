@@ -8,6 +8,7 @@
 #![tactic(auto)]
 
 mod candidate;
+mod checks;
 mod decision;
 mod eligibility;
 mod exchange;
