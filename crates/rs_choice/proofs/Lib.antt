@@ -1,8 +1,5 @@
 pub mod Eliminations
-pub mod LawLemmas
 pub mod Members
-pub mod Places
-pub mod PlanLaws
-pub mod PlanLemmas
 pub mod PolicyLemmas
+pub mod Places
 pub mod ScanLemmas

@@ -1,4 +1,6 @@
 pub mod LeftLemmas
+pub mod ListingLemmas
 pub mod PrefixLemmas
 pub mod RibLemmas
+pub mod SelectionLemmas
 pub mod TableLemmas

@@ -8,13 +8,14 @@ use Rattle.std.specs.FinMap as fin
 use Rattle.std.specs.FinMap.Entries.{same_entries, below_all}
 use Rattle.std.specs.declared.cmp.Ordering.{Ordering}
 use Rattle.std.specs.declared.cmp.Ordering.TheVariants.{Less, Equal, Greater}
-use Rattle.std.proofs.lemmas.Bool.{cases_Bool}
+use Rattle.std.proofs.lemmas.Bool.{cases_Bool, or_from, or_parts}
 use Rattle.rs_update.specs.IpPrefix.{IpPrefix}
 use Rattle.rs_session.specs.PrefixOrder.{prefix_cmp}
 use Rattle.rs_choice.specs.Plan.{Plan}
 use Rattle.rs_choice.specs.Decision.{SentRoute, standing_of, choice, remaining, unbeaten}
 use Rattle.rs_table.specs.Left.{same_prefix, RouteLeft}
 use Rattle.rs_table.specs.Content.{RibContent, TablesContent}
+use Rattle.rs_table.specs.Listing.{is_held}
 use Rattle.rs_table.specs.Table.{PeerRoute, peer_route, sent_route, TableRow, IsTable, entry_of_row, best_of, prefixes_held, table_of}
 use Rattle.rs_table.proofs.PrefixLemmas.{prefix_total, prefix_cmp-IsAntisymmetric, find-entries}
 
@@ -69,30 +70,42 @@ find-append q (x ∷ xs) ys e =
       | inr apart ↦ rw (apart) (find-append q xs ys (rw apart at e))
     ]
 
-no_routes : (q : IpPrefix) (n : ℕ) (ribs : List RibContent) → fin.find prefix_cmp q (flat_map (λ rib. fin.entries rib.routes) ribs) ≡ None →
+-- a prefix among no peer's entries is held by none
+none_held : (q : IpPrefix) (ribs : List RibContent) → fin.find prefix_cmp q (flat_map (λ rib. fin.entries rib.routes) ribs) ≡ None → is_held ribs q ≡ false
+none_held q [] e = refl
+none_held q (rib ∷ ribs) e =
+    let parts = find-append q (fin.entries rib.routes) (flat_map (λ rib. fin.entries rib.routes) ribs) e in
+    or_from _ _ (ap is_some (fin.get-entries rib.routes q ∙ parts.0)) (none_held q ribs parts.1)
+
+absent : {X : Type 0} (o : Option X) → is_some o ≡ false → o ≡ None
+absent None e = refl
+absent (Some x) e = absurd (cc e)
+
+no_routes : (q : IpPrefix) (n : ℕ) (ribs : List RibContent) → is_held ribs q ≡ false →
     filter_map (λ (peer, rib). option_map (peer_route peer) (fin.get rib.routes q)) (enumerate_from n ribs) ≡ []
 no_routes q n [] e = refl
 no_routes q n (rib ∷ ribs) e =
-    let parts = find-append q (fin.entries rib.routes) (flat_map (λ rib. fin.entries rib.routes) ribs) e in
-    let none : fin.get rib.routes q ≡ None = fin.get-entries rib.routes q ∙ parts.0 in
+    let parts = or_parts (fin.contains_key rib.routes q) (is_held ribs q) e in
+    let none : fin.get rib.routes q ≡ None = absent (fin.get rib.routes q) parts.0 in
     rw none (no_routes q (n + 1) ribs parts.1)
 
 pub choice-nil : {M : Type 0} (plan : Plan) (sent : M → SentRoute) → choice (λ route. standing_of plan (sent route)) [] ≡ None
 unfolding choice remaining unbeaten
 choice-nil plan sent = refl
 
-best-none : (tables : TablesContent) (client : ℕ) (q : IpPrefix) → list_any (same_prefix q) (prefixes_held tables.ribs) ≡ false → best_of tables client q ≡ None
-best-none tables client q none =
-    let found : List (IpPrefix × RouteLeft) = flat_map (λ rib. fin.entries rib.routes) tables.ribs in
-    let absent : is_some (fin.find prefix_cmp q found) ≡ false =
-    ap is_some (sym (fin.get-from_entries prefix_total found q)) ∙ fin.contains_key-keys (fin.from_entries {R = prefix_cmp} found) q ∙ none in
-    let nothing : fin.find prefix_cmp q found ≡ None = elim (fin.find prefix_cmp q found) as (λ o. is_some o ≡ false → o ≡ None) [ None ↦ λ _. refl | Some route ↦ λ e. absurd (cc e) ] absent in
-    rw (no_routes q 0 tables.ribs nothing) (choice-nil tables.plan sent_route)
+pub best-none : (tables : TablesContent) (client : ℕ) (q : IpPrefix) → is_held tables.ribs q ≡ false → best_of tables client q ≡ None
+best-none tables client q none = rw (no_routes q 0 tables.ribs none) (choice-nil tables.plan sent_route)
+
+not_held : (ribs : List RibContent) (q : IpPrefix) → list_any (same_prefix q) (prefixes_held ribs) ≡ false → is_held ribs q ≡ false
+not_held ribs q none =
+    let found : List (IpPrefix × RouteLeft) = flat_map (λ rib. fin.entries rib.routes) ribs in
+    none_held q ribs (absent (fin.find prefix_cmp q found)
+    (ap is_some (sym (fin.get-from_entries prefix_total found q)) ∙ fin.contains_key-keys (fin.from_entries {R = prefix_cmp} found) q ∙ none))
 
 -- ---- the computed table is the table
 
 module _ (f : IpPrefix → Option PeerRoute) where
-  abbrev row_on : IpPrefix → Option TableRow
+  abbrev pub row_on : IpPrefix → Option TableRow
   row_on prefix = option_map (λ route. record { prefix = prefix; route = route }) (f prefix)
 
   entries-rows : (prefixes : List IpPrefix) → map entry_of_row (filter_map row_on prefixes) ≡ filter_map (λ prefix. option_map (λ route. (prefix, route)) (f prefix)) prefixes
@@ -120,21 +133,28 @@ module _ (f : IpPrefix → Option PeerRoute) where
         | Some route ↦ (Below-rows p ps h.0, ascending-rows ps h.1)
       ]
 
+-- rows for prefixes that ascend and leave out none that is held
+pub rows-IsTable : (tables : TablesContent) (client : ℕ) (prefixes : List IpPrefix) → IsStrictlySortedBy prefix_cmp prefixes →
+    ((q : IpPrefix) → list_any (same_prefix q) prefixes ≡ false → is_held tables.ribs q ≡ false) → IsTable tables client (filter_map (row_on (best_of tables client)) prefixes)
+rows-IsTable tables client prefixes ascending complete =
+    let best : IpPrefix → Option PeerRoute = best_of tables client in
+    record {
+      ascending = ascending-rows best prefixes ascending;
+      best = λ q.
+          ap (fin.find prefix_cmp q) (entries-rows best prefixes)
+          ∙ find-entries best q prefixes
+          ∙ elim (cases_Bool (list_any (same_prefix q) prefixes)) [
+            | inl some ↦ rw some refl
+            | inr none ↦ rw none (sym (best-none tables client q (complete q none)))
+          ];
+    }
+
 pub table_of-IsTable : (tables : TablesContent) (client : ℕ) → IsTable tables client (table_of tables client)
 unfolding table_of
 table_of-IsTable tables client =
-    let best : IpPrefix → Option PeerRoute = best_of tables client in
-    let held : List IpPrefix = prefixes_held tables.ribs in
-    record {
-      ascending = ascending-rows best held (ascending-keys _ (fin.entries_sorted (fin.from_entries {R = prefix_cmp} (flat_map (λ rib. fin.entries rib.routes) tables.ribs))));
-      best = λ q.
-          ap (fin.find prefix_cmp q) (entries-rows best held)
-          ∙ find-entries best q held
-          ∙ elim (cases_Bool (list_any (same_prefix q) held)) [
-            | inl some ↦ rw some refl
-            | inr none ↦ rw none (sym (best-none tables client q none))
-          ];
-    }
+    rows-IsTable tables client (prefixes_held tables.ribs)
+    (ascending-keys _ (fin.entries_sorted (fin.from_entries {R = prefix_cmp} (flat_map (λ rib. fin.entries rib.routes) tables.ribs))))
+    (not_held tables.ribs)
 
 -- ---- and there is no other
 

@@ -1,12 +1,14 @@
 -- Codes of what tables hold, by which a proof tells values apart.
-use Rattle.std.specs.Prelude.{ℕ, Bool, refl}
-use Rattle.std.specs.Coded.{Coded, code_by, coded×, coded_ℕ, coded_bool}
+use Rattle.std.specs.Prelude.{ℕ, Bool, List, refl}
+use Rattle.std.specs.Coded.{Coded, code_by, coded×, coded_ℕ, coded_bool, coded_list}
 use Rattle.std.specs.FinMap as map
 use Rattle.rs_update.specs.IpPrefix.{IpPrefix}
 use Rattle.rs_update.specs.PathAttributes.{PathAttributes}
 use Rattle.rs_update.specs.contracts.attributes.Attributes as attributes
+use Rattle.rs_choice.specs.contracts.exchange.Exchange as exchange
+use Rattle.rs_choice.specs.Plan.{Plan}
 use Rattle.rs_table.specs.Left.{Routes, RouteLeft}
-use Rattle.rs_table.specs.Content.{RibContent}
+use Rattle.rs_table.specs.Content.{RibContent, TablesContent}
 
 abbrev pub prefix_code : Coded IpPrefix
 prefix_code = code_by (ℕ × ℕ) (coded× coded_ℕ coded_ℕ) (λ p. (p.address, p.len)) (λ p. record { address = p.0; len = p.1 }) (λ _. refl)
@@ -19,3 +21,6 @@ routes_code = map.code prefix_code route_code
 
 abbrev pub rib_code : Coded RibContent
 rib_code = code_by (Routes × Bool) (coded× routes_code coded_bool) (λ r. (r.routes, r.closed)) (λ p. record { routes = p.0; closed = p.1 }) (λ _. refl)
+
+abbrev pub tables_code : Coded TablesContent
+tables_code = code_by (Plan × List RibContent) (coded× exchange.the_row.coded (coded_list rib_code)) (λ t. (t.plan, t.ribs)) (λ p. record { plan = p.0; ribs = p.1 }) (λ _. refl)

@@ -3,7 +3,7 @@
 -- An announcement replaces the peer's earlier route on that prefix and a withdrawal removes it, so the last change on a prefix
 -- decides. Our choice: a session that closes at the end of its file leaves its routes, and one that closes for any other reason
 -- leaves none.
-use Rattle.std.specs.Prelude.{◌≡◌, ℕ, Bool, true, false, List, ◌∷◌, ◌++◌, reverse, Option, Some, None, if◌then◌else◌}
+use Rattle.std.specs.Prelude.{◌≡◌, ℕ, Bool, true, false, List, [], ◌∷◌, ◌++◌, reverse, Option, Some, None, if◌then◌else◌}
 use Rattle.std.specs.List.{find, filter_map, list_any}
 use Rattle.std.specs.Option.{option_map, option_and_then, option_map_or}
 use Rattle.std.specs.Ordering.{eq_by_cmp}
@@ -110,3 +110,7 @@ IsNewBody routes (Closed reason) = ⊥
 
 abbrev pub IsNewAnnouncement : Routes → Change → Type 0
 IsNewAnnouncement routes change = IsNewBody routes change.body
+
+-- routes come to be others by a change: whatever list without a close has left the first, with the change it leaves the others
+abbrev pub BecomeBy : Routes → Change → Routes → Type 0
+BecomeBy before change others = (changes : List Change) → HasNoClose changes → left changes ≡ before → left (changes ++ change ∷ []) ≡ others

@@ -10,6 +10,9 @@ pub mod Codes
 pub mod Content
 pub mod Laws
 pub mod Left
+pub mod Listing
 pub mod RibView
 pub mod RouteView
+pub mod Selection
 pub mod Table
+pub mod TablesView

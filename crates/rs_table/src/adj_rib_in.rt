@@ -8,12 +8,13 @@ ghost use Rattle.std.specs.FinMap.{empty, get, insert, remove};
 ghost use Rattle.std.specs.Option.{option_map};
 ghost use Rattle.rs_session.specs.Change.{change_of};
 ghost use Rattle.rs_table.specs.Left.{after, is_close, reason_drops, IsNewAnnouncement};
+ghost use Rattle.rs_table.specs.Listing.{AddsPrefixes};
 ghost use Rattle.rs_table.specs.RibView.{route_of};
 
 use rs_session::{Body, Reason, Word};
 use rs_update::{Attributes, Prefix};
 use std::alloc::{AllocError, Global};
-use std::collections::BTreeMap;
+use std::collections::{BTreeMap, BTreeSet};
 use std::marker::Model;
 use std::sync::Arc;
 
@@ -39,6 +40,7 @@ impl Model for AdjRibIn {
 
     ghost coded = { rib_code };
 
+    ghost use Rattle.rs_table.specs.Listing.{AddsPrefixes};
     ghost use Rattle.rs_table.specs.RibView.{rib_view};
 
     ghost view = { rib_view };
@@ -67,6 +69,16 @@ impl AdjRibIn {
         ensures { option_map (λ held. route_of held.now) result ≡ get self.now.routes prefix }
     {
         self.routes.get(&prefix)
+    }
+
+    // Adds the prefixes on which a route is left.
+    pub(crate) fn add_prefixes(&self, prefixes: &mut BTreeSet<Prefix>) -> Result<(), AllocError>
+        ensures { OnOk result (AddsPrefixes prefixes.old self.now.routes prefixes.new) }
+    {
+        for prefix in self.routes.keys() {
+            prefixes.insert(*prefix)?;
+        }
+        Ok(())
     }
 
     // Takes the next change of the peer. Refused, nothing changed, and the change is dropped.

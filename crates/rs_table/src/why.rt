@@ -1,5 +1,11 @@
 //! Why a client has the route of a peer on a prefix, or not.
 
+ghost use Rattle.std.specs.Prelude.{◌≡◌, ◌<◌, length};
+ghost use Rattle.rs_table.specs.Table.{best_of, is_from, why_of};
+
+use crate::tables::Tables;
+use rs_update::Prefix;
+
 /// The first case that holds of a client, a peer and a prefix.
 #[derive(Clone, Copy, Debug, PartialEq, Eq)]
 pub enum Why {
@@ -15,4 +21,41 @@ pub enum Why {
     Best,
     /// The decision process chose another peer's route (RFC 4271, section 9.1.2.2).
     Lost,
+}
+
+impl Tables {
+    /// Why the peer of number `client` has the route of the peer of number `peer` on a prefix, or not. It takes no memory.
+    pub fn why(&self, client: usize, peer: usize, prefix: Prefix) -> Why
+        requires client_known { client < length self.now.plan.peers }
+        requires peer_known { peer < length self.now.plan.peers }
+        ensures { result ≡ why_of self.now client peer prefix }
+    {
+        if client == peer {
+            return Why::Own;
+        }
+        let Some(held) = self.rib(peer).get(prefix) else {
+            return Why::Absent;
+        };
+        if !self.plan().eligible(peer, &held.attributes) {
+            return Why::Ineligible;
+        }
+        if !self.plan().permits(client, peer, &held.attributes) {
+            return Why::Refused;
+        }
+        if self.gets_from(client, peer, prefix) {
+            Why::Best
+        } else {
+            Why::Lost
+        }
+    }
+
+    // Whether what a client gets on a prefix is a peer's route.
+    fn gets_from(&self, client: usize, peer: usize, prefix: Prefix) -> bool
+        ensures { result ≡ is_from peer (best_of self.now client prefix) }
+    {
+        match self.best(client, prefix) {
+            Some(route) => route.peer == peer,
+            None => false,
+        }
+    }
 }
