@@ -1,5 +1,8 @@
 pub mod Eliminations
+pub mod LawLemmas
 pub mod Members
-pub mod PolicyLemmas
 pub mod Places
+pub mod PlanLaws
+pub mod PlanLemmas
+pub mod PolicyLemmas
 pub mod ScanLemmas

@@ -75,7 +75,7 @@ ascends-remaining standing [] xs ascends = ascends
 ascends-remaining standing (step ∷ later) xs ascends =
     ascends-remaining standing later (unbeaten standing step xs) (AllPairs-filter Ascends (λ one. not (list_any (λ other. beats step (standing other) (standing one)) xs)) xs ascends)
 
-mem-at : {M : Type 0} (xs : List M) (x : M) → Mem xs x → (k : ℕ) × (k < length xs) × ((d : M) → get_or xs k d ≡ x)
+pub mem-at : {M : Type 0} (xs : List M) (x : M) → Mem xs x → (k : ℕ) × (k < length xs) × ((d : M) → get_or xs k d ≡ x)
 mem-at [] x h = absurd h
 mem-at (y ∷ ys) x (inl same) = (0, omega arith, λ d. same)
 mem-at (y ∷ ys) x (inr h) = let found = mem-at ys x h in (suc found.0, omega (arith, found.1), found.2)

@@ -1,12 +1,16 @@
 -- Refusals by name, as an exchange keeps them, and the policy at two known peers.
-use Rattle.std.proofs.Common.{◌≡◌, ◌∙◌, sym, ap, arith, ℕ, ◌<◌, ◌==◌, Bool, false, not, ◌&&◌, ◌≢◌, List, [], length, map, get_or, Some, refl}
-use Rattle.std.specs.Prelude.{slice_get}
+use Rattle.std.proofs.Common.{◌≡◌, ◌∙◌, sym, ap, arith, ℕ, ◌<◌, ◌==◌, Bool, false, not, ◌&&◌, ◌≢◌, List, [], ◌∷◌, length, map, get_or, Some, refl}
+use Rattle.std.specs.Prelude.{slice_get, string_bytes}
+use Rattle.std.specs.Str.{bytes_eq}
 use Rattle.std.specs.Option.{option_map}
 use Rattle.std.proofs.lemmas.Option.{slice_get-map, slice_get-get_or, get_or_from_slice_get, slice_get_read, slice_get_within}
 use Rattle.std.proofs.lemmas.List.{length-map}
 use Rattle.std.proofs.lemmas.Bool.Decides.{nat_tests}
 use Rattle.rs_update.specs.PathAttributes.{PathAttributes}
-use Rattle.rs_choice.specs.Plan.{Peer, Plan}
+use Rattle.rs_choice.specs.declared.plan.PeerSpec.{PeerSpec}
+use Rattle.rs_choice.specs.Naturality.{list_any-map}
+use Rattle.rs_choice.specs.Checks.{refuses_spec}
+use Rattle.rs_choice.specs.Plan.{Peer, Plan, peer_of}
 use Rattle.rs_choice.specs.Refusal.{refuses, refusals_of, IsRefusal}
 use Rattle.rs_choice.specs.Policy.{is_permitted, is_permitted_from, permits_by_communities}
 
@@ -59,3 +63,24 @@ is_permitted-not-refused plan client number attributes one refused answer at_one
     let says : refuses one other ≡ false = sym (refusal one other at_one at_other) ∙ refuses_not in
     let others : (client == number) ≡ false = grind (arith, nat_tests) in
     at_answer ∙ sym (is_permitted-known plan client number attributes one other at_one at_other ∙ rw (others, says) refl)
+
+map_alike : {A B : Type 0} (f g : A → B) (xs : List A) → ((x : A) → f x ≡ g x) → map f xs ≡ map g xs
+map_alike f g [] same = refl
+map_alike f g (x ∷ xs) same = rw (same x, map_alike f g xs same) refl
+
+map_twice : {A B C : Type 0} (f : A → B) (g : B → C) (xs : List A) → map g (map f xs) ≡ map (λ x. g (f x)) xs
+map_twice f g [] = refl
+map_twice f g (x ∷ xs) = ap (λ rest. g (f x) ∷ rest) (map_twice f g xs)
+
+refuses-map : (client sender : PeerSpec) → refuses (peer_of client) (peer_of sender) ≡ refuses_spec client sender
+refuses-map client sender = list_any-map (λ name. string_bytes name) (λ name. bytes_eq name (string_bytes sender.name)) client.refuse_from.items
+
+refusal_row-map : (client : PeerSpec) (peers : List PeerSpec) → map (refuses (peer_of client)) (map peer_of peers) ≡ map (refuses_spec client) peers
+refusal_row-map client peers =
+    map_twice peer_of (refuses (peer_of client)) peers ∙ map_alike (λ sender. refuses (peer_of client) (peer_of sender)) (refuses_spec client) peers (refuses-map client)
+
+-- refusals by the peers as they are configured
+pub refusals_of-map : (peers : List PeerSpec) → refusals_of (map peer_of peers) ≡ map (λ client. map (refuses_spec client) peers) peers
+refusals_of-map peers =
+    map_twice peer_of (λ client. map (refuses client) (map peer_of peers)) peers
+    ∙ map_alike (λ client. map (refuses (peer_of client)) (map peer_of peers)) (λ client. map (refuses_spec client) peers) peers (λ client. refusal_row-map client peers)

@@ -1,7 +1,10 @@
+pub mod Checks
 pub mod Comparison
 pub mod Decision
 pub mod Eligibility
 pub mod Exchange
+pub mod FaultNumber
+pub mod Laws
 pub mod Naturality
 pub mod Plan
 pub mod Policy

@@ -1,5 +1,5 @@
 -- The plan of an exchange, and its first fault (our choice: RFC 4271 leaves configuration to the implementation).
-use Rattle.std.specs.Prelude.{ℕ, ◌==◌, nat_lt, nat_le, Bool, not, ◌&&◌, ◌||◌, if◌then◌else◌, List, [], ◌∷◌, ◌++◌, length, map, take, Option, None, Some, string_bytes}
+use Rattle.std.specs.Prelude.{◌≡◌, ℕ, ◌==◌, nat_lt, nat_le, Bool, not, ◌&&◌, ◌||◌, if◌then◌else◌, List, [], ◌∷◌, ◌++◌, length, map, take, Option, None, Some, string_bytes}
 use Rattle.std.specs.List.{list_any, list_all, flat_map, enumerate_from}
 use Rattle.std.specs.Char.{is_ascii_alphanumeric}
 use Rattle.std.specs.Str.{bytes_eq}
@@ -7,7 +7,7 @@ use Rattle.rs_choice.specs.declared.plan.Local.{Local}
 use Rattle.rs_choice.specs.declared.plan.PeerSpec.{PeerSpec}
 use Rattle.rs_choice.specs.declared.plan.TheConstants.{MAX_PEERS, MAX_NAME_LEN, HYPHEN, UNDERSCORE}
 use Rattle.rs_choice.specs.declared.fault.PlanFault.{PlanFault}
-use Rattle.rs_choice.specs.declared.fault.PlanFault.TheVariants.{NoPeer, TooManyPeers, InvalidName, RepeatedName, RepeatedAddress, ZeroAs, UnknownName}
+use Rattle.rs_choice.specs.declared.fault.PlanFault.TheVariants.{NoPeer, TooManyPeers, InvalidName, RepeatedName, RepeatedAddress, ZeroAs, UnknownName, Memory}
 
 -- a peer by its values: names are their octets
 pub record Peer : Type 0 where
@@ -39,10 +39,13 @@ is_name_octet octet = is_ascii_alphanumeric octet || (octet == HYPHEN || octet =
 
 -- a name is not empty, not long, and of such octets alone
 abbrev pub is_name : List ℕ → Bool
-is_name name = nat_lt 0 (length name) && (nat_le (length name) MAX_NAME_LEN && list_all is_name_octet name)
+is_name name = not (length name == 0) && (nat_le (length name) MAX_NAME_LEN && list_all is_name_octet name)
 
 abbrev pub has_name : List Peer → List ℕ → Bool
 has_name peers name = list_any (λ peer. bytes_eq peer.name name) peers
+
+abbrev pub has_names : List Peer → List (List ℕ) → Bool
+has_names peers names = list_all (λ name. has_name peers name) names
 
 abbrev pub has_address : List Peer → ℕ → Bool
 has_address peers address = list_any (λ peer. peer.address == address) peers
@@ -68,14 +71,18 @@ peer_tests earlier number peer =
 
 -- the test of the names that a peer refuses routes from: each is the name of some peer
 abbrev pub name_tests : List Peer → ℕ → Peer → List Test
-name_tests peers number peer = (not (list_all (λ name. has_name peers name) peer.refuse_from), UnknownName number) ∷ []
+name_tests peers number peer = (not (has_names peers peer.refuse_from), UnknownName number) ∷ []
 
--- all tests of a plan in their order: of the whole, then of peer by peer, then of the names that peer by peer refuses
+-- the same of one peer after another
+abbrev pub peers_tests : List Peer → List Test
+peers_tests peers = flat_map (λ (number, peer). peer_tests (take number peers) number peer) (enumerate_from 0 peers)
+
+abbrev pub names_tests : List Peer → List Test
+names_tests peers = flat_map (λ (number, peer). name_tests peers number peer) (enumerate_from 0 peers)
+
+-- all tests of a plan, in their order
 abbrev pub plan_tests : Local → List Peer → List Test
-plan_tests local peers =
-    (whole_tests local peers
-    ++ flat_map (λ (number, peer). peer_tests (take number peers) number peer) (enumerate_from 0 peers))
-    ++ flat_map (λ (number, peer). name_tests peers number peer) (enumerate_from 0 peers)
+plan_tests local peers = (whole_tests local peers ++ peers_tests peers) ++ names_tests peers
 
 -- the fault of the first test that is true, or none
 abbrev pub first_fault : List Test → Option PlanFault
@@ -84,3 +91,8 @@ first_fault ((fails, fault) ∷ later) = if fails then Some fault else first_fau
 
 abbrev pub plan_fault : Local → List Peer → Option PlanFault
 plan_fault local peers = first_fault (plan_tests local peers)
+
+-- a plan is refused by its first fault, or else for want of memory alone
+abbrev pub Refuses : PlanFault → Option PlanFault → Type 0
+Refuses fault None = fault ≡ Memory
+Refuses fault (Some first) = fault ≡ first

@@ -1,10 +1,14 @@
 //! An exchange: a plan without a fault.
 
-ghost use Rattle.std.specs.Prelude.{◌≡◌, ◌<◌, ◌≤◌, None, Some, length, slice_get};
-ghost use Rattle.rs_choice.specs.Plan.{peer_of, plan_fault};
-ghost use Rattle.rs_choice.specs.Refusal.{IsRefusal};
+ghost use Rattle.std.specs.Prelude.{◌≡◌, ◌<◌, ◌≤◌, IfErr, IfOk, OnOk, None, Some, length, map, slice_get};
+ghost use Rattle.rs_choice.specs.Plan.{peer_of, plan_fault, Refuses};
+ghost use Rattle.rs_choice.specs.Checks.{refuses_spec};
+ghost use Rattle.rs_choice.specs.Refusal.{IsRefusal, refusals_of};
 
+use crate::checks;
+use crate::fault::PlanFault;
 use crate::plan::{Local, MAX_PEERS, PeerSpec};
+use std::alloc::{AllocError, Global};
 use std::marker::Model;
 
 /// A plan without a fault: the server and its peers.
@@ -29,6 +33,24 @@ impl Model for Exchange {
 }
 
 impl Exchange {
+    /// The exchange of a plan. A plan with a fault is refused by its first one; `Memory` is answered only of a plan without a fault.
+    /// Refused, the peers are dropped.
+    pub fn new(alloc: Global, local: Local, peers: Vec<PeerSpec>) -> Result<Exchange, PlanFault>
+        ensures plan { IfOk result (λ exchange. exchange ≡ record { local = local; peers = map peer_of peers.items }) }
+        ensures faultless { OnOk result (plan_fault local (map peer_of peers.items) ≡ None) }
+        ensures refused { IfErr result (λ fault. Refuses fault (plan_fault local (map peer_of peers.items))) }
+    {
+        if let Some(fault) = checks::plan_fault(&local, &peers) {
+            return Err(fault);
+        }
+        let refusals = refusals(alloc, &peers)?;
+        Ok(Exchange {
+            local,
+            peers,
+            refusals,
+        })
+    }
+
     /// How many peers there are, 1 to 256.
     pub fn count(&self) -> usize
         ensures value { result ≡ length self.now.peers }
@@ -62,4 +84,29 @@ impl Exchange {
     {
         self.refusals[client][peer]
     }
+}
+
+// For each client, for each peer: whether the client refuses its routes.
+fn refusals(alloc: Global, peers: &[PeerSpec]) -> Result<Vec<Vec<bool>>, AllocError>
+    ensures { IfOk result (λ rows. map (λ row. row.items) rows.items ≡ refusals_of (map peer_of peers.now)) }
+{
+    let mut rows = Vec::with_capacity(alloc, peers.len())?;
+    for client in peers {
+        rows.push(refusal_row(alloc, client, peers)?)?;
+    }
+    Ok(rows)
+}
+
+// For each peer: whether one client refuses its routes.
+fn refusal_row(
+    alloc: Global,
+    client: &PeerSpec,
+    peers: &[PeerSpec],
+) -> Result<Vec<bool>, AllocError>
+    ensures { IfOk result (λ row. row.items ≡ map (refuses_spec client.now) peers.now) }
+{
+    peers
+        .iter()
+        .map(|sender| client.refuse_from.contains(&sender.name))
+        .collect(alloc)
 }

@@ -1,10 +1,14 @@
 //! Why a plan is refused (our choice: RFC 4271 leaves configuration to the implementation).
 
+ghost use Rattle.std.specs.Prelude.{◌≡◌};
+ghost use Rattle.rs_choice.specs.declared.fault.PlanFault.TheVariants.{Memory};
+
+use std::alloc::{AllocError, AllocFailed};
 use std::error::Error;
 use std::fmt;
 
-/// The first fault of a plan, in the order of the variants: first those of the whole plan, then `InvalidName` to `ZeroAs` of one
-/// peer after another, then `UnknownName` of one peer after another.
+/// The first fault of a plan, in the order of the variants: first those of the whole plan, with `ZeroAs` of the server as the last of
+/// them; then `InvalidName` to `ZeroAs` of one peer after another; then `UnknownName` of one peer after another.
 #[derive(Clone, Copy, Debug, PartialEq, Eq)]
 pub enum PlanFault {
     /// There is no peer.
@@ -17,10 +21,74 @@ pub enum PlanFault {
     RepeatedName(usize),
     /// An earlier peer has the address of this one.
     RepeatedAddress(usize),
-    /// The AS number of this peer, or of the server (None), is 0. The server's is tested before any peer.
+    /// The AS number of this peer, or of the server (None), is 0.
     ZeroAs(Option<usize>),
     /// This peer refuses routes from a name that no peer has.
     UnknownName(usize),
     /// Memory was refused. The plan itself has no fault.
     Memory,
 }
+
+impl PlanFault {
+    ghost use Rattle.rs_choice.specs.FaultNumber.{number_of_fault, peer_of_fault};
+
+    /// The number of the fault, 1 to 8 in the order of the variants.
+    pub fn number(&self) -> u8
+        ensures { result ≡ number_of_fault self.now }
+    {
+        match self {
+            PlanFault::NoPeer => 1,
+            PlanFault::TooManyPeers => 2,
+            PlanFault::InvalidName(_) => 3,
+            PlanFault::RepeatedName(_) => 4,
+            PlanFault::RepeatedAddress(_) => 5,
+            PlanFault::ZeroAs(_) => 6,
+            PlanFault::UnknownName(_) => 7,
+            PlanFault::Memory => 8,
+        }
+    }
+
+    /// The number of the peer at fault, where the fault is one peer's.
+    pub fn peer(&self) -> Option<usize>
+        ensures { result ≡ peer_of_fault self.now }
+    {
+        match self {
+            PlanFault::NoPeer => None,
+            PlanFault::TooManyPeers => None,
+            PlanFault::InvalidName(peer) => Some(*peer),
+            PlanFault::RepeatedName(peer) => Some(*peer),
+            PlanFault::RepeatedAddress(peer) => Some(*peer),
+            PlanFault::ZeroAs(peer) => *peer,
+            PlanFault::UnknownName(peer) => Some(*peer),
+            PlanFault::Memory => None,
+        }
+    }
+}
+
+impl From<AllocError> for PlanFault {
+    ghost from_gives = { λ _ fault. fault ≡ Memory };
+
+    fn from(_refused: AllocError) -> PlanFault {
+        PlanFault::Memory
+    }
+}
+
+impl<T: Drop> From<AllocFailed<T>> for PlanFault {
+    ghost from_gives = { λ _ fault. fault ≡ Memory };
+
+    fn from(_refused: AllocFailed<T>) -> PlanFault {
+        PlanFault::Memory
+    }
+}
+
+impl fmt::Display for PlanFault {
+    fn fmt<W: fmt::Write>(&self, f: &mut fmt::Formatter<W>) -> fmt::Result {
+        let number = self.number();
+        match self.peer() {
+            None => write!(f, "plan fault P{number}"),
+            Some(peer) => write!(f, "plan fault P{number} at peer {peer}"),
+        }
+    }
+}
+
+impl Error for PlanFault {}

@@ -8,10 +8,12 @@
 #![tactic(auto)]
 
 mod candidate;
+mod checks;
 mod decision;
 mod eligibility;
 mod exchange;
 mod fault;
+mod laws;
 mod plan;
 mod policy;
 mod step;
@@ -19,4 +21,9 @@ mod step;
 pub use candidate::Candidate;
 pub use exchange::Exchange;
 pub use fault::PlanFault;
+pub use laws::{
+    a_plan_is_refused_by_its_first_fault, an_open_policy_shares_the_choice,
+    med_decides_within_a_neighbour_as, peers_have_addresses_of_their_own, the_choice_ignores_order,
+    the_choice_is_unbeaten,
+};
 pub use plan::{Local, MAX_NAME_LEN, MAX_PEERS, PeerSpec};

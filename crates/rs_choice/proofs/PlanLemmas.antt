@@ -1,0 +1,79 @@
+-- The first fault of a list of tests: of two lists in a row, and of the tests of one peer after another.
+use Rattle.std.proofs.Common.{◌≡◌, ◌∙◌, ap, refl, ℕ, ◌+◌, ◌<◌, arith, Bool, true, false, List, [], ◌∷◌, ◌++◌, length, map, drop, get_or, Some, None}
+use Rattle.std.specs.List.{flat_map, enumerate_from, list_all}
+use Rattle.std.proofs.lemmas.List.Folds.{list_all-map}
+use Rattle.std.proofs.lemmas.List.{drop_more, drop_all}
+use Rattle.std.specs.Prelude.{◌==◌, not, string_bytes}
+use Rattle.std.specs.Str.{bytes_eq}
+use Rattle.rs_choice.specs.declared.plan.PeerSpec.{PeerSpec}
+use Rattle.rs_choice.specs.declared.fault.PlanFault.{PlanFault}
+use Rattle.rs_choice.specs.declared.fault.PlanFault.TheVariants.{InvalidName, RepeatedName, RepeatedAddress, ZeroAs}
+use Rattle.rs_choice.specs.Naturality.{list_any-map}
+use Rattle.rs_choice.specs.Checks.{has_name_among, has_address_among}
+use Rattle.rs_choice.specs.Plan.{Test, first_fault, is_name, has_name, has_names, has_address, peer_tests, peer_of}
+
+-- a fault in the first list is the first
+pub first_fault-Some : (first later : List Test) (fault : PlanFault) → first_fault first ≡ Some fault → first_fault (first ++ later) ≡ Some fault
+first_fault-Some [] later fault found = absurd (cc (found))
+first_fault-Some ((true, one) ∷ first) later fault found = found
+first_fault-Some ((false, one) ∷ first) later fault found = first_fault-Some first later fault found
+
+-- where it has none, the first is that of the second
+pub first_fault-None : (first later : List Test) → first_fault first ≡ None → first_fault (first ++ later) ≡ first_fault later
+first_fault-None [] later none = refl
+first_fault-None ((true, one) ∷ first) later none = absurd (cc (none))
+first_fault-None ((false, one) ∷ first) later none = first_fault-None first later none
+
+-- the tests of the peers from a number on
+abbrev pub tests_from : {P : Type 0} → (ℕ × P → List Test) → List P → ℕ → List Test
+tests_from tests peers number = flat_map tests (enumerate_from number (drop number peers))
+
+tests_from-step : {P : Type 0} (tests : ℕ × P → List Test) (peers : List P) (number : ℕ) (peer : P) → number < length peers →
+    get_or peers number peer ≡ peer → tests_from tests peers number ≡ tests (number, peer) ++ tests_from tests peers (number + 1)
+tests_from-step tests peers number peer within is =
+    rw (drop_more peers number peer within, is) refl
+
+-- the fault of one peer, where no earlier one has a fault, is the first of all
+pub first_fault-here : {P : Type 0} (tests : ℕ × P → List Test) (peers : List P) (number : ℕ) (peer : P) (fault : PlanFault) →
+    number < length peers → get_or peers number peer ≡ peer → first_fault (tests_from tests peers 0) ≡ first_fault (tests_from tests peers number) →
+    first_fault (tests (number, peer)) ≡ Some fault → first_fault (tests_from tests peers 0) ≡ Some fault
+first_fault-here tests peers number peer fault within is before here =
+    before ∙ ap first_fault (tests_from-step tests peers number peer within is) ∙ first_fault-Some (tests (number, peer)) (tests_from tests peers (number + 1)) fault here
+
+-- where it has none either, the first of all is later
+pub first_fault-later : {P : Type 0} (tests : ℕ × P → List Test) (peers : List P) (number : ℕ) (peer : P) →
+    number < length peers → get_or peers number peer ≡ peer → first_fault (tests_from tests peers 0) ≡ first_fault (tests_from tests peers number) →
+    first_fault (tests (number, peer)) ≡ None → first_fault (tests_from tests peers 0) ≡ first_fault (tests_from tests peers (number + 1))
+first_fault-later tests peers number peer within is before here =
+    before ∙ ap first_fault (tests_from-step tests peers number peer within is) ∙ first_fault-None (tests (number, peer)) (tests_from tests peers (number + 1)) here
+
+-- past the last peer there is none
+pub first_fault-end : {P : Type 0} (tests : ℕ × P → List Test) (peers : List P) (number : ℕ) → length peers ≡ number →
+    first_fault (tests_from tests peers 0) ≡ first_fault (tests_from tests peers number) → first_fault (tests_from tests peers 0) ≡ None
+first_fault-end tests peers number end before = before ∙ rw (drop_all number peers (omega (arith, end))) refl
+
+list_all_alike : {A : Type 0} (p q : A → Bool) (xs : List A) → ((x : A) → p x ≡ q x) → list_all p xs ≡ list_all q xs
+list_all_alike p q [] same = refl
+list_all_alike p q (x ∷ xs) same = rw (same x, list_all_alike p q xs same) refl
+
+-- the tests of peers by their values are those of the peers as configured
+pub has_name-map : (peers : List PeerSpec) (name : List ℕ) → has_name (map peer_of peers) name ≡ has_name_among peers name
+has_name-map peers name = list_any-map peer_of (λ peer. bytes_eq peer.name name) peers
+
+pub has_address-map : (peers : List PeerSpec) (address : ℕ) → has_address (map peer_of peers) address ≡ has_address_among peers address
+has_address-map peers address = list_any-map peer_of (λ peer. peer.address == address) peers
+
+-- the first fault of one peer, by the answers of its tests
+pub peer_fault-is : (earlier : List PeerSpec) (number : ℕ) (peer : PeerSpec) (named repeated same : Bool) →
+    named ≡ is_name (string_bytes peer.name) → repeated ≡ has_name_among earlier (string_bytes peer.name) → same ≡ has_address_among earlier peer.address →
+    first_fault (peer_tests (map peer_of earlier) number (peer_of peer))
+    ≡ first_fault ((not named, InvalidName number) ∷ (repeated, RepeatedName number) ∷ (same, RepeatedAddress number) ∷ (peer.asn == 0, ZeroAs (Some number)) ∷ [])
+peer_fault-is earlier number peer named repeated same is_named is_repeated is_same =
+    rw (is_named, is_repeated, is_same, ← has_name-map earlier (string_bytes peer.name), ← has_address-map earlier peer.address) refl
+
+pub has_names-map : (peers : List PeerSpec) (client : PeerSpec) →
+    has_names (map peer_of peers) (peer_of client).refuse_from ≡ list_all (λ name. has_name_among peers (string_bytes name)) client.refuse_from.items
+has_names-map peers client =
+    list_all-map (has_name (map peer_of peers)) (λ name. string_bytes name) client.refuse_from.items
+    ∙ list_all_alike (λ name. has_name (map peer_of peers) (string_bytes name)) (λ name. has_name_among peers (string_bytes name)) client.refuse_from.items
+    (λ name. has_name-map peers (string_bytes name))

@@ -1,0 +1,5 @@
+use Rattle.rs_choice.proofs.PlanLaws.{own_addresses}
+use Rattle.rs_choice.proofs.laws.peers_have_addresses_of_their_own.Goals as goal
+
+pub returns : goal.returns
+returns c = own_addresses

@@ -1,0 +1,66 @@
+-- Laws of the decision process, of export policy and of the faults of a plan.
+use Rattle.std.specs.Prelude.{◌≡◌, ◌<◌, ◌↔◌, ℕ, true, IsTrue, IsFalse, List, [], ◌∷◌, ◌++◌, filter, None, Some, MatchOption, slice_get}
+use Rattle.std.specs.List.{Contains}
+use Rattle.rs_choice.specs.declared.plan.Local.{Local}
+use Rattle.rs_choice.specs.declared.step.Step.{Step}
+use Rattle.rs_choice.specs.declared.step.Step.TheVariants as steps
+use Rattle.rs_choice.specs.Plan.{Peer, Plan, Test, first_fault, plan_fault}
+use Rattle.rs_choice.specs.Policy.{is_permitted}
+use Rattle.rs_choice.specs.Decision.{SentRoute, beats, choice, decision_steps, remaining, standing_of, unbeaten}
+
+-- the choice is a member of the set, and there is one unless the set is empty
+abbrev pub ChoiceIsMember : Type 0
+ChoiceIsMember = (plan : Plan) (set : List SentRoute) → MatchOption (choice (standing_of plan) set) (set ≡ []) (λ chosen. Contains set chosen)
+
+-- at each step the choice is in the set that reached the step, and no member of that set beats it
+abbrev pub ChoiceIsUnbeaten : Type 0
+ChoiceIsUnbeaten =
+    (plan : Plan) (set : List SentRoute) (chosen : SentRoute) → choice (standing_of plan) set ≡ Some chosen →
+    (before : List Step) (step : Step) (after : List Step) → decision_steps ≡ before ++ step ∷ after →
+    Contains (remaining (standing_of plan) before set) chosen
+    × ((other : SentRoute) → Contains (remaining (standing_of plan) before set) other → IsFalse (beats step (standing_of plan other) (standing_of plan chosen)))
+
+-- two lists have the same members
+abbrev pub SameMembers : List SentRoute → List SentRoute → Type 0
+SameMembers some others = (route : SentRoute) → Contains some route ↔ Contains others route
+
+-- routes whose senders have the same address are the same
+abbrev pub HaveOwnAddresses : Plan → List SentRoute → Type 0
+HaveOwnAddresses plan set =
+    (one other : SentRoute) → Contains set one → Contains set other →
+    (standing_of plan one).address ≡ (standing_of plan other).address → one ≡ other
+
+-- where the senders' addresses differ, the choice is the same in whatever order the candidates stand, and however often
+abbrev pub ChoiceIgnoresOrder : Type 0
+ChoiceIgnoresOrder =
+    (plan : Plan) (some others : List SentRoute) → SameMembers some others → HaveOwnAddresses plan some →
+    choice (standing_of plan) some ≡ choice (standing_of plan) others
+
+-- whom the step by MED removes, another one from the same neighbour AS with a lower MED removes
+abbrev pub MedDecidesWithinNeighbour : Type 0
+MedDecidesWithinNeighbour =
+    (plan : Plan) (set : List SentRoute) (removed : SentRoute) → Contains set removed → (Contains (unbeaten (standing_of plan) steps.Med set) removed → ⊥) →
+    (other : SentRoute) × Contains set other
+    × ((standing_of plan other).neighbour ≡ (standing_of plan removed).neighbour)
+    × ((standing_of plan other).med < (standing_of plan removed).med)
+
+-- a client to which all routes of a set are permitted gets the choice among all of them
+abbrev pub OpenPolicySharesChoice : Type 0
+OpenPolicySharesChoice =
+    (plan : Plan) (client : ℕ) (set : List SentRoute) →
+    ((route : SentRoute) → Contains set route → IsTrue (is_permitted plan client route.peer route.attributes)) →
+    choice (standing_of plan) (filter (λ route. is_permitted plan client route.peer route.attributes) set) ≡ choice (standing_of plan) set
+
+-- a fault is that of a test that is true, and all tests before it are false; without one all tests are false
+abbrev pub FaultIsFirst : Type 0
+FaultIsFirst =
+    (tests : List Test) →
+    MatchOption (first_fault tests)
+    ((k : ℕ) (test : Test) → slice_get tests k ≡ Some test → IsFalse test.0)
+    (λ fault. (place : ℕ) × (slice_get tests place ≡ Some (true, fault)) × ((k : ℕ) (test : Test) → k < place → slice_get tests k ≡ Some test → IsFalse test.0))
+
+-- peers of a plan without a fault have addresses of their own
+abbrev pub PeersHaveOwnAddresses : Type 0
+PeersHaveOwnAddresses =
+    (local : Local) (peers : List Peer) → plan_fault local peers ≡ None →
+    (i j : ℕ) (one other : Peer) → slice_get peers i ≡ Some one → slice_get peers j ≡ Some other → one.address ≡ other.address → i ≡ j

@@ -1,0 +1,35 @@
+//! What holds of the definitions that the contracts cite: each law is the contract of a function that does nothing.
+
+ghost use Rattle.rs_choice.specs.Laws.{ChoiceIgnoresOrder, ChoiceIsMember, ChoiceIsUnbeaten, FaultIsFirst, MedDecidesWithinNeighbour, OpenPolicySharesChoice, PeersHaveOwnAddresses};
+
+/// The choice among candidates is one of them, and there is one unless there is no candidate; at each step of the decision process
+/// it is in the set that reached the step, and no member of that set beats it (RFC 4271, section 9.1.2.2).
+pub fn the_choice_is_unbeaten()
+    ensures member { ChoiceIsMember }
+    ensures unbeaten { ChoiceIsUnbeaten }
+{}
+
+/// Where the addresses of the sending peers differ, the choice is the same in whatever order the candidates stand.
+pub fn the_choice_ignores_order()
+    ensures { ChoiceIgnoresOrder }
+{}
+
+/// MED decides only between candidates from the same neighbour AS (RFC 4271, section 9.1.2.2, c).
+pub fn med_decides_within_a_neighbour_as()
+    ensures { MedDecidesWithinNeighbour }
+{}
+
+/// A client to which export policy permits all routes of a set gets the choice among all of them (RFC 7947, section 2.3.2.1).
+pub fn an_open_policy_shares_the_choice()
+    ensures { OpenPolicySharesChoice }
+{}
+
+/// The fault of a plan is that of the first test that finds one, in the order of the tests.
+pub fn a_plan_is_refused_by_its_first_fault()
+    ensures { FaultIsFirst }
+{}
+
+/// Peers of a plan without a fault have addresses of their own.
+pub fn peers_have_addresses_of_their_own()
+    ensures { PeersHaveOwnAddresses }
+{}

@@ -1,0 +1,11 @@
+pub mod ItemLemmas
+pub mod MessageExamples
+pub mod MessageLemmas
+pub mod PartsLemmas
+pub mod PathLemmas
+pub mod PathWalkLemmas
+pub mod PrefixLemmas
+pub mod ReadParts
+pub mod SectionLemmas
+pub mod SegmentLemmas
+pub mod SpelledParts

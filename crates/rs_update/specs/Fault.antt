@@ -1,0 +1,42 @@
+-- The faults of a message, by error code and subcode (RFC 4271, section 4.5).
+use Rattle.std.specs.Prelude.{ℕ, Bool, List, [], ◌∷◌, Option, Some, None, if◌then◌else◌}
+use Rattle.rs_update.specs.declared.fault.HeaderFault.{HeaderFault}
+use Rattle.rs_update.specs.declared.fault.HeaderFault.TheVariants.{NotSynchronized, BadLength, BadType}
+use Rattle.rs_update.specs.declared.fault.UpdateFault.{UpdateFault}
+use Rattle.rs_update.specs.declared.fault.UpdateFault.TheVariants.{MalformedAttributeList, UnrecognizedWellKnown, MissingWellKnown, AttributeFlags, AttributeLength, InvalidOrigin, InvalidNextHop, InvalidNetworkField, MalformedAsPath}
+use Rattle.rs_update.specs.declared.fault.MessageFault.{MessageFault}
+use Rattle.rs_update.specs.declared.fault.MessageFault.TheVariants.{Bgp}
+
+-- Message Header Error, code 1 (section 6.1)
+abbrev pub header_subcode : HeaderFault → ℕ
+header_subcode NotSynchronized = 1
+header_subcode BadLength = 2
+header_subcode BadType = 3
+
+-- UPDATE Message Error, code 3 (section 6.3)
+abbrev pub update_subcode : UpdateFault → ℕ
+update_subcode MalformedAttributeList = 1
+update_subcode UnrecognizedWellKnown = 2
+update_subcode MissingWellKnown = 3
+update_subcode AttributeFlags = 4
+update_subcode AttributeLength = 5
+update_subcode InvalidOrigin = 6
+update_subcode InvalidNextHop = 8
+update_subcode InvalidNetworkField = 10
+update_subcode MalformedAsPath = 11
+
+abbrev pub of_header : HeaderFault → MessageFault
+of_header fault = Bgp 1 (header_subcode fault)
+
+abbrev pub of_update : UpdateFault → MessageFault
+of_update fault = Bgp 3 (update_subcode fault)
+
+-- tests in their order, each with the fault that it finds: the first that finds one decides
+abbrev pub first_fault : {F : Type 0} → List (Bool × F) → Option F
+first_fault [] = None
+first_fault (test ∷ later) = if test.0 then Some test.1 else first_fault later
+
+-- a fault, or else what is found later
+abbrev pub or_else : {F : Type 0} → Option F → Option F → Option F
+or_else None later = later
+or_else (Some fault) later = Some fault

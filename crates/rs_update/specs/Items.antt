@@ -1,0 +1,12 @@
+-- Attributes and segments where they stand in a message, by what they are.
+use Rattle.std.specs.Prelude.{ℕ, List}
+use Rattle.std.specs.Borrow.{Bor}
+use Rattle.rs_update.specs.declared.item.Item.{Item as ItemThere}
+use Rattle.rs_update.specs.Section.{Item}
+
+abbrev pub item_of : ItemThere → Item
+item_of item = record { flags = item.flags.octet; kind = item.kind; value = item.value.now }
+
+-- an attribute and the octets behind it
+abbrev pub split_of : ItemThere × Bor (List ℕ) → Item × List ℕ
+split_of split = (item_of split.0, split.1.now)

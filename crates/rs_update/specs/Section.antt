@@ -1,0 +1,135 @@
+-- A section of path attributes, and its first fault (RFC 4271, sections 4.3, 5 and 6.3; RFC 6793; RFC 1997).
+use Rattle.std.specs.Prelude.{◌≡◌, ℕ, ◌+◌, ◌*◌, ◌%◌, ◌<◌, ◌≤◌, Bool, true, false, not, ◌&&◌, ◌||◌, ◌==◌, nat_lt, nat_le, List, [], ◌∷◌, ◌++◌, length, take, drop, slice_index, Option, Some, None, is_some, if◌then◌else◌}
+use Rattle.std.specs.List.{list_any}
+use Rattle.byteorder.specs.Endian.{big_number, big_bytes}
+use Rattle.rs_update.specs.declared.attribute_type.AttributeType.{AttributeType}
+use Rattle.rs_update.specs.declared.attribute_type.AttributeType.TheVariants as types
+use Rattle.rs_update.specs.declared.fault.UpdateFault.{UpdateFault}
+use Rattle.rs_update.specs.declared.fault.UpdateFault.TheVariants.{MalformedAttributeList, UnrecognizedWellKnown, AttributeFlags, AttributeLength, InvalidOrigin, InvalidNextHop, MalformedAsPath}
+use Rattle.rs_update.specs.declared.values.Origin.{Origin}
+use Rattle.rs_update.specs.declared.values.Origin.TheVariants.{Igp, Egp, Incomplete}
+use Rattle.rs_update.specs.AttributeType.{type_of, flags_of, suits, is_unrecognized, is_optional, is_extended}
+use Rattle.rs_update.specs.Fault.{first_fault, or_else}
+use Rattle.rs_update.specs.Parts.{parts_of}
+use Rattle.rs_update.specs.PathSegments.{segments_of}
+
+-- one attribute: its flags, the number of its type, and its value
+pub record Item : Type 0 where
+  pub flags : ℕ
+  pub kind : ℕ
+  pub value : List ℕ
+
+-- the length of a value takes two octets where the Extended Length flag stands, else one; the flag may stand with any length
+abbrev pub spelled_length : Item → List ℕ
+spelled_length item = if is_extended item.flags then big_bytes 2 (length item.value) else length item.value ∷ []
+
+abbrev pub FitsItsLength : Item → Type 0
+FitsItsLength item = length item.value < (if is_extended item.flags then 65536 else 256)
+
+-- octets that spell an attribute: flags, type, length, value
+abbrev pub SpellsItem : List ℕ → Item → Type 0
+SpellsItem octets item = (octets ≡ item.flags ∷ item.kind ∷ (spelled_length item ++ item.value)) × FitsItsLength item
+
+-- the value that the octets begin with, and the octets behind it, where there are enough
+abbrev pub item_with : ℕ → ℕ → ℕ → List ℕ → Option (Item × List ℕ)
+item_with flags kind count octets =
+    if nat_lt (length octets) count then None
+    else Some (record { flags = flags; kind = kind; value = take count octets }, drop count octets)
+
+abbrev pub long_item_at : ℕ → ℕ → List ℕ → Option (Item × List ℕ)
+long_item_at flags kind [] = None
+long_item_at flags kind (high ∷ []) = None
+long_item_at flags kind (high ∷ low ∷ octets) = item_with flags kind (high * 256 + low) octets
+
+abbrev pub short_item_at : ℕ → ℕ → List ℕ → Option (Item × List ℕ)
+short_item_at flags kind [] = None
+short_item_at flags kind (count ∷ octets) = item_with flags kind count octets
+
+-- the attribute that a front of the octets spells, and the octets behind it
+unfoldable pub item_at : List ℕ → Option (Item × List ℕ)
+item_at [] = None
+item_at (flags ∷ []) = None
+item_at (flags ∷ kind ∷ octets) = if is_extended flags then long_item_at flags kind octets else short_item_at flags kind octets
+
+-- the attributes of a section, and what is left over
+abbrev pub items_of : List ℕ → List Item
+items_of section = (parts_of item_at section).0
+
+abbrev pub rest_of : List ℕ → List ℕ
+rest_of section = (parts_of item_at section).1
+
+-- what the length of a value must be; the types that are dropped may have any, and an AS_PATH is tested as a value
+abbrev pub suits_length : AttributeType → ℕ → Bool
+suits_length types.Origin count = count == 1
+suits_length types.AsPath count = true
+suits_length types.NextHop count = count == 4
+suits_length types.MultiExitDisc count = count == 4
+suits_length types.LocalPref count = true
+suits_length types.AtomicAggregate count = count == 0
+suits_length types.Aggregator count = count == 8
+suits_length types.Communities count = not (count == 0) && (count % 4 == 0)
+suits_length types.MpReachNlri count = true
+suits_length types.MpUnreachNlri count = true
+suits_length types.As4Path count = true
+suits_length types.As4Aggregator count = true
+suits_length types.Unrecognized count = true
+
+-- the code of an origin (section 4.3)
+abbrev pub origin_of : ℕ → Option Origin
+origin_of code = if code == 0 then Some Igp else if code == 1 then Some Egp else if code == 2 then Some Incomplete else None
+
+-- ORIGIN is one octet, the code of an origin
+abbrev pub is_origin : List ℕ → Bool
+is_origin (code ∷ []) = is_some (origin_of code)
+is_origin value = false
+
+-- NEXT_HOP begins neither with 0 nor with 224 or more (our choice)
+abbrev pub is_next_hop : List ℕ → Bool
+is_next_hop [] = false
+is_next_hop (first ∷ later) = nat_lt 0 first && nat_lt first 224
+
+-- AS_PATH is segments and nothing left over; it may be empty
+abbrev pub is_path : List ℕ → Bool
+is_path value = length (segments_of value).1 == 0
+
+-- what is wrong with a value of a length that suits its type
+abbrev pub value_tests : AttributeType → List ℕ → List (Bool × UpdateFault)
+value_tests types.Origin value = (not (is_origin value), InvalidOrigin) ∷ []
+value_tests types.AsPath value = (not (is_path value), MalformedAsPath) ∷ []
+value_tests types.NextHop value = (not (is_next_hop value), InvalidNextHop) ∷ []
+value_tests types.MultiExitDisc value = []
+value_tests types.LocalPref value = []
+value_tests types.AtomicAggregate value = []
+value_tests types.Aggregator value = []
+value_tests types.Communities value = []
+value_tests types.MpReachNlri value = []
+value_tests types.MpUnreachNlri value = []
+value_tests types.As4Path value = []
+value_tests types.As4Aggregator value = []
+value_tests types.Unrecognized value = []
+
+-- the tests of one attribute, in their order
+abbrev pub tests_of : AttributeType → ℕ → List ℕ → List (Bool × UpdateFault)
+tests_of kind flags value =
+    (is_unrecognized kind && not (is_optional flags), UnrecognizedWellKnown)
+    ∷ (not (suits (flags_of kind) flags), AttributeFlags)
+    ∷ (not (suits_length kind (length value)), AttributeLength)
+    ∷ value_tests kind value
+
+-- whether an attribute of a type stands among some
+abbrev pub has_type : ℕ → List Item → Bool
+has_type kind items = list_any (λ item. item.kind == kind) items
+
+-- the fault of an attribute that stands behind others: its type stood earlier, whatever the type, or else the first of its own tests
+abbrev pub fault_behind : List Item → Item → Option UpdateFault
+fault_behind earlier item = if has_type item.kind earlier then Some MalformedAttributeList else first_fault (tests_of (type_of item.kind) item.flags item.value)
+
+-- the fault of the first attribute at fault
+unfoldable pub first_item_fault : List Item → List Item → Option UpdateFault
+first_item_fault earlier [] = None
+first_item_fault earlier (item ∷ later) = or_else (fault_behind earlier item) (first_item_fault (earlier ++ item ∷ []) later)
+
+-- the first fault of a section: of its attributes front to back, or else that octets are left over
+abbrev pub section_fault : List ℕ → Option UpdateFault
+section_fault section =
+    or_else (first_item_fault [] (items_of section)) (if length (rest_of section) == 0 then None else Some MalformedAttributeList)

@@ -1,0 +1,80 @@
+//! AS_PATH: segments of AS numbers of four octets (RFC 4271, sections 4.3 and 5.1.2; RFC 6793).
+//!
+//! An empty AS_PATH is accepted (our choice). Segments of confederations are of no known type here, and so a fault.
+
+ghost use Rattle.std.specs.Prelude.{◌≡◌, ◌==◌};
+ghost use Rattle.std.specs.List.{list_any};
+ghost use Rattle.std.specs.Option.{option_map};
+ghost use Rattle.rs_update.specs.AsPath.{segment_of, numbers_of};
+ghost use Rattle.rs_update.specs.PathSegments.{segment_at, is_segment_type};
+ghost use Rattle.rs_update.specs.Section.{is_path as is_path_value};
+
+// The octets of an AS number.
+const AS_NUMBER_LEN: usize = 4;
+
+/// A segment of an AS_PATH: AS numbers of four octets, at least one and at most 255.
+#[derive(Debug, Drop)]
+pub enum Segment {
+    /// An AS_SET: unordered.
+    Set(Vec<u32>),
+    /// An AS_SEQUENCE: ordered, the AS nearest to the receiver first.
+    Sequence(Vec<u32>),
+}
+
+impl Segment {
+    // Whether an AS number stands in the segment.
+    pub(crate) fn holds(&self, asn: u32) -> bool
+        ensures { result ≡ list_any (λ number. number == asn) (numbers_of (segment_of self.now)) }
+    {
+        match self {
+            Segment::Set(numbers) => numbers.contains(&asn),
+            Segment::Sequence(numbers) => numbers.contains(&asn),
+        }
+    }
+}
+
+// Whether an AS number stands in a path, in a segment of either kind.
+pub(crate) fn holds_as(path: &[Segment], asn: u32) -> bool
+    ensures { result ≡ list_any (λ segment. list_any (λ number. number == asn) (numbers_of (segment_of segment))) path.now }
+{
+    path.iter().any(|segment| segment.holds(asn))
+}
+
+// Whether a segment may be of this type: 1 AS_SET, 2 AS_SEQUENCE.
+fn is_segment_type(kind: u8) -> bool
+    ensures { result ≡ is_segment_type kind }
+{
+    match kind {
+        1 => true,
+        2 => true,
+        _ => false,
+    }
+}
+
+// The octets behind the segment that a front of the octets spells, or None where no front does.
+#[tactic(auto, unfolding(crate::specs::PathSegments::segment_at))]
+fn behind_segment(octets: &[u8]) -> Option<&[u8]>
+    ensures { option_map (λ behind. behind.now) result ≡ option_map (λ split. split.1) (segment_at octets.now) }
+{
+    match octets {
+        [kind, count, numbers @ ..] => {
+            let len = AS_NUMBER_LEN * usize::from(*count);
+            if *count == 0 || numbers.len() < len || !is_segment_type(*kind) {
+                return None;
+            }
+            Some(&numbers[len..])
+        }
+        _ => None,
+    }
+}
+
+/// Whether the octets are segments, one after another, and nothing else.
+pub(crate) fn is_path(value: &[u8]) -> bool
+    ensures { result ≡ is_path_value value.now }
+{
+    let mut rest = value;
+    while let Some(behind) = behind_segment(rest) {
+        rest = behind;
+    }
+    rest.is_empty()
+}

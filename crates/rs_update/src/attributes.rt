@@ -1,0 +1,167 @@
+//! The path attributes that a route keeps (RFC 4271, section 5; RFC 6793; RFC 1997).
+
+ghost use Rattle.std.specs.Prelude.{◌≡◌, ◌≤◌, length, map};
+ghost use Rattle.std.specs.Option.{option_map};
+ghost use Rattle.rs_update.specs.AsPath.{segment_of, path_length_of, neighbour_of, holds_as_in};
+ghost use Rattle.rs_update.specs.Shapes.{communities_of, other_of};
+ghost use Rattle.rs_update.specs.Community.{has_community_in, has_value};
+ghost use Rattle.rs_update.specs.Spelling.{written};
+
+use crate::as_path::{Segment, holds_as};
+use crate::values::{Aggregator, Origin};
+use std::marker::Model;
+
+// The numbers that half a community can hold.
+const HALF: u32 = 65536;
+
+/// COMMUNITIES (RFC 1997): at least one value of four octets, in the order received.
+#[derive(Debug, Drop)]
+pub struct Communities {
+    /// Whether the Partial bit stood when it was received.
+    pub partial: bool,
+    /// The values: the high half is an AS number, the low half is that AS's own.
+    pub values: Vec<u32>,
+}
+
+impl Communities {
+    // Whether the value of the two halves is listed.
+    fn holds(&self, high: u32, low: u32) -> bool
+        ensures { result ≡ has_value self.now.values.items high low }
+    {
+        high < HALF && low < HALF && self.values.contains(&(high * HALF + low))
+    }
+}
+
+/// An optional transitive attribute that this crate doesn't recognize: it is passed on (RFC 4271, section 5).
+#[derive(Debug, Drop)]
+pub struct Unrecognized {
+    /// The attribute's type.
+    pub kind: u8,
+    /// The octets of its value.
+    pub value: Vec<u8>,
+}
+
+/// The path attributes of one UPDATE, as read: made by `read_message` alone.
+#[derive(Drop)]
+pub struct Attributes {
+    origin: Origin,
+    path: Vec<Segment>,
+    next_hop: u32,
+    med: Option<u32>,
+    atomic: bool,
+    aggregator: Option<Aggregator>,
+    communities: Option<Communities>,
+    others: Vec<Unrecognized>,
+    path_length: u32,
+    neighbour: Option<u32>,
+    spelling: Vec<u8>,
+}
+
+impl Model for Attributes {
+    ghost use Rattle.rs_update.specs.PathAttributes.{PathAttributes};
+
+    ghost Value = { PathAttributes };
+
+    ghost use Rattle.rs_update.specs.AttributesView.{view_of, IsWhole};
+
+    ghost view = { view_of };
+
+    ghost invariant = { IsWhole };
+}
+
+impl Attributes {
+    /// The origin.
+    pub fn origin(&self) -> Origin
+        ensures { result ≡ self.now.origin }
+    {
+        self.origin
+    }
+
+    /// The segments of AS_PATH, in order; none where it is empty.
+    pub fn path(&self) -> &[Segment]
+        ensures { map segment_of result.now ≡ self.now.path }
+    {
+        &self.path
+    }
+
+    /// NEXT_HOP, an IPv4 address in host order.
+    pub fn next_hop(&self) -> u32
+        ensures { result ≡ self.now.next_hop }
+    {
+        self.next_hop
+    }
+
+    /// MULTI_EXIT_DISC, where it was received.
+    pub fn med(&self) -> Option<u32>
+        ensures { result ≡ self.now.med }
+    {
+        self.med
+    }
+
+    /// Whether ATOMIC_AGGREGATE was received.
+    pub fn atomic(&self) -> bool
+        ensures { result ≡ self.now.atomic }
+    {
+        self.atomic
+    }
+
+    /// AGGREGATOR, where it was received.
+    pub fn aggregator(&self) -> Option<Aggregator>
+        ensures { result ≡ self.now.aggregator }
+    {
+        self.aggregator
+    }
+
+    /// COMMUNITIES, where it was received.
+    pub fn communities(&self) -> Option<&Communities>
+        ensures { option_map (λ list. communities_of list.now) result ≡ self.now.communities }
+    {
+        self.communities.as_ref()
+    }
+
+    /// The unrecognized optional transitive attributes, in ascending type.
+    pub fn others(&self) -> &[Unrecognized]
+        ensures { map other_of result.now ≡ self.now.others }
+    {
+        &self.others
+    }
+
+    /// How many AS numbers AS_PATH has, an AS_SET counting 1 (RFC 4271, section 9.1.2.2, a).
+    pub fn path_length(&self) -> u32
+        ensures { result ≡ path_length_of self.now.path }
+    {
+        self.path_length
+    }
+
+    /// The neighbour AS: the first AS number where the path begins with an AS_SEQUENCE, else `peer_as`, the sending peer's (our choice).
+    pub fn neighbour(&self, peer_as: u32) -> u32
+        ensures { result ≡ neighbour_of self.now.path peer_as }
+    {
+        self.neighbour.unwrap_or(peer_as)
+    }
+
+    // The written form, at most 4,073 octets.
+    pub(crate) fn spelling(&self) -> &[u8]
+        ensures value { result.now ≡ written self.now }
+        ensures bound { length (written self.now) ≤ 4073 }
+    {
+        &self.spelling
+    }
+
+    /// Whether the AS number `asn` stands in AS_PATH, in a segment of either kind.
+    pub fn holds_as(&self, asn: u32) -> bool
+        ensures { result ≡ holds_as_in self.now.path asn }
+    {
+        holds_as(&self.path, asn)
+    }
+
+    /// Whether the community (`high`, `low`) was received: the value `high` * 65,536 + `low`; no route has one with a half above 65,535.
+    pub fn has_community(&self, high: u32, low: u32) -> bool
+        ensures { result ≡ has_community_in self.now.communities high low }
+    {
+        match &self.communities {
+            None => false,
+            Some(list) => list.holds(high, low),
+        }
+    }
+}

@@ -1,0 +1,144 @@
+//! The faults of a message, as a NOTIFICATION names them (RFC 4271, sections 4.5, 6.1 and 6.3).
+
+ghost use Rattle.std.specs.Prelude.{◌≡◌};
+ghost use Rattle.rs_update.specs.declared.fault.MessageFault.TheVariants.{Memory};
+ghost use Rattle.rs_update.specs.Fault.{header_subcode, update_subcode, of_header, of_update};
+
+use std::alloc::{AllocError, AllocFailed};
+use std::error::Error;
+use std::fmt;
+
+/// What is wrong with the header of a message: error code 1, Message Header Error (RFC 4271, section 6.1).
+#[derive(Clone, Copy, Debug, PartialEq, Eq)]
+pub enum HeaderFault {
+    /// Connection Not Synchronized: an octet of the Marker isn't all ones. Subcode 1.
+    NotSynchronized,
+    /// Bad Message Length. Subcode 2.
+    BadLength,
+    /// Bad Message Type. Subcode 3.
+    BadType,
+}
+
+/// What is wrong with an UPDATE: error code 3, UPDATE Message Error (RFC 4271, section 6.3).
+#[derive(Clone, Copy, Debug, PartialEq, Eq)]
+pub enum UpdateFault {
+    /// Malformed Attribute List: lengths that pass the message, an attribute that passes the section, or a type that stands again. Subcode 1.
+    MalformedAttributeList,
+    /// Unrecognized Well-known Attribute. Subcode 2.
+    UnrecognizedWellKnown,
+    /// Missing Well-known Attribute: ORIGIN, AS_PATH or NEXT_HOP. Subcode 3.
+    MissingWellKnown,
+    /// Attribute Flags Error: the Optional or the Transitive bit isn't the type's. Subcode 4.
+    AttributeFlags,
+    /// Attribute Length Error. Subcode 5.
+    AttributeLength,
+    /// Invalid ORIGIN Attribute. Subcode 6.
+    InvalidOrigin,
+    /// Invalid NEXT_HOP Attribute. Subcode 8.
+    InvalidNextHop,
+    /// Invalid Network Field: withdrawn routes or NLRI that aren't prefixes. Subcode 10.
+    InvalidNetworkField,
+    /// Malformed AS_PATH. Subcode 11.
+    MalformedAsPath,
+}
+
+/// Why a message could not be read.
+#[derive(Clone, Copy, Debug, PartialEq, Eq)]
+pub enum MessageFault {
+    /// The first fault of the message, as the code and subcode of a NOTIFICATION (RFC 4271, section 4.5).
+    Bgp {
+        /// The error code: 1 for the header, 3 for an UPDATE.
+        code: u8,
+        /// The error subcode.
+        subcode: u8,
+    },
+    /// Memory was refused. It says nothing of the message.
+    Memory,
+}
+
+/// The error code of a fault of the header.
+const HEADER_ERROR: u8 = 1;
+
+/// The error code of a fault of an UPDATE.
+const UPDATE_ERROR: u8 = 3;
+
+impl HeaderFault {
+    // The error subcode.
+    fn subcode(self) -> u8
+        ensures { result ≡ header_subcode self }
+    {
+        match self {
+            HeaderFault::NotSynchronized => 1,
+            HeaderFault::BadLength => 2,
+            HeaderFault::BadType => 3,
+        }
+    }
+}
+
+impl UpdateFault {
+    // The error subcode.
+    fn subcode(self) -> u8
+        ensures { result ≡ update_subcode self }
+    {
+        match self {
+            UpdateFault::MalformedAttributeList => 1,
+            UpdateFault::UnrecognizedWellKnown => 2,
+            UpdateFault::MissingWellKnown => 3,
+            UpdateFault::AttributeFlags => 4,
+            UpdateFault::AttributeLength => 5,
+            UpdateFault::InvalidOrigin => 6,
+            UpdateFault::InvalidNextHop => 8,
+            UpdateFault::InvalidNetworkField => 10,
+            UpdateFault::MalformedAsPath => 11,
+        }
+    }
+}
+
+impl From<HeaderFault> for MessageFault {
+    ghost from_gives = { λ fault given. given ≡ of_header fault };
+
+    fn from(fault: HeaderFault) -> MessageFault {
+        MessageFault::Bgp {
+            code: HEADER_ERROR,
+            subcode: fault.subcode(),
+        }
+    }
+}
+
+impl From<UpdateFault> for MessageFault {
+    ghost from_gives = { λ fault given. given ≡ of_update fault };
+
+    fn from(fault: UpdateFault) -> MessageFault {
+        MessageFault::Bgp {
+            code: UPDATE_ERROR,
+            subcode: fault.subcode(),
+        }
+    }
+}
+
+impl From<AllocError> for MessageFault {
+    ghost from_gives = { λ _ fault. fault ≡ Memory };
+
+    fn from(_refused: AllocError) -> MessageFault {
+        MessageFault::Memory
+    }
+}
+
+impl<T: Drop> From<AllocFailed<T>> for MessageFault {
+    ghost from_gives = { λ _ fault. fault ≡ Memory };
+
+    fn from(_refused: AllocFailed<T>) -> MessageFault {
+        MessageFault::Memory
+    }
+}
+
+impl fmt::Display for MessageFault {
+    fn fmt<W: fmt::Write>(&self, f: &mut fmt::Formatter<W>) -> fmt::Result {
+        match self {
+            MessageFault::Bgp { code, subcode } => write!(f, "BGP error {code}/{subcode}"),
+            MessageFault::Memory => write!(f, "out of memory"),
+        }
+    }
+}
+
+impl Error for MessageFault {}

@@ -1,0 +1,76 @@
+//! One attribute of a section: its flags, its type and its value (RFC 4271, section 4.3).
+//!
+//! Extended Length may stand with a value of any length.
+
+ghost use Rattle.std.specs.Prelude.{◌≡◌};
+ghost use Rattle.std.specs.Option.{option_map};
+ghost use Rattle.rs_update.specs.Section.{item_at, item_with, long_item_at, short_item_at};
+ghost use Rattle.rs_update.specs.Items.{split_of};
+
+use crate::flags::Flags;
+use byteorder::{BigEndian, ByteOrder};
+
+/// An attribute where it stands in a message.
+#[derive(Clone, Copy)]
+pub struct Item<'a> {
+    /// The flags as received.
+    pub flags: Flags,
+    /// The number of the type.
+    pub kind: u8,
+    /// The octets of the value.
+    pub value: &'a [u8],
+}
+
+/// Takes the first attribute off a section: the attribute and the octets behind it, or None where no front of the octets spells one.
+#[tactic(auto, unfolding(crate::specs::Section::item_at))]
+pub fn split_item(section: &[u8]) -> Option<(Item<'_>, &[u8])>
+    ensures { option_map split_of result ≡ item_at section.now }
+{
+    match section {
+        [octet, kind, lengthened @ ..] => {
+            let flags = Flags { octet: *octet };
+            if flags.is_extended() {
+                split_long(flags, *kind, lengthened)
+            } else {
+                split_short(flags, *kind, lengthened)
+            }
+        }
+        _ => None,
+    }
+}
+
+// The attribute whose value stands behind a length of two octets.
+fn split_long(flags: Flags, kind: u8, octets: &[u8]) -> Option<(Item<'_>, &[u8])>
+    ensures { option_map split_of result ≡ long_item_at flags.octet kind octets.now }
+{
+    match octets {
+        [_, _, behind @ ..] => split_value(
+            flags,
+            kind,
+            usize::from(BigEndian::read_u16(octets)),
+            behind,
+        ),
+        _ => None,
+    }
+}
+
+// The attribute whose value stands behind a length of one octet.
+fn split_short(flags: Flags, kind: u8, octets: &[u8]) -> Option<(Item<'_>, &[u8])>
+    ensures { option_map split_of result ≡ short_item_at flags.octet kind octets.now }
+{
+    match octets {
+        [count, behind @ ..] => split_value(flags, kind, usize::from(*count), behind),
+        _ => None,
+    }
+}
+
+// The attribute whose value is the first `count` octets, where there are so many.
+fn split_value(flags: Flags, kind: u8, count: usize, octets: &[u8]) -> Option<(Item<'_>, &[u8])>
+    ensures { option_map split_of result ≡ item_with flags.octet kind count octets.now }
+{
+    if octets.len() < count {
+        return None;
+    }
+    let (value, behind) = octets.split_at(count);
+    Some((Item { flags, kind, value }, behind))
+}

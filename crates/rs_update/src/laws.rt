@@ -1,0 +1,21 @@
+//! What holds of the definitions that the contracts cite: each law is the contract of a function that does nothing.
+
+ghost use Rattle.rs_update.specs.Laws.{FieldIsRead, FaultIsFirst, NoFaultIsMessage, AttributesAreForRoutes};
+
+/// A field of withdrawn routes or of NLRI lists at most one list of prefixes, and reading finds it exactly where there is one
+/// (RFC 4271, section 4.3).
+pub fn a_field_is_one_list_of_prefixes()
+    ensures { FieldIsRead }
+{}
+
+/// A message is at fault by the first test that finds a fault, in the order of the tests, and without one the message is given
+/// (RFC 4271, section 6).
+pub fn a_message_is_at_fault_by_its_first_fault()
+    ensures fault { FaultIsFirst }
+    ensures none { NoFaultIsMessage }
+{}
+
+/// An UPDATE has attributes exactly where it announces prefixes.
+pub fn attributes_are_for_announced_routes()
+    ensures { AttributesAreForRoutes }
+{}

@@ -1,0 +1,63 @@
+//! The first fault of a section of path attributes (RFC 4271, section 6.3).
+//!
+//! The standard leaves the order of the tests open. Ours: attributes front to back, and for each of them whether it passes the section's
+//! end, whether its type stood earlier (whatever the type), then the class, the flags, the length and the value.
+
+ghost use Rattle.std.specs.Prelude.{◌≡◌, Some, if◌then◌else◌, slice_index_or, false};
+ghost use Rattle.rs_update.specs.declared.fault.UpdateFault.TheVariants.{MalformedAttributeList};
+ghost use Rattle.rs_update.specs.AttributeType.{type_of};
+ghost use Rattle.rs_update.specs.Fault.{first_fault};
+ghost use Rattle.rs_update.specs.Section.{section_fault as section_fault_of, tests_of};
+
+use crate::attribute_type::AttributeType;
+use crate::fault::UpdateFault;
+use crate::flags::Flags;
+use crate::item::{Item, split_item};
+
+// The numbers that a type can have.
+const TYPES: usize = 256;
+
+/// The first fault of a section, or None where it has none. It reads each octet once and takes no memory.
+pub(crate) fn section_fault(section: &[u8]) -> Option<UpdateFault>
+    ensures { result ≡ section_fault_of section.now }
+{
+    let mut seen = [false; TYPES];
+    let mut rest = section;
+    while let Some(split) = split_item(rest) {
+        if let Some(fault) = item_fault(&seen, &split.0) {
+            return Some(fault);
+        }
+        seen[usize::from(split.0.kind)] = true;
+        rest = split.1;
+    }
+    if rest.is_empty() {
+        return None;
+    }
+    Some(UpdateFault::MalformedAttributeList)
+}
+
+// The fault of one attribute, where `seen` tells which types stood earlier.
+fn item_fault(seen: &[bool; TYPES], item: &Item) -> Option<UpdateFault>
+    ensures { result ≡ (if slice_index_or seen.now item.now.kind false then Some MalformedAttributeList else first_fault (tests_of (type_of item.now.kind) item.now.flags.octet item.now.value.now)) }
+{
+    if seen[usize::from(item.kind)] {
+        return Some(UpdateFault::MalformedAttributeList);
+    }
+    own_fault(AttributeType::of(item.kind), item.flags, item.value)
+}
+
+// The fault of one attribute by its own tests: class, flags, length, value.
+fn own_fault(kind: AttributeType, flags: Flags, value: &[u8]) -> Option<UpdateFault>
+    ensures { result ≡ first_fault (tests_of kind flags.octet value.now) }
+{
+    if kind.is_unrecognized() && !flags.is_optional() {
+        return Some(UpdateFault::UnrecognizedWellKnown);
+    }
+    if !kind.flags().suits(flags) {
+        return Some(UpdateFault::AttributeFlags);
+    }
+    if !kind.suits_length(value.len()) {
+        return Some(UpdateFault::AttributeLength);
+    }
+    kind.value_fault(value)
+}
