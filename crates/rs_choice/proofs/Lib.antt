@@ -1,4 +1,5 @@
 pub mod Eliminations
+pub mod GroupLemmas
 pub mod LawLemmas
 pub mod Members
 pub mod Places

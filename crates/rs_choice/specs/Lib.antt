@@ -4,6 +4,7 @@ pub mod Decision
 pub mod Eligibility
 pub mod Exchange
 pub mod FaultNumber
+pub mod Grouping
 pub mod Laws
 pub mod Naturality
 pub mod Plan

@@ -1,7 +1,8 @@
 //! A candidate of the decision process, and what the process asks of it (RFC 4271, sections 9.1.1 and 9.1.2.2).
 
-ghost use Rattle.std.specs.Prelude.{◌≡◌, ◌<◌, length};
+ghost use Rattle.std.specs.Prelude.{◌≡◌, ◌<◌, ◌↔◌, IsTrue, length};
 ghost use Rattle.rs_choice.specs.Decision.{sent_route_of, standing_of};
+ghost use Rattle.rs_choice.specs.Grouping.{GoesBefore};
 
 use crate::exchange::Exchange;
 use rs_update::{Attributes, Origin};
@@ -39,6 +40,18 @@ pub(crate) struct Standing {
 pub(crate) struct Placed {
     pub(crate) place: usize,
     pub(crate) standing: Standing,
+}
+
+impl Placed {
+    // Whether one candidate goes before another by identifier, address and place.
+    pub(crate) fn goes_before(&self, other: &Placed) -> bool
+        ensures { IsTrue result ↔ GoesBefore self.now.standing self.now.place other.now.standing other.now.place }
+    {
+        self.standing.precedes(&other.standing)
+            || (self.standing.id == other.standing.id
+                && self.standing.address == other.standing.address
+                && self.place < other.place)
+    }
 }
 
 impl Exchange {

@@ -4,7 +4,7 @@
 //! that client's export policy).
 //!
 //! Reading order: `plan` (the server and its peers), `fault` and `checks` (which plans are refused), `exchange` (a plan that is
-//! not), `eligibility`, `policy`, `candidate`, `step` and `decision`.
+//! not), `eligibility`, `policy`, `candidate`, `step`, `decision`, `neighbour_groups` and `groups` (the same decision in one pass), `laws`.
 #![tactic(auto)]
 
 mod candidate;
@@ -13,7 +13,9 @@ mod decision;
 mod eligibility;
 mod exchange;
 mod fault;
+mod groups;
 mod laws;
+mod neighbour_groups;
 mod plan;
 mod policy;
 mod step;
