@@ -7,8 +7,7 @@ use Rattle.std.proofs.lemmas.List.Kept.{AllPairs-filter}
 use Rattle.std.proofs.lemmas.List.FromFn.{get_or-enumerate_from, length-enumerate_from}
 use Rattle.rs_choice.specs.declared.candidate.Standing.{Standing}
 use Rattle.rs_choice.specs.declared.step.Step.{Step}
-use Rattle.rs_choice.specs.Decision.{beats, decision_steps, unbeaten, remaining, first_member, choice, place_of_choice, member_at}
-use Rattle.rs_choice.specs.Naturality.{choice-map, map-enumerate}
+use Rattle.rs_choice.specs.Decision.{beats, decision_steps, unbeaten, remaining, first_member, choice, place_of_choice}
 use Rattle.rs_choice.specs.Comparison.{IsAheadByMed, Precedes}
 use Rattle.rs_choice.proofs.Members.{Mem}
 use Rattle.rs_choice.proofs.Eliminations.{Unbeaten, Left, LeftByMed, By, same_remaining}
@@ -36,12 +35,6 @@ first_cases (x ∷ xs) = inr (x, refl, inl refl)
 abbrev pub numbered : {M : Type 0} → (M → Standing) → ℕ × M → Standing
 numbered standing (place, member) = standing member
 
-member_cases : {M : Type 0} (xs : List M) (left : List (ℕ × M)) →
-    ((p : ℕ × M) → Mem left p → slice_get xs p.0 ≡ Some p.1) →
-    member_at xs (option_map (λ (place, member). place) (first_member left)) ≡ option_map (λ (place, member). member) (first_member left)
-member_cases xs [] at = refl
-member_cases xs (p ∷ left) at = at p (inl refl)
-
 at_place : {M : Type 0} (standing : M → Standing) (xs : List M) (p : ℕ × M) →
     Mem (remaining (numbered standing) decision_steps (enumerate_from 0 xs)) p → slice_get xs p.0 ≡ Some p.1
 at_place standing xs p h =
@@ -49,13 +42,6 @@ at_place standing xs p h =
     let found = at-enumerate 0 xs p left.member.member in
     let e : p.0 ≡ found.0 = omega (arith, found.1) in
     rw e found.2
-
--- the member at the place of the choice is the choice
-pub member_at-place_of_choice : {M : Type 0} (standing : M → Standing) (xs : List M) → member_at xs (place_of_choice standing xs) ≡ choice standing xs
-unfolding place_of_choice choice
-member_at-place_of_choice standing xs =
-    member_cases xs (remaining (numbered standing) decision_steps (enumerate_from 0 xs)) (at_place standing xs)
-    ∙ sym (ap (λ all. choice standing all) (sym (map-enumerate 0 xs)) ∙ choice-map (λ (place, member). member) standing (enumerate_from 0 xs))
 
 -- numbers ascend
 abbrev pub Ascends : {M : Type 0} → ℕ × M → ℕ × M → Type 0

@@ -1,11 +1,16 @@
--- The choice looks at standings alone: whatever else the members carry, it is at the same place.
-use Rattle.std.specs.Prelude.{◌≡◌, ℕ, ◌+◌, Bool, true, false, cond, not, ◌||◌, refl, List, [], ◌∷◌, map, filter, Option, None, Some}
-use Rattle.std.specs.List.{list_any, enumerate_from}
+-- What holds of the choice whatever else its members carry: it looks at standings alone.
+use Rattle.std.specs.Prelude.{◌≡◌, ℕ, ◌+◌, Bool, true, false, cond, not, ◌||◌, refl, List, [], ◌∷◌, length, map, filter, Option, None, Some, MatchOption, slice_get, slice_index_or, unwrap_or}
+use Rattle.std.specs.List.{All, Contains, list_any, enumerate_from}
 use Rattle.std.specs.Option.{option_map}
-use Rattle.std.proofs.Common.{◌∙◌, ap}
+use Rattle.std.proofs.Common.{◌∙◌, sym, ap, subst, ◌<◌}
+use Rattle.std.proofs.Math.Nat.{zero-add, zero-lt-suc}
+use Rattle.std.proofs.lemmas.List.{get_or_default}
+use Rattle.std.proofs.lemmas.List.Elements.{All-filter}
+use Rattle.std.proofs.lemmas.List.FromFn.{get_or-enumerate_from, length-enumerate_from}
+use Rattle.std.proofs.lemmas.Option.{slice_get-get_or}
 use Rattle.rs_choice.specs.declared.candidate.Standing.{Standing}
 use Rattle.rs_choice.specs.declared.step.Step.{Step}
-use Rattle.rs_choice.specs.Decision.{beats, decision_steps, unbeaten, remaining, first_member, choice, place_of_choice}
+use Rattle.rs_choice.specs.Decision.{beats, decision_steps, unbeaten, remaining, first_member, choice, place_of_choice, member_at}
 
 pub list_any-map : {A B : Type 0} (f : A → B) (p : B → Bool) (xs : List A) → list_any p (map f xs) ≡ list_any (λ x. p (f x)) xs
 list_any-map f p [] = refl
@@ -75,3 +80,49 @@ place_of_choice-map {A} {B} f standing xs =
     ap (λ all. option_map (λ (place, member). place) (choice (λ (place, member). standing member) all)) (enumerate_from-map f 0 xs)
     ∙ ap (option_map (λ (place, member). place)) (choice-map renumber (λ (place, member). standing member) (enumerate_from 0 xs))
     ∙ option_map-option_map renumber (λ (place, member). place) (choice (λ (place, member). standing (f member)) (enumerate_from 0 xs))
+
+-- what holds of all members holds of what steps leave
+remaining-All : {M : Type 0} (P : M → Type 0) (standing : M → Standing) (steps : List Step) (set : List M) → All P set → All P (remaining standing steps set)
+unfolding remaining unbeaten
+remaining-All P standing [] set all = all
+remaining-All P standing (step ∷ later) set all =
+    remaining-All P standing later (unbeaten standing step set)
+    (All-filter (λ one. not (list_any (λ other. beats step (standing other) (standing one)) set)) P set all)
+
+first_member-All : {M : Type 0} (P : M → Type 0) (xs : List M) (x : M) → All P xs → first_member xs ≡ Some x → P x
+first_member-All P [] x all e = absurd (subst (λ o. MatchOption o (Unit {0}) (λ _. ⊥)) e tt)
+first_member-All P (y ∷ ys) x all e = subst P (ap (λ o. unwrap_or o y) e) (all 0 y (zero-lt-suc (length ys)))
+
+-- what holds of all members holds of the choice
+pub choice-All : {M : Type 0} (P : M → Type 0) (standing : M → Standing) (set : List M) (chosen : M) → All P set → choice standing set ≡ Some chosen → P chosen
+unfolding choice
+choice-All P standing set chosen all e =
+    first_member-All P (remaining standing decision_steps set) chosen (remaining-All P standing decision_steps set all) e
+
+contains_each : {M : Type 0} (xs : List M) → All (Contains xs) xs
+contains_each xs k d within = (k, within, get_or_default xs k (slice_index_or xs k d) d within)
+
+-- the choice is a member
+pub choice-Contains : {M : Type 0} (standing : M → Standing) (set : List M) (chosen : M) → choice standing set ≡ Some chosen → Contains set chosen
+choice-Contains standing set chosen e = choice-All (Contains set) standing set chosen (contains_each set) e
+
+-- numbered members are those at their numbers
+numbered_at : {M : Type 0} (xs : List M) → All (λ numbered. slice_get xs numbered.0 ≡ Some numbered.1) (enumerate_from 0 xs)
+numbered_at xs k d within =
+    let within_xs = subst (λ n. k < n) (length-enumerate_from 0 xs) within in
+    subst (λ numbered. slice_get xs numbered.0 ≡ Some numbered.1) (sym (get_or-enumerate_from 0 xs k d within_xs))
+    (ap (slice_get xs) (zero-add k) ∙ slice_get-get_or xs k d.1 within_xs)
+
+member_at_cases : {M : Type 0} (xs : List M) (found : Option (ℕ × M)) → ((numbered : ℕ × M) → found ≡ Some numbered → slice_get xs numbered.0 ≡ Some numbered.1) →
+    member_at xs (option_map (λ (place, member). place) found) ≡ option_map (λ (place, member). member) found
+member_at_cases xs None at = refl
+member_at_cases xs (Some numbered) at = at numbered refl
+
+-- the member at the place of the choice is the choice
+pub member_at-place_of_choice : {M : Type 0} (standing : M → Standing) (xs : List M) → member_at xs (place_of_choice standing xs) ≡ choice standing xs
+unfolding place_of_choice
+member_at-place_of_choice {M} standing xs =
+    let numbered : ℕ × M → Standing = λ (place, member). standing member in
+    member_at_cases xs (choice numbered (enumerate_from 0 xs))
+    (λ chosen e. choice-All (λ numbered. slice_get xs numbered.0 ≡ Some numbered.1) numbered (enumerate_from 0 xs) chosen (numbered_at xs) e)
+    ∙ sym (ap (choice standing) (sym (map-enumerate 0 xs)) ∙ choice-map (λ (place, member). member) standing (enumerate_from 0 xs))

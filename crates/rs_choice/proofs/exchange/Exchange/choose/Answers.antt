@@ -2,8 +2,7 @@ use Rattle.std.proofs.Common.{◌≡◌, ◌∙◌, sym, ap, arith, map}
 use Rattle.std.specs.Option.{option_map}
 use Rattle.std.proofs.lemmas.Grind.{common_steps}
 use Rattle.rs_choice.specs.Decision.{sent_route_of, standing_of, member_at}
-use Rattle.rs_choice.specs.Naturality.{place_of_choice-map}
-use Rattle.rs_choice.proofs.Places.{member_at-place_of_choice}
+use Rattle.rs_choice.specs.Naturality.{place_of_choice-map, member_at-place_of_choice}
 use Rattle.rs_choice.proofs.ScanLemmas.{place_of_best}
 use Rattle.rs_choice.proofs.exchange.Exchange.choose.Goals as goal
 
