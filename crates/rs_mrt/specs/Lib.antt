@@ -4,4 +4,6 @@ pub mod Record
 pub mod Entry
 pub mod Source
 pub mod Stream
+pub mod Device
 pub mod Memory
+pub mod Examples

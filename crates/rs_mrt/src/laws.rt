@@ -1,6 +1,7 @@
 //! What holds of the definitions. Each law is the contract of a function that does nothing.
 
 ghost use Rattle.rs_mrt.specs.Entry.{FrontSaysTheSame};
+ghost use Rattle.rs_mrt.specs.Examples.{RecordExamples, EntryExamples, SourceExamples, WriterExamples};
 ghost use Rattle.rs_mrt.specs.Record.{SplitIsFound, SplitIsTheOnlyOne};
 
 /// A file is records and a rest in one way, and the computed records and rest are these (RFC 6396, section 2).
@@ -13,4 +14,12 @@ pub fn file_splits_in_one_way()
 /// peer, a message being cut to its first 4,097 octets or more. So a reader needs no larger buffer.
 pub fn front_of_a_record_says_the_same()
     ensures { FrontSaysTheSame }
+{}
+
+/// The definitions say of some octets, records and calls what one would say by hand.
+pub fn examples_hold()
+    ensures records { RecordExamples }
+    ensures entries { EntryExamples }
+    ensures sources { SourceExamples }
+    ensures writers { WriterExamples }
 {}

@@ -17,10 +17,13 @@ mod stream;
 
 pub use bgp4mp::{AFI_IPV4, BGP4MP, BGP4MP_ET, FRONT_LEN, MESSAGE_AS4, STATE_CHANGE_AS4, entry};
 pub use fault::{MrtFault, SourceFault};
-pub use laws::{file_splits_in_one_way, front_of_a_record_says_the_same};
+pub use laws::{examples_hold, file_splits_in_one_way, front_of_a_record_says_the_same};
 pub use meaning::Entry;
 pub use memory::{Limits, MemoryWriter};
 pub use record::{HEADER_LEN, Record, Records};
 pub use source::Source;
 pub use spelling::write_header;
 pub use stream::{Failed, IoWriter, Write, write_all};
+
+#[cfg(test)]
+mod tests;

@@ -1,7 +1,7 @@
 //! What a record says of a BGP session (RFC 6396, section 4.4).
 
 /// What a record says of a session between a recorder and one of its peers.
-#[derive(Clone, Copy, Debug, Drop)]
+#[derive(Clone, Copy, Debug, PartialEq, Eq, Drop)]
 pub enum Entry<'a> {
     /// The peer has sent a message (BGP4MP_MESSAGE_AS4; RFC 6396, section 4.4.3).
     Message {

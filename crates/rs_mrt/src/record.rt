@@ -23,7 +23,7 @@ pub(crate) const SUBTYPE_AT: usize = 6;
 pub(crate) const LENGTH_AT: usize = 8;
 
 /// A record, whose body stands in the octets that it was read from.
-#[derive(Clone, Copy, Debug, Drop)]
+#[derive(Clone, Copy, Debug, PartialEq, Eq, Drop)]
 pub struct Record<'a> {
     /// The Timestamp, in seconds since 1970.
     pub time: u32,

@@ -65,21 +65,25 @@ pub struct IoWriter<W> {
 }
 
 impl<W> Model for IoWriter<W> {
-    ghost Value = { ℕ };
+    ghost use Rattle.rs_mrt.specs.Device.{Device};
 
-    ghost view = { λ w. w.failures };
+    ghost Value = { Device W };
+
+    ghost view = { λ w. record { inner = w.inner; failures = w.failures } };
 }
 
 impl<W> IoWriter<W> {
     /// Begins with a writer of std; no call has failed.
     pub fn new(inner: W) -> IoWriter<W>
-        ensures { result ≡ 0 }
+        ensures { result ≡ record { inner = inner; failures = 0 } }
     {
         IoWriter { inner, failures: 0 }
     }
 
     /// Gives the writer of std back.
-    pub fn into_inner(self) -> W {
+    pub fn into_inner(self) -> W
+        ensures { result ≡ self.inner }
+    {
         self.inner
     }
 }
@@ -87,7 +91,7 @@ impl<W> IoWriter<W> {
 impl<W: io::Write> Write for IoWriter<W> {
     ghost taken = { λ _. None };
 
-    ghost failures = { λ w. w };
+    ghost failures = { λ w. w.failures };
 
     fn write(&mut self, piece: &[u8]) -> Result<usize, Failed> {
         match self.inner.write(piece) {

@@ -1,0 +1,83 @@
+-- Examples of the definitions, which the checker computes: of each, values where it holds and values where it doesn't.
+use Rattle.std.specs.Prelude.{◌≡◌, ℕ, true, false, List, [], ◌∷◌, ◌++◌, take, Some, None, Ok, Err}
+use Rattle.rs_mrt.specs.declared.fault.MrtFault.TheVariants.{HeaderCutShort, BodyCutShort, FieldsCutShort, MicrosecondsCutShort}
+use Rattle.rs_mrt.specs.declared.fault.SourceFault.TheVariants.{Mrt, Read}
+use Rattle.rs_mrt.specs.declared.stream.Failed.{Failed}
+use Rattle.rs_mrt.specs.Record.{MrtRecord, record_spelling, records_of, rest_of, end_of, Splits, reading_of}
+use Rattle.rs_mrt.specs.Entry.{Message, State, Other, entry_of, front_of}
+use Rattle.rs_mrt.specs.Source.{Advances, CountsFailure, IsLeft, stopped_at}
+use Rattle.rs_mrt.specs.Stream.{failed_calls, AppendsBeginning}
+use Rattle.rs_mrt.specs.Memory.{amount_within}
+
+-- of AS 64501 at 192.0.2.11, the recorder being AS 64500 at 192.0.2.1, over IPv4
+abbrev pub session : List ℕ
+session = 0 ∷ 0 ∷ 251 ∷ 245 ∷ 0 ∷ 0 ∷ 251 ∷ 244 ∷ 0 ∷ 0 ∷ 0 ∷ 1 ∷ 192 ∷ 0 ∷ 2 ∷ 11 ∷ 192 ∷ 0 ∷ 2 ∷ 1 ∷ []
+
+-- a record of Type BGP4MP at 100 seconds
+abbrev pub recorded : ℕ → ℕ → List ℕ → MrtRecord
+recorded kind subtype body = record { time = 100; kind = kind; subtype = subtype; body = body }
+
+-- that session has gone from OpenSent to Established
+abbrev pub change : MrtRecord
+change = recorded 16 5 (session ++ 0 ∷ 4 ∷ 0 ∷ 6 ∷ [])
+
+-- a file with this record alone, 36 octets
+abbrev pub file : List ℕ
+file = 0 ∷ 0 ∷ 0 ∷ 100 ∷ 0 ∷ 16 ∷ 0 ∷ 5 ∷ 0 ∷ 0 ∷ 0 ∷ 24 ∷ change.body
+
+pub record RecordExamples : Type 0 where
+  pub spelled : record_spelling change ≡ file
+  pub empty : (records_of [] ≡ []) × (end_of [] ≡ None)
+  pub one : (records_of file ≡ change ∷ []) × (end_of file ≡ None)
+  pub two : records_of (file ++ file) ≡ change ∷ change ∷ []
+  pub octet_after : (records_of (file ++ 0 ∷ []) ≡ change ∷ []) × (end_of (file ++ 0 ∷ []) ≡ Some HeaderCutShort)
+  pub header_less_one : (records_of (take 11 file) ≡ []) × (end_of (take 11 file) ≡ Some HeaderCutShort)
+  pub header_alone : (records_of (take 12 file) ≡ []) × (end_of (take 12 file) ≡ Some BodyCutShort)
+  pub file_less_one : (rest_of (take 35 file) ≡ take 35 file) × (end_of (take 35 file) ≡ Some BodyCutShort)
+  pub splits : Splits file (change ∷ []) []
+  pub splits_no_shorter : Splits file [] file → ⊥
+  pub splits_no_other : Splits file (recorded 16 4 change.body ∷ []) [] → ⊥
+
+pub record EntryExamples : Type 0 where
+  pub state : entry_of change ≡ Ok (State 64501 3221225995 4 6)
+  pub states_and_more : entry_of (recorded 16 5 (change.body ++ 0 ∷ [])) ≡ Ok (State 64501 3221225995 4 6)
+  pub states_less_one : entry_of (recorded 16 5 (take 23 change.body)) ≡ Err FieldsCutShort
+  pub message : entry_of (recorded 16 4 change.body) ≡ Ok (Message 64501 3221225995 (0 ∷ 4 ∷ 0 ∷ 6 ∷ []))
+  pub empty_message : entry_of (recorded 16 4 session) ≡ Ok (Message 64501 3221225995 [])
+  pub with_microseconds : entry_of (recorded 17 4 (9 ∷ 9 ∷ 9 ∷ 9 ∷ session)) ≡ Ok (Message 64501 3221225995 [])
+  pub microseconds_less_one : entry_of (recorded 17 4 (0 ∷ 0 ∷ 0 ∷ [])) ≡ Err MicrosecondsCutShort
+  pub microseconds_alone : entry_of (recorded 17 4 (0 ∷ 0 ∷ 0 ∷ 0 ∷ [])) ≡ Err FieldsCutShort
+  pub microseconds_of_another_subtype : entry_of (recorded 17 1 (0 ∷ 0 ∷ 0 ∷ 0 ∷ [])) ≡ Ok Other
+  pub before_family : entry_of (recorded 16 4 (take 11 session)) ≡ Err FieldsCutShort
+  pub after_family : entry_of (recorded 16 4 (take 12 session)) ≡ Err FieldsCutShort
+  pub another_family : entry_of (recorded 16 4 (take 10 session ++ 0 ∷ 2 ∷ [])) ≡ Ok Other
+  pub another_subtype : entry_of (recorded 16 1 []) ≡ Ok Other
+  pub another_type : entry_of (recorded 13 4 []) ≡ Ok Other
+  pub front : front_of change ≡ change
+
+pub record SourceExamples : Type 0 where
+  pub comes : IsLeft (reading_of None file) (change ∷ []) None
+  pub comes_not_less : IsLeft (reading_of None file) [] None → ⊥
+  pub comes_not_at_fault : IsLeft (reading_of None file) (change ∷ []) (Some BodyCutShort) → ⊥
+  pub shows_one : Advances IsLeft (reading_of None file) (reading_of (Some change) []) (Some change) (Ok true)
+  pub ends_not_before : Advances IsLeft (reading_of None file) (reading_of None []) None (Ok false) → ⊥
+  pub ends_after : Advances IsLeft (reading_of (Some change) []) (reading_of None []) None (Ok false)
+  pub read_failed : CountsFailure 0 1 ⊥ None (Err Read)
+  pub read_not_failed : CountsFailure 0 0 ⊥ None (Err Read) → ⊥
+  pub goes_on : stopped_at None (change ∷ []) None ≡ None
+  pub goes_on_after : stopped_at (Some change) [] None ≡ None
+  pub stopped : stopped_at None [] None ≡ Some (Ok false)
+  pub stopped_at_fault : stopped_at None [] (Some BodyCutShort) ≡ Some (Err (Mrt BodyCutShort))
+
+pub record WriterExamples : Type 0 where
+  pub error : (failed : Failed) → failed_calls (Err failed) [] ≡ 1
+  pub nothing_of_an_octet : failed_calls (Ok 0) (7 ∷ []) ≡ 1
+  pub nothing_of_nothing : failed_calls (Ok 0) [] ≡ 0
+  pub an_octet_of_two : failed_calls (Ok 1) (7 ∷ 7 ∷ []) ≡ 0
+  pub beginning : AppendsBeginning (Some (1 ∷ [])) (Some (1 ∷ 2 ∷ [])) (2 ∷ 3 ∷ [])
+  pub not_the_end : AppendsBeginning (Some (1 ∷ [])) (Some (1 ∷ 3 ∷ [])) (2 ∷ 3 ∷ []) → ⊥
+  pub not_in_place : AppendsBeginning (Some (1 ∷ [])) (Some (2 ∷ [])) (2 ∷ []) → ⊥
+  pub room_for_two : amount_within (record { before_failure = None; room = 30; piece = 7 }) 28 40 ≡ Some 2
+  pub seven_a_call : amount_within (record { before_failure = Some 1; room = 30; piece = 7 }) 0 40 ≡ Some 7
+  pub no_room : amount_within (record { before_failure = None; room = 30; piece = 7 }) 30 40 ≡ None
+  pub failing_call : amount_within (record { before_failure = Some 0; room = 30; piece = 7 }) 0 40 ≡ None
