@@ -140,6 +140,14 @@ impl Attributes {
         self.neighbour.unwrap_or(peer_as)
     }
 
+    /// How many octets the written form has, at most 4,073: `write_attributes` appends so many.
+    pub fn written_len(&self) -> usize
+        ensures value { result ≡ length (written self.now) }
+        ensures bound { result ≤ 4073 }
+    {
+        self.spelling.len()
+    }
+
     // The written form, at most 4,073 octets.
     pub(crate) fn spelling(&self) -> &[u8]
         ensures value { result.now ≡ written self.now }
