@@ -1,0 +1,13 @@
+-- The buffer in which records are spelled before they are written. Its memory is taken once, and then it takes no more.
+use Rattle.std.specs.Prelude.{◌≡◌, ℕ, ◌+◌, ◌≤◌, List, ◌++◌, length, vec_len, vec_capacity}
+use Rattle.std.specs.Global.{Vec}
+
+-- there is room for so many octets more
+abbrev pub HasRoom : Vec ℕ → ℕ → Type 0
+HasRoom buffer count = vec_len buffer + count ≤ vec_capacity buffer
+
+-- these octets were appended, and no room was lost
+pub record Gains (old new : Vec ℕ) (octets : List ℕ) : Type 0 where
+  pub items : new.items ≡ old.items ++ octets
+  pub len : vec_len new ≡ vec_len old + length octets
+  pub capacity : vec_capacity old ≤ vec_capacity new

@@ -1,0 +1,13 @@
+pub use Rattle.rs_choice.specs.Plan
+pub use Rattle.rs_mrt.specs.Endian
+pub use Rattle.rs_mrt.specs.Record
+pub use Rattle.rs_mrt.specs.Stream
+pub use Rattle.rs_table.specs.RouteView
+pub use Rattle.rs_table.specs.Table
+pub use Rattle.rs_update.specs.Spelling
+pub mod Buffer
+pub mod Dump
+pub mod Laws
+pub mod PeerIndex
+pub mod Rib
+pub mod UnderWay

@@ -1,0 +1,78 @@
+//! The RIB_IPV4_UNICAST record of one row (RFC 6396, sections 4.3.2 and 4.3.4).
+//!
+//! Our choices: one RIB entry for each record, since a client's table has one route for each prefix; the Originated Time is
+//! when the sending peer announced the route.
+
+ghost use Rattle.std.specs.Prelude.{◌≡◌, ◌+◌, ◌<◌, ◌≤◌, length};
+ghost use Rattle.rs_mrt.specs.Record.{record_spelling};
+ghost use Rattle.rs_table.specs.RouteView.{row_of};
+ghost use Rattle.rs_update.specs.Prefix.{octets_for};
+ghost use Rattle.rs_update.specs.Spelling.{written};
+ghost use Rattle.rs_dump.specs.Buffer.{HasRoom, Gains};
+ghost use Rattle.rs_dump.specs.Dump.{row_record};
+ghost use Rattle.rs_dump.specs.Rib.{spelled_prefix, rib_entry};
+
+use crate::buffer::{put, put_header, put_u16, put_u32};
+use rs_table::Row;
+use rs_update::{Prefix, write_attributes};
+
+// The Subtype.
+const RIB_IPV4_UNICAST: u16 = 2;
+
+// How many RIB entries a record has.
+const ENTRY_COUNT: u16 = 1;
+
+// How many octets the body has beside the prefix's address and the attributes: Sequence Number, Prefix Length, Entry Count,
+// Peer Index, Originated Time, Attribute Length.
+const FIXED_LEN: usize = 15;
+
+/// The most octets that the record can have.
+pub(crate) const MAX_ROW_LEN: usize = 4104;
+
+// Appends the record of a row, whose place among the rows is its Sequence Number.
+pub(crate) fn spell_row(buffer: &mut Vec<u8>, time: u32, sequence: u32, row: &Row)
+    requires peer_known { row.now.route.peer < 65536 }
+    requires room { HasRoom buffer.old MAX_ROW_LEN }
+    ensures { Gains buffer.old buffer.new (record_spelling (row_record time (sequence, row_of row.now))) }
+{
+    let attributes = row.route.attributes;
+    let body_len = FIXED_LEN + octet_count(row.prefix) + attributes.written_len();
+    put_header(buffer, time, RIB_IPV4_UNICAST, body_len as u32);
+    put_u32(buffer, sequence);
+    spell_prefix(buffer, row.prefix);
+    put_u16(buffer, ENTRY_COUNT);
+    spell_entry(buffer, row);
+}
+
+// How many octets of the address the prefix is spelled with: the least number that holds its bits.
+fn octet_count(prefix: Prefix) -> usize
+    ensures value { result ≡ octets_for prefix.len }
+    ensures bound { result ≤ 4 }
+{
+    usize::from(prefix.len()).div_ceil(8)
+}
+
+// Appends the prefix: its length in bits, and the least number of octets that holds them.
+fn spell_prefix(buffer: &mut Vec<u8>, prefix: Prefix)
+    requires { HasRoom buffer.old 5 }
+    ensures { Gains buffer.old buffer.new (spelled_prefix prefix) }
+{
+    put(buffer, &[prefix.len()]);
+    put(
+        buffer,
+        &prefix.address().to_be_bytes()[..octet_count(prefix)],
+    );
+}
+
+// Appends the RIB entry of a route.
+fn spell_entry(buffer: &mut Vec<u8>, row: &Row)
+    requires peer_known { row.now.route.peer < 65536 }
+    requires room { HasRoom buffer.old (8 + length (written row.now.route.attributes.now)) }
+    ensures { Gains buffer.old buffer.new (rib_entry (row_of row.now)) }
+{
+    let attributes = row.route.attributes;
+    put_u16(buffer, row.route.peer as u16);
+    put_u32(buffer, row.route.time);
+    put_u16(buffer, attributes.written_len() as u16);
+    write_attributes(attributes, buffer).unwrap();
+}
