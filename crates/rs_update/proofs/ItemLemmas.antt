@@ -1,10 +1,12 @@
 -- What an attribute is spelled as is read as that attribute, and what is read is spelled so.
-use Rattle.std.proofs.Common.{◌≡◌, ℕ, suc, ◌+◌, ◌*◌, ◌/◌, ◌%◌, ◌^◌, ◌<◌, ◌≤◌, Bool, true, false, cond, ltb, List, [], ◌∷◌, ◌++◌, length, get_or, take, drop, Option, Some, None, refl, sym, ap, subst, ◌∙◌, append_assoc, arith, inl, inr}
-use Rattle.std.proofs.lemmas.Bool.{cases_Bool, cases_lt, ltb-false, le-ltb, lt-ltb}
-use Rattle.std.proofs.lemmas.List.{take_at, drop_at, take-append-drop, length-append, length-drop, length-take}
+use Rattle.std.proofs.Common.{◌≡◌, ℕ, suc, ◌+◌, ◌*◌, ◌/◌, ◌%◌, ◌<◌, ◌≤◌, Bool, true, false, cond, ltb, List, [], ◌∷◌, ◌++◌, length, take, drop, Some, None, refl, sym, arith, inl, inr}
+use Rattle.std.proofs.lemmas.Bool.{cases_Bool, ltb-false, le-ltb}
+use Rattle.std.proofs.lemmas.List.{take_at, drop_at, take-append-drop, length-append, length-drop, length-take-le}
 use Rattle.rs_update.specs.AttributeType.{is_extended}
 use Rattle.rs_update.specs.Section.{Item, FitsItsLength, SpellsItem, item_at, item_with, long_item_at, short_item_at}
+use Rattle.rs_update.specs.Parts.{AreOctets}
 use Rattle.rs_update.specs.Spelling.{spelled_item}
+use Rattle.rs_update.proofs.PartsLemmas.{Shrinks, Reads}
 
 -- ---- read from its spelling
 
@@ -67,3 +69,48 @@ item_at-takes (flags ∷ kind ∷ octets) split e =
       | inl long ↦ omega (arith, long_item_at-takes flags kind octets split (rw long at e))
       | inr short ↦ omega (arith, short_item_at-takes flags kind octets split (rw short at e))
     ]
+
+pub item_shrinks : Shrinks item_at
+item_shrinks = record { shrinks = λ octets item rest e. item_at-takes octets (item, rest) e }
+
+-- behind a length of two octets
+long_item_at-found : (flags kind : ℕ) (octets : List ℕ) (split : Item × List ℕ) → is_extended flags ≡ true → AreOctets octets → long_item_at flags kind octets ≡ Some split
+    → (flags ∷ kind ∷ octets ≡ spelled_item split.0 ++ split.1) × FitsItsLength split.0
+long_item_at-found flags kind [] split long are e = absurd cc
+long_item_at-found flags kind (high ∷ []) split long are e = absurd cc
+long_item_at-found flags kind (high ∷ low ∷ octets) split long are e =
+    let is = item_with-is flags kind (high * 256 + low) octets split e in
+    let high_octet : high < 256 = are 0 in
+    let low_octet : low < 256 = are 1 in
+    let counted : length (take (high * 256 + low) octets) ≡ high * 256 + low = length-take-le _ _ is.0 in
+    let first : (high * 256 + low) / 256 % 256 ≡ high = omega arith in
+    let second : (high * 256 + low) % 256 ≡ low = omega arith in
+    rw is.1 (rw (long, counted, first, second, take-append-drop (high * 256 + low) octets) refl, rw (long, counted) (omega arith))
+
+-- behind a length of one octet
+short_item_at-found : (flags kind : ℕ) (octets : List ℕ) (split : Item × List ℕ) → is_extended flags ≡ false → AreOctets octets → short_item_at flags kind octets ≡ Some split
+    → (flags ∷ kind ∷ octets ≡ spelled_item split.0 ++ split.1) × FitsItsLength split.0
+short_item_at-found flags kind [] split short are e = absurd cc
+short_item_at-found flags kind (count ∷ octets) split short are e =
+    let is = item_with-is flags kind count octets split e in
+    let count_octet : count < 256 = are 0 in
+    let counted : length (take count octets) ≡ count = length-take-le _ _ is.0 in
+    rw is.1 (rw (short, counted, take-append-drop count octets) refl, rw (short, counted) (omega arith))
+
+-- an attribute that is read from octets is spelled by a front of them
+pub item_at-found : (octets : List ℕ) (split : Item × List ℕ) → AreOctets octets → item_at octets ≡ Some split → (octets ≡ spelled_item split.0 ++ split.1) × FitsItsLength split.0
+unfolding item_at
+item_at-found [] split are e = absurd cc
+item_at-found (flags ∷ []) split are e = absurd cc
+item_at-found (flags ∷ kind ∷ octets) split are e =
+    elim (cases_Bool (is_extended flags)) [
+      | inl long ↦ long_item_at-found flags kind octets split long (λ i. are (suc (suc i))) (rw long at e)
+      | inr short ↦ short_item_at-found flags kind octets split short (λ i. are (suc (suc i))) (rw short at e)
+    ]
+
+-- so an attribute is read exactly where a front of the octets spells it
+pub item_reads : Reads item_at SpellsItem
+item_reads = record {
+  found = λ octets item rest are e. let found = item_at-found octets (item, rest) are e in (spelled_item item, found.0, (refl, found.1));
+  only = λ front rest item spells. rw spells.0 (item_at-spelled item rest spells.1);
+}

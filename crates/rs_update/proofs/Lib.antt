@@ -1,3 +1,4 @@
+pub mod FirstFaultLemmas
 pub mod ItemLemmas
 pub mod MessageExamples
 pub mod MessageLemmas
@@ -5,7 +6,8 @@ pub mod PartsLemmas
 pub mod PathLemmas
 pub mod PathWalkLemmas
 pub mod PrefixLemmas
-pub mod ReadParts
+pub mod SectionExamples
 pub mod SectionLemmas
 pub mod SegmentLemmas
 pub mod SpelledParts
+pub mod SplitLemmas

@@ -1,11 +1,11 @@
 -- The value of an AS_PATH, segment by segment.
-use Rattle.std.proofs.Common.{◌≡◌, ℕ, ◌+◌, ◌<◌, ◌≤◌, ◌==◌, Bool, List, [], ◌∷◌, length, Option, Some, None, refl, sym, ap, ◌∙◌, arith}
+use Rattle.std.proofs.Common.{◌≡◌, ℕ, ◌<◌, ◌==◌, List, length, Option, Some, None, refl, ap, ◌∙◌}
 use Rattle.std.specs.Option.{option_map}
 use Rattle.rs_update.specs.PathAttributes.{PathSegment}
 use Rattle.rs_update.specs.PathSegments.{segment_at}
 use Rattle.rs_update.specs.Section.{is_path}
-use Rattle.rs_update.proofs.ReadParts.{parts_of-step, parts_of-end}
-use Rattle.rs_update.proofs.SegmentLemmas.{segment_at-takes}
+use Rattle.rs_update.proofs.PartsLemmas.{parts_of-some, parts_of-none}
+use Rattle.rs_update.proofs.SegmentLemmas.{segment_at-takes, segment_shrinks}
 
 -- what was read, where something was
 some_split : (found : Option (PathSegment × List ℕ)) (behind : List ℕ) → Some behind ≡ option_map (λ split. split.1) found → (split : PathSegment × List ℕ) × (found ≡ Some split) × (split.1 ≡ behind)
@@ -21,10 +21,10 @@ pub is_path-step : (octets behind : List ℕ) → Some behind ≡ option_map (λ
 is_path-step octets behind e =
     let found = some_split (segment_at octets) behind e in
     let split = found.0 in
-    let parts = parts_of-step segment_at segment_at-takes octets split found.1 in
+    let parts = parts_of-some segment_at segment_shrinks octets split.0 split.1 found.1 in
     let same : is_path octets ≡ is_path split.1 = ap (λ (p : List PathSegment × List ℕ). length p.1 == 0) parts in
     (same ∙ ap is_path found.2, rw (← found.2) (segment_at-takes octets split found.1))
 
 -- or it has no octets
 pub is_path-end : (octets : List ℕ) → None ≡ option_map (λ split. split.1) (segment_at octets) → is_path octets ≡ (length octets == 0)
-is_path-end octets e = ap (λ (p : List PathSegment × List ℕ). length p.1 == 0) (parts_of-end segment_at segment_at-takes octets (none_split (segment_at octets) e))
+is_path-end octets e = ap (λ (p : List PathSegment × List ℕ). length p.1 == 0) (parts_of-none segment_at octets (none_split (segment_at octets) e))

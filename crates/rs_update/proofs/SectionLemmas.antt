@@ -1,18 +1,17 @@
 -- The first fault of a section, attribute by attribute, with the types seen so far.
-use Rattle.std.proofs.Common.{◌≡◌, ℕ, zero, suc, ◌+◌, ◌<◌, ◌≤◌, ◌==◌, Bool, true, false, cond, eqb, ◌||◌, List, [], ◌∷◌, ◌++◌, length, get_or, set, Option, Some, None, refl, sym, ap, subst, ◌∙◌, arith, inl, inr, get_or-set_same, get_or-set_other, replicate}
+use Rattle.std.proofs.Common.{◌≡◌, ℕ, ◌<◌, ◌==◌, Bool, true, false, eqb, ◌||◌, List, [], ◌∷◌, ◌++◌, length, get_or, set, Option, Some, None, refl, sym, ap, ◌∙◌, arith, inl, inr, get_or-set_same, get_or-set_other, replicate}
 use Rattle.std.specs.Prelude.{if◌then◌else◌}
 use Rattle.std.specs.List.{list_any}
-use Rattle.std.proofs.lemmas.Bool.{cases_eq, eq-eqb, ne_eqb, or_left, or_right}
+use Rattle.std.proofs.lemmas.Bool.{cases_eq, eq-eqb, ne_eqb}
 use Rattle.std.proofs.lemmas.Grind.{common_steps}
 use Rattle.std.proofs.lemmas.List.{length-replicate, get_or-replicate, length-set}
 use Rattle.rs_update.specs.declared.fault.UpdateFault.{UpdateFault}
 use Rattle.rs_update.specs.declared.fault.UpdateFault.TheVariants.{MalformedAttributeList}
-use Rattle.rs_update.specs.Fault.{or_else, first_fault}
+use Rattle.rs_update.specs.Fault.{or_else}
 use Rattle.rs_update.specs.Parts.{parts_of}
-use Rattle.rs_update.specs.AttributeType.{type_of}
-use Rattle.rs_update.specs.Section.{Item, item_at, items_of, rest_of, tests_of, has_type, fault_behind, first_item_fault}
-use Rattle.rs_update.proofs.ItemLemmas.{item_at-takes}
-use Rattle.rs_update.proofs.ReadParts.{parts_of-step, parts_of-end}
+use Rattle.rs_update.specs.Section.{Item, item_at, items_of, rest_of, own_fault_of, has_type, fault_behind, first_item_fault}
+use Rattle.rs_update.proofs.ItemLemmas.{item_shrinks}
+use Rattle.rs_update.proofs.PartsLemmas.{parts_of-some, parts_of-none}
 
 -- the first fault of attributes that stand behind others, and of a rest
 abbrev fault_of_parts : List Item → List Item × List ℕ → Option UpdateFault
@@ -36,14 +35,14 @@ pub fault_after-step : (earlier : List Item) (octets : List ℕ) (split : Item �
     → fault_after earlier octets ≡ or_else (fault_behind earlier split.0) (fault_after (earlier ++ split.0 ∷ []) split.1)
 unfolding first_item_fault
 fault_after-step earlier octets split e =
-    let parts = parts_of-step item_at item_at-takes octets split e in
+    let parts = parts_of-some item_at item_shrinks octets split.0 split.1 e in
     ap (fault_of_parts earlier) parts ∙ (or_else-assoc (fault_behind earlier split.0) (first_item_fault (earlier ++ split.0 ∷ []) (items_of split.1)) (if length (rest_of split.1) == 0 then None else Some MalformedAttributeList))
 
 -- no attribute is left
 pub fault_after-end : (earlier : List Item) (octets : List ℕ) → item_at octets ≡ None → fault_after earlier octets ≡ (if length octets == 0 then None else Some MalformedAttributeList)
 unfolding first_item_fault
 fault_after-end earlier octets e =
-    let parts = parts_of-end item_at item_at-takes octets e in
+    let parts = parts_of-none item_at octets e in
     ap (fault_of_parts earlier) parts
 
 or_true : (b : Bool) → (b || true) ≡ true
@@ -83,7 +82,7 @@ GoesOn seen octets total = (earlier : List Item) × IsSeen seen earlier × (faul
 
 -- the fault of an attribute, by a table of the types that stood earlier
 abbrev pub fault_seen : List Bool → Item → Option UpdateFault
-fault_seen seen item = if get_or seen item.kind false then Some MalformedAttributeList else first_fault (tests_of (type_of item.kind) item.flags item.value)
+fault_seen seen item = if get_or seen item.kind false then Some MalformedAttributeList else own_fault_of item
 
 seen_is : (seen : List Bool) (earlier : List Item) (item : Item) → item.kind < 256 → IsSeen seen earlier → fault_seen seen item ≡ fault_behind earlier item
 seen_is seen earlier item octet before = rw (before.at_each item.kind octet) refl

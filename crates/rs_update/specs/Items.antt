@@ -1,4 +1,4 @@
--- Attributes and segments where they stand in a message, by what they are.
+-- Attributes where they stand in a message, by what they are.
 use Rattle.std.specs.Prelude.{ℕ, List}
 use Rattle.std.specs.Borrow.{Bor}
 use Rattle.rs_update.specs.declared.item.Item.{Item as ItemThere}

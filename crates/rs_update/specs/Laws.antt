@@ -1,14 +1,42 @@
 -- What holds of the definitions: each is the contract of a function that does nothing.
-use Rattle.std.specs.Prelude.{◌≡◌, ℕ, ◌<◌, ◌↔◌, List, length, Option, Some, None, Result, Ok, Err, IsOk, IsSome}
+use Rattle.std.specs.Prelude.{◌≡◌, ◌≢◌, ◌⊎◌, ℕ, ◌<◌, ◌↔◌, List, [], length, Some, None, Ok, Err, IsOk, IsSome}
 use Rattle.rs_update.specs.declared.fault.MessageFault.{MessageFault}
+use Rattle.rs_update.specs.declared.fault.UpdateFault.{UpdateFault}
+use Rattle.rs_update.specs.declared.fault.UpdateFault.TheVariants.{MalformedAttributeList}
 use Rattle.rs_update.specs.IpPrefix.{IpPrefix}
 use Rattle.rs_update.specs.Message.{UpdateContent, update_of, message_of, message_fault}
-use Rattle.rs_update.specs.Parts.{AreOctets}
+use Rattle.rs_update.specs.Parts.{AreOctets, IsWholeFront}
+use Rattle.rs_update.specs.PathAttributes.{PathSegment}
+use Rattle.rs_update.specs.PathSegments.{SpellsSegment, segments_of}
 use Rattle.rs_update.specs.Prefix.{IsField, prefixes_of}
+use Rattle.rs_update.specs.Section.{Item, SpellsItem, items_of, rest_of, section_fault, AreFaultless, IsFirstAtFault}
 
 -- a field lists at most one list of prefixes, and reading finds it exactly where there is one (RFC 4271, section 4.3)
 abbrev pub FieldIsRead : Type 0
 FieldIsRead = (octets : List ℕ) (prefixes : List IpPrefix) → AreOctets octets → (IsField octets prefixes ↔ (prefixes_of octets ≡ Some prefixes))
+
+-- a section is in just one way attributes and a rest no front of which spells one, and reading finds it (RFC 4271, section 4.3)
+abbrev pub SectionIsRead : Type 0
+SectionIsRead =
+    (section : List ℕ) (items : List Item) (rest : List ℕ) → AreOctets section
+    → (IsWholeFront SpellsItem section items rest ↔ ((items ≡ items_of section) × (rest ≡ rest_of section)))
+
+-- a section is without fault where none of its attributes is at fault and no octet is left over (RFC 4271, section 6.3)
+abbrev pub SectionIsFaultless : Type 0
+SectionIsFaultless = (section : List ℕ) → (section_fault section ≡ None) ↔ (AreFaultless (items_of section) × (rest_of section ≡ []))
+
+-- its fault is that of the first attribute at fault, or else that octets are left over
+abbrev pub SectionFaultIsFirst : Type 0
+SectionFaultIsFirst =
+    (section : List ℕ) (fault : UpdateFault)
+    → (section_fault section ≡ Some fault)
+    ↔ (IsFirstAtFault (items_of section) fault ⊎ (AreFaultless (items_of section) × (rest_of section ≢ []) × (fault ≡ MalformedAttributeList)))
+
+-- the value of an AS_PATH is in just one way segments and a rest no front of which spells one, and reading finds it
+abbrev pub PathIsRead : Type 0
+PathIsRead =
+    (value : List ℕ) (segments : List PathSegment) (rest : List ℕ) → AreOctets value
+    → (IsWholeFront SpellsSegment value segments rest ↔ ((segments ≡ (segments_of value).0) × (rest ≡ (segments_of value).1)))
 
 -- a message is at fault by the first test that finds a fault (RFC 4271, section 6)
 abbrev pub FaultIsFirst : Type 0

@@ -1,7 +1,7 @@
 -- A section of path attributes, and its first fault (RFC 4271, sections 4.3, 5 and 6.3; RFC 6793; RFC 1997).
-use Rattle.std.specs.Prelude.{◌≡◌, ℕ, ◌+◌, ◌*◌, ◌%◌, ◌<◌, ◌≤◌, Bool, true, false, not, ◌&&◌, ◌||◌, ◌==◌, nat_lt, nat_le, List, [], ◌∷◌, ◌++◌, length, take, drop, slice_index, Option, Some, None, is_some, if◌then◌else◌}
+use Rattle.std.specs.Prelude.{◌≡◌, ℕ, ◌+◌, ◌*◌, ◌%◌, ◌<◌, Bool, true, false, not, ◌&&◌, ◌==◌, nat_lt, List, [], ◌∷◌, ◌++◌, length, take, drop, Option, Some, None, is_some, if◌then◌else◌}
 use Rattle.std.specs.List.{list_any}
-use Rattle.byteorder.specs.Endian.{big_number, big_bytes}
+use Rattle.byteorder.specs.Endian.{big_bytes}
 use Rattle.rs_update.specs.declared.attribute_type.AttributeType.{AttributeType}
 use Rattle.rs_update.specs.declared.attribute_type.AttributeType.TheVariants as types
 use Rattle.rs_update.specs.declared.fault.UpdateFault.{UpdateFault}
@@ -116,13 +116,17 @@ tests_of kind flags value =
     ∷ (not (suits_length kind (length value)), AttributeLength)
     ∷ value_tests kind value
 
+-- the first that finds a fault
+abbrev pub own_fault_of : Item → Option UpdateFault
+own_fault_of item = first_fault (tests_of (type_of item.kind) item.flags item.value)
+
 -- whether an attribute of a type stands among some
 abbrev pub has_type : ℕ → List Item → Bool
 has_type kind items = list_any (λ item. item.kind == kind) items
 
 -- the fault of an attribute that stands behind others: its type stood earlier, whatever the type, or else the first of its own tests
 abbrev pub fault_behind : List Item → Item → Option UpdateFault
-fault_behind earlier item = if has_type item.kind earlier then Some MalformedAttributeList else first_fault (tests_of (type_of item.kind) item.flags item.value)
+fault_behind earlier item = if has_type item.kind earlier then Some MalformedAttributeList else own_fault_of item
 
 -- the fault of the first attribute at fault
 unfoldable pub first_item_fault : List Item → List Item → Option UpdateFault
@@ -133,3 +137,15 @@ first_item_fault earlier (item ∷ later) = or_else (fault_behind earlier item) 
 abbrev pub section_fault : List ℕ → Option UpdateFault
 section_fault section =
     or_else (first_item_fault [] (items_of section)) (if length (rest_of section) == 0 then None else Some MalformedAttributeList)
+
+-- ---- the same by the places of attributes
+
+-- no attribute is at fault behind those that stand before it
+abbrev pub AreFaultless : List Item → Type 0
+AreFaultless items = (before : List Item) (item : Item) (after : List Item) → items ≡ before ++ item ∷ after → fault_behind before item ≡ None
+
+-- one is, and none before it
+abbrev pub IsFirstAtFault : List Item → UpdateFault → Type 0
+IsFirstAtFault items fault =
+    (before : List Item) × (item : Item) × (after : List Item)
+    × (items ≡ before ++ item ∷ after) × (fault_behind before item ≡ Some fault) × AreFaultless before

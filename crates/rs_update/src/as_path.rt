@@ -9,8 +9,13 @@ ghost use Rattle.rs_update.specs.AsPath.{segment_of, numbers_of};
 ghost use Rattle.rs_update.specs.PathSegments.{segment_at, is_segment_type};
 ghost use Rattle.rs_update.specs.Section.{is_path as is_path_value};
 
-// The octets of an AS number.
+// The octets of an AS number (RFC 6793).
 const AS_NUMBER_LEN: usize = 4;
+
+// The types of a segment (section 4.3).
+const AS_SET: u8 = 1;
+
+const AS_SEQUENCE: u8 = 2;
 
 /// A segment of an AS_PATH: AS numbers of four octets, at least one and at most 255.
 #[derive(Debug, Drop)]
@@ -40,13 +45,13 @@ pub(crate) fn holds_as(path: &[Segment], asn: u32) -> bool
     path.iter().any(|segment| segment.holds(asn))
 }
 
-// Whether a segment may be of this type: 1 AS_SET, 2 AS_SEQUENCE.
+// Whether a segment may be of this type.
 fn is_segment_type(kind: u8) -> bool
     ensures { result ≡ is_segment_type kind }
 {
     match kind {
-        1 => true,
-        2 => true,
+        AS_SET => true,
+        AS_SEQUENCE => true,
         _ => false,
     }
 }

@@ -20,6 +20,7 @@ const EXTENDED_LENGTH: u8 = 0x10;
 /// The flags of an attribute, as the octet that was received.
 #[derive(Clone, Copy, Debug, PartialEq, Eq)]
 pub struct Flags {
+    /// The octet.
     pub octet: u8,
 }
 

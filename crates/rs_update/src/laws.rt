@@ -1,11 +1,30 @@
 //! What holds of the definitions that the contracts cite: each law is the contract of a function that does nothing.
 
-ghost use Rattle.rs_update.specs.Laws.{FieldIsRead, FaultIsFirst, NoFaultIsMessage, AttributesAreForRoutes};
+ghost use Rattle.rs_update.specs.Laws.{FieldIsRead, SectionIsRead, SectionIsFaultless, SectionFaultIsFirst, PathIsRead, FaultIsFirst, NoFaultIsMessage, AttributesAreForRoutes};
 
 /// A field of withdrawn routes or of NLRI lists at most one list of prefixes, and reading finds it exactly where there is one
 /// (RFC 4271, section 4.3).
 pub fn a_field_is_one_list_of_prefixes()
     ensures { FieldIsRead }
+{}
+
+/// A section of path attributes is in just one way attributes and a rest no front of which spells one, and reading finds it (RFC 4271,
+/// section 4.3).
+pub fn a_section_is_one_list_of_attributes()
+    ensures { SectionIsRead }
+{}
+
+/// A section is at fault by the first of its attributes that is, or else by octets that are left over (RFC 4271, section 6.3). An
+/// attribute is at fault where its type stood earlier, or by its own tests.
+pub fn a_section_is_at_fault_by_its_first_attribute_at_fault()
+    ensures none { SectionIsFaultless }
+    ensures fault { SectionFaultIsFirst }
+{}
+
+/// The value of an AS_PATH is in just one way segments and a rest no front of which spells one, and reading finds it (RFC 4271,
+/// section 4.3; RFC 6793).
+pub fn a_path_is_one_list_of_segments()
+    ensures { PathIsRead }
 {}
 
 /// A message is at fault by the first test that finds a fault, in the order of the tests, and without one the message is given

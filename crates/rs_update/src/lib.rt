@@ -1,9 +1,4 @@
-//! Messages of BGP-4 as a route server reads them: RFC 4271, with AS numbers of four octets (RFC 6793) and communities (RFC 1997).
-//!
-//! To read in this order: `prefix` (an address prefix, and the fields that list them), `fault` (what can be wrong, by code and subcode),
-//! `attribute_type`, `flags` and `item` (one path attribute, and what its flags must say), `as_path` and `values` (values of attributes),
-//! `section` (the first fault of a section of attributes), `attributes` (what a route keeps of them), `header` and `message` (a message by
-//! its type), `spelling` (attributes as they are written), `laws` (what holds of the definitions that the contracts cite).
+//! Messages of BGP-4.
 #![tactic(auto)]
 
 mod as_path;
@@ -27,7 +22,8 @@ pub use fault::{HeaderFault, MessageFault, UpdateFault};
 pub use header::MessageType;
 pub use laws::{
     a_field_is_one_list_of_prefixes, a_message_is_at_fault_by_its_first_fault,
-    attributes_are_for_announced_routes,
+    a_path_is_one_list_of_segments, a_section_is_at_fault_by_its_first_attribute_at_fault,
+    a_section_is_one_list_of_attributes, attributes_are_for_announced_routes,
 };
 pub use message::{Message, Update};
 pub use prefix::Prefix;

@@ -1,4 +1,4 @@
-use Rattle.std.proofs.Common.{◌≡◌, ◌<◌, ◌∙◌, true, false, [], refl, sym, arith, rules, eqb, Some, None}
+use Rattle.std.proofs.Common.{◌<◌, ◌∙◌, [], refl, sym, rules}
 use Rattle.rs_update.specs.Items.{item_of, split_of}
 use Rattle.rs_update.specs.Section.{section_fault}
 use Rattle.rs_update.proofs.ItemLemmas.{item_at-takes}
