@@ -8,63 +8,63 @@ use Rattle.rs_update.specs.Message.{message_of, MessageContent, IsUpdate, IsKeep
 use Rattle.rs_update.specs.Parts.{parts_within}
 use Rattle.rs_update.specs.Section.{item_at, first_item_fault}
 use Rattle.rs_update.specs.Message.{update_of}
-use Rattle.rs_update.specs.Gathered.{attributes_of}
+use Rattle.rs_update.specs.Gathered.{attributes_of, others_of}
 use Rattle.rs_update.specs.PathSegments.{segment_at}
 use Rattle.rs_update.specs.Numbers.{numbers_at}
 use Rattle.rs_update.specs.Prefix.{prefix_at}
 
 pub one_route : message_of (0xFF ∷ 0xFF ∷ 0xFF ∷ 0xFF ∷ 0xFF ∷ 0xFF ∷ 0xFF ∷ 0xFF ∷ 0xFF ∷ 0xFF ∷ 0xFF ∷ 0xFF ∷ 0xFF ∷ 0xFF ∷ 0xFF ∷ 0xFF ∷ 0x00 ∷ 0x2F ∷ 0x02 ∷ 0x00 ∷ 0x00 ∷ 0x00 ∷ 0x14 ∷ 0x40 ∷ 0x01 ∷ 0x01 ∷ 0x00 ∷ 0x40 ∷ 0x02 ∷ 0x06 ∷ 0x02 ∷ 0x01 ∷ 0x00 ∷ 0x00 ∷ 0xFB ∷ 0xF5 ∷ 0x40 ∷ 0x03 ∷ 0x04 ∷ 0xC0 ∷ 0x00 ∷ 0x02 ∷ 0x0B ∷ 0x18 ∷ 0xCB ∷ 0x00 ∷ 0x71 ∷ []) ≡ Ok (IsUpdate (record { withdrawn = []; attributes = Some (record { origin = Igp; path = AsSequence (64501 ∷ []) ∷ []; next_hop = 3221225995; med = None; atomic = false; aggregator = None; communities = None; others = [] }); nlri = record { address = 3405803776; len = 24 } ∷ [] }))
-unfolding message_of update_of parts_within item_at first_item_fault attributes_of segment_at numbers_at prefix_at
+unfolding message_of update_of parts_within item_at first_item_fault attributes_of others_of segment_at numbers_at prefix_at
 one_route = refl
 
 pub keep_alive : message_of (0xFF ∷ 0xFF ∷ 0xFF ∷ 0xFF ∷ 0xFF ∷ 0xFF ∷ 0xFF ∷ 0xFF ∷ 0xFF ∷ 0xFF ∷ 0xFF ∷ 0xFF ∷ 0xFF ∷ 0xFF ∷ 0xFF ∷ 0xFF ∷ 0x00 ∷ 0x13 ∷ 0x04 ∷ []) ≡ Ok IsKeepAlive
-unfolding message_of update_of parts_within item_at first_item_fault attributes_of segment_at numbers_at prefix_at
+unfolding message_of update_of parts_within item_at first_item_fault attributes_of others_of segment_at numbers_at prefix_at
 keep_alive = refl
 
 pub lengths_over : message_of (0xFF ∷ 0xFF ∷ 0xFF ∷ 0xFF ∷ 0xFF ∷ 0xFF ∷ 0xFF ∷ 0xFF ∷ 0xFF ∷ 0xFF ∷ 0xFF ∷ 0xFF ∷ 0xFF ∷ 0xFF ∷ 0xFF ∷ 0xFF ∷ 0x00 ∷ 0x1B ∷ 0x02 ∷ 0x00 ∷ 0x00 ∷ 0x00 ∷ 0x05 ∷ 0x40 ∷ 0x01 ∷ 0x01 ∷ 0x00 ∷ []) ≡ Err (Bgp 3 1)
-unfolding message_of update_of parts_within item_at first_item_fault attributes_of segment_at numbers_at prefix_at
+unfolding message_of update_of parts_within item_at first_item_fault attributes_of others_of segment_at numbers_at prefix_at
 lengths_over = refl
 
 pub lengths_within : message_of (0xFF ∷ 0xFF ∷ 0xFF ∷ 0xFF ∷ 0xFF ∷ 0xFF ∷ 0xFF ∷ 0xFF ∷ 0xFF ∷ 0xFF ∷ 0xFF ∷ 0xFF ∷ 0xFF ∷ 0xFF ∷ 0xFF ∷ 0xFF ∷ 0x00 ∷ 0x1B ∷ 0x02 ∷ 0x00 ∷ 0x00 ∷ 0x00 ∷ 0x04 ∷ 0x40 ∷ 0x01 ∷ 0x01 ∷ 0x00 ∷ []) ≡ Ok (IsUpdate (record { withdrawn = []; attributes = None; nlri = [] }))
-unfolding message_of update_of parts_within item_at first_item_fault attributes_of segment_at numbers_at prefix_at
+unfolding message_of update_of parts_within item_at first_item_fault attributes_of others_of segment_at numbers_at prefix_at
 lengths_within = refl
 
 pub unknown_well_known : message_of (0xFF ∷ 0xFF ∷ 0xFF ∷ 0xFF ∷ 0xFF ∷ 0xFF ∷ 0xFF ∷ 0xFF ∷ 0xFF ∷ 0xFF ∷ 0xFF ∷ 0xFF ∷ 0xFF ∷ 0xFF ∷ 0xFF ∷ 0xFF ∷ 0x00 ∷ 0x1F ∷ 0x02 ∷ 0x00 ∷ 0x00 ∷ 0x00 ∷ 0x08 ∷ 0x40 ∷ 0x63 ∷ 0x01 ∷ 0x00 ∷ 0x40 ∷ 0x01 ∷ 0x01 ∷ 0x03 ∷ []) ≡ Err (Bgp 3 2)
-unfolding message_of update_of parts_within item_at first_item_fault attributes_of segment_at numbers_at prefix_at
+unfolding message_of update_of parts_within item_at first_item_fault attributes_of others_of segment_at numbers_at prefix_at
 unknown_well_known = refl
 
 pub attributes_before_withdrawn : message_of (0xFF ∷ 0xFF ∷ 0xFF ∷ 0xFF ∷ 0xFF ∷ 0xFF ∷ 0xFF ∷ 0xFF ∷ 0xFF ∷ 0xFF ∷ 0xFF ∷ 0xFF ∷ 0xFF ∷ 0xFF ∷ 0xFF ∷ 0xFF ∷ 0x00 ∷ 0x1C ∷ 0x02 ∷ 0x00 ∷ 0x01 ∷ 0x21 ∷ 0x00 ∷ 0x04 ∷ 0x40 ∷ 0x01 ∷ 0x01 ∷ 0x03 ∷ []) ≡ Err (Bgp 3 6)
-unfolding message_of update_of parts_within item_at first_item_fault attributes_of segment_at numbers_at prefix_at
+unfolding message_of update_of parts_within item_at first_item_fault attributes_of others_of segment_at numbers_at prefix_at
 attributes_before_withdrawn = refl
 
 pub withdrawn_field : message_of (0xFF ∷ 0xFF ∷ 0xFF ∷ 0xFF ∷ 0xFF ∷ 0xFF ∷ 0xFF ∷ 0xFF ∷ 0xFF ∷ 0xFF ∷ 0xFF ∷ 0xFF ∷ 0xFF ∷ 0xFF ∷ 0xFF ∷ 0xFF ∷ 0x00 ∷ 0x18 ∷ 0x02 ∷ 0x00 ∷ 0x01 ∷ 0x21 ∷ 0x00 ∷ 0x00 ∷ []) ≡ Err (Bgp 3 10)
-unfolding message_of update_of parts_within item_at first_item_fault attributes_of segment_at numbers_at prefix_at
+unfolding message_of update_of parts_within item_at first_item_fault attributes_of others_of segment_at numbers_at prefix_at
 withdrawn_field = refl
 
 pub missing : message_of (0xFF ∷ 0xFF ∷ 0xFF ∷ 0xFF ∷ 0xFF ∷ 0xFF ∷ 0xFF ∷ 0xFF ∷ 0xFF ∷ 0xFF ∷ 0xFF ∷ 0xFF ∷ 0xFF ∷ 0xFF ∷ 0xFF ∷ 0xFF ∷ 0x00 ∷ 0x1F ∷ 0x02 ∷ 0x00 ∷ 0x00 ∷ 0x00 ∷ 0x04 ∷ 0x40 ∷ 0x01 ∷ 0x01 ∷ 0x00 ∷ 0x18 ∷ 0xCB ∷ 0x00 ∷ 0x71 ∷ []) ≡ Err (Bgp 3 3)
-unfolding message_of update_of parts_within item_at first_item_fault attributes_of segment_at numbers_at prefix_at
+unfolding message_of update_of parts_within item_at first_item_fault attributes_of others_of segment_at numbers_at prefix_at
 missing = refl
 
 pub repeated : message_of (0xFF ∷ 0xFF ∷ 0xFF ∷ 0xFF ∷ 0xFF ∷ 0xFF ∷ 0xFF ∷ 0xFF ∷ 0xFF ∷ 0xFF ∷ 0xFF ∷ 0xFF ∷ 0xFF ∷ 0xFF ∷ 0xFF ∷ 0xFF ∷ 0x00 ∷ 0x1F ∷ 0x02 ∷ 0x00 ∷ 0x00 ∷ 0x00 ∷ 0x08 ∷ 0x40 ∷ 0x01 ∷ 0x01 ∷ 0x00 ∷ 0x40 ∷ 0x01 ∷ 0x01 ∷ 0x03 ∷ []) ≡ Err (Bgp 3 1)
-unfolding message_of update_of parts_within item_at first_item_fault attributes_of segment_at numbers_at prefix_at
+unfolding message_of update_of parts_within item_at first_item_fault attributes_of others_of segment_at numbers_at prefix_at
 repeated = refl
 
 pub unsynchronized : message_of (0x00 ∷ 0xFF ∷ 0xFF ∷ 0xFF ∷ 0xFF ∷ 0xFF ∷ 0xFF ∷ 0xFF ∷ 0xFF ∷ 0xFF ∷ 0xFF ∷ 0xFF ∷ 0xFF ∷ 0xFF ∷ 0xFF ∷ 0xFF ∷ 0x00 ∷ 0x13 ∷ 0x04 ∷ []) ≡ Err (Bgp 1 1)
-unfolding message_of update_of parts_within item_at first_item_fault attributes_of segment_at numbers_at prefix_at
+unfolding message_of update_of parts_within item_at first_item_fault attributes_of others_of segment_at numbers_at prefix_at
 unsynchronized = refl
 
 pub keep_alive_long : message_of (0xFF ∷ 0xFF ∷ 0xFF ∷ 0xFF ∷ 0xFF ∷ 0xFF ∷ 0xFF ∷ 0xFF ∷ 0xFF ∷ 0xFF ∷ 0xFF ∷ 0xFF ∷ 0xFF ∷ 0xFF ∷ 0xFF ∷ 0xFF ∷ 0x00 ∷ 0x14 ∷ 0x04 ∷ 0x00 ∷ []) ≡ Err (Bgp 1 2)
-unfolding message_of update_of parts_within item_at first_item_fault attributes_of segment_at numbers_at prefix_at
+unfolding message_of update_of parts_within item_at first_item_fault attributes_of others_of segment_at numbers_at prefix_at
 keep_alive_long = refl
 
 pub type_six : message_of (0xFF ∷ 0xFF ∷ 0xFF ∷ 0xFF ∷ 0xFF ∷ 0xFF ∷ 0xFF ∷ 0xFF ∷ 0xFF ∷ 0xFF ∷ 0xFF ∷ 0xFF ∷ 0xFF ∷ 0xFF ∷ 0xFF ∷ 0xFF ∷ 0x00 ∷ 0x13 ∷ 0x06 ∷ []) ≡ Err (Bgp 1 3)
-unfolding message_of update_of parts_within item_at first_item_fault attributes_of segment_at numbers_at prefix_at
+unfolding message_of update_of parts_within item_at first_item_fault attributes_of others_of segment_at numbers_at prefix_at
 type_six = refl
 
 pub length_past : message_of (0xFF ∷ 0xFF ∷ 0xFF ∷ 0xFF ∷ 0xFF ∷ 0xFF ∷ 0xFF ∷ 0xFF ∷ 0xFF ∷ 0xFF ∷ 0xFF ∷ 0xFF ∷ 0xFF ∷ 0xFF ∷ 0xFF ∷ 0xFF ∷ 0x00 ∷ 0x30 ∷ 0x02 ∷ 0x00 ∷ 0x00 ∷ 0x00 ∷ 0x14 ∷ 0x40 ∷ 0x01 ∷ 0x01 ∷ 0x00 ∷ 0x40 ∷ 0x02 ∷ 0x06 ∷ 0x02 ∷ 0x01 ∷ 0x00 ∷ 0x00 ∷ 0xFB ∷ 0xF5 ∷ 0x40 ∷ 0x03 ∷ 0x04 ∷ 0xC0 ∷ 0x00 ∷ 0x02 ∷ 0x0B ∷ 0x18 ∷ 0xCB ∷ 0x00 ∷ 0x71 ∷ []) ≡ Err (Bgp 1 2)
-unfolding message_of update_of parts_within item_at first_item_fault attributes_of segment_at numbers_at prefix_at
+unfolding message_of update_of parts_within item_at first_item_fault attributes_of others_of segment_at numbers_at prefix_at
 length_past = refl
 
 pub nothing : message_of ([]) ≡ Err (Bgp 1 2)
-unfolding message_of update_of parts_within item_at first_item_fault attributes_of segment_at numbers_at prefix_at
+unfolding message_of update_of parts_within item_at first_item_fault attributes_of others_of segment_at numbers_at prefix_at
 nothing = refl

@@ -1,6 +1,6 @@
 -- AS_PATH: its length, its neighbour AS and the AS numbers in it (RFC 4271, sections 4.3, 5.1.2 and 9.1.2.2; RFC 6793).
-use Rattle.std.specs.Prelude.{ℕ, ◌+◌, Bool, false, ◌||◌, List, [], ◌∷◌, length, Option, Some, None, unwrap_or}
-use Rattle.std.specs.Prelude.{map, sum_by}
+use Rattle.std.specs.Prelude.{ℕ, Bool, List, ◌∷◌, length, Option, Some, None, unwrap_or}
+use Rattle.std.specs.Prelude.{sum_by}
 use Rattle.std.specs.List.{list_any}
 use Rattle.std.specs.Prelude.{◌==◌}
 use Rattle.rs_update.specs.declared.as_path.Segment.{Segment}

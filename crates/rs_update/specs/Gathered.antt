@@ -1,16 +1,16 @@
 -- The attributes that a section gives a route: each looked up by its type, wherever it stands (RFC 4271, section 5; RFC 6793; RFC 1997).
-use Rattle.std.specs.Prelude.{ℕ, ◌/◌, Bool, true, ◌&&◌, ◌==◌, List, [], ◌∷◌, length, drop, slice_index, Option, Some, None, is_some, map, find, option_and_then, if◌then◌else◌}
+use Rattle.std.specs.Prelude.{ℕ, ◌/◌, Bool, ◌&&◌, ◌==◌, List, length, drop, slice_index, Option, Some, None, is_some, unwrap_or, find, option_and_then, if◌then◌else◌}
 use Rattle.std.specs.List.{filter_map, range_with_len}
 use Rattle.std.specs.Option.{option_map}
 use Rattle.byteorder.specs.Endian.{big_number}
 use Rattle.rs_update.specs.declared.values.Origin.{Origin}
-use Rattle.rs_update.specs.declared.values.Origin.TheVariants.{Igp, Egp, Incomplete}
+use Rattle.rs_update.specs.declared.values.Origin.TheVariants.{Incomplete}
 use Rattle.rs_update.specs.declared.values.Aggregator.{Aggregator}
 use Rattle.rs_update.specs.AttributeType.{type_of, is_unrecognized, is_transitive, is_partial}
 use Rattle.rs_update.specs.Numbers.{numbers_at}
 use Rattle.rs_update.specs.PathAttributes.{PathAttributes, CommunityList, PassedOn}
 use Rattle.rs_update.specs.PathSegments.{segments_of}
-use Rattle.rs_update.specs.Section.{Item}
+use Rattle.rs_update.specs.Section.{Item, origin_of}
 
 -- the attribute of a type
 abbrev pub look : ℕ → List Item → Option Item
@@ -18,7 +18,7 @@ look kind items = find (λ item. item.kind == kind) items
 
 -- ORIGIN by its code (section 4.3)
 abbrev pub origin_with : ℕ → Origin
-origin_with code = if code == 0 then Igp else if code == 1 then Egp else Incomplete
+origin_with code = unwrap_or (origin_of code) Incomplete
 
 abbrev pub aggregator_of : Item → Aggregator
 aggregator_of item = record { asn = big_number 4 item.value; address = big_number 4 (drop 4 item.value); partial = is_partial item.flags }
@@ -34,9 +34,11 @@ abbrev pub passed_on_of : Item → PassedOn
 passed_on_of item = record { kind = item.kind; value = item.value }
 
 -- the unrecognized optional transitive attributes, in ascending type
-abbrev pub others_of : List Item → List PassedOn
-others_of items =
-    filter_map (λ kind. option_map passed_on_of (option_and_then (λ item. if is_passed_on item then Some item else None) (look kind items))) (range_with_len 0 256)
+abbrev pub passed_on_in : List Item → ℕ → Option PassedOn
+passed_on_in items kind = option_and_then (λ item. if is_passed_on item then Some (passed_on_of item) else None) (look kind items)
+
+unfoldable pub others_of : List Item → List PassedOn
+others_of items = filter_map (passed_on_in items) (range_with_len 0 256)
 
 -- the attributes of a route, where none of the mandatory ones misses: ORIGIN, AS_PATH, NEXT_HOP
 abbrev pub attributes_from : List Item → Item → Item → Item → PathAttributes

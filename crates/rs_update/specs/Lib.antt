@@ -3,6 +3,7 @@ pub mod AttributeType
 pub mod AttributesView
 pub mod Community
 pub mod Fault
+pub mod Found
 pub mod Gathered
 pub mod Header
 pub mod IpPrefix
@@ -15,5 +16,6 @@ pub mod PathAttributes
 pub mod PathSegments
 pub mod Prefix
 pub mod Section
+pub mod Segments
 pub mod Shapes
 pub mod Spelling

@@ -1,5 +1,4 @@
 -- Attributes by their values, wherever they are kept.
-use Rattle.std.specs.Prelude.{List, map}
 use Rattle.rs_update.specs.declared.attributes.Communities.{Communities}
 use Rattle.rs_update.specs.declared.attributes.Unrecognized.{Unrecognized}
 use Rattle.rs_update.specs.PathAttributes.{CommunityList, PassedOn}

@@ -1,10 +1,14 @@
 -- The written form of a route's attributes (RFC 4271, section 4.3; RFC 6396, section 4.3.4).
-use Rattle.std.specs.Prelude.{ℕ, ◌+◌, Bool, true, false, nat_lt, ◌==◌, not, List, [], ◌∷◌, ◌++◌, length, Option, Some, None, map, filter, if◌then◌else◌}
-use Rattle.std.specs.List.{flat_map}
+use Rattle.std.specs.Prelude.{ℕ, ◌+◌, Bool, true, nat_lt, ◌==◌, List, [], ◌∷◌, ◌++◌, length, Option, Some, None, find, if◌then◌else◌}
+use Rattle.std.specs.List.{flat_map, filter_map, range_with_len}
+use Rattle.std.specs.Option.{option_map}
 use Rattle.byteorder.specs.Endian.{big_bytes}
 use Rattle.rs_update.specs.declared.values.Origin.{Origin}
 use Rattle.rs_update.specs.declared.values.Origin.TheVariants.{Igp, Egp, Incomplete}
 use Rattle.rs_update.specs.declared.values.Aggregator.{Aggregator}
+use Rattle.rs_update.specs.declared.attribute_type.AttributeType.{AttributeType}
+use Rattle.rs_update.specs.declared.attribute_type.AttributeType.TheVariants as types
+use Rattle.rs_update.specs.AttributeType.{type_of}
 use Rattle.rs_update.specs.PathAttributes.{PathAttributes, CommunityList, PassedOn}
 use Rattle.rs_update.specs.PathSegments.{spelled_segment, spelled_numbers}
 use Rattle.rs_update.specs.Section.{Item, spelled_length}
@@ -28,38 +32,31 @@ origin_code Igp = 0
 origin_code Egp = 1
 origin_code Incomplete = 2
 
--- an attribute that may be missing
-abbrev pub where_there : {A : Type 0} → (A → Item) → Option A → List Item
-where_there make None = []
-where_there make (Some value) = make value ∷ []
+abbrev pub aggregator_item : ℕ → Aggregator → Item
+aggregator_item kind aggregator = optional_transitive aggregator.partial kind (big_bytes 4 aggregator.asn ++ big_bytes 4 aggregator.address)
 
-abbrev pub aggregator_item : Aggregator → Item
-aggregator_item aggregator = optional_transitive aggregator.partial 7 (big_bytes 4 aggregator.asn ++ big_bytes 4 aggregator.address)
-
-abbrev pub communities_item : CommunityList → Item
-communities_item list = optional_transitive list.partial 8 (spelled_numbers list.values)
+abbrev pub communities_item : ℕ → CommunityList → Item
+communities_item kind list = optional_transitive list.partial kind (spelled_numbers list.values)
 
 -- an unrecognized attribute is passed on with its Partial bit set (section 5)
 abbrev pub passed_on_item : PassedOn → Item
 passed_on_item other = optional_transitive true other.kind other.value
 
--- the attributes of types 1 to 8, in ascending type
-abbrev pub recognized_items : PathAttributes → List Item
-recognized_items attributes =
-    well_known 1 (origin_code attributes.origin ∷ [])
-    ∷ well_known 2 (flat_map spelled_segment attributes.path)
-    ∷ well_known 3 (big_bytes 4 attributes.next_hop)
-    ∷ (where_there (λ med. optional_non_transitive 4 (big_bytes 4 med)) attributes.med
-    ++ (if attributes.atomic then well_known 6 [] ∷ [] else [])
-    ++ where_there aggregator_item attributes.aggregator
-    ++ where_there communities_item attributes.communities)
+-- what is written of a type: nothing where the route has no attribute of it, and nothing of the types that are dropped
+abbrev pub written_item : PathAttributes → ℕ → AttributeType → Option Item
+written_item attributes kind types.Origin = Some (well_known kind (origin_code attributes.origin ∷ []))
+written_item attributes kind types.AsPath = Some (well_known kind (flat_map spelled_segment attributes.path))
+written_item attributes kind types.NextHop = Some (well_known kind (big_bytes 4 attributes.next_hop))
+written_item attributes kind types.MultiExitDisc = option_map (λ med. optional_non_transitive kind (big_bytes 4 med)) attributes.med
+written_item attributes kind types.AtomicAggregate = if attributes.atomic then Some (well_known kind []) else None
+written_item attributes kind types.Aggregator = option_map (aggregator_item kind) attributes.aggregator
+written_item attributes kind types.Communities = option_map (communities_item kind) attributes.communities
+written_item attributes kind types.Unrecognized = option_map passed_on_item (find (λ other. other.kind == kind) attributes.others)
+written_item attributes kind dropped = None
 
--- all of them in ascending type: an unrecognized type 0 comes first
-abbrev pub written_items : PathAttributes → List Item
-written_items attributes =
-    map passed_on_item (filter (λ other. other.kind == 0) attributes.others)
-    ++ recognized_items attributes
-    ++ map passed_on_item (filter (λ other. not (other.kind == 0)) attributes.others)
+-- all of them in ascending type
+unfoldable pub written_items : PathAttributes → List Item
+written_items attributes = filter_map (λ kind. written_item attributes kind (type_of kind)) (range_with_len 0 256)
 
 abbrev pub spelled_item : Item → List ℕ
 spelled_item item = item.flags ∷ item.kind ∷ (spelled_length item ++ item.value)

@@ -2,10 +2,10 @@
 //!
 //! An empty AS_PATH is accepted (our choice). Segments of confederations are of no known type here, and so a fault.
 
-ghost use Rattle.std.specs.Prelude.{◌≡◌, ◌==◌};
+ghost use Rattle.std.specs.Prelude.{◌≡◌, ◌<◌, ◌^◌, ◌==◌, map};
 ghost use Rattle.std.specs.List.{list_any};
 ghost use Rattle.std.specs.Option.{option_map};
-ghost use Rattle.rs_update.specs.AsPath.{segment_of, numbers_of};
+ghost use Rattle.rs_update.specs.AsPath.{segment_of, numbers_of, path_length_of, first_as_of};
 ghost use Rattle.rs_update.specs.PathSegments.{segment_at, is_segment_type};
 ghost use Rattle.rs_update.specs.Section.{is_path as is_path_value};
 
@@ -13,9 +13,9 @@ ghost use Rattle.rs_update.specs.Section.{is_path as is_path_value};
 const AS_NUMBER_LEN: usize = 4;
 
 // The types of a segment (section 4.3).
-const AS_SET: u8 = 1;
+pub(crate) const AS_SET: u8 = 1;
 
-const AS_SEQUENCE: u8 = 2;
+pub(crate) const AS_SEQUENCE: u8 = 2;
 
 /// A segment of an AS_PATH: AS numbers of four octets, at least one and at most 255.
 #[derive(Debug, Drop)]
@@ -82,4 +82,29 @@ pub(crate) fn is_path(value: &[u8]) -> bool
         rest = behind;
     }
     rest.is_empty()
+}
+
+/// How many AS numbers a path has, an AS_SET counting 1 (RFC 4271, section 9.1.2.2, a).
+pub(crate) fn path_length(path: &[Segment]) -> u32
+    requires { path_length_of (map segment_of path.now) < 2 ^ 32 }
+    ensures { result ≡ path_length_of (map segment_of path.now) }
+{
+    let mut hops = 0;
+    for segment in path {
+        hops += match segment {
+            Segment::Set(_) => 1,
+            Segment::Sequence(numbers) => numbers.len() as u32,
+        };
+    }
+    hops
+}
+
+/// The first AS number of a path that begins with an AS_SEQUENCE.
+pub(crate) fn first_as(path: &[Segment]) -> Option<u32>
+    ensures { result ≡ first_as_of (map segment_of path.now) }
+{
+    match path {
+        [Segment::Sequence(numbers), ..] => numbers.first().copied(),
+        _ => None,
+    }
 }

@@ -42,19 +42,19 @@ pub struct Unrecognized {
 }
 
 /// The path attributes of one UPDATE, as read: made by `read_message` alone.
-#[derive(Drop)]
+#[derive(Debug, Drop)]
 pub struct Attributes {
-    origin: Origin,
-    path: Vec<Segment>,
-    next_hop: u32,
-    med: Option<u32>,
-    atomic: bool,
-    aggregator: Option<Aggregator>,
-    communities: Option<Communities>,
-    others: Vec<Unrecognized>,
-    path_length: u32,
-    neighbour: Option<u32>,
-    spelling: Vec<u8>,
+    pub(crate) origin: Origin,
+    pub(crate) path: Vec<Segment>,
+    pub(crate) next_hop: u32,
+    pub(crate) med: Option<u32>,
+    pub(crate) atomic: bool,
+    pub(crate) aggregator: Option<Aggregator>,
+    pub(crate) communities: Option<Communities>,
+    pub(crate) others: Vec<Unrecognized>,
+    pub(crate) path_length: u32,
+    pub(crate) neighbour: Option<u32>,
+    pub(crate) spelling: Vec<u8>,
 }
 
 impl Model for Attributes {
@@ -81,7 +81,7 @@ impl Attributes {
     pub fn path(&self) -> &[Segment]
         ensures { map segment_of result.now ≡ self.now.path }
     {
-        &self.path
+        self.path.as_slice()
     }
 
     /// NEXT_HOP, an IPv4 address in host order.
@@ -145,7 +145,7 @@ impl Attributes {
         ensures value { result ≡ length (written self.now) }
         ensures bound { result ≤ 4073 }
     {
-        self.spelling.len()
+        self.spelling().len()
     }
 
     // The written form, at most 4,073 octets.

@@ -1,10 +1,34 @@
 //! The written form of a route's attributes (RFC 4271, section 4.3).
 
-ghost use Rattle.std.specs.Prelude.{◌≡◌, ◌+◌, ◌≤◌, ◌++◌, length, OnOk, OnErr, IsOk, vec_len, vec_capacity};
-ghost use Rattle.rs_update.specs.Spelling.{written};
+ghost use Rattle.std.specs.Prelude.{◌≡◌, ◌+◌, ◌≤◌, ◌<◌, ◌++◌, All, true, false, if◌then◌else◌, length, map, IfOk, OnOk, OnErr, IsOk, vec_len, vec_capacity, option_and_then};
+ghost use Rattle.std.specs.Option.{ForSome, option_map};
+ghost use Rattle.rs_update.specs.AttributeType.{is_extended};
+ghost use Rattle.rs_update.specs.Found.{found_of, recognized_of, spelled_kept, IsPlain, IsSpellable, AreSpellable, spelled_others, spelled_found};
+ghost use Rattle.rs_update.specs.Items.{item_of};
+ghost use Rattle.rs_update.specs.Shapes.{other_of};
+ghost use Rattle.rs_update.specs.Spelling.{written, written_flags, spelled_item};
 
-use crate::attributes::Attributes;
-use std::alloc::AllocError;
+use crate::attribute_type::AttributeType;
+use crate::attributes::{Attributes, Unrecognized};
+use crate::found::Found;
+use crate::item::Item;
+use byteorder::{BigEndian, ByteOrder};
+use std::alloc::{AllocError, Global};
+
+// The most octets of a value whose length takes one octet.
+const MOST_SHORT: usize = 255;
+
+// The flags of an attribute as it is written, without Extended Length: the low four bits are 0.
+const WELL_KNOWN: u8 = 0x40;
+
+const OPTIONAL_NON_TRANSITIVE: u8 = 0x80;
+
+const OPTIONAL_TRANSITIVE: u8 = 0xC0;
+
+const OPTIONAL_TRANSITIVE_PARTIAL: u8 = 0xE0;
+
+// Added where the length takes two octets.
+const EXTENDED_LENGTH: u8 = 0x10;
 
 /// Appends the written form of `attributes` to `out`, at most 4,073 octets. Refused, `out` is as before. Where the capacity of
 /// `out` has room, it takes no memory and succeeds.
@@ -16,4 +40,128 @@ pub fn write_attributes(attributes: &Attributes, out: &mut Vec<u8>) -> Result<()
     ensures room { vec_capacity out.old ≤ vec_capacity out.new }
 {
     out.extend_from_slice(attributes.spelling())
+}
+
+// The written form of what was found in a section of `size` octets.
+pub(crate) fn spell(
+    alloc: Global,
+    size: usize,
+    found: Found<'_>,
+    others: &[Unrecognized],
+) -> Result<Vec<u8>, AllocError>
+    requires found_short { AreSpellable found }
+    requires others_short { All (λ other. length other.value.items < 65536) others.now }
+    ensures { IfOk result (λ spelling. spelling.items ≡ spelled_found (found_of found.entry) (map other_of others.now)) }
+{
+    let mut out = Vec::with_capacity(alloc, size)?;
+    push_others(&mut out, others, true)?;
+    push_kept(&mut out, found.origin)?;
+    push_kept(&mut out, found.path)?;
+    push_kept(&mut out, found.next_hop)?;
+    push_kept(&mut out, found.med)?;
+    push_kept(&mut out, found.atomic)?;
+    push_kept(&mut out, found.aggregator)?;
+    push_kept(&mut out, found.communities)?;
+    push_others(&mut out, others, false)?;
+    Ok(out)
+}
+
+// Appends an attribute as it is written, where it is kept: its flags are those of its type.
+fn push_kept(out: &mut Vec<u8>, item: Option<Item<'_>>) -> Result<(), AllocError>
+    requires { ForSome item IsSpellable }
+    ensures { OnOk result (out.new.items ≡ out.old.items ++ spelled_kept (option_and_then recognized_of (option_map item_of item.entry))) }
+{
+    match item {
+        None => Ok(()),
+        Some(item) => match AttributeType::of(item.kind) {
+            AttributeType::Origin => push_item(out, WELL_KNOWN, item.kind, item.value),
+            AttributeType::AsPath => push_item(out, WELL_KNOWN, item.kind, item.value),
+            AttributeType::NextHop => push_item(out, WELL_KNOWN, item.kind, item.value),
+            AttributeType::MultiExitDisc => push_item(
+                out,
+                OPTIONAL_NON_TRANSITIVE,
+                item.kind,
+                item.value,
+            ),
+            AttributeType::AtomicAggregate => push_item(out, WELL_KNOWN, item.kind, item.value),
+            AttributeType::Aggregator => push_item(
+                out,
+                optional_transitive(item.flags.is_partial()),
+                item.kind,
+                item.value,
+            ),
+            AttributeType::Communities => push_item(
+                out,
+                optional_transitive(item.flags.is_partial()),
+                item.kind,
+                item.value,
+            ),
+            _ => Ok(()),
+        },
+    }
+}
+
+// The flags of an optional transitive attribute, with the Partial bit as it was received.
+fn optional_transitive(partial: bool) -> u8
+    ensures value { result ≡ (if partial then 0xE0 else 0xC0) }
+    ensures plain { IsPlain result }
+{
+    if partial {
+        OPTIONAL_TRANSITIVE_PARTIAL
+    } else {
+        OPTIONAL_TRANSITIVE
+    }
+}
+
+// Appends unrecognized attributes, those of type 0 or all others: the Partial bit is set (RFC 4271, section 5).
+fn push_others(out: &mut Vec<u8>, others: &[Unrecognized], zero: bool) -> Result<(), AllocError>
+    requires { All (λ other. length other.value.items < 65536) others.now }
+    ensures { OnOk result (out.new.items ≡ out.old.items ++ spelled_others zero (map other_of others.now)) }
+{
+    for other in others {
+        let wanted = if zero {
+            other.kind == 0
+        } else {
+            other.kind != 0
+        };
+        if wanted {
+            push_item(out, OPTIONAL_TRANSITIVE_PARTIAL, other.kind, &other.value)?;
+        }
+    }
+    Ok(())
+}
+
+// Appends an attribute: Extended Length stands exactly where the value is longer than 255 octets.
+fn push_item(out: &mut Vec<u8>, flags: u8, kind: u8, value: &[u8]) -> Result<(), AllocError>
+    requires plain { IsPlain flags }
+    requires short { length value.now < 65536 }
+    ensures { OnOk result (out.new.items ≡ out.old.items ++ spelled_item (record { flags = written_flags flags value.now; kind = kind; value = value.now })) }
+{
+    if value.len() > MOST_SHORT {
+        push_long(out, flags + EXTENDED_LENGTH, kind, value)
+    } else {
+        push_short(out, flags, kind, value)
+    }
+}
+
+// Appends an attribute with a length of two octets.
+fn push_long(out: &mut Vec<u8>, flags: u8, kind: u8, value: &[u8]) -> Result<(), AllocError>
+    requires extended { is_extended flags ≡ true }
+    requires short { length value.now < 65536 }
+    ensures { OnOk result (out.new.items ≡ out.old.items ++ spelled_item (record { flags = flags; kind = kind; value = value.now })) }
+{
+    let mut head = [flags, kind, 0, 0];
+    BigEndian::write_u16(&mut head[2..], value.len() as u16);
+    out.extend_from_slice(&head)?;
+    out.extend_from_slice(value)
+}
+
+// Appends an attribute with a length of one octet.
+fn push_short(out: &mut Vec<u8>, flags: u8, kind: u8, value: &[u8]) -> Result<(), AllocError>
+    requires extended { is_extended flags ≡ false }
+    requires short { length value.now < 256 }
+    ensures { OnOk result (out.new.items ≡ out.old.items ++ spelled_item (record { flags = flags; kind = kind; value = value.now })) }
+{
+    out.extend_from_slice(&[flags, kind, value.len() as u8])?;
+    out.extend_from_slice(value)
 }

@@ -1,6 +1,6 @@
-use Rattle.std.proofs.Common.{◌∙◌, sym, ap, ◌==◌}
+use Rattle.std.proofs.Common.{sym, ◌==◌}
 use Rattle.std.specs.List.{list_any}
-use Rattle.rs_update.specs.AsPath.{segment_of, numbers_of, holds_as_in}
+use Rattle.rs_update.specs.AsPath.{segment_of, numbers_of}
 use Rattle.rs_update.proofs.PathLemmas.{list_any-map}
 use Rattle.rs_update.proofs.attributes.Attributes.holds_as.Goals as goal
 
