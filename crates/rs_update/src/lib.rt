@@ -1,4 +1,10 @@
-//! Messages of BGP-4.
+//! Messages of BGP-4 as a route server reads them: RFC 4271, with AS numbers of four octets (RFC 6793) and communities (RFC 1997).
+//!
+//! To read in this order: `prefix` (an address prefix, and the fields that list them), `fault` (what can be wrong, by code and subcode),
+//! `attribute_type`, `flags` and `item` (one path attribute, and what its flags must say), `as_path` and `values` (values of attributes),
+//! `section` (the first fault of a section of attributes), `attributes` (what a route keeps of them), `gather` (how that is read),
+//! `header`, `update` and `message` (a message by its type, and its first fault), `spelling` (attributes as they are written), `laws`
+//! (what holds of the definitions that the contracts cite).
 #![tactic(auto)]
 
 mod as_path;
@@ -16,6 +22,9 @@ mod prefix;
 mod readers;
 mod section;
 mod spelling;
+#[cfg(test)]
+mod tests;
+mod update;
 mod values;
 
 pub use as_path::Segment;
@@ -28,7 +37,7 @@ pub use laws::{
     a_path_is_one_list_of_segments, a_section_is_at_fault_by_its_first_attribute_at_fault,
     a_section_is_one_list_of_attributes, attributes_are_for_announced_routes,
 };
-pub use message::{Message, Update};
+pub use message::{Message, Update, read_message};
 pub use prefix::Prefix;
 pub use spelling::write_attributes;
 pub use values::{Aggregator, Origin};

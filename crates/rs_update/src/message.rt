@@ -1,7 +1,14 @@
 //! Messages of BGP-4 (RFC 4271, sections 4.1, 4.3, 6.1 and 6.3).
 
+ghost use Rattle.std.specs.Prelude.{IfOk};
+ghost use Rattle.rs_update.specs.Message.{message_of, Answers, HasAttributesForRoutes};
+
 use crate::attributes::Attributes;
+use crate::fault::MessageFault;
+use crate::header::{HEADER_LEN, MessageType, read_header};
 use crate::prefix::Prefix;
+use crate::update::read_update;
+use std::alloc::Global;
 
 /// An UPDATE: the routes that it withdraws, and those that it announces with their common attributes.
 #[derive(Drop)]
@@ -27,4 +34,25 @@ pub enum Message {
     KeepAlive,
     /// ROUTE-REFRESH, type 5.
     Refresh,
+}
+
+/// Reads one message, the octets of which are `octets`, or answers its first fault.
+///
+/// The faults, in the order of testing: those of the header; of an UPDATE its lengths, its path attributes front to back, a mandatory
+/// attribute that misses, the withdrawn routes, the NLRI. `MessageFault::Memory` comes only where memory was refused, and memory is
+/// taken only for an UPDATE that is known to be without fault.
+#[tactic(auto, unfolding(crate::specs::Message::message_of))]
+pub fn read_message(alloc: Global, octets: &[u8]) -> Result<Message, MessageFault>
+    ensures answer { Answers result (message_of octets.now) }
+    ensures routes { IfOk result HasAttributesForRoutes }
+{
+    let kind = read_header(octets)?;
+    let body = &octets[HEADER_LEN..];
+    match kind {
+        MessageType::Open => Ok(Message::Open),
+        MessageType::Update => Ok(Message::Update(read_update(alloc, body)?)),
+        MessageType::Notification => Ok(Message::Notification),
+        MessageType::KeepAlive => Ok(Message::KeepAlive),
+        MessageType::Refresh => Ok(Message::Refresh),
+    }
 }

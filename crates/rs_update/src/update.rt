@@ -1,0 +1,114 @@
+//! The fields of an UPDATE and their first fault (RFC 4271, sections 4.3 and 6.3).
+//!
+//! The standard leaves the order of the tests open. Ours: both lengths, the path attributes, the mandatory attributes, the withdrawn
+//! routes, the NLRI.
+
+ghost use Rattle.std.specs.Prelude.{◌≡◌, ◌≤◌, length, None, Some, IfOk, IfErr, OnOk, is_some};
+ghost use Rattle.std.specs.Result.{is_err};
+ghost use Rattle.rs_update.specs.Fault.{first_fault};
+ghost use Rattle.rs_update.specs.Message as spec;
+ghost use Rattle.rs_update.specs.Gathered.{attributes_of};
+ghost use Rattle.rs_update.specs.Section.{items_of, section_fault as section_fault_of};
+
+use crate::attributes::Attributes;
+use crate::fault::{MessageFault, UpdateFault};
+use crate::found::find_items;
+use crate::gather::gather;
+use crate::message::Update;
+use crate::prefix::{count_prefixes, read_prefixes};
+use crate::section::section_fault;
+use byteorder::{BigEndian, ByteOrder};
+use std::alloc::{AllocError, Global};
+
+/// The fields of an UPDATE, as they stand in it.
+#[derive(Clone, Copy)]
+pub(crate) struct UpdateFields<'a> {
+    /// Withdrawn Routes.
+    withdrawn: &'a [u8],
+    /// Path Attributes.
+    section: &'a [u8],
+    /// Network Layer Reachability Information.
+    nlri: &'a [u8],
+}
+
+// The fields of an UPDATE, or the fault of their lengths.
+fn split_fields(body: &[u8]) -> Result<UpdateFields<'_>, UpdateFault>
+    requires { 4 ≤ length body.now }
+    ensures withdrawn { IfOk result (λ fields. fields.withdrawn.now ≡ spec.withdrawn_field body.now) }
+    ensures section { IfOk result (λ fields. fields.section.now ≡ spec.section_field body.now) }
+    ensures nlri { IfOk result (λ fields. fields.nlri.now ≡ spec.nlri_field body.now) }
+    ensures lengths { OnOk result (first_fault (spec.length_tests body.now) ≡ None) }
+    ensures fault { IfErr result (λ fault. first_fault (spec.length_tests body.now) ≡ Some fault) }
+{
+    let withdrawn_len = usize::from(BigEndian::read_u16(body));
+    if body.len() < withdrawn_len + 4 {
+        return Err(UpdateFault::MalformedAttributeList);
+    }
+    let behind = &body[2 + withdrawn_len..];
+    let section_len = usize::from(BigEndian::read_u16(behind));
+    if body.len() < withdrawn_len + section_len + 4 {
+        return Err(UpdateFault::MalformedAttributeList);
+    }
+    Ok(UpdateFields {
+        withdrawn: &body[2..2 + withdrawn_len],
+        section: &behind[2..2 + section_len],
+        nlri: &behind[2 + section_len..],
+    })
+}
+
+// Whether ORIGIN, AS_PATH and NEXT_HOP stand in a section.
+#[tactic(auto, unfolding(crate::specs::Gathered::attributes_of))]
+fn has_mandatory(section: &[u8]) -> bool
+    ensures { result ≡ is_some (attributes_of (items_of section.now)) }
+{
+    let found = find_items(section);
+    found.origin.is_some() && found.path.is_some() && found.next_hop.is_some()
+}
+
+// Whether routes are announced without one of them.
+fn lacks_mandatory(fields: UpdateFields<'_>) -> bool
+    ensures { result ≡ is_err (spec.announced_attributes fields.entry.section.now fields.entry.nlri.now) }
+{
+    !fields.nlri.is_empty() && !has_mandatory(fields.section)
+}
+
+// The attributes of the announced routes, or None where none is announced.
+fn announced_attributes(
+    alloc: Global,
+    fields: UpdateFields<'_>,
+) -> Result<Option<Attributes>, AllocError>
+    requires faultless { section_fault_of fields.section.now ≡ None }
+    requires short { length fields.section.now ≤ 4073 }
+    ensures { IfOk result (λ attributes. IfOk (spec.announced_attributes fields.entry.section.now fields.entry.nlri.now) (λ announced. attributes ≡ announced)) }
+{
+    if fields.nlri.is_empty() {
+        return Ok(None);
+    }
+    gather(alloc, fields.section)
+}
+
+/// Reads an UPDATE behind its header. Memory is taken only once it is known to be without fault.
+#[tactic(auto, unfolding(crate::specs::Message::update_of))]
+pub(crate) fn read_update(alloc: Global, body: &[u8]) -> Result<Update, MessageFault>
+    requires least { 4 ≤ length body.now }
+    requires most { length body.now ≤ 4077 }
+    ensures { spec.AnswersUpdate result (spec.update_of body.now) }
+{
+    let fields = split_fields(body)?;
+    if let Some(fault) = section_fault(fields.section) {
+        return Err(fault.into());
+    }
+    if lacks_mandatory(fields) {
+        return Err(UpdateFault::MissingWellKnown.into());
+    }
+    let withdrawn_count = count_prefixes(fields.withdrawn).ok_or(UpdateFault::InvalidNetworkField)?;
+    let nlri_count = count_prefixes(fields.nlri).ok_or(UpdateFault::InvalidNetworkField)?;
+    let attributes = announced_attributes(alloc, fields)?;
+    let withdrawn = read_prefixes(alloc, fields.withdrawn, withdrawn_count)?;
+    let nlri = read_prefixes(alloc, fields.nlri, nlri_count)?;
+    Ok(Update {
+        withdrawn,
+        attributes,
+        nlri,
+    })
+}
