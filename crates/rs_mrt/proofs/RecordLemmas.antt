@@ -4,13 +4,12 @@ use Rattle.std.specs.Prelude.{nat_le}
 use Rattle.std.proofs.lemmas.Bool.{and_parts, leb-true, cases_Bool, cond-true, cond-false}
 use Rattle.std.proofs.lemmas.List.{length-drop, length-take}
 use Rattle.rs_mrt.specs.declared.fault.MrtFault.{MrtFault}
-use Rattle.rs_mrt.specs.declared.record.TheConstants.{HEADER_LEN}
-use Rattle.rs_mrt.specs.Record.{MrtRecord, has_record, front_record, after_record, records_within, rest_within, records_of, rest_of, length_field, fault_of_rest, end_of, octets_of, Reading, reading_of, next_of, after_next, nothing_taken, taken_from}
+use Rattle.rs_mrt.specs.Record.{MrtRecord, header_len, has_record, front_record, after_record, records_within, rest_within, records_of, rest_of, length_field, fault_of_rest, end_of, octets_of, Reading, reading_of, next_of, after_next, nothing_taken, taken_from}
 
 -- a record's header and body are there
 pub has_record-long : (octets : List ℕ) → has_record octets ≡ true → (12 ≤ length octets) × (length_field octets ≤ length octets - 12)
 has_record-long octets h =
-    let parts = and_parts (nat_le HEADER_LEN (length octets)) (nat_le (length_field octets) (length (drop HEADER_LEN octets))) h in
+    let parts = and_parts (nat_le header_len (length octets)) (nat_le (length_field octets) (length (drop header_len octets))) h in
     let head : 12 ≤ length octets = leb-true _ _ parts.0 in
     let body : length_field octets ≤ length (drop 12 octets) = leb-true _ _ parts.1 in
     (head, omega (arith, length-drop 12 octets))

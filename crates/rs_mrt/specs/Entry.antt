@@ -1,11 +1,10 @@
--- What a record says of a BGP session (RFC 6396, sections 3, 4.4.2, 4.4.3 and 4.5).
+-- What a record says of a BGP session (RFC 6396, sections 3, 4.4.3 and 4.4.4).
 use Rattle.std.specs.Prelude.{◌≡◌, ℕ, ◌+◌, ◌-◌, nat_lt, ◌==◌, ◌&&◌, not, if◌then◌else◌, List, length, take, drop, Result, Ok, Err}
 use Rattle.byteorder.specs.Endian.{big_number}
 use Rattle.rs_mrt.specs.declared.fault.MrtFault.{MrtFault}
 use Rattle.rs_mrt.specs.declared.fault.MrtFault.TheVariants.{FieldsCutShort, MicrosecondsCutShort}
 use Rattle.rs_mrt.specs.declared.meaning.Entry.{Entry}
 use Rattle.rs_mrt.specs.declared.meaning.Entry.TheVariants as entry
-use Rattle.rs_mrt.specs.declared.bgp4mp.TheConstants.{BGP4MP, BGP4MP_ET, MESSAGE_AS4, STATE_CHANGE_AS4, AFI_IPV4, MICROSECONDS_LEN, FAMILY_AT, FAMILY_END, PEER_AT, MESSAGE_AT, OLD_STATE_AT, NEW_STATE_AT, STATES_END, FRONT_LEN}
 use Rattle.rs_mrt.specs.Record.{MrtRecord}
 
 -- what a record says, without where it lies in memory: a peer has sent a BGP message; the session with it has gone from
@@ -26,30 +25,77 @@ abbrev pub answer_of : Result Entry MrtFault → Result Meaning MrtFault
 answer_of (Ok found) = Ok (meaning_of found)
 answer_of (Err fault) = Err fault
 
+-- ---- codes and places
+
+-- the Types of records of BGP sessions, without and with microseconds (section 4)
+abbrev pub type_bgp4mp : ℕ
+type_bgp4mp = 16
+
+abbrev pub type_bgp4mp_et : ℕ
+type_bgp4mp_et = 17
+
+-- the Subtypes with AS numbers of four octets: a message, a state change (sections 4.4.3 and 4.4.4)
+abbrev pub subtype_message_as4 : ℕ
+subtype_message_as4 = 4
+
+abbrev pub subtype_state_change_as4 : ℕ
+subtype_state_change_as4 = 5
+
+-- the Address Family of IPv4
+abbrev pub family_ipv4 : ℕ
+family_ipv4 = 1
+
+-- how many octets of microseconds there are (section 3)
+abbrev pub microseconds_len : ℕ
+microseconds_len = 4
+
+-- where the fields of both Subtypes begin: Peer AS at 0, Local AS at 4, Interface Index at 8, Address Family at 10, Peer
+-- IP Address at 12, Local IP Address at 16, and at 20 the message or the two states
+abbrev pub family_place : ℕ
+family_place = 10
+
+abbrev pub family_end : ℕ
+family_end = 12
+
+abbrev pub peer_place : ℕ
+peer_place = 12
+
+abbrev pub message_place : ℕ
+message_place = 20
+
+abbrev pub old_state_place : ℕ
+old_state_place = 20
+
+abbrev pub new_state_place : ℕ
+new_state_place = 22
+
+abbrev pub states_end : ℕ
+states_end = 24
+
 -- ---- the fields of BGP4MP
 
 -- BGP4MP_MESSAGE_AS4: Peer AS, Local AS, Interface Index, Address Family, Peer IP Address, Local IP Address and the BGP
 -- message, whose octets may be none (section 4.4.3)
 abbrev pub message_entry : List ℕ → Result Meaning MrtFault
 message_entry fields =
-    if nat_lt (length fields) MESSAGE_AT then Err FieldsCutShort
-    else Ok (Message (big_number 4 fields) (big_number 4 (drop PEER_AT fields)) (drop MESSAGE_AT fields))
+    if nat_lt (length fields) message_place then Err FieldsCutShort
+    else Ok (Message (big_number 4 fields) (big_number 4 (drop peer_place fields)) (drop message_place fields))
 
 -- BGP4MP_STATE_CHANGE_AS4: the same fields up to the addresses, then Old State and New State; octets after them have no
--- effect (section 4.4.2; the latter is our choice)
+-- effect (section 4.4.4; the latter is our choice)
 abbrev pub state_entry : List ℕ → Result Meaning MrtFault
 state_entry fields =
-    if nat_lt (length fields) STATES_END then Err FieldsCutShort
-    else Ok (State (big_number 4 fields) (big_number 4 (drop PEER_AT fields)) (big_number 2 (drop OLD_STATE_AT fields)) (big_number 2 (drop NEW_STATE_AT fields)))
+    if nat_lt (length fields) states_end then Err FieldsCutShort
+    else Ok (State (big_number 4 fields) (big_number 4 (drop peer_place fields)) (big_number 2 (drop old_state_place fields)) (big_number 2 (drop new_state_place fields)))
 
 -- The fields of a record of Type BGP4MP with this Subtype. We read the two Subtypes for AS numbers of four octets, and
 -- IPv4 peers; the order of the tests is our choice.
 unfoldable pub fields_entry : ℕ → List ℕ → Result Meaning MrtFault
 fields_entry subtype fields =
-    if not (subtype == MESSAGE_AS4) && not (subtype == STATE_CHANGE_AS4) then Ok Other
-    else if nat_lt (length fields) FAMILY_END then Err FieldsCutShort
-    else if not (big_number 2 (drop FAMILY_AT fields) == AFI_IPV4) then Ok Other
-    else if subtype == MESSAGE_AS4 then message_entry fields
+    if not (subtype == subtype_message_as4) && not (subtype == subtype_state_change_as4) then Ok Other
+    else if nat_lt (length fields) family_end then Err FieldsCutShort
+    else if not (big_number 2 (drop family_place fields) == family_ipv4) then Ok Other
+    else if subtype == subtype_message_as4 then message_entry fields
     else state_entry fields
 
 -- ---- a record
@@ -58,16 +104,20 @@ fields_entry subtype fields =
 -- (section 3). It has no effect (our choice). A record of another Type says nothing.
 unfoldable pub entry_of : MrtRecord → Result Meaning MrtFault
 entry_of r =
-    if r.kind == BGP4MP then fields_entry r.subtype r.body
-    else if r.kind == BGP4MP_ET then (if nat_lt (length r.body) MICROSECONDS_LEN then Err MicrosecondsCutShort else fields_entry r.subtype (drop MICROSECONDS_LEN r.body))
+    if r.kind == type_bgp4mp then fields_entry r.subtype r.body
+    else if r.kind == type_bgp4mp_et then (if nat_lt (length r.body) microseconds_len then Err MicrosecondsCutShort else fields_entry r.subtype (drop microseconds_len r.body))
     else Ok Other
 
 -- ---- the front of a record
 
--- the record with no more of its body than its first 4,121 octets: microseconds, fields, and one octet more than the
--- longest BGP message has (RFC 4271, section 4.1)
+-- how many octets of a body suffice: microseconds, fields, and one octet more than the longest BGP message has (4 + 20 +
+-- 4,096 + 1; RFC 4271, section 4.1)
+abbrev pub front_len : ℕ
+front_len = 4121
+
+-- the record with no more of its body than its first 4,121 octets
 abbrev pub front_of : MrtRecord → MrtRecord
-front_of r = record { time = r.time; kind = r.kind; subtype = r.subtype; body = take FRONT_LEN r.body }
+front_of r = record { time = r.time; kind = r.kind; subtype = r.subtype; body = take front_len r.body }
 
 -- the same, of a message just its first n octets
 abbrev pub cut_message : ℕ → Result Meaning MrtFault → Result Meaning MrtFault
@@ -78,7 +128,7 @@ cut_message n (Err fault) = Err fault
 
 -- how many octets of a message the front of a record holds: 4,097 or 4,101, each more than the longest message has
 abbrev pub message_room : MrtRecord → ℕ
-message_room r = if r.kind == BGP4MP_ET then FRONT_LEN - (MICROSECONDS_LEN + MESSAGE_AT) else FRONT_LEN - MESSAGE_AT
+message_room r = if r.kind == type_bgp4mp_et then front_len - (microseconds_len + message_place) else front_len - message_place
 
 -- The front of a record says what the record says, but for the octets of a message that is longer than any.
 abbrev pub FrontSaysTheSame : Type 0

@@ -6,7 +6,6 @@ use Rattle.byteorder.specs.Endian.{big_bytes, big_number}
 use Rattle.rs_mrt.specs.declared.fault.MrtFault.{MrtFault}
 use Rattle.rs_mrt.specs.declared.fault.MrtFault.TheVariants.{HeaderCutShort, BodyCutShort}
 use Rattle.rs_mrt.specs.declared.record.Record.{Record}
-use Rattle.rs_mrt.specs.declared.record.TheConstants.{HEADER_LEN}
 
 -- ---- one record
 
@@ -28,6 +27,10 @@ pub record IsRecord (r : MrtRecord) : Type 0 where
   pub subtype : r.subtype < 2 ^ 16
   pub body : length r.body < 2 ^ 32
 
+-- how many octets a header has
+abbrev pub header_len : ℕ
+header_len = 12
+
 -- the header: Timestamp, Type, Subtype and Length, which doesn't count the header
 abbrev pub header_spelling : ℕ → ℕ → ℕ → ℕ → List ℕ
 header_spelling time kind subtype len = big_bytes 4 time ++ big_bytes 2 kind ++ big_bytes 2 subtype ++ big_bytes 4 len
@@ -39,7 +42,7 @@ record_spelling r = header_spelling r.time r.kind r.subtype (length r.body) ++ r
 -- how many octets spell the record that is there
 abbrev pub octets_of : Option MrtRecord → ℕ
 octets_of None = 0
-octets_of (Some r) = HEADER_LEN + length r.body
+octets_of (Some r) = header_len + length r.body
 
 -- ---- the records of a file, as a relation on the whole file
 
@@ -61,7 +64,7 @@ length_field octets = big_number 4 (drop 8 octets)
 
 -- a header stands at the front, and as many octets after it as its Length
 abbrev pub has_record : List ℕ → Bool
-has_record octets = nat_le HEADER_LEN (length octets) && nat_le (length_field octets) (length (drop HEADER_LEN octets))
+has_record octets = nat_le header_len (length octets) && nat_le (length_field octets) (length (drop header_len octets))
 
 -- the record at the front
 abbrev pub front_record : List ℕ → MrtRecord
@@ -70,12 +73,12 @@ front_record octets =
       time = big_number 4 octets;
       kind = big_number 2 (drop 4 octets);
       subtype = big_number 2 (drop 6 octets);
-      body = take (length_field octets) (drop HEADER_LEN octets);
+      body = take (length_field octets) (drop header_len octets);
     }
 
 -- the octets after the record at the front
 abbrev pub after_record : List ℕ → List ℕ
-after_record octets = drop (length_field octets) (drop HEADER_LEN octets)
+after_record octets = drop (length_field octets) (drop header_len octets)
 
 -- the records at the front of the octets, at most n
 unfoldable pub records_within : ℕ → List ℕ → List MrtRecord
@@ -98,7 +101,7 @@ rest_of file = rest_within (length file) file
 -- what the rest says: the end of the file, or which part of a record is cut short
 abbrev pub fault_of_rest : List ℕ → Option MrtFault
 fault_of_rest [] = None
-fault_of_rest (octet ∷ octets) = if nat_lt (length (octet ∷ octets)) HEADER_LEN then Some HeaderCutShort else Some BodyCutShort
+fault_of_rest (octet ∷ octets) = if nat_lt (length (octet ∷ octets)) header_len then Some HeaderCutShort else Some BodyCutShort
 
 -- the computed split is one
 abbrev pub SplitIsFound : Type 0

@@ -13,7 +13,7 @@ pub enum MrtFault {
     HeaderCutShort,
     /// The file ends in the body of a record: fewer octets than its Length are left (RFC 6396, section 2).
     BodyCutShort,
-    /// The body of a BGP4MP record is shorter than its fields (RFC 6396, sections 4.4.2 and 4.4.3).
+    /// The body of a BGP4MP record is shorter than its fields (RFC 6396, sections 4.4.3 and 4.4.4).
     FieldsCutShort,
     /// The body of a BGP4MP_ET record is shorter than its Microsecond Timestamp (RFC 6396, section 3).
     MicrosecondsCutShort,

@@ -12,7 +12,7 @@ pub enum Entry<'a> {
         /// The octets of the BGP message, none included.
         message: &'a [u8],
     },
-    /// The session has gone from one state to another (BGP4MP_STATE_CHANGE_AS4; RFC 6396, section 4.4.2).
+    /// The session has gone from one state to another (BGP4MP_STATE_CHANGE_AS4; RFC 6396, section 4.4.4).
     State {
         /// The peer's AS number.
         peer_as: u32,

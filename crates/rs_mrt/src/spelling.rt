@@ -2,7 +2,7 @@
 
 ghost use Rattle.std.specs.Prelude.{◌≡◌, ◌+◌, ◌≤◌, ◌++◌, OnOk, OnErr, IsOk, vec_len, vec_capacity};
 ghost use Rattle.std.specs.Vec.{VecUnchanged};
-ghost use Rattle.rs_mrt.specs.Record.{header_spelling};
+ghost use Rattle.rs_mrt.specs.Record.{header_len, header_spelling};
 
 use crate::record::{HEADER_LEN, KIND_AT, LENGTH_AT, SUBTYPE_AT};
 use byteorder::{BigEndian, ByteOrder};
@@ -20,7 +20,7 @@ pub fn write_header(
     ensures ok { OnOk result (out.new.items ≡ out.old.items ++ header_spelling time kind subtype body_len) }
     ensures err { OnErr result (VecUnchanged out.old out.new) }
     // No memory is taken where there is room.
-    ensures succeeds { vec_len out.old + HEADER_LEN ≤ vec_capacity out.old → IsOk result }
+    ensures succeeds { vec_len out.old + header_len ≤ vec_capacity out.old → IsOk result }
     ensures capacity { vec_capacity out.old ≤ vec_capacity out.new }
 {
     out.extend_from_slice(&header_octets(time, kind, subtype, body_len))
