@@ -1,10 +1,11 @@
 -- The changes of a peer's routes, without where they lie in memory (RFC 4271, sections 3.1 and 4.3).
-use Rattle.std.specs.Prelude.{◌≡◌, ℕ, List, [], ◌∷◌, Option, Some, None}
+use Rattle.std.specs.Prelude.{◌≡◌, ℕ, Bool, true, false, List, [], ◌∷◌, Option, Some, None}
 use Rattle.rs_update.specs.IpPrefix.{IpPrefix}
 use Rattle.rs_update.specs.PathAttributes.{PathAttributes}
 use Rattle.rs_session.specs.declared.word.Body.{Body}
 use Rattle.rs_session.specs.declared.word.Body.TheVariants.{Announce, Withdraw, Close}
 use Rattle.rs_session.specs.declared.word.Reason.{Reason}
+use Rattle.rs_session.specs.declared.word.Reason.TheVariants as reasons
 use Rattle.rs_session.specs.declared.word.Word.{Word}
 
 -- what changed: a prefix has these attributes, it has none, or the session ended
@@ -28,7 +29,24 @@ body_of (Close reason) = Closed reason
 abbrev pub change_of : Word → Change
 change_of word = record { time = word.time; body = body_of word.body }
 
+-- the word that closes a session
+abbrev pub closing_word : ℕ → Reason → Word
+closing_word time reason = record { time = time; body = Close reason }
+
 -- of the changes to come, the first one is given and the others are left; none is given only where none was to come
 abbrev pub GivesFirst : List Change → Option Word → List Change → Type 0
 GivesFirst before (Some word) after = before ≡ change_of word ∷ after
 GivesFirst before None after = (before ≡ []) × (after ≡ [])
+
+abbrev pub is_close : Body → Bool
+is_close (Close reason) = true
+is_close body = false
+
+-- whether a session ended since its records could not be read to their end
+abbrev pub is_read : Reason → Bool
+is_read reasons.Read = true
+is_read reason = false
+
+abbrev pub is_read_failure : Body → Bool
+is_read_failure (Close reason) = is_read reason
+is_read_failure body = false

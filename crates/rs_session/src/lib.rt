@@ -3,10 +3,20 @@
 //! Reading order: `word`, `peer`.
 #![tactic(auto)]
 
+mod effect;
+mod laws;
 mod peer;
 mod pending;
+mod session;
+#[cfg(test)]
+mod tests;
 mod withdrawn;
 mod word;
 
+pub use laws::{
+    a_file_says_no_more_changes_than_octets, a_session_closes_once, something_may_come,
+    the_front_of_a_record_suffices,
+};
 pub use peer::PeerId;
+pub use session::Session;
 pub use word::{Body, Reason, Word};

@@ -2,10 +2,11 @@
 //!
 //! Our choices: first what is withdrawn, then what is announced; a multicast prefix gives no change.
 
-ghost use Rattle.std.specs.Prelude.{◌≡◌, [], IfOk, OnErr};
+ghost use Rattle.std.specs.Prelude.{◌≡◌, false, [], IfOk, IfSome, OnErr};
 ghost use Rattle.std.specs.Option.{option_map};
 ghost use Rattle.rs_update.specs.Message.{update_content_of};
 ghost use Rattle.rs_session.specs.Change.{GivesFirst};
+ghost use Rattle.rs_session.specs.Change.{is_close};
 ghost use Rattle.rs_session.specs.UpdateChanges.{changes_of_update};
 
 use crate::withdrawn::{keep_unicast, keep_withdrawn_only};
@@ -69,6 +70,7 @@ impl Pending {
     // The next change. Refused, nothing is given, and the changes are as before.
     pub(crate) fn next(&mut self) -> Result<Option<Word>, AllocError>
         ensures ok { IfOk result (λ given. GivesFirst self.old given self.new) }
+        ensures open { IfOk result (λ given. IfSome given (λ word. is_close word.body ≡ false)) }
         ensures err { OnErr result (self.new ≡ self.old) }
     {
         if let Some(prefix) = self.withdrawn.next() {

@@ -1,0 +1,211 @@
+-- What any record says: changes without a close, no more than its body has octets, or a close by a reason that records say.
+use Rattle.std.proofs.Common.{◌≡◌, ℕ, zero, suc, ◌+◌, ◌≤◌, ◌==◌, Bool, true, false, cond, not, ◌&&◌, List, [], ◌∷◌, ◌++◌, length, take, drop, map, filter, Option, Some, None, Result, Ok, Err, refl, sym, ◌∙◌, ap, arith, length-append, length-take, length-drop}
+use Rattle.std.specs.List.{list_any}
+use Rattle.std.proofs.lemmas.List.Folds.{list_any-append}
+use Rattle.std.proofs.lemmas.List.Sums.{length-filter, count_by-le-length}
+use Rattle.std.proofs.lemmas.List.{length-map}
+use Rattle.rs_mrt.specs.Entry.{Meaning, Message, State, Other, entry_of, fields_entry, message_entry, state_entry}
+use Rattle.rs_mrt.specs.Record.{MrtRecord}
+use Rattle.rs_mrt.specs.declared.fault.MrtFault.{MrtFault}
+use Rattle.rs_mrt.specs.declared.fault.MrtFault.TheVariants.{FieldsCutShort, MicrosecondsCutShort}
+use Rattle.rs_update.specs.Fault.{first_fault, of_header, of_update}
+use Rattle.rs_update.specs.Section.{section_fault}
+use Rattle.rs_update.specs.Header.{header_of}
+use Rattle.rs_update.specs.IpPrefix.{IpPrefix}
+use Rattle.rs_update.specs.Message.{UpdateContent, MessageContent, IsUpdate, message_of, typed_message, update_message, update_of, listed_prefixes, withdrawn_field, withdrawn_length, behind_withdrawn, section_length, section_field, nlri_field, length_tests, passes, announced_attributes, ◌>>=◌}
+use Rattle.rs_update.specs.Parts.{parts_within}
+use Rattle.rs_update.specs.PathAttributes.{PathAttributes}
+use Rattle.rs_update.specs.Prefix.{prefix_at, prefixes_of, is_multicast}
+use Rattle.rs_update.specs.declared.fault.HeaderFault.{HeaderFault}
+use Rattle.rs_update.specs.declared.fault.UpdateFault.{UpdateFault}
+use Rattle.rs_update.specs.declared.fault.UpdateFault.TheVariants.{InvalidNetworkField}
+use Rattle.rs_update.specs.declared.header.MessageType.{MessageType}
+use Rattle.rs_update.specs.declared.header.MessageType.TheVariants as types
+use Rattle.rs_session.specs.Change.{Change}
+use Rattle.rs_session.specs.Effect.{RecordEffect, PassesOver, Gives, Ends, effect_of, effect_of_entry, effect_of_message, effect_of_state}
+use Rattle.rs_session.specs.Laws.{is_closing, has_close, is_recorded}
+use Rattle.rs_session.specs.Peer.{is_of}
+use Rattle.std.specs.Prelude.{nat_lt}
+use Rattle.rs_mrt.specs.Endian.{big_number}
+use Rattle.rs_session.specs.UpdateChanges.{withdraws, announces, announcements, changes_of_update, is_listed, withdrawn_only, unicast}
+use Rattle.rs_session.specs.declared.peer.PeerId.{PeerId}
+use Rattle.rs_session.specs.declared.word.Reason.TheVariants as reasons
+
+abbrev pub IsFine : ℕ → RecordEffect → Type 0
+IsFine octets PassesOver = Unit {0}
+IsFine octets (Gives changes) = (has_close changes ≡ false) × (length changes ≤ octets)
+IsFine octets (Ends reason) = is_recorded reason ≡ true
+
+-- what holds in both branches holds of the choice
+branch : {A : Type 0} (P : A → Type 0) (b : Bool) (x y : A) → P x → P y → P (cond b x y)
+branch P true x y h k = h
+branch P false x y h k = k
+
+-- ---- the prefixes of an UPDATE
+
+length-parts_more : {A : Type 0} (read : List ℕ → Option (A × List ℕ)) (fuel : ℕ) (octets : List ℕ) (found : Option (A × List ℕ)) → ((rest : List ℕ) → length (parts_within read fuel rest).0 ≤ fuel) → length (elim found as (λ x. List A × List ℕ) [ None ↦ ([], octets) | Some part ↦ let later = parts_within read fuel part.1 in (part.0 ∷ later.0, later.1) ]).0 ≤ suc fuel
+length-parts_more read fuel octets None h = omega arith
+length-parts_more read fuel octets (Some part) h = let few = h part.1 in omega (arith, few)
+
+length-parts_within : {A : Type 0} (read : List ℕ → Option (A × List ℕ)) (fuel : ℕ) (octets : List ℕ) → length (parts_within read fuel octets).0 ≤ fuel
+unfolding parts_within
+length-parts_within read zero octets = omega arith
+length-parts_within read (suc fuel) octets = length-parts_more read fuel octets (read octets) (λ rest. length-parts_within read fuel rest)
+
+abbrev AllOk : {A : Type 0} → (A → Type 0) → Result A UpdateFault → Type 0
+AllOk Q (Ok value) = Q value
+AllOk Q (Err fault) = Unit {0}
+
+any_ok : {A : Type 0} (found : Result A UpdateFault) → AllOk (λ (value : A). Unit {0}) found
+any_ok (Ok value) = tt
+any_ok (Err fault) = tt
+
+-- a field lists no more prefixes than it has octets
+listed : (octets : List ℕ) → AllOk (λ (prefixes : List IpPrefix). length prefixes ≤ length octets) (listed_prefixes octets)
+listed octets =
+    branch
+    (λ (found : Option (List IpPrefix)). AllOk (λ (prefixes : List IpPrefix). length prefixes ≤ length octets) (elim found [ None ↦ Err InvalidNetworkField | Some prefixes ↦ Ok prefixes ]))
+    (length (parts_within prefix_at (length octets) octets).1 == 0)
+    (Some (parts_within prefix_at (length octets) octets).0)
+    None
+    (length-parts_within prefix_at (length octets) octets)
+    tt
+
+bind : {A B : Type 0} (P : Result B UpdateFault → Type 0) (Q : A → Type 0) (found : Result A UpdateFault) (next : A → Result B UpdateFault) → AllOk Q found → ((fault : UpdateFault) → P (Err fault)) → ((value : A) → Q value → P (next value)) → P (found >>= next)
+bind P Q (Ok value) next all bad good = good value all
+bind P Q (Err fault) next all bad good = bad fault
+
+-- ---- the changes of an UPDATE
+
+has_close-withdraws : (time : ℕ) (prefixes : List IpPrefix) → has_close (map (withdraws time) prefixes) ≡ false
+has_close-withdraws time [] = refl
+has_close-withdraws time (prefix ∷ prefixes) = has_close-withdraws time prefixes
+
+has_close-announces : (time : ℕ) (attributes : PathAttributes) (prefixes : List IpPrefix) → has_close (map (announces time attributes) prefixes) ≡ false
+has_close-announces time attributes [] = refl
+has_close-announces time attributes (prefix ∷ prefixes) = has_close-announces time attributes prefixes
+
+has_close-announcements : (time : ℕ) (attributes : Option PathAttributes) (prefixes : List IpPrefix) → has_close (announcements time attributes prefixes) ≡ false
+has_close-announcements time None prefixes = refl
+has_close-announcements time (Some attributes) prefixes = has_close-announces time attributes prefixes
+
+length-announcements : (time : ℕ) (attributes : Option PathAttributes) (prefixes : List IpPrefix) → length (announcements time attributes prefixes) ≤ length prefixes
+length-announcements time None prefixes = omega arith
+length-announcements time (Some attributes) prefixes = omega (arith, length-map prefixes (announces time attributes))
+
+length-filter-le : {A : Type 0} (p : A → Bool) (xs : List A) → length (filter p xs) ≤ length xs
+length-filter-le p xs = omega (arith, length-filter p xs, count_by-le-length p xs)
+
+fine-changes : (time octets : ℕ) (update : UpdateContent) → length update.withdrawn + length update.nlri ≤ octets → IsFine octets (Gives (changes_of_update time update))
+fine-changes time octets update few =
+    let withdrawn = withdrawn_only update.withdrawn update.nlri in
+    let announced = unicast update.nlri in (
+      list_any-append (λ change. is_closing change.body) (map (withdraws time) withdrawn) (announcements time update.attributes announced)
+          ∙ rw (has_close-withdraws time withdrawn, has_close-announcements time update.attributes announced) refl,
+      omega (
+        arith,
+        length-append (map (withdraws time) withdrawn) (announcements time update.attributes announced),
+        length-map withdrawn (withdraws time),
+        length-announcements time update.attributes announced,
+        length-filter-le (λ prefix. not (is_multicast prefix) && not (is_listed update.nlri prefix)) update.withdrawn,
+        length-filter-le (λ prefix. not (is_multicast prefix)) update.nlri,
+      ),
+    )
+
+fields_fit : (body : List ℕ) (withdrawn nlri : ℕ) → withdrawn ≤ length (withdrawn_field body) → nlri ≤ length (nlri_field body) → withdrawn + nlri ≤ length body
+fields_fit body withdrawn nlri h k =
+    omega (
+      arith,
+      h,
+      k,
+      length-take (withdrawn_length body) (drop 2 body),
+      length-drop 2 body,
+      length-drop (2 + section_length body) (behind_withdrawn body),
+      length-drop (2 + withdrawn_length body) body,
+    )
+
+fine-update : (time : ℕ) (body : List ℕ) → IsFine (length body) (effect_of_message time (update_message (update_of body)))
+unfolding update_of
+fine-update time body =
+    let P : Result UpdateContent UpdateFault → Type 0 = λ said. IsFine (length body) (effect_of_message time (update_message said)) in
+    let bad : (fault : UpdateFault) → P (Err fault) = λ fault. refl in
+    let few_withdrawn : List IpPrefix → Type 0 = λ prefixes. length prefixes ≤ length (withdrawn_field body) in
+    let few_announced : List IpPrefix → Type 0 = λ prefixes. length prefixes ≤ length (nlri_field body) in
+    let content : Option PathAttributes → List IpPrefix → List IpPrefix → UpdateContent = λ attributes withdrawn nlri. record { withdrawn = withdrawn; attributes = attributes; nlri = nlri } in
+    let nlri_step : Option PathAttributes → List IpPrefix → Result UpdateContent UpdateFault = λ attributes withdrawn. listed_prefixes (nlri_field body) >>= (λ nlri. Ok (content attributes withdrawn nlri)) in
+    let withdrawn_step : Option PathAttributes → Result UpdateContent UpdateFault = λ attributes. listed_prefixes (withdrawn_field body) >>= nlri_step attributes in
+    let attributes_step : Result UpdateContent UpdateFault = announced_attributes (section_field body) (nlri_field body) >>= withdrawn_step in
+    let section_step : Result UpdateContent UpdateFault = passes (section_fault (section_field body)) >>= (λ (checked : Unit {0}). attributes_step) in
+    bind P (λ (checked : Unit {0}). Unit {0}) (passes (first_fault (length_tests body))) (λ (checked : Unit {0}). section_step) (any_ok (passes (first_fault (length_tests body)))) bad (λ lengths _.
+    bind P (λ (checked : Unit {0}). Unit {0}) (passes (section_fault (section_field body))) (λ (checked : Unit {0}). attributes_step) (any_ok (passes (section_fault (section_field body)))) bad (λ section _.
+    bind P (λ (attributes : Option PathAttributes). Unit {0}) (announced_attributes (section_field body) (nlri_field body)) withdrawn_step (any_ok (announced_attributes (section_field body) (nlri_field body))) bad (λ attributes _.
+    bind P few_withdrawn (listed_prefixes (withdrawn_field body)) (nlri_step attributes) (listed (withdrawn_field body)) bad (λ withdrawn few.
+    bind P few_announced (listed_prefixes (nlri_field body)) (λ nlri. Ok (content attributes withdrawn nlri)) (listed (nlri_field body)) bad (λ nlri as_few.
+    fine-changes time (length body) (content attributes withdrawn nlri) (fields_fit body (length withdrawn) (length nlri) few as_few))))))
+
+-- ---- messages and records
+
+IsFine-more : (few many : ℕ) (effect : RecordEffect) → few ≤ many → IsFine few effect → IsFine many effect
+IsFine-more few many PassesOver le fine = tt
+IsFine-more few many (Gives changes) le fine = let within = fine.1 in (fine.0, omega arith)
+IsFine-more few many (Ends reason) le fine = fine
+
+fine-typed : (time : ℕ) (octets : List ℕ) (kind : MessageType) → IsFine (length octets) (effect_of_message time (typed_message kind (drop 19 octets)))
+fine-typed time octets types.Open = (refl, omega arith)
+fine-typed time octets types.Update = IsFine-more (length (drop 19 octets)) (length octets) _ (omega (arith, length-drop 19 octets)) (fine-update time (drop 19 octets))
+fine-typed time octets types.Notification = refl
+fine-typed time octets types.KeepAlive = (refl, omega arith)
+fine-typed time octets types.Refresh = (refl, omega arith)
+
+fine-headed : (time : ℕ) (octets : List ℕ) (header : Result MessageType HeaderFault) → IsFine (length octets) (effect_of_message time (elim header [ Ok kind ↦ typed_message kind (drop 19 octets) | Err fault ↦ Err (of_header fault) ]))
+fine-headed time octets (Ok kind) = fine-typed time octets kind
+fine-headed time octets (Err fault) = refl
+
+fine-message : (time : ℕ) (octets : List ℕ) → IsFine (length octets) (effect_of_message time (message_of octets))
+unfolding message_of
+fine-message time octets = fine-headed time octets (header_of octets)
+
+fine-message_entry : (peer : PeerId) (time : ℕ) (fields : List ℕ) → IsFine (length fields) (effect_of_entry peer time (message_entry fields))
+fine-message_entry peer time fields =
+    branch (λ (meaning : Result Meaning MrtFault). IsFine (length fields) (effect_of_entry peer time meaning)) (nat_lt (length fields) 20) (Err FieldsCutShort)
+    (Ok (Message (big_number 4 fields) (big_number 4 (drop 12 fields)) (drop 20 fields)))
+    refl
+    (branch (IsFine (length fields)) (is_of peer (big_number 4 fields) (big_number 4 (drop 12 fields))) (effect_of_message time (message_of (drop 20 fields))) PassesOver
+    (IsFine-more (length (drop 20 fields)) (length fields) (effect_of_message time (message_of (drop 20 fields))) (omega (arith, length-drop 20 fields)) (fine-message time (drop 20 fields)))
+    tt)
+
+fine-state : (octets old new : ℕ) → IsFine octets (effect_of_state old new)
+fine-state octets old new = branch (IsFine octets) ((old == 6) && not (new == 6)) (Ends reasons.State) (Gives []) refl (refl, omega arith)
+
+fine-state_entry : (peer : PeerId) (time : ℕ) (fields : List ℕ) → IsFine (length fields) (effect_of_entry peer time (state_entry fields))
+fine-state_entry peer time fields =
+    let old = big_number 2 (drop 20 fields) in
+    let new = big_number 2 (drop 22 fields) in
+    branch (λ (meaning : Result Meaning MrtFault). IsFine (length fields) (effect_of_entry peer time meaning)) (nat_lt (length fields) 24) (Err FieldsCutShort)
+    (Ok (State (big_number 4 fields) (big_number 4 (drop 12 fields)) old new))
+    refl
+    (branch (IsFine (length fields)) (is_of peer (big_number 4 fields) (big_number 4 (drop 12 fields))) (effect_of_state old new) PassesOver (fine-state (length fields) old new) tt)
+
+fine-fields : (peer : PeerId) (time subtype : ℕ) (fields : List ℕ) → IsFine (length fields) (effect_of_entry peer time (fields_entry subtype fields))
+unfolding fields_entry
+fine-fields peer time subtype fields =
+    let P : Result Meaning MrtFault → Type 0 = λ meaning. IsFine (length fields) (effect_of_entry peer time meaning) in
+    let by_subtype : Result Meaning MrtFault = cond (subtype == 4) (message_entry fields) (state_entry fields) in
+    let by_family : Result Meaning MrtFault = cond (not (big_number 2 (drop 10 fields) == 1)) (Ok Other) by_subtype in
+    let by_length : Result Meaning MrtFault = cond (nat_lt (length fields) 12) (Err FieldsCutShort) by_family in
+    branch P (not (subtype == 4) && not (subtype == 5)) (Ok Other) by_length tt
+    (branch P (nat_lt (length fields) 12) (Err FieldsCutShort) by_family refl
+    (branch P (not (big_number 2 (drop 10 fields) == 1)) (Ok Other) by_subtype tt
+    (branch P (subtype == 4) (message_entry fields) (state_entry fields) (fine-message_entry peer time fields) (fine-state_entry peer time fields))))
+
+pub fine-effect : (peer : PeerId) (r : MrtRecord) → IsFine (length r.body) (effect_of peer r)
+unfolding effect_of entry_of
+fine-effect peer r =
+    let P : Result Meaning MrtFault → Type 0 = λ meaning. IsFine (length r.body) (effect_of_entry peer r.time meaning) in
+    let fields : List ℕ = drop 4 r.body in
+    let extended : Result Meaning MrtFault = cond (nat_lt (length r.body) 4) (Err MicrosecondsCutShort) (fields_entry r.subtype fields) in
+    branch P (r.kind == 16) (fields_entry r.subtype r.body) (cond (r.kind == 17) extended (Ok Other)) (fine-fields peer r.time r.subtype r.body)
+    (branch P (r.kind == 17) extended (Ok Other)
+    (branch P (nat_lt (length r.body) 4) (Err MicrosecondsCutShort) (fields_entry r.subtype fields) refl
+    (IsFine-more (length fields) (length r.body) (effect_of_entry peer r.time (fields_entry r.subtype fields)) (omega (arith, length-drop 4 r.body)) (fine-fields peer r.time r.subtype fields)))
+    tt)

@@ -1,0 +1,111 @@
+-- Closes, the number of changes, and the front of a record.
+use Rattle.std.proofs.Common.{◌≡◌, ℕ, zero, suc, ◌+◌, ◌-◌, ◌≤◌, ◌<◌, Bool, true, false, not, ◌&&◌, ◌||◌, cond, List, [], ◌∷◌, ◌++◌, length, take, drop, map, filter, Option, Some, None, Result, Ok, Err, refl, sym, ◌∙◌, ap, arith, append_assoc, length-append, length-take, length-drop}
+use Rattle.std.specs.List.{list_any, sum_by}
+use Rattle.std.proofs.lemmas.List.Folds.{list_any-append}
+use Rattle.std.proofs.lemmas.List.Sums.{length-filter, count_by-le-length, sum_by-cons}
+use Rattle.rs_mrt.specs.Entry.{Meaning, Message, State, Other, entry_of, fields_entry, message_entry, state_entry, front_of, cut_message, message_room, FrontSaysTheSame}
+use Rattle.rs_mrt.specs.Record.{MrtRecord, records_of, records_within, end_of, has_record, front_record, after_record, length_field}
+use Rattle.rs_mrt.specs.declared.record.TheConstants.{HEADER_LEN}
+use Rattle.rs_mrt.specs.declared.fault.MrtFault.{MrtFault}
+use Rattle.rs_mrt.specs.declared.fault.MrtFault.TheVariants.{FieldsCutShort, MicrosecondsCutShort}
+use Rattle.rs_update.specs.IpPrefix.{IpPrefix}
+use Rattle.rs_update.specs.PathAttributes.{PathAttributes}
+use Rattle.rs_session.specs.Change.{Change}
+use Rattle.rs_session.specs.Effect.{RecordEffect, PassesOver, Gives, Ends, effect_of}
+use Rattle.rs_session.specs.Laws.{is_closing, has_close, is_recorded, ClosesLast}
+use Rattle.rs_session.specs.Said.{changes_of, close_at, reason_at_end, said}
+use Rattle.rs_session.specs.UpdateChanges.{withdraws, announces, announcements}
+use Rattle.rs_session.specs.declared.peer.PeerId.{PeerId}
+use Rattle.rs_session.specs.declared.word.Reason.{Reason}
+use Rattle.rs_session.proofs.EffectLemmas.{IsFine, fine-effect}
+use Rattle.rs_session.proofs.SaidLemmas.{changes_of-nil, changes_of-passes, changes_of-gives, changes_of-ends}
+
+-- ---- one close
+
+recorded_at_end : (end : Option MrtFault) → is_recorded (reason_at_end end) ≡ true
+recorded_at_end None = refl
+recorded_at_end (Some fault) = refl
+
+closes-record : (peer : PeerId) (r : MrtRecord) (later : List MrtRecord) (end : Option MrtFault) (effect : RecordEffect) → effect_of peer r ≡ effect → IsFine (length r.body) effect → ClosesLast (changes_of peer later end) → ClosesLast (changes_of peer (r ∷ later) end)
+closes-record peer r later end PassesOver is fine h = record {
+  before = h.before;
+  time = h.time;
+  reason = h.reason;
+  splits = changes_of-passes peer r later end is ∙ h.splits;
+  none_before = h.none_before;
+  recorded = h.recorded;
+}
+closes-record peer r later end (Gives changes) is fine h = record {
+  before = changes ++ h.before;
+  time = h.time;
+  reason = h.reason;
+  splits = changes_of-gives peer r changes later end is ∙ ap (λ cs. changes ++ cs) h.splits ∙ sym (append_assoc changes h.before (close_at h.time h.reason ∷ []));
+  none_before = list_any-append (λ change. is_closing change.body) changes h.before ∙ rw (fine.0, h.none_before) refl;
+  recorded = h.recorded;
+}
+closes-record peer r later end (Ends reason) is fine h = record {
+  before = [];
+  time = r.time;
+  reason = reason;
+  splits = changes_of-ends peer r reason later end is;
+  none_before = refl;
+  recorded = fine;
+}
+
+pub closes_last : (peer : PeerId) (records : List MrtRecord) (end : Option MrtFault) → ClosesLast (changes_of peer records end)
+closes_last peer [] end = record {
+  before = [];
+  time = 0;
+  reason = reason_at_end end;
+  splits = changes_of-nil peer end;
+  none_before = refl;
+  recorded = recorded_at_end end;
+}
+closes_last peer (r ∷ later) end = closes-record peer r later end (effect_of peer r) refl (fine-effect peer r) (closes_last peer later end)
+
+-- so it says at least one change
+pub changes_of-some : (peer : PeerId) (records : List MrtRecord) (end : Option MrtFault) → 1 ≤ length (changes_of peer records end)
+changes_of-some peer records end =
+    let h = closes_last peer records end in
+    omega (arith, ap length h.splits, length-append h.before (close_at h.time h.reason ∷ []))
+
+-- ---- the number of changes
+
+body_octets : List MrtRecord → ℕ
+body_octets [] = 0
+body_octets (r ∷ records) = length r.body + body_octets records
+
+length-record : (peer : PeerId) (r : MrtRecord) (later : List MrtRecord) (end : Option MrtFault) (effect : RecordEffect) → effect_of peer r ≡ effect → IsFine (length r.body) effect → length (changes_of peer later end) ≤ body_octets later + 1 → length (changes_of peer (r ∷ later) end) ≤ length r.body + body_octets later + 1
+length-record peer r later end PassesOver is fine h = rw (changes_of-passes peer r later end is) (omega arith)
+length-record peer r later end (Gives changes) is fine h = rw (changes_of-gives peer r changes later end is) (let few = fine.1 in omega (arith, length-append changes (changes_of peer later end)))
+length-record peer r later end (Ends reason) is fine h = rw (changes_of-ends peer r reason later end is) (omega arith)
+
+length-changes_of : (peer : PeerId) (records : List MrtRecord) (end : Option MrtFault) → length (changes_of peer records end) ≤ body_octets records + 1
+unfolding body_octets
+length-changes_of peer [] end = rw (changes_of-nil peer end) (omega arith)
+length-changes_of peer (r ∷ later) end = length-record peer r later end (effect_of peer r) refl (fine-effect peer r) (length-changes_of peer later end)
+
+-- what holds in both branches holds of the choice
+branch : {A : Type 0} (P : A → Type 0) (b : Bool) (x y : A) → P x → P y → P (cond b x y)
+branch P true x y h k = h
+branch P false x y h k = k
+
+-- the bodies of the records of a file have no more octets than the file
+octets-records_within : (fuel : ℕ) (octets : List ℕ) → body_octets (records_within fuel octets) ≤ length octets
+unfolding records_within body_octets
+octets-records_within zero octets = omega arith
+octets-records_within (suc fuel) octets =
+    branch (λ records. body_octets records ≤ length octets) (has_record octets) (front_record octets ∷ records_within fuel (after_record octets)) []
+    (let later = octets-records_within fuel (after_record octets) in
+    omega (
+      arith,
+      later,
+      length-take (length_field octets) (drop HEADER_LEN octets),
+      length-drop (length_field octets) (drop HEADER_LEN octets),
+      length-drop HEADER_LEN octets,
+    ))
+    (omega arith)
+
+pub length-said : (peer : PeerId) (file : List ℕ) → length (said peer file) ≤ length file + 1
+unfolding records_of
+length-said peer file = let few = length-changes_of peer (records_of file) (end_of file) in let fit = octets-records_within (length file) file in omega (arith, few, fit)

@@ -1,0 +1,68 @@
+-- What the records of a peer's session say (RFC 4271, section 3.1; RFC 6396, section 4.4).
+use Rattle.std.specs.Prelude.{ℕ, Bool, true, false, not, List, [], ◌∷◌, ◌++◌, Option, Some, None, find, take_while, count_by}
+use Rattle.std.specs.List.{flat_map}
+use Rattle.rs_mrt.specs.Fault.{number_of}
+use Rattle.rs_mrt.specs.Record.{MrtRecord, records_of, end_of}
+use Rattle.rs_mrt.specs.declared.fault.MrtFault.{MrtFault}
+use Rattle.rs_session.specs.Change.{Change, Closed}
+use Rattle.rs_session.specs.Effect.{RecordEffect, PassesOver, Gives, Ends, effect_of}
+use Rattle.rs_session.specs.declared.peer.PeerId.{PeerId}
+use Rattle.rs_session.specs.declared.word.Reason.{Reason}
+use Rattle.rs_session.specs.declared.word.Reason.TheVariants.{EndOfFile, Mrt}
+
+-- ---- one record
+
+abbrev pub ends : RecordEffect → Bool
+ends (Ends reason) = true
+ends (Gives changes) = false
+ends PassesOver = false
+
+abbrev pub passes_over : RecordEffect → Bool
+passes_over PassesOver = true
+passes_over (Gives changes) = false
+passes_over (Ends reason) = false
+
+abbrev pub close_at : ℕ → Reason → Change
+close_at time reason = record { time = time; body = Closed reason }
+
+-- the changes that an effect at a time gives
+abbrev pub changes_by : ℕ → RecordEffect → List Change
+changes_by time PassesOver = []
+changes_by time (Gives changes) = changes
+changes_by time (Ends reason) = close_at time reason ∷ []
+
+-- ---- all records
+
+-- the records that are read while the session is open: all before the first one that ends it
+abbrev pub open_records : PeerId → List MrtRecord → List MrtRecord
+open_records peer records = take_while (λ r. not (ends (effect_of peer r))) records
+
+-- how a session closes that no record ends; such a close has time 0 (our choice)
+abbrev pub reason_at_end : Option MrtFault → Reason
+reason_at_end None = EndOfFile
+reason_at_end (Some fault) = Mrt (number_of fault)
+
+-- the close: by the first record that ends the session, else by how the records end
+abbrev pub closing : PeerId → Option MrtFault → Option MrtRecord → List Change
+closing peer end (Some r) = changes_by r.time (effect_of peer r)
+closing peer end None = close_at 0 (reason_at_end end) ∷ []
+
+-- the changes that records say, and then the close; later records say nothing
+unfoldable pub changes_of : PeerId → List MrtRecord → Option MrtFault → List Change
+changes_of peer records end =
+    flat_map (λ r. changes_by r.time (effect_of peer r)) (open_records peer records)
+    ++ closing peer end (find (λ r. ends (effect_of peer r)) records)
+
+-- how many records are passed over while the session is open
+unfoldable pub passed_of : PeerId → List MrtRecord → ℕ
+passed_of peer records = count_by (λ r. passes_over (effect_of peer r)) (open_records peer records)
+
+-- ---- a file
+
+-- the changes that a file says of a peer
+abbrev pub said : PeerId → List ℕ → List Change
+said peer file = changes_of peer (records_of file) (end_of file)
+
+-- how many of its records are passed over
+abbrev pub passed_in : PeerId → List ℕ → ℕ
+passed_in peer file = passed_of peer (records_of file)

@@ -1,0 +1,98 @@
+-- A session that is being read, over any source of records.
+use Rattle.std.specs.Prelude.{◌≡◌, ◌↔◌, ℕ, ◌+◌, Bool, true, false, List, [], ◌∷◌, ◌++◌, Option, Some, None, Result, Ok, Err, if◌then◌else◌}
+use Rattle.std.specs.Option.{option_to_list}
+use Rattle.std.specs.declared.alloc.AllocError.{AllocError}
+use Rattle.rs_mrt.specs.Record.{MrtRecord}
+use Rattle.rs_mrt.specs.declared.fault.MrtFault.{MrtFault}
+use Rattle.rs_mrt.specs.declared.fault.SourceFault.{SourceFault}
+use Rattle.rs_mrt.specs.declared.fault.SourceFault.TheVariants as faults
+use Rattle.rs_session.specs.Change.{Change, change_of, closing_word, is_close, is_read_failure}
+use Rattle.rs_session.specs.Said.{changes_of, passed_of}
+use Rattle.rs_session.specs.declared.peer.PeerId.{PeerId}
+use Rattle.rs_session.specs.declared.word.Reason.TheVariants.{Read}
+use Rattle.rs_session.specs.declared.word.Word.{Word}
+
+-- how far the reading of a session has come: the changes that its last record said and that haven't been given yet, whether the record that
+-- the source shows is still to be read, whether the close was given, and how many records were passed over before the change given last, and
+-- how many after it
+pub record Stage (S : Type 0) : Type 0 where
+  pub source : S
+  pub peer : PeerId
+  pub waiting : List Change
+  pub held : Bool
+  pub closed : Bool
+  pub passed : ℕ
+  pub skipped : ℕ
+
+-- nothing was read yet
+abbrev pub fresh : {S : Type 0} → S → PeerId → Stage S
+fresh source peer = record { source = source; peer = peer; waiting = []; held = false; closed = false; passed = 0; skipped = 0 }
+
+-- ---- what may still come
+
+-- the records that are still to be read: the one that is held, and those that come later
+abbrev pub to_read : Bool → Option MrtRecord → List MrtRecord → List MrtRecord
+to_read held shown later = (if held then option_to_list shown else []) ++ later
+
+-- these records may still be read, and then they end so
+pub record MayRead {S : Type 0} (comes : S → List MrtRecord → Option MrtFault → Type 0) (shows : S → Option MrtRecord) (stage : Stage S) (records : List MrtRecord) (end : Option MrtFault) : Type 0 where
+  pub later : List MrtRecord
+  pub come : comes stage.source later end
+  pub read : records ≡ to_read stage.held (shows stage.source) later
+
+-- the changes that are still to be given, where these records are read
+abbrev pub changes_left : {S : Type 0} → Stage S → List MrtRecord → Option MrtFault → List Change
+changes_left stage records end = if stage.closed then [] else stage.waiting ++ changes_of stage.peer records end
+
+-- how many records are passed over in the end, where these records are read
+abbrev pub passed_in_the_end : {S : Type 0} → Stage S → List MrtRecord → ℕ
+passed_in_the_end stage records = if stage.closed then stage.passed else stage.passed + stage.skipped + passed_of stage.peer records
+
+-- these changes may still come, and so many records are passed over in the end
+pub record May {S : Type 0} (comes : S → List MrtRecord → Option MrtFault → Type 0) (shows : S → Option MrtRecord) (stage : Stage S) (changes : List Change) (passed : ℕ) : Type 0 where
+  pub records : List MrtRecord
+  pub end : Option MrtFault
+  pub may_read : MayRead comes shows stage records end
+  pub said : changes ≡ changes_left stage records end
+  pub counted : passed ≡ passed_in_the_end stage records
+
+-- whatever may come after may come before
+abbrev pub Keeps : {S : Type 0} → (S → List MrtRecord → Option MrtFault → Type 0) → (S → Option MrtRecord) → Stage S → Stage S → Type 0
+Keeps comes shows old new = (changes : List Change) (passed : ℕ) → May comes shows new changes passed → May comes shows old changes passed
+
+-- whatever may come after may come before, with this change in front
+abbrev pub KeepsBehind : {S : Type 0} → (S → List MrtRecord → Option MrtFault → Type 0) → (S → Option MrtRecord) → Change → Stage S → Stage S → Type 0
+KeepsBehind comes shows first old new = (changes : List Change) (passed : ℕ) → May comes shows new changes passed → May comes shows old (first ∷ changes) passed
+
+-- no change may come, and as many records are passed over as were
+abbrev pub IsOver : {S : Type 0} → (S → List MrtRecord → Option MrtFault → Type 0) → (S → Option MrtRecord) → Stage S → Type 0
+IsOver comes shows stage = (changes : List Change) (passed : ℕ) → May comes shows stage changes passed → (changes ≡ []) × (passed ≡ stage.passed)
+
+-- just these changes may still come, and just so many records are passed over in the end
+abbrev pub SaysJust : {S : Type 0} → (S → List MrtRecord → Option MrtFault → Type 0) → (S → Option MrtRecord) → Stage S → List Change → ℕ → Type 0
+SaysJust comes shows stage said total = (changes : List Change) (passed : ℕ) → May comes shows stage changes passed ↔ ((changes ≡ said) × (passed ≡ total))
+
+-- ---- what an answer to `next_word` says
+
+-- A change was to come before those that may come after it. Only a close for want of readable records isn't one that records say: it has time 0
+-- (our choice). After a close no change may come. None comes where no change may, and nothing changes. Memory refused changes nothing that may
+-- come.
+abbrev pub Says : {S : Type 0} → (S → List MrtRecord → Option MrtFault → Type 0) → (S → Option MrtRecord) → Stage S → Stage S → Result (Option Word) AllocError → Type 0
+Says comes shows old new (Ok (Some word)) =
+    (is_read_failure word.body ≡ false → KeepsBehind comes shows (change_of word) old new)
+    × (is_read_failure word.body ≡ true → word ≡ closing_word 0 Read)
+    × (is_close word.body ≡ true → IsOver comes shows new)
+Says comes shows old new (Ok None) = IsOver comes shows old × (new ≡ old)
+Says comes shows old new (Err refused) = Keeps comes shows old new × (new.passed ≡ old.passed)
+
+-- the answer of a source behind an answer of a session: a failed read behind the close that says so
+abbrev pub answer_behind : Result (Option Word) AllocError → Result Bool SourceFault
+answer_behind (Ok (Some word)) = if is_read_failure word.body then Err faults.Read else Ok true
+answer_behind (Ok None) = Ok true
+answer_behind (Err refused) = Ok true
+
+-- while no close is given, a source that had not stopped has not stopped
+abbrev pub GoesOn : Option (Result Bool SourceFault) → Option (Result Bool SourceFault) → Result (Option Word) AllocError → Type 0
+GoesOn before after (Ok (Some word)) = is_close word.body ≡ false → (last : Result Bool SourceFault) → after ≡ Some last → before ≡ Some last
+GoesOn before after (Ok None) = (last : Result Bool SourceFault) → after ≡ Some last → before ≡ Some last
+GoesOn before after (Err refused) = (last : Result Bool SourceFault) → after ≡ Some last → before ≡ Some last

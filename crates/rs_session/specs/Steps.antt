@@ -1,0 +1,68 @@
+-- One step in the reading of a session: a record is fetched, and what it says is applied.
+use Rattle.std.specs.Prelude.{◌≡◌, ℕ, ◌+◌, Bool, true, false, not, ◌&&◌, List, [], ◌∷◌, Option, Some, None, Result, Ok, Err}
+use Rattle.std.specs.declared.alloc.AllocError.{AllocError}
+use Rattle.rs_mrt.specs.Record.{MrtRecord}
+use Rattle.rs_mrt.specs.declared.fault.MrtFault.{MrtFault}
+use Rattle.rs_mrt.specs.declared.fault.SourceFault.{SourceFault}
+use Rattle.rs_mrt.specs.declared.fault.SourceFault.TheVariants as faults
+use Rattle.rs_session.specs.Change.{Change, change_of, closing_word, is_close, is_read, is_read_failure}
+use Rattle.rs_session.specs.Effect.{RecordEffect, PassesOver, Gives, Ends, effect_of}
+use Rattle.rs_session.specs.Said.{reason_at_end}
+use Rattle.rs_session.specs.Stage.{Stage, MayRead, Keeps, KeepsBehind, IsOver}
+use Rattle.rs_session.specs.declared.word.Reason.{Reason}
+use Rattle.rs_session.specs.declared.word.Reason.TheVariants as reasons
+use Rattle.rs_session.specs.declared.word.Word.{Word}
+
+-- ---- giving
+
+-- the first change that waits is given, and what was passed over before it is counted; or none waits, and nothing changes
+abbrev pub GivesWaiting : {S : Type 0} → Stage S → Option Word → Stage S → Type 0
+GivesWaiting old (Some word) new =
+    (old.waiting ≡ change_of word ∷ new.waiting)
+    × (is_close word.body ≡ false)
+    × (new ≡ record old { waiting = new.waiting; passed = old.passed + old.skipped; skipped = 0 })
+GivesWaiting old None new = (old.waiting ≡ []) × (new ≡ old)
+
+-- ---- fetching
+
+-- a record is there to be read, and no other records may be read than before; or there is none, for this reason
+abbrev pub Fetches : {S : Type 0} → (S → List MrtRecord → Option MrtFault → Type 0) → (S → Option MrtRecord) → Stage S → Stage S → Option Reason → Type 0
+Fetches comes shows old new None = (records : List MrtRecord) (end : Option MrtFault) → MayRead comes shows new records end → MayRead comes shows old records end
+Fetches comes shows old new (Some reason) = is_read reason ≡ false → (end : Option MrtFault) × MayRead comes shows old [] end × (reason ≡ reason_at_end end)
+
+-- the answer of a source behind what fetching gave
+abbrev pub answer_of_fetch : Option Reason → Result Bool SourceFault
+answer_of_fetch (Some reasons.Read) = Err faults.Read
+answer_of_fetch reason = Ok true
+
+-- ---- applying
+
+-- the session is closed, and what was passed over is counted
+abbrev pub closed_by : {S : Type 0} → Stage S → Stage S
+closed_by stage = record stage { held = false; closed = true; passed = stage.passed + stage.skipped; skipped = 0 }
+
+-- the effect of a record is applied to the session: only the end of the session is given at once
+abbrev pub Applies : {S : Type 0} → ℕ → RecordEffect → Stage S → Option Word → Stage S → Type 0
+Applies time PassesOver old None new = new ≡ record old { held = false; skipped = old.skipped + 1 }
+Applies time (Gives changes) old None new = new ≡ record old { held = false; waiting = changes }
+Applies time (Ends reason) old (Some word) new = (word ≡ closing_word time reason) × (is_read reason ≡ false) × (new ≡ closed_by old)
+Applies time PassesOver old (Some word) new = ⊥
+Applies time (Gives changes) old (Some word) new = ⊥
+Applies time (Ends reason) old None new = ⊥
+
+-- the record that is shown is read
+abbrev pub ReadsShown : {S : Type 0} → Option MrtRecord → Stage S → Option Word → Stage S → Type 0
+ReadsShown None old given new = (given ≡ None) × (new ≡ record old { held = false })
+ReadsShown (Some r) old given new = Applies r.time (effect_of old.peer r) old given new
+
+-- ---- a whole step
+
+-- the session goes on, and no more may come than before; or the close is given
+abbrev pub Steps : {S : Type 0} → (S → List MrtRecord → Option MrtFault → Type 0) → (S → Option MrtRecord) → Stage S → Stage S → Result (Option Word) AllocError → Type 0
+Steps comes shows old new (Ok None) = Keeps comes shows old new × (new.closed ≡ false) × (new.passed ≡ old.passed)
+Steps comes shows old new (Ok (Some word)) =
+    (is_read_failure word.body ≡ false → KeepsBehind comes shows (change_of word) old new)
+    × (is_read_failure word.body ≡ true → word ≡ closing_word 0 reasons.Read)
+    × (is_close word.body ≡ true)
+    × IsOver comes shows new
+Steps comes shows old new (Err refused) = Keeps comes shows old new × (new.closed ≡ false) × (new.passed ≡ old.passed)

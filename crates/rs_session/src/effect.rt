@@ -1,0 +1,91 @@
+//! What a record says to the session of one peer (RFC 6396, sections 4.4.2 and 4.4.3; RFC 4271, sections 4.2 to 4.5 and 6).
+//!
+//! Our choices: a record of another kind or of another peer is passed over; only the loss of Established counts among changes of
+//! state; a fault of the recording or of a message ends the session.
+
+ghost use Rattle.std.specs.Prelude.{◌≡◌, IsTrue, IfOk};
+ghost use Rattle.rs_mrt.specs.Record.{record_of};
+ghost use Rattle.rs_update.specs.Message.{message_of};
+ghost use Rattle.rs_session.specs.Effect.{effect_of, effect_of_message, effect_of_state};
+ghost use Rattle.rs_session.specs.EffectView.{effect_value, IsRecorded};
+
+use crate::peer::PeerId;
+use crate::pending::Pending;
+use crate::word::Reason;
+use rs_mrt::{Entry, Record, entry};
+use rs_update::{Message, MessageFault, read_message};
+use std::alloc::{AllocError, Global};
+
+// State 6: the session is up (RFC 6396, section 4.4.1).
+const ESTABLISHED: u16 = 6;
+
+// What a record says to a session.
+#[derive(Drop)]
+pub(crate) enum Effect {
+    // The record is passed over.
+    PassesOver,
+    // The session goes on with these changes.
+    Gives(Pending),
+    // The session ends.
+    Ends(Reason),
+}
+
+// What a record says to the session of a peer. Nothing is allocated for a record that is passed over.
+#[tactic(auto, unfolding(crate::specs::Effect::effect_of))]
+pub(crate) fn read_record(
+    alloc: Global,
+    peer: PeerId,
+    record: &Record<'_>,
+) -> Result<Effect, AllocError>
+    ensures says { IfOk result (λ effect. effect_value effect ≡ effect_of peer (record_of «record».now)) }
+    ensures recorded { IfOk result IsRecorded }
+{
+    match entry(record) {
+        Ok(
+            Entry::Message {
+                peer_as,
+                peer: address,
+                message,
+            },
+        ) if peer.is(peer_as, address) => read_recorded_message(alloc, record.time, message),
+        Ok(
+            Entry::State {
+                peer_as,
+                peer: address,
+                old,
+                new,
+            },
+        ) if peer.is(peer_as, address) => Ok(effect_of_state(alloc, old, new)),
+        Ok(_) => Ok(Effect::PassesOver),
+        Err(fault) => Ok(Effect::Ends(Reason::Mrt(fault.number()))),
+    }
+}
+
+// What a change of state says.
+fn effect_of_state(alloc: Global, old: u16, new: u16) -> Effect
+    ensures says { effect_value result ≡ effect_of_state old new }
+    ensures recorded { IsRecorded result }
+{
+    if old == ESTABLISHED && new != ESTABLISHED {
+        Effect::Ends(Reason::State)
+    } else {
+        Effect::Gives(Pending::none(alloc))
+    }
+}
+
+// What a message says, recorded at a time.
+fn read_recorded_message(alloc: Global, time: u32, octets: &[u8]) -> Result<Effect, AllocError>
+    ensures says { IfOk result (λ effect. effect_value effect ≡ effect_of_message time (message_of octets.now)) }
+    ensures recorded { IfOk result IsRecorded }
+{
+    let effect = match read_message(alloc, octets) {
+        Ok(Message::Open) => Effect::Gives(Pending::none(alloc)),
+        Ok(Message::Update(update)) => Effect::Gives(Pending::of_update(alloc, time, update)?),
+        Ok(Message::Notification) => Effect::Ends(Reason::Notification),
+        Ok(Message::KeepAlive) => Effect::Gives(Pending::none(alloc)),
+        Ok(Message::Refresh) => Effect::Gives(Pending::none(alloc)),
+        Err(MessageFault::Bgp { code, subcode }) => Effect::Ends(Reason::Bgp { code, subcode }),
+        Err(MessageFault::Memory) => return Err(AllocError),
+    };
+    Ok(effect)
+}
