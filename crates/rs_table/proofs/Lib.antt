@@ -1,3 +1,4 @@
+pub mod KnownLemmas
 pub mod LeftLemmas
 pub mod ListingLemmas
 pub mod PrefixLemmas

@@ -1,6 +1,6 @@
 //! A client's whole table (RFC 4271, section 3.2; RFC 7947, section 2.3.2.1): a row for each prefix on which it gets a route.
 
-ghost use Rattle.std.specs.Prelude.{IfOk, map};
+ghost use Rattle.std.specs.Prelude.{◌<◌, All, IfOk, length, map};
 ghost use Rattle.rs_table.specs.Listing.{HoldsPrefixes};
 ghost use Rattle.rs_table.specs.RouteView.{row_of};
 ghost use Rattle.rs_table.specs.Table.{IsTable};
@@ -17,8 +17,10 @@ impl Tables {
     ///
     /// Fails where memory is refused.
     pub fn rows<'a>(&'a self, client: usize) -> Result<Vec<Row<'a>>, AllocError>
-        ensures { IfOk result (λ rows. IsTable self.now client (map row_of rows.items)) }
+        ensures table { IfOk result (λ rows. IsTable self.now client (map row_of rows.items)) }
+        ensures known { IfOk result (λ rows. All (λ row. row.route.peer < length self.now.plan.peers) (map row_of rows.items)) }
     {
+        let _peers = self.count();
         let prefixes = self.prefixes()?;
         let mut rows = Vec::new(self.allocator());
         for prefix in &prefixes {

@@ -90,8 +90,8 @@ impl Tables {
         *self.ribs.allocator()
     }
 
-    // How many peers there are.
-    pub(crate) fn count(&self) -> usize
+    /// How many peers there are: as many as the plan has, and something is held of each one.
+    pub fn count(&self) -> usize
         ensures peers { result ≡ length self.now.plan.peers }
         ensures ribs { result ≡ length self.now.ribs }
         ensures bound { result ≤ MAX_PEERS }
