@@ -54,16 +54,16 @@ const STATES_END: usize = 24;
 /// `MicrosecondsCutShort` where a BGP4MP_ET body has fewer than 4 octets, else `FieldsCutShort` where a body of Subtype 4
 /// or 5 is shorter than its fields.
 #[tactic(auto, unfolding(crate::specs::Entry::entry_of))]
-pub fn entry<'a>(record: &Record<'a>) -> Result<Entry<'a>, MrtFault>
-    ensures { answer_of result ≡ entry_of (record_of record.now) }
+pub fn entry<'a>(recorded: &Record<'a>) -> Result<Entry<'a>, MrtFault>
+    ensures { answer_of result ≡ entry_of (record_of recorded.now) }
 {
-    match record.kind {
-        BGP4MP => read_fields(record.subtype, record.body),
+    match recorded.kind {
+        BGP4MP => read_fields(recorded.subtype, recorded.body),
         BGP4MP_ET => {
-            if record.body.len() < MICROSECONDS_LEN {
+            if recorded.body.len() < MICROSECONDS_LEN {
                 return Err(MrtFault::MicrosecondsCutShort);
             }
-            read_fields(record.subtype, &record.body[MICROSECONDS_LEN..])
+            read_fields(recorded.subtype, &recorded.body[MICROSECONDS_LEN..])
         }
         _ => Ok(Entry::Other),
     }
