@@ -1,3 +1,4 @@
+pub mod ExampleLemmas
 pub mod KnownLemmas
 pub mod LeftLemmas
 pub mod ListingLemmas

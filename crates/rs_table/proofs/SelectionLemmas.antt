@@ -8,8 +8,8 @@ use Rattle.std.proofs.lemmas.Bool.{cases_lt, and_right}
 use Rattle.std.proofs.lemmas.Option.{cond_some, slice_get_past}
 use Rattle.std.proofs.lemmas.List.Elements.{All-cons}
 use Rattle.rs_update.specs.IpPrefix.{IpPrefix}
-use Rattle.rs_choice.specs.Decision.{SentRoute, sent_route_of, standing_of, choice, remaining, unbeaten, first_member}
-use Rattle.rs_choice.specs.Naturality.{choice-map}
+use Rattle.rs_choice.specs.Decision.{SentRoute, sent_route_of, standing_of, choice}
+use Rattle.rs_choice.specs.Naturality.{choice-map, choice-All}
 use Rattle.rs_choice.specs.Plan.{Plan}
 use Rattle.rs_choice.specs.Eligibility.{is_eligible}
 use Rattle.rs_choice.specs.Policy.{is_permitted}
@@ -38,25 +38,6 @@ two_filters eligible permitted (Some x) later =
 filter_none : {X : Type 0} (test : X → Bool) → ((x : X) → test x ≡ false) → (xs : List X) → filter test xs ≡ []
 filter_none test none [] = refl
 filter_none test none (x ∷ xs) = rw (none x) (filter_none test none xs)
-
--- what holds of all of a set holds of those that a filter keeps
-filter_keeps : {X : Type 0} (P : X → Type 0) (test : X → Bool) (xs : List X) → AllByRecursion P xs → AllByRecursion P (filter test xs)
-filter_keeps P test [] all = tt
-filter_keeps P test (x ∷ xs) all =
-    elim (test x) as (λ b. AllByRecursion P (cond b (x ∷ filter test xs) (filter test xs))) [
-      | true ↦ (all.0, filter_keeps P test xs all.1)
-      | false ↦ filter_keeps P test xs all.1
-    ]
-
-first_keeps : {X : Type 0} (P : X → Type 0) (xs : List X) (x : X) → AllByRecursion P xs → first_member xs ≡ Some x → P x
-first_keeps P [] x all e = absurd (cc e)
-first_keeps P (y ∷ ys) x all e = subst P (cc e) all.0
-
--- and of the choice among them
-choice-among : {X : Type 0} (plan : Plan) (sent : X → SentRoute) (P : X → Type 0) (xs : List X) (x : X) → AllByRecursion P xs → choice (λ x. standing_of plan (sent x)) xs ≡ Some x → P x
-unfolding choice remaining unbeaten
-choice-among plan sent P xs x all is =
-    first_keeps P _ x (filter_keeps P _ _ (filter_keeps P _ _ (filter_keeps P _ _ (filter_keeps P _ _ (filter_keeps P _ _ (filter_keeps P _ xs all)))))) is
 
 all_places : {X : Type 0} (P : X → Type 0) (xs : List X) → AllByRecursion P xs → All P xs
 all_places P [] all = λ k d below. absurd (omega arith)
@@ -110,7 +91,7 @@ module _ (tables : TablesContent) (client : ℕ) (prefix : IpPrefix) where
   is_left peer route known is = by_route (get (rib_of tables peer).routes prefix) refl
     where
       by_route : (o : Option RouteLeft) → get (rib_of tables peer).routes prefix ≡ o → IsLeft route
-      by_route None e = absurd (cc (is, ap (λ o. option_and_then (λ route. cond (is_candidate tables client route) (Some route) None) (option_map (peer_route peer) o)) e))
+      by_route None e = absurd (cc (is, e))
       by_route (Some left) e =
           let own : cond (is_candidate tables client (peer_route peer left)) (Some (peer_route peer left)) None ≡ Some route =
           sym (ap (λ o. option_and_then (λ route. cond (is_candidate tables client route) (Some route) None) (option_map (peer_route peer) o)) e) ∙ is in
@@ -131,8 +112,11 @@ module _ (tables : TablesContent) (client : ℕ) (prefix : IpPrefix) where
         | inr past ↦ rw (candidates_from_end peer past) tt
       ]
 
-  pub all_left : AllByRecursion IsLeft (candidates_of tables client prefix)
-  all_left = all_left_from (length tables.ribs) 0 (omega arith)
+  all_left_in_turn : AllByRecursion IsLeft (candidates_of tables client prefix)
+  all_left_in_turn = all_left_from (length tables.ribs) 0 (omega arith)
+
+  pub all_left : All IsLeft (candidates_of tables client prefix)
+  all_left = all_places IsLeft (candidates_of tables client prefix) all_left_in_turn
 
   -- ---- the choice among them
 
@@ -142,7 +126,7 @@ module _ (tables : TablesContent) (client : ℕ) (prefix : IpPrefix) where
     where
       by_best : (o : Option PeerRoute) → best_of tables client prefix ≡ o → option_and_then (route_from tables prefix) (option_map (λ route. route.peer) o) ≡ o
       by_best None e = refl
-      by_best (Some route) e = (choice-among tables.plan sent_route IsLeft (candidates_of tables client prefix) route all_left e).1
+      by_best (Some route) e = (choice-All IsLeft (λ route. standing_of tables.plan (sent_route route)) (candidates_of tables client prefix) route all_left e).1
 
   pub best-known : (peer : ℕ) → Some peer ≡ option_map (λ route. route.peer) (best_of tables client prefix) → peer < length tables.ribs
   best-known peer is = by_best (best_of tables client prefix) refl
@@ -151,7 +135,7 @@ module _ (tables : TablesContent) (client : ℕ) (prefix : IpPrefix) where
       by_best None e = absurd (cc (is ∙ ap (option_map (λ route. route.peer)) e))
       by_best (Some route) e =
           let same : peer ≡ route.peer = cc (is ∙ ap (option_map (λ route. route.peer)) e) in
-          subst (λ n. n < length tables.ribs) (sym same) (choice-among tables.plan sent_route IsLeft (candidates_of tables client prefix) route all_left e).0
+          subst (λ n. n < length tables.ribs) (sym same) (choice-All IsLeft (λ route. standing_of tables.plan (sent_route route)) (candidates_of tables client prefix) route all_left e).0
 
   pub best-peer : (candidates : List Candidate) → map sent_route_of candidates ≡ map sent_route (candidates_of tables client prefix) →
       option_map (λ sent. sent.peer) (choice (standing_of tables.plan) (map sent_route_of candidates)) ≡ option_map (λ route. route.peer) (best_of tables client prefix)
@@ -172,7 +156,7 @@ module _ (tables : TablesContent) (client : ℕ) (prefix : IpPrefix) where
 
   pub peers_known : length tables.ribs ≡ length tables.plan.peers → (candidates : List Candidate) → map sent_route_of candidates ≡ map sent_route (candidates_of tables client prefix) →
       All (λ candidate. candidate.peer < length tables.plan.peers) candidates
-  peers_known ribs candidates same = all_places (λ candidate. candidate.peer < length tables.plan.peers) candidates (by_routes candidates (candidates_of tables client prefix) all_left same)
+  peers_known ribs candidates same = all_places (λ candidate. candidate.peer < length tables.plan.peers) candidates (by_routes candidates (candidates_of tables client prefix) all_left_in_turn same)
     where
       by_routes : (candidates : List Candidate) (routes : List PeerRoute) → AllByRecursion IsLeft routes → map sent_route_of candidates ≡ map sent_route routes → AllByRecursion (λ candidate. candidate.peer < length tables.plan.peers) candidates
       by_routes [] routes left e = tt

@@ -8,6 +8,7 @@ pub use Rattle.rs_choice.specs.Plan
 pub use Rattle.rs_choice.specs.Policy
 pub mod Codes
 pub mod Content
+pub mod Examples
 pub mod Laws
 pub mod Left
 pub mod Listing

@@ -1,5 +1,6 @@
 //! Laws of this crate's definitions. Each function does nothing: its contract is the law.
 
+ghost use Rattle.rs_table.specs.Examples.{LeftExamples, TableExamples};
 ghost use Rattle.rs_table.specs.Laws.{LeftByLastChanges, LeftAfterOneMore, TableIsComputed};
 
 /// The routes that a list of changes leaves are those announced last on their prefix (RFC 4271, section 9.1), none where the list
@@ -16,4 +17,10 @@ pub fn left_after_one_more()
 /// A client has one table: the rows that ascend strictly and say of each prefix what the client gets are those that are computed.
 pub fn table_is_computed()
     ensures { TableIsComputed }
+{}
+
+/// What the definitions say of lists of changes and of small exchanges, worked out by hand.
+pub fn examples_hold()
+    ensures left { LeftExamples }
+    ensures tables { TableExamples }
 {}

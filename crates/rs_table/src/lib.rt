@@ -15,7 +15,7 @@ mod selection;
 mod tables;
 mod why;
 
-pub use laws::{left_after_one_more, left_by_last_changes, table_is_computed};
+pub use laws::{examples_hold, left_after_one_more, left_by_last_changes, table_is_computed};
 pub use route::{Route, Row};
 pub use tables::Tables;
 pub use why::Why;

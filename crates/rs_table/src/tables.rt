@@ -45,6 +45,7 @@ impl Tables {
     pub fn new(alloc: Global, plan: Arc<Exchange>) -> Result<Tables, AllocError>
         ensures plan { IfOk result (λ tables. tables.plan ≡ plan.value) }
         ensures empty { IfOk result (λ tables. (peer : ℕ) → rib_of tables peer ≡ nothing_held) }
+        ensures count { IfOk result (λ tables. length tables.ribs ≡ length plan.value.peers) }
     {
         let ribs = open_ribs(alloc, plan.count())?;
         Ok(Tables { plan, ribs })
@@ -74,6 +75,7 @@ impl Tables {
         ensures succeeds { OnErr result (IsNewAnnouncement (rib_of self.old peer).routes (change_of word)) }
         ensures others { (other : ℕ) → other ≢ peer → rib_of self.new other ≡ rib_of self.old other }
         ensures plan { self.new.plan ≡ self.old.plan }
+        ensures count { length self.new.ribs ≡ length self.old.ribs }
     {
         self.ribs[peer].apply(word)
     }
