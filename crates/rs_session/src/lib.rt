@@ -1,6 +1,7 @@
 //! What one recorded session says: the route changes of one peer, in order (RFC 4271; RFC 6396).
 //!
-//! Reading order: `word`, `peer`.
+//! Reading order: `word` (a change), `peer` (whose), `withdrawn` and `pending` (the changes of one UPDATE), `effect` (what one record
+//! says), `session` (one change after another), `laws` (what holds of the definitions that the contracts cite).
 #![tactic(auto)]
 
 mod effect;

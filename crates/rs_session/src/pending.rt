@@ -5,8 +5,7 @@
 ghost use Rattle.std.specs.Prelude.{◌≡◌, false, [], IfOk, IfSome, OnErr};
 ghost use Rattle.std.specs.Option.{option_map};
 ghost use Rattle.rs_update.specs.Message.{update_content_of};
-ghost use Rattle.rs_session.specs.Change.{GivesFirst};
-ghost use Rattle.rs_session.specs.Change.{is_close};
+ghost use Rattle.rs_session.specs.Change.{GivesFirst, is_close};
 ghost use Rattle.rs_session.specs.UpdateChanges.{changes_of_update};
 
 use crate::withdrawn::{keep_unicast, keep_withdrawn_only};

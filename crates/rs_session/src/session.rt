@@ -46,7 +46,15 @@ impl<S: Source> Model for Session<S> {
 
     ghost Value = { Stage S };
 
-    ghost view = { λ s. record { source = s.source; peer = s.peer; waiting = s.waiting; held = s.held; closed = s.closed; passed = s.passed; skipped = s.skipped } };
+    ghost view = { λ s. record {
+      source = s.source;
+      peer = s.peer;
+      waiting = s.waiting;
+      held = s.held;
+      closed = s.closed;
+      passed = s.passed;
+      skipped = s.skipped;
+    } };
 
     ghost invariant = { λ s. CountFits (s.passed + s.skipped) s.held (S.room s.source) };
 }
@@ -55,7 +63,8 @@ impl<'a> Session<Records<'a>> {
     /// Begins at the first octet of a file. It takes no memory.
     pub fn new(alloc: Global, file: &'a [u8], peer: PeerId) -> Session<Records<'a>>
         // What may come is just what the file says of the peer.
-        ensures says { SaysJust ⟦<Records<'a> as Source>⟧.comes ⟦<Records<'a> as Source>⟧.shows result (said peer file.now) (passed_in peer file.now) }
+        ensures says { SaysJust ⟦<Records<'a> as Source>⟧.comes ⟦<Records<'a> as Source>⟧.shows
+            result (said peer file.now) (passed_in peer file.now) }
         ensures source { result.source ≡ reading_of None file.now }
         ensures passed { result.passed ≡ 0 }
     {
@@ -85,7 +94,8 @@ impl<S: Source> Session<S> {
     pub fn next_word(&mut self) -> Result<Option<Word>, AllocError>
         ensures says { Says S.comes S.shows self.old self.new result }
         // A close for want of readable records comes only where a read failed, or where the source takes no more octets.
-        ensures failures { CountsFailure (S.failures self.old.source) (S.failures self.new.source) (S.full self.new.source) (S.stopped self.old.source) (answer_behind result) }
+        ensures failures { CountsFailure (S.failures self.old.source) (S.failures self.new.source)
+            (S.full self.new.source) (S.stopped self.old.source) (answer_behind result) }
         ensures goes_on { GoesOn (S.stopped self.old.source) (S.stopped self.new.source) result }
         // What is given is always a beginning of something that may come.
         ensures more { SomethingMayCome S.comes S.shows self.new }
@@ -134,8 +144,10 @@ impl<S: Source> Session<S> {
         requires closed { self.old.closed ≡ false }
         requires waiting { self.old.waiting ≡ [] }
         ensures says { Steps S.comes S.shows self.old self.new result }
-        ensures room { IfOk result (λ given. IfNone given (S.room self.new.source + held_count self.new.held < S.room self.old.source + held_count self.old.held)) }
-        ensures failures { CountsFailure (S.failures self.old.source) (S.failures self.new.source) (S.full self.new.source) (S.stopped self.old.source) (answer_behind result) }
+        ensures room { IfOk result (λ given. IfNone given
+            (S.room self.new.source + held_count self.new.held < S.room self.old.source + held_count self.old.held)) }
+        ensures failures { CountsFailure (S.failures self.old.source) (S.failures self.new.source)
+            (S.full self.new.source) (S.stopped self.old.source) (answer_behind result) }
         ensures goes_on { GoesOn (S.stopped self.old.source) (S.stopped self.new.source) result }
     {
         if let Some(reason) = self.fetch() {
@@ -149,8 +161,10 @@ impl<S: Source> Session<S> {
         ensures same { self.new ≡ record self.old { source = self.new.source; held = is_none result } }
         ensures says { Fetches S.comes S.shows self.old self.new result }
         ensures room { IfNone result (S.room self.new.source + 1 ≤ S.room self.old.source + held_count self.old.held) }
-        ensures failures { CountsFailure (S.failures self.old.source) (S.failures self.new.source) (S.full self.new.source) (S.stopped self.old.source) (answer_of_fetch result) }
-        ensures goes_on { IfNone result ((last : Result Bool SourceFault) → S.stopped self.new.source ≡ Some last → S.stopped self.old.source ≡ Some last) }
+        ensures failures { CountsFailure (S.failures self.old.source) (S.failures self.new.source)
+            (S.full self.new.source) (S.stopped self.old.source) (answer_of_fetch result) }
+        ensures goes_on { IfNone result ((last : Result Bool SourceFault) →
+            S.stopped self.new.source ≡ Some last → S.stopped self.old.source ≡ Some last) }
     {
         if self.held {
             return None;
