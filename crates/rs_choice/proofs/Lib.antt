@@ -1,5 +1,8 @@
 pub mod Eliminations
+pub mod Examples
+pub mod GroupChoice
 pub mod GroupLemmas
+pub mod GroupLists
 pub mod LawLemmas
 pub mod Members
 pub mod Places

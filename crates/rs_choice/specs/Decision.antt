@@ -18,7 +18,14 @@ origin_code Igp = 0
 origin_code Egp = 1
 origin_code Incomplete = 2
 
--- at this step, one removes other
+-- at this step, one removes other:
+--   a higher configured preference of the sending peer (section 9.1.1);
+--   fewer AS numbers in AS_PATH, an AS_SET counting 1 (section 9.1.2.2, a);
+--   a lower ORIGIN (section 9.1.2.2, b);
+--   the same neighbour AS and a lower MED (section 9.1.2.2, c);
+--   a lower BGP Identifier of the sending peer (section 9.1.2.2, f);
+--   a lower address of the sending peer (section 9.1.2.2, g).
+-- All peers are external and no interior cost is known, so that steps d and e remove nothing.
 abbrev pub beats : Step → Standing → Standing → Bool
 beats steps.Preference one other = nat_lt other.preference one.preference
 beats steps.PathLength one other = nat_lt one.path_length other.path_length

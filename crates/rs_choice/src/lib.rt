@@ -19,6 +19,8 @@ mod neighbour_groups;
 mod plan;
 mod policy;
 mod step;
+#[cfg(test)]
+mod tests;
 
 pub use candidate::Candidate;
 pub use exchange::Exchange;

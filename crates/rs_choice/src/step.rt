@@ -10,7 +10,7 @@ use crate::candidate::Standing;
 
 /// A step of the decision process: it removes each candidate that another one of the set beats.
 #[derive(Clone, Copy, Debug, PartialEq, Eq)]
-pub enum Step {
+pub(crate) enum Step {
     /// A higher preference of the sending peer (section 9.1.1).
     Preference,
     /// Fewer AS numbers in AS_PATH, an AS_SET counting 1 (section 9.1.2.2, a).

@@ -6,7 +6,7 @@ use Rattle.rs_choice.specs.Decision.{sent_route_of, standing_of, member_at}
 use Rattle.rs_choice.specs.Grouping.{standing_at, IsGrouping}
 use Rattle.rs_choice.specs.Naturality.{place_of_choice-map, member_at-place_of_choice}
 use Rattle.rs_choice.proofs.ScanLemmas.{place_of_best}
-use Rattle.rs_choice.proofs.GroupLemmas.{first_is_best}
+use Rattle.rs_choice.proofs.GroupChoice.{first_is_best}
 use Rattle.rs_choice.proofs.exchange.Exchange.choose_by_groups.Goals as goal
 
 pub returns-clause-place : goal.returns-clause-place

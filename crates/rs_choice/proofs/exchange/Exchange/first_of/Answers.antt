@@ -1,7 +1,7 @@
 use Rattle.std.proofs.Common.{ℕ}
 use Rattle.rs_choice.specs.declared.candidate.Standing.{Standing}
 use Rattle.rs_choice.specs.Grouping.{standing_at, GoesBeforeSome}
-use Rattle.rs_choice.proofs.GroupLemmas.{first_changes, first_stays}
+use Rattle.rs_choice.proofs.GroupChoice.{first_changes, first_stays}
 use Rattle.rs_choice.proofs.ScanLemmas.{when_false}
 use Rattle.rs_choice.proofs.exchange.Exchange.first_of.Goals as goal
 use Rattle.rs_choice.proofs.exchange.Exchange.first_of.Goals.{then-goes_before, else-goes_before}

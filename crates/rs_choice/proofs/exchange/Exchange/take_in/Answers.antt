@@ -2,7 +2,8 @@ use Rattle.std.proofs.Common.{ℕ}
 use Rattle.rs_choice.specs.declared.candidate.Standing.{Standing}
 use Rattle.rs_choice.specs.Comparison.{IsAhead, IsLevel}
 use Rattle.rs_choice.specs.Grouping.{standing_at}
-use Rattle.rs_choice.proofs.GroupLemmas.{first_group, new_groups, left_behind, behind}
+use Rattle.rs_choice.proofs.GroupLemmas.{first_group, new_groups, left_behind}
+use Rattle.rs_choice.proofs.GroupLists.{behind}
 use Rattle.rs_choice.proofs.ScanLemmas.{when_false}
 use Rattle.rs_choice.proofs.exchange.Exchange.take_in.Goals as goal
 

@@ -1,0 +1,127 @@
+-- Lists of places as they change, and who stands for whom.
+use Rattle.std.proofs.Common.{◌≡◌, ◌≢◌, ◌∙◌, sym, ap, refl, ℕ, ◌<◌, suc, zero, arith, ◌⊎◌, inl, inr, List, [], ◌∷◌, ◌++◌, length, Some}
+use Rattle.std.specs.Prelude.{slice_get, slice_set}
+use Rattle.std.proofs.lemmas.Bool.{cases_order}
+use Rattle.rs_choice.specs.declared.candidate.Standing.{Standing}
+use Rattle.rs_choice.specs.Comparison.{IsAhead, IsLevel, Precedes}
+use Rattle.rs_choice.specs.Grouping.{BeatsInGroup, StandsFor}
+use Rattle.rs_choice.proofs.ScanLemmas.{precedes_then, precedes_cases}
+
+pub level_ahead : (a b c : Standing) → IsLevel a b → IsAhead b c → IsAhead a c
+level_ahead a b c h k = grind arith
+
+pub level_back : (a b : Standing) → IsLevel a b → IsLevel b a
+level_back a b h = (sym h.0, sym h.1, sym h.2)
+
+pub level_then : (a b c : Standing) → IsLevel a b → IsLevel b c → IsLevel a c
+level_then a b c h k = (h.0 ∙ k.0, h.1 ∙ k.1, h.2 ∙ k.2)
+
+pub behind : (a b : Standing) → (IsAhead a b → ⊥) → (IsLevel a b → ⊥) → IsAhead b a
+behind a b h k = grind arith
+
+pub stands_for_itself : (a : Standing) (place : ℕ) → StandsFor a place a place
+stands_for_itself a place = inr ((refl, refl, refl), refl, inr (refl, inr (refl, refl, omega arith)))
+
+-- who beats the one that stands for another stands for it too
+pub beats_stands : (one held other : Standing) (place held_place other_place : ℕ) → IsLevel one held → one.neighbour ≡ held.neighbour → BeatsInGroup one held →
+    StandsFor held held_place other other_place → StandsFor one place other other_place
+beats_stands one held other place held_place other_place level same beats (inl ahead) = inl (level_ahead one held other level ahead)
+beats_stands one held other place held_place other_place level same beats (inr (level_other, same_other, inl lower)) =
+    inr (
+      level_then one held other level level_other,
+      same ∙ same_other,
+      elim beats [
+        | inl less ↦ inl (omega arith)
+        | inr equal ↦ inl (omega (arith, equal.0))
+      ],
+    )
+beats_stands one held other place held_place other_place level same beats (inr (level_other, same_other, inr (med, later))) =
+    inr (
+      level_then one held other level level_other,
+      same ∙ same_other,
+      elim beats [
+        | inl less ↦ inl (omega (arith, med))
+        | inr equal ↦ inr (
+          equal.0 ∙ med,
+          inl (elim later [
+            | inl before ↦ precedes_then one held other equal.1 before
+            | inr tie ↦ precedes_alike one held other equal.1 tie.0 tie.1
+          ]),
+        )
+      ],
+    )
+  where
+    precedes_alike : (a b c : Standing) → Precedes a b → b.id ≡ c.id → b.address ≡ c.address → Precedes a c
+    precedes_alike a b c h e f = grind arith
+
+-- who isn't beaten by a later one stands for it
+pub held_stands : (held one : Standing) (held_place place : ℕ) → IsLevel held one → held.neighbour ≡ one.neighbour → (BeatsInGroup one held → ⊥) → held_place < place →
+    StandsFor held held_place one place
+held_stands held one held_place place level same beats_not earlier =
+    inr (
+      level,
+      same,
+      elim (cases_order held.med one.med) [
+        | inl med ↦ inr (
+          med,
+          elim (precedes_cases one held (λ before. beats_not (inr (sym med, before)))) [
+            | inl before ↦ inl before
+            | inr tie ↦ inr (tie.0, tie.1, omega arith)
+          ],
+        )
+        | inr differ ↦ elim differ [
+          | inl less ↦ inl less
+          | inr more ↦ absurd (beats_not (inl more))
+        ]
+      ],
+    )
+
+pub single : (n group place : ℕ) → slice_get (n ∷ []) group ≡ Some place → (group ≡ 0) × (place ≡ n)
+single n zero place at = (refl, cc)
+single n (suc group) place at = absurd (cc (at))
+
+pub push_cases : (groups : List ℕ) (n group place : ℕ) → slice_get (groups ++ n ∷ []) group ≡ Some place →
+    (slice_get groups group ≡ Some place) ⊎ ((group ≡ length groups) × (place ≡ n))
+push_cases [] n group place at = inr (single n group place at)
+push_cases (g ∷ groups) n zero place at = inl at
+push_cases (g ∷ groups) n (suc group) place at = elim (push_cases groups n group place at) [
+  | inl old ↦ inl old
+  | inr new ↦ inr (ap suc new.0, new.1)
+]
+
+pub push_old : (groups : List ℕ) (n group place : ℕ) → slice_get groups group ≡ Some place → slice_get (groups ++ n ∷ []) group ≡ Some place
+push_old [] n group place at = absurd (cc (at))
+push_old (g ∷ groups) n zero place at = at
+push_old (g ∷ groups) n (suc group) place at = push_old groups n group place at
+
+pub push_new : (groups : List ℕ) (n : ℕ) → slice_get (groups ++ n ∷ []) (length groups) ≡ Some n
+push_new [] n = refl
+push_new (g ∷ groups) n = push_new groups n
+
+pub set_cases : (groups : List ℕ) (at n group place : ℕ) → slice_get (slice_set groups at n) group ≡ Some place →
+    ((group ≡ at) × (place ≡ n)) ⊎ ((group ≢ at) × (slice_get groups group ≡ Some place))
+set_cases [] at n group place here = absurd (cc (here))
+set_cases (g ∷ groups) zero n zero place here = inl (refl, cc)
+set_cases (g ∷ groups) zero n (suc group) place here = inr ((λ e. absurd (omega (arith, e))), here)
+set_cases (g ∷ groups) (suc at) n zero place here = inr ((λ e. absurd (omega (arith, e))), here)
+set_cases (g ∷ groups) (suc at) n (suc group) place here = elim (set_cases groups at n group place here) [
+  | inl new ↦ inl (ap suc new.0, new.1)
+  | inr old ↦ inr ((λ e. old.0 (omega (arith, e))), old.1)
+]
+
+pub set_same : (groups : List ℕ) (at n : ℕ) → at < length groups → slice_get (slice_set groups at n) at ≡ Some n
+set_same [] at n within = absurd (omega arith)
+set_same (g ∷ groups) zero n within = refl
+set_same (g ∷ groups) (suc at) n within = set_same groups at n (omega arith)
+
+pub set_other : (groups : List ℕ) (at n group place : ℕ) → group ≢ at → slice_get groups group ≡ Some place → slice_get (slice_set groups at n) group ≡ Some place
+set_other [] at n group place differ here = absurd (cc (here))
+set_other (g ∷ groups) zero n zero place differ here = absurd (differ refl)
+set_other (g ∷ groups) zero n (suc group) place differ here = here
+set_other (g ∷ groups) (suc at) n zero place differ here = here
+set_other (g ∷ groups) (suc at) n (suc group) place differ here = set_other groups at n group place (λ e. differ (ap suc e)) here
+
+pub length_set : (groups : List ℕ) (at n : ℕ) → length (slice_set groups at n) ≡ length groups
+length_set [] at n = refl
+length_set (g ∷ groups) zero n = refl
+length_set (g ∷ groups) (suc at) n = ap suc (length_set groups at n)
