@@ -13,6 +13,8 @@ mod listing;
 mod route;
 mod selection;
 mod tables;
+#[cfg(test)]
+mod tests;
 mod why;
 
 pub use laws::{examples_hold, left_after_one_more, left_by_last_changes, table_is_computed};
