@@ -1,0 +1,2 @@
+pub mod RibLemmas
+pub mod SessionLemmas
