@@ -38,7 +38,7 @@ to_come-may stage = record {
   records = records_to_come stage;
   end = stage.source.end;
   may_read = record { later = stage.source.left; come = (refl, refl); read = refl };
-  said = refl;
+  left = refl;
   counted = refl;
 }
 
@@ -46,7 +46,7 @@ to_come-may stage = record {
 pub to_come-only : (stage : Stage Reading) (changes : List Change) (passed : ℕ) → May comes shows stage changes passed → changes ≡ to_come stage
 to_come-only stage changes passed m =
     let records-are : m.records ≡ records_to_come stage = m.may_read.read ∙ ap (λ (later : List MrtRecord). to_read stage.held stage.source.shown later) m.may_read.come.0 in
-    m.said ∙ ap (λ (rs : List MrtRecord). changes_left stage rs m.end) records-are ∙ ap (λ (e : Option MrtFault). changes_left stage (records_to_come stage) e) m.may_read.come.1
+    m.left ∙ ap (λ (rs : List MrtRecord). changes_left stage rs m.end) records-are ∙ ap (λ (e : Option MrtFault). changes_left stage (records_to_come stage) e) m.may_read.come.1
 
 -- at first what the file says
 pub to_come-says : (stage : Stage Reading) (changes : List Change) (passed : ℕ) → SaysJust comes shows stage changes passed → to_come stage ≡ changes

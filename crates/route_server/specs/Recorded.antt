@@ -4,7 +4,7 @@ use Rattle.std.specs.Prelude.{ℕ, true, List, map}
 use Rattle.std.specs.List.{zip}
 use Rattle.rs_choice.specs.Plan.{Peer, Plan}
 use Rattle.rs_dump.specs.Dump.{dumped}
-use Rattle.rs_session.specs.Said.{said}
+use Rattle.rs_session.specs.FileChanges.{changes_in}
 use Rattle.rs_session.specs.declared.peer.PeerId.{PeerId}
 use Rattle.rs_table.specs.Content.{RibContent, TablesContent}
 use Rattle.rs_table.specs.Left.{left}
@@ -16,7 +16,7 @@ id_of peer = record { address = peer.address; asn = peer.asn }
 
 -- what is held of a peer once its whole file was read: the routes that the file's changes leave; each file says a close
 abbrev pub rib_of_file : PeerId → List ℕ → RibContent
-rib_of_file peer file = record { routes = left (said peer file); closed = true }
+rib_of_file peer file = record { routes = left (changes_in peer file); closed = true }
 
 -- what is held once all files were read, one file for each peer, in the order of the peers
 abbrev pub tables_of_files : Plan → List (List ℕ) → TablesContent

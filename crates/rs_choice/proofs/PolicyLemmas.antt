@@ -44,8 +44,8 @@ pub answer_of_row : {R : Type 0} (f : R → List Bool) (rows : List R) (peers : 
 answer_of_row f rows peers client sender row answer agree at_row at_answer one other at_one at_other =
     let row_is = row_of_client f rows peers client row one agree at_one at_row in
     let sender_known = slice_get_within peers sender other at_other in
-    let said : slice_get (map (refuses one) peers) sender ≡ Some (refuses one other) = slice_get-map (refuses one) peers sender ∙ ap (option_map (refuses one)) at_other in
-    at_answer ∙ ap (λ (row : List Bool). get_or row sender answer) row_is ∙ get_or_from_slice_get (map (refuses one) peers) sender (refuses one other) answer said
+    let at_sender : slice_get (map (refuses one) peers) sender ≡ Some (refuses one other) = slice_get-map (refuses one) peers sender ∙ ap (option_map (refuses one)) at_other in
+    at_answer ∙ ap (λ (row : List Bool). get_or row sender answer) row_is ∙ get_or_from_slice_get (map (refuses one) peers) sender (refuses one other) answer at_sender
 
 -- the policy at two known peers
 pub is_permitted-known : (plan : Plan) (client number : ℕ) (attributes : PathAttributes) (one other : Peer) →

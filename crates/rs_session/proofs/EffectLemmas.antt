@@ -127,7 +127,7 @@ fields_fit body withdrawn nlri h k =
 fine-update : (time : ℕ) (body : List ℕ) → IsFine (length body) (effect_of_message time (update_message (update_of body)))
 unfolding update_of
 fine-update time body =
-    let P : Result UpdateContent UpdateFault → Type 0 = λ said. IsFine (length body) (effect_of_message time (update_message said)) in
+    let P : Result UpdateContent UpdateFault → Type 0 = λ answer. IsFine (length body) (effect_of_message time (update_message answer)) in
     let bad : (fault : UpdateFault) → P (Err fault) = λ fault. refl in
     let few_withdrawn : List IpPrefix → Type 0 = λ prefixes. length prefixes ≤ length (withdrawn_field body) in
     let few_announced : List IpPrefix → Type 0 = λ prefixes. length prefixes ≤ length (nlri_field body) in

@@ -13,12 +13,12 @@ use Rattle.rs_update.specs.PathAttributes.{PathAttributes}
 use Rattle.rs_session.specs.Change.{Change}
 use Rattle.rs_session.specs.Effect.{RecordEffect, PassesOver, Gives, Ends, effect_of}
 use Rattle.rs_session.specs.Laws.{is_closing, has_close, is_recorded, ClosesLast}
-use Rattle.rs_session.specs.Said.{changes_of, close_at, reason_at_end, said}
+use Rattle.rs_session.specs.FileChanges.{changes_of, close_at, reason_at_end, changes_in}
 use Rattle.rs_session.specs.UpdateChanges.{withdraws, announces, announcements}
 use Rattle.rs_session.specs.declared.peer.PeerId.{PeerId}
 use Rattle.rs_session.specs.declared.word.Reason.{Reason}
 use Rattle.rs_session.proofs.EffectLemmas.{IsFine, fine-effect}
-use Rattle.rs_session.proofs.SaidLemmas.{changes_of-nil, changes_of-passes, changes_of-gives, changes_of-ends}
+use Rattle.rs_session.proofs.FileChangesLemmas.{changes_of-nil, changes_of-passes, changes_of-gives, changes_of-ends}
 
 -- ---- one close
 
@@ -106,6 +106,6 @@ octets-records_within (suc fuel) octets =
     ))
     (omega arith)
 
-pub length-said : (peer : PeerId) (file : List ℕ) → length (said peer file) ≤ length file + 1
+pub length-changes_in : (peer : PeerId) (file : List ℕ) → length (changes_in peer file) ≤ length file + 1
 unfolding records_of
-length-said peer file = let few = length-changes_of peer (records_of file) (end_of file) in let fit = octets-records_within (length file) file in omega (arith, few, fit)
+length-changes_in peer file = let few = length-changes_of peer (records_of file) (end_of file) in let fit = octets-records_within (length file) file in omega (arith, few, fit)

@@ -2,5 +2,5 @@ mod EffectLemmas
 mod FrontLemmas
 mod LawLemmas
 pub mod PrefixLemmas
-pub mod SaidLemmas
+pub mod FileChangesLemmas
 pub mod StageLemmas

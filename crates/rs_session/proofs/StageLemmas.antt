@@ -7,7 +7,7 @@ use Rattle.rs_mrt.specs.Source.{Advances, IsLeft, SomethingComes}
 use Rattle.rs_mrt.specs.declared.fault.MrtFault.{MrtFault}
 use Rattle.rs_session.specs.Change.{Change, change_of, closing_word, is_close, is_read, is_read_failure}
 use Rattle.rs_session.specs.Effect.{RecordEffect, PassesOver, Gives, Ends, effect_of}
-use Rattle.rs_session.specs.Said.{said, passed_in, changes_of, passed_of, close_at, reason_at_end}
+use Rattle.rs_session.specs.FileChanges.{changes_in, passed_in, changes_of, passed_of, close_at, reason_at_end}
 use Rattle.rs_session.specs.Stage.{Stage, MayRead, May, Keeps, KeepsBehind, IsOver, Says, SaysJust, fresh, to_read, changes_left, passed_in_the_end}
 use Rattle.rs_session.specs.Laws.{SomethingMayCome}
 use Rattle.rs_session.specs.declared.peer.PeerId.{PeerId}
@@ -16,7 +16,7 @@ use Rattle.rs_session.specs.declared.word.Reason.{Reason}
 use Rattle.rs_session.specs.declared.word.Reason.TheVariants.{EndOfFile, State, Notification, Bgp, Mrt, Memory, Read}
 use Rattle.rs_session.specs.declared.word.Word.{Word}
 use Rattle.rs_session.proofs.LawLemmas.{changes_of-some}
-use Rattle.rs_session.proofs.SaidLemmas.{changes_of-nil, passed_of-nil, changes_of-passes, passed_of-passes, changes_of-gives, passed_of-gives, changes_of-ends, passed_of-ends}
+use Rattle.rs_session.proofs.FileChangesLemmas.{changes_of-nil, passed_of-nil, changes_of-passes, passed_of-passes, changes_of-gives, passed_of-gives, changes_of-ends, passed_of-ends}
 
 -- only one reason says that records can't be read
 pub is_read_is : (reason : Reason) → is_read reason ≡ true → closing_word 0 reason ≡ closing_word 0 Read
@@ -53,7 +53,7 @@ module _ {S : Type 0} (comes : S → List MrtRecord → Option MrtFault → Type
     records = m.records;
     end = m.end;
     may_read = h m.records m.end m.may_read;
-    said = m.said ∙ ap (λ (stage : Stage S). changes_left stage m.records m.end) same;
+    left = m.left ∙ ap (λ (stage : Stage S). changes_left stage m.records m.end) same;
     counted = m.counted ∙ ap (λ (stage : Stage S). passed_in_the_end stage m.records) same;
   }
 
@@ -61,7 +61,7 @@ module _ {S : Type 0} (comes : S → List MrtRecord → Option MrtFault → Type
 
   -- a closed session gives no change
   pub over-closed : (stage : Stage S) → stage.closed ≡ true → IsOver comes shows stage
-  over-closed stage closed changes passed m = (rw closed at m.said, rw closed at m.counted)
+  over-closed stage closed changes passed m = (rw closed at m.left, rw closed at m.counted)
 
   -- where no record may be read, the close for that reason comes
   pub closes_at_end : (old fetched new : Stage S) (reason : Reason) → old.closed ≡ false → old.waiting ≡ [] → fetched ≡ record old { source = fetched.source; held = false } → Fetches comes shows old fetched (Some reason) → new ≡ closed_by fetched → is_read reason ≡ false → KeepsBehind comes shows (close_at 0 reason) old new
@@ -71,7 +71,7 @@ module _ {S : Type 0} (comes : S → List MrtRecord → Option MrtFault → Type
         records = [];
         end = end.0;
         may_read = end.1;
-        said = rw (unclosed, idle, changes_of-nil old.peer end.0, ← end.2) (ap (λ (cs : List Change). close_at 0 reason ∷ cs) (rw closed at m.said));
+        left = rw (unclosed, idle, changes_of-nil old.peer end.0, ← end.2) (ap (λ (cs : List Change). close_at 0 reason ∷ cs) (rw closed at m.left));
         counted = rw (unclosed, passed_of-nil old.peer, add-zero) (rw (closed, same) at m.counted);
       }
 
@@ -91,7 +91,7 @@ module _ {S : Type 0} (comes : S → List MrtRecord → Option MrtFault → Type
       records = r ∷ m.records;
       end = m.end;
       may_read = may_read-held old new r m.records m.end full (rw h refl) (rw h refl) shown m.may_read;
-      said = rw (unclosed, idle, changes_of-passes old.peer r m.records m.end says) (rw (h, unclosed, idle) at m.said);
+      left = rw (unclosed, idle, changes_of-passes old.peer r m.records m.end says) (rw (h, unclosed, idle) at m.left);
       counted = rw (unclosed, passed_of-passes old.peer r m.records says) (let e = rw (h, unclosed) at m.counted in omega (arith, e));
     }),
     rw h unclosed,
@@ -102,7 +102,7 @@ module _ {S : Type 0} (comes : S → List MrtRecord → Option MrtFault → Type
       records = r ∷ m.records;
       end = m.end;
       may_read = may_read-held old new r m.records m.end full (rw h refl) (rw h refl) shown m.may_read;
-      said = rw (unclosed, idle, changes_of-gives old.peer r changes m.records m.end says) (rw (h, unclosed) at m.said);
+      left = rw (unclosed, idle, changes_of-gives old.peer r changes m.records m.end says) (rw (h, unclosed) at m.left);
       counted = rw (unclosed, passed_of-gives old.peer r changes m.records says) (rw (h, unclosed) at m.counted);
     }),
     rw h unclosed,
@@ -113,7 +113,7 @@ module _ {S : Type 0} (comes : S → List MrtRecord → Option MrtFault → Type
       records = r ∷ m.records;
       end = m.end;
       may_read = may_read-held old new r m.records m.end full (rw h.2 refl) (rw h.2 refl) shown m.may_read;
-      said = rw (unclosed, idle, changes_of-ends old.peer r reason m.records m.end says, h.0) (ap (λ (cs : List Change). close_at r.time reason ∷ cs) (rw h.2 at m.said));
+      left = rw (unclosed, idle, changes_of-ends old.peer r reason m.records m.end says, h.0) (ap (λ (cs : List Change). close_at r.time reason ∷ cs) (rw h.2 at m.left));
       counted = rw (unclosed, passed_of-ends old.peer r reason m.records says, add-zero) (rw h.2 at m.counted);
     }),
     (λ failed. absurd (let own : is_read reason ≡ true = rw h.0 at failed in cc)),
@@ -134,7 +134,7 @@ module _ {S : Type 0} (comes : S → List MrtRecord → Option MrtFault → Type
       records = m.records;
       end = m.end;
       may_read = record { later = m.may_read.later; come = rw says.1 at m.may_read.come; read = rw (full, shown) (rw says.1 at m.may_read.read) };
-      said = rw says.1 at m.said;
+      left = rw says.1 at m.left;
       counted = rw says.1 at m.counted;
     }),
     rw says.1 unclosed,
@@ -170,7 +170,7 @@ module _ {S : Type 0} (comes : S → List MrtRecord → Option MrtFault → Type
       over-open : (closed : Bool) → stage.closed ≡ closed → stage.passed ≡ passed
       over-open true is = sym (rw is at m.counted)
       over-open false is =
-          absurd (let some = changes_of-some stage.peer m.records m.end in omega (arith, some, ap length (rw is at m.said), length-append stage.waiting (changes_of stage.peer m.records m.end)))
+          absurd (let some = changes_of-some stage.peer m.records m.end in omega (arith, some, ap length (rw is at m.left), length-append stage.waiting (changes_of stage.peer m.records m.end)))
 
   -- where something may come from the source, something may come
   pub something_comes : (stage : Stage S) → SomethingComes (comes stage.source) → SomethingMayCome comes shows stage
@@ -178,20 +178,20 @@ module _ {S : Type 0} (comes : S → List MrtRecord → Option MrtFault → Type
       let records = to_read stage.held (shows stage.source) some.0 in (
         changes_left stage records some.1,
         passed_in_the_end stage records,
-        record { records = records; end = some.1; may_read = record { later = some.0; come = some.2; read = refl }; said = refl; counted = refl },
+        record { records = records; end = some.1; may_read = record { later = some.0; come = some.2; read = refl }; left = refl; counted = refl },
       )
 
 -- just what a file says may come from its records
-pub says_just-file : (peer : PeerId) (file : List ℕ) → SaysJust (λ s later end. IsLeft s later end) (λ s. s.shown) (fresh (reading_of None file) peer) (said peer file) (passed_in peer file)
+pub says_just-file : (peer : PeerId) (file : List ℕ) → SaysJust (λ s later end. IsLeft s later end) (λ s. s.shown) (fresh (reading_of None file) peer) (changes_in peer file) (passed_in peer file)
 says_just-file peer file changes passed = (
   (λ m.
       let same = m.may_read.read ∙ m.may_read.come.0 in
-      (m.said ∙ rw (same, m.may_read.come.1) refl, m.counted ∙ rw same (omega arith))),
+      (m.left ∙ rw (same, m.may_read.come.1) refl, m.counted ∙ rw same (omega arith))),
   λ h. record {
     records = records_of file;
     end = end_of file;
     may_read = record { later = records_of file; come = (refl, refl); read = refl };
-    said = h.0;
+    left = h.0;
     counted = h.1 ∙ omega arith;
   },
 )

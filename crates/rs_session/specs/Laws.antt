@@ -6,7 +6,7 @@ use Rattle.rs_mrt.specs.Record.{MrtRecord}
 use Rattle.rs_mrt.specs.declared.fault.MrtFault.{MrtFault}
 use Rattle.rs_session.specs.Change.{Change, ChangeBody, Announced, Withdrawn, Closed}
 use Rattle.rs_session.specs.Effect.{effect_of}
-use Rattle.rs_session.specs.Said.{changes_of, close_at, said}
+use Rattle.rs_session.specs.FileChanges.{changes_of, close_at, changes_in}
 use Rattle.rs_session.specs.Stage.{Stage, May}
 use Rattle.rs_session.specs.declared.peer.PeerId.{PeerId}
 use Rattle.rs_session.specs.declared.word.Reason.{Reason}
@@ -41,7 +41,7 @@ ClosesOnce = (peer : PeerId) (records : List MrtRecord) (end : Option MrtFault) 
 
 -- a file says at most one change more than it has octets
 abbrev pub SaysNoMoreThanOctets : Type 0
-SaysNoMoreThanOctets = (peer : PeerId) (file : List ℕ) → length (said peer file) ≤ length file + 1
+SaysNoMoreThanOctets = (peer : PeerId) (file : List ℕ) → length (changes_in peer file) ≤ length file + 1
 
 -- the first 4,121 octets of a record's body say what the body says
 abbrev pub FrontSuffices : Type 0

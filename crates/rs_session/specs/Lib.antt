@@ -6,15 +6,15 @@ pub use Rattle.rs_update.specs.IpPrefix
 pub use Rattle.rs_update.specs.Message
 pub use Rattle.rs_update.specs.PathAttributes
 pub use Rattle.rs_update.specs.Prefix
+pub use Rattle.rs_update.specs.PrefixOrder
 pub mod Change
 pub mod Counts
 pub mod Effect
 pub mod EffectView
+pub mod FileChanges
 pub mod Laws
 pub mod Peer
 pub mod PendingView
-pub mod PrefixOrder
-pub mod Said
 pub mod Stage
 pub mod Steps
 pub mod UpdateChanges

@@ -7,12 +7,12 @@ use Rattle.rs_mrt.specs.declared.fault.MrtFault.{MrtFault}
 use Rattle.rs_mrt.specs.declared.fault.SourceFault.{SourceFault}
 use Rattle.rs_mrt.specs.declared.fault.SourceFault.TheVariants as faults
 use Rattle.rs_session.specs.Change.{Change, change_of, closing_word, is_close, is_read_failure}
-use Rattle.rs_session.specs.Said.{changes_of, passed_of}
+use Rattle.rs_session.specs.FileChanges.{changes_of, passed_of}
 use Rattle.rs_session.specs.declared.peer.PeerId.{PeerId}
 use Rattle.rs_session.specs.declared.word.Reason.TheVariants.{Read}
 use Rattle.rs_session.specs.declared.word.Word.{Word}
 
--- how far the reading of a session has come: the changes that its last record said and that haven't been given yet, whether the record that
+-- how far the reading of a session has come: the changes that its last record gave and that haven't been given yet, whether the record that
 -- the source shows is still to be read, whether the close was given, and how many records were passed over before the change given last, and
 -- how many after it
 pub record Stage (S : Type 0) : Type 0 where
@@ -53,7 +53,7 @@ pub record May {S : Type 0} (comes : S → List MrtRecord → Option MrtFault �
   pub records : List MrtRecord
   pub end : Option MrtFault
   pub may_read : MayRead comes shows stage records end
-  pub said : changes ≡ changes_left stage records end
+  pub left : changes ≡ changes_left stage records end
   pub counted : passed ≡ passed_in_the_end stage records
 
 -- whatever may come after may come before
@@ -70,7 +70,7 @@ IsOver comes shows stage = (changes : List Change) (passed : ℕ) → May comes 
 
 -- just these changes may still come, and just so many records are passed over in the end
 abbrev pub SaysJust : {S : Type 0} → (S → List MrtRecord → Option MrtFault → Type 0) → (S → Option MrtRecord) → Stage S → List Change → ℕ → Type 0
-SaysJust comes shows stage said total = (changes : List Change) (passed : ℕ) → May comes shows stage changes passed ↔ ((changes ≡ said) × (passed ≡ total))
+SaysJust comes shows stage whole total = (changes : List Change) (passed : ℕ) → May comes shows stage changes passed ↔ ((changes ≡ whole) × (passed ≡ total))
 
 -- ---- what an answer to `next_word` says
 

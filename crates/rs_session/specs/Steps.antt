@@ -7,7 +7,7 @@ use Rattle.rs_mrt.specs.declared.fault.SourceFault.{SourceFault}
 use Rattle.rs_mrt.specs.declared.fault.SourceFault.TheVariants as faults
 use Rattle.rs_session.specs.Change.{Change, change_of, closing_word, is_close, is_read, is_read_failure}
 use Rattle.rs_session.specs.Effect.{RecordEffect, PassesOver, Gives, Ends, effect_of}
-use Rattle.rs_session.specs.Said.{reason_at_end}
+use Rattle.rs_session.specs.FileChanges.{reason_at_end}
 use Rattle.rs_session.specs.Stage.{Stage, MayRead, Keeps, KeepsBehind, IsOver}
 use Rattle.rs_session.specs.declared.word.Reason.{Reason}
 use Rattle.rs_session.specs.declared.word.Reason.TheVariants as reasons

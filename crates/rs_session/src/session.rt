@@ -7,7 +7,7 @@ ghost use Rattle.std.specs.Prelude.{◌≡◌, ◌+◌, ◌<◌, ◌≤◌, ℕ,
 ghost use Rattle.rs_mrt.specs.declared.fault.SourceFault.{SourceFault};
 ghost use Rattle.rs_mrt.specs.Record.{reading_of};
 ghost use Rattle.rs_mrt.specs.Source.{CountsFailure};
-ghost use Rattle.rs_session.specs.Said.{said, passed_in};
+ghost use Rattle.rs_session.specs.FileChanges.{changes_in, passed_in};
 ghost use Rattle.rs_session.specs.Laws.{SomethingMayCome};
 ghost use Rattle.rs_session.specs.Stage.{fresh, May, Says, SaysJust, GoesOn, answer_behind};
 ghost use Rattle.rs_session.specs.Change.{Change, closing_word};
@@ -28,7 +28,7 @@ pub struct Session<S: Source> {
     alloc: Global,
     source: S,
     peer: PeerId,
-    // The changes that the last record said and that haven't been given yet.
+    // The changes that the last record gave and that haven't been given yet.
     waiting: Pending,
     // Whether the record that the source shows is still to be read.
     held: bool,
@@ -64,7 +64,7 @@ impl<'a> Session<Records<'a>> {
     pub fn new(alloc: Global, file: &'a [u8], peer: PeerId) -> Session<Records<'a>>
         // What may come is just what the file says of the peer.
         ensures says { SaysJust ⟦<Records<'a> as Source>⟧.comes ⟦<Records<'a> as Source>⟧.shows
-            result (said peer file.now) (passed_in peer file.now) }
+            result (changes_in peer file.now) (passed_in peer file.now) }
         ensures source { result.source ≡ reading_of None file.now }
         ensures passed { result.passed ≡ 0 }
     {

@@ -38,17 +38,17 @@ const KEEPALIVE: &str = "0013 04";
 
 // A change without its attributes.
 #[derive(Clone, Copy, Debug, PartialEq, Eq, Drop)]
-enum Said {
+enum Given {
     Announce(u32, u32, u8),
     Withdraw(u32, u32, u8),
     Close(u32, Reason),
 }
 
-fn seen(word: &Word) -> Said {
+fn seen(word: &Word) -> Given {
     match &word.body {
-        Body::Announce(prefix, _) => Said::Announce(word.time, prefix.address(), prefix.len()),
-        Body::Withdraw(prefix) => Said::Withdraw(word.time, prefix.address(), prefix.len()),
-        Body::Close(reason) => Said::Close(word.time, *reason),
+        Body::Announce(prefix, _) => Given::Announce(word.time, prefix.address(), prefix.len()),
+        Body::Withdraw(prefix) => Given::Withdraw(word.time, prefix.address(), prefix.len()),
+        Body::Close(reason) => Given::Close(word.time, *reason),
     }
 }
 
@@ -105,7 +105,7 @@ fn message(file: &mut Vec<u8>, alloc: Global, time: u32, text: &str) -> Result<(
 }
 
 // What a file says of the peer, and how many records are passed over.
-fn read(alloc: Global, file: &[u8]) -> Result<(Vec<Said>, u64), AllocError> {
+fn read(alloc: Global, file: &[u8]) -> Result<(Vec<Given>, u64), AllocError> {
     let mut session = Session::new(alloc, file, PEER);
     let mut changes = Vec::new(alloc);
     for _ in 0..=file.len() {
@@ -122,7 +122,7 @@ fn an_empty_file_says_its_end(rt: HostRuntime) -> Result<(), Fail> {
     let mut session = Session::new(rt.alloc(), &[], PEER);
     assert_eq!(rt;
         session.next_word()?.as_ref().map(seen),
-        Some(Said::Close(0, Reason::EndOfFile))
+        Some(Given::Close(0, Reason::EndOfFile))
     );
     assert_eq!(rt; session.next_word()?.as_ref().map(seen), None);
     assert_eq!(rt; session.next_word()?.as_ref().map(seen), None);
@@ -137,18 +137,18 @@ fn a_file_that_is_cut_short_says_so(rt: HostRuntime) -> Result<(), Fail> {
         &["00000064 0010 0004 00000043", A, MARKER, UPDATE],
     )?;
     assert_eq!(rt; file.len(), 79);
-    let announce = Said::Announce(100, 0xCB00_7100, 24);
+    let announce = Given::Announce(100, 0xCB00_7100, 24);
     let (changes, passed) = read(rt.alloc(), &file)?;
     assert_eq!(rt;
         changes.as_slice(),
-        [announce, Said::Close(0, Reason::EndOfFile)].as_slice()
+        [announce, Given::Close(0, Reason::EndOfFile)].as_slice()
     );
     assert_eq!(rt; passed, 0);
     for (len, fault) in [(78, 2), (11, 1), (12, 2)] {
         let (changes, _) = read(rt.alloc(), &file[..len.min(file.len())])?;
         assert_eq!(rt;
             changes.as_slice(),
-            [Said::Close(0, Reason::Mrt(fault))].as_slice(),
+            [Given::Close(0, Reason::Mrt(fault))].as_slice(),
             "at {len}"
         );
     }
@@ -177,8 +177,8 @@ fn a_prefix_that_an_update_announces_is_not_withdrawn(rt: HostRuntime) -> Result
     assert_eq!(rt;
         changes.as_slice(),
         [
-            Said::Announce(100, 0xCB00_7100, 24),
-            Said::Close(0, Reason::EndOfFile)
+            Given::Announce(100, 0xCB00_7100, 24),
+            Given::Close(0, Reason::EndOfFile)
         ]
         .as_slice()
     );
@@ -217,12 +217,12 @@ fn lengths_tell_prefixes_apart_and_trailing_bits_do_not(rt: HostRuntime) -> Resu
     message(&mut file, alloc, 104, "001A 02 0003 0C0AF3 0000")?;
     let (changes, _) = read(alloc, &file)?;
     let expected = [
-        Said::Announce(100, 0x0A00_0000, 8),
-        Said::Withdraw(101, 0x0A00_0000, 24),
-        Said::Announce(102, 0x0A00_0000, 8),
-        Said::Announce(103, 0x0AF0_0000, 12),
-        Said::Withdraw(104, 0x0AF0_0000, 12),
-        Said::Close(0, Reason::EndOfFile),
+        Given::Announce(100, 0x0A00_0000, 8),
+        Given::Withdraw(101, 0x0A00_0000, 24),
+        Given::Announce(102, 0x0A00_0000, 8),
+        Given::Announce(103, 0x0AF0_0000, 12),
+        Given::Withdraw(104, 0x0AF0_0000, 12),
+        Given::Close(0, Reason::EndOfFile),
     ];
     assert_eq!(rt; changes.as_slice(), expected.as_slice());
     Ok(())
@@ -273,9 +273,9 @@ fn a_fault_closes_after_the_changes_before_it(rt: HostRuntime) -> Result<(), Fai
     )?;
     let (changes, passed) = read(alloc, &file)?;
     let expected = [
-        Said::Announce(100, 0xCB00_7100, 24),
-        Said::Announce(101, 0xC633_6400, 24),
-        Said::Close(
+        Given::Announce(100, 0xCB00_7100, 24),
+        Given::Announce(101, 0xC633_6400, 24),
+        Given::Close(
             102,
             Reason::Bgp {
                 code: 3,
@@ -314,8 +314,8 @@ fn only_the_loss_of_established_closes(rt: HostRuntime) -> Result<(), Fail> {
     assert_eq!(rt;
         changes.as_slice(),
         [
-            Said::Announce(100, 0xCB00_7100, 24),
-            Said::Close(101, Reason::State)
+            Given::Announce(100, 0xCB00_7100, 24),
+            Given::Close(101, Reason::State)
         ]
         .as_slice()
     );
@@ -340,9 +340,9 @@ fn only_the_loss_of_established_closes(rt: HostRuntime) -> Result<(), Fail> {
             &[A, states],
         )?;
         let close = if lost {
-            Said::Close(101, Reason::State)
+            Given::Close(101, Reason::State)
         } else {
-            Said::Close(0, Reason::EndOfFile)
+            Given::Close(0, Reason::EndOfFile)
         };
         let (changes, passed) = read(alloc, &file)?;
         assert_eq!(rt; changes.as_slice(), [close].as_slice(), "at {states}");
@@ -417,9 +417,9 @@ fn records_of_others_are_passed_over_and_counted(rt: HostRuntime) -> Result<(), 
     )?;
     let (changes, passed) = read(alloc, &file)?;
     let expected = [
-        Said::Announce(100, 0xCB00_7100, 24),
-        Said::Announce(101, 0xC633_6400, 24),
-        Said::Close(0, Reason::EndOfFile),
+        Given::Announce(100, 0xCB00_7100, 24),
+        Given::Announce(101, 0xC633_6400, 24),
+        Given::Close(0, Reason::EndOfFile),
     ];
     assert_eq!(rt; changes.as_slice(), expected.as_slice());
     assert_eq!(rt; passed, 5);
@@ -429,20 +429,20 @@ fn records_of_others_are_passed_over_and_counted(rt: HostRuntime) -> Result<(), 
 #[test]
 fn single_records_give_their_changes(rt: HostRuntime) -> Result<(), Fail> {
     let alloc = rt.alloc();
-    let end = Said::Close(0, Reason::EndOfFile);
+    let end = Given::Close(0, Reason::EndOfFile);
     let rows = [
         (
             BGP4MP_ET,
             MESSAGE_AS4,
             "000000",
-            Said::Close(100, Reason::Mrt(4)),
+            Given::Close(100, Reason::Mrt(4)),
             0,
         ),
         (
             BGP4MP_ET,
             MESSAGE_AS4,
             "00000000",
-            Said::Close(100, Reason::Mrt(3)),
+            Given::Close(100, Reason::Mrt(3)),
             0,
         ),
         (BGP4MP_ET, 1, "00000000", end, 1),
@@ -450,7 +450,7 @@ fn single_records_give_their_changes(rt: HostRuntime) -> Result<(), Fail> {
             BGP4MP,
             MESSAGE_AS4,
             "0000000000000000000000",
-            Said::Close(100, Reason::Mrt(3)),
+            Given::Close(100, Reason::Mrt(3)),
             0,
         ),
         (BGP4MP, MESSAGE_AS4, "000000000000000000000000", end, 1),
@@ -458,7 +458,7 @@ fn single_records_give_their_changes(rt: HostRuntime) -> Result<(), Fail> {
             BGP4MP,
             MESSAGE_AS4,
             A,
-            Said::Close(
+            Given::Close(
                 100,
                 Reason::Bgp {
                     code: 1,
@@ -471,7 +471,7 @@ fn single_records_give_their_changes(rt: HostRuntime) -> Result<(), Fail> {
             BGP4MP,
             STATE_CHANGE_AS4,
             "0000FBF5 0000FBF4 0000 0001 C000020B C0000201 0006 0001 00",
-            Said::Close(100, Reason::State),
+            Given::Close(100, Reason::State),
             0,
         ),
         // TABLE_DUMP_V2 isn't read.
@@ -528,16 +528,16 @@ fn single_records_give_their_changes(rt: HostRuntime) -> Result<(), Fail> {
 #[test]
 fn messages_but_an_update_give_no_change(rt: HostRuntime) -> Result<(), Fail> {
     let alloc = rt.alloc();
-    let end = Said::Close(0, Reason::EndOfFile);
+    let end = Given::Close(0, Reason::EndOfFile);
     let rows = [
         ("0013 04", end),
         ("001D 01 04 FBF5 00B4 C000020B 00", end),
         ("0017 05 00010001", end),
         ("0017 02 0000 0000", end),
-        ("0015 03 06 02", Said::Close(100, Reason::Notification)),
+        ("0015 03 06 02", Given::Close(100, Reason::Notification)),
         (
             "0014 04 00",
-            Said::Close(
+            Given::Close(
                 100,
                 Reason::Bgp {
                     code: 1,
@@ -547,7 +547,7 @@ fn messages_but_an_update_give_no_change(rt: HostRuntime) -> Result<(), Fail> {
         ),
         (
             "0013 06",
-            Said::Close(
+            Given::Close(
                 100,
                 Reason::Bgp {
                     code: 1,
@@ -569,7 +569,7 @@ fn messages_but_an_update_give_no_change(rt: HostRuntime) -> Result<(), Fail> {
 #[test]
 fn multicast_prefixes_give_no_change(rt: HostRuntime) -> Result<(), Fail> {
     let alloc = rt.alloc();
-    let end = Said::Close(0, Reason::EndOfFile);
+    let end = Given::Close(0, Reason::EndOfFile);
     for (len, nlri) in [("002D", "04E0"), ("0030", "20E0000001")] {
         let mut file = Vec::new(alloc);
         record(
@@ -598,8 +598,8 @@ fn multicast_prefixes_give_no_change(rt: HostRuntime) -> Result<(), Fail> {
     assert_eq!(rt;
         changes.as_slice(),
         [
-            Said::Announce(100, 0xE000_0000, 3),
-            Said::Withdraw(102, 0xE000_0000, 3),
+            Given::Announce(100, 0xE000_0000, 3),
+            Given::Withdraw(102, 0xE000_0000, 3),
             end
         ]
         .as_slice()
@@ -628,23 +628,23 @@ fn long_lists_are_compared_as_short_ones(rt: HostRuntime) -> Result<(), Fail> {
     )?;
     let (changes, _) = read(alloc, &file)?;
     let expected = [
-        Said::Withdraw(100, 0x0100_0000, 8),
-        Said::Withdraw(100, 0x0500_0000, 8),
-        Said::Withdraw(100, 0x0700_0000, 8),
-        Said::Withdraw(100, 0x0900_0000, 8),
-        Said::Withdraw(100, 0x0B00_0000, 8),
-        Said::Withdraw(100, 0x0500_0000, 8),
-        Said::Announce(100, 0x1400_0000, 8),
-        Said::Announce(100, 0x0200_0000, 8),
-        Said::Announce(100, 0x0400_0000, 8),
-        Said::Announce(100, 0x0600_0000, 8),
-        Said::Announce(100, 0x0800_0000, 8),
-        Said::Announce(100, 0x0A00_0000, 8),
-        Said::Announce(100, 0x0C00_0000, 8),
-        Said::Announce(100, 0x0E00_0000, 8),
-        Said::Announce(100, 0x0300_0000, 8),
-        Said::Announce(100, 0x0200_0000, 8),
-        Said::Close(0, Reason::EndOfFile),
+        Given::Withdraw(100, 0x0100_0000, 8),
+        Given::Withdraw(100, 0x0500_0000, 8),
+        Given::Withdraw(100, 0x0700_0000, 8),
+        Given::Withdraw(100, 0x0900_0000, 8),
+        Given::Withdraw(100, 0x0B00_0000, 8),
+        Given::Withdraw(100, 0x0500_0000, 8),
+        Given::Announce(100, 0x1400_0000, 8),
+        Given::Announce(100, 0x0200_0000, 8),
+        Given::Announce(100, 0x0400_0000, 8),
+        Given::Announce(100, 0x0600_0000, 8),
+        Given::Announce(100, 0x0800_0000, 8),
+        Given::Announce(100, 0x0A00_0000, 8),
+        Given::Announce(100, 0x0C00_0000, 8),
+        Given::Announce(100, 0x0E00_0000, 8),
+        Given::Announce(100, 0x0300_0000, 8),
+        Given::Announce(100, 0x0200_0000, 8),
+        Given::Close(0, Reason::EndOfFile),
     ];
     assert_eq!(rt; changes.as_slice(), expected.as_slice());
     Ok(())
@@ -708,7 +708,7 @@ fn a_failed_read_closes(rt: HostRuntime) -> Result<(), Fail> {
     let mut session = Session::over(rt.alloc(), Unreadable, PEER);
     assert_eq!(rt;
         session.next_word()?.as_ref().map(seen),
-        Some(Said::Close(0, Reason::Read))
+        Some(Given::Close(0, Reason::Read))
     );
     assert_eq!(rt; session.next_word()?.as_ref().map(seen), None);
     assert_eq!(rt; session.passed_over(), 0);
@@ -732,23 +732,23 @@ const RECORDED: [u8; 172] = [
 ];
 
 // What it says.
-const EXPECTED: [Said; 16] = [
-    Said::Withdraw(101, 0x0500_0000, 8),
-    Said::Withdraw(101, 0x0700_0000, 8),
-    Said::Withdraw(101, 0x0900_0000, 8),
-    Said::Withdraw(101, 0x0B00_0000, 8),
-    Said::Withdraw(101, 0x0D00_0000, 8),
-    Said::Announce(101, 0x1400_0000, 8),
-    Said::Announce(101, 0x0200_0000, 8),
-    Said::Announce(101, 0x0400_0000, 8),
-    Said::Announce(101, 0x0600_0000, 8),
-    Said::Announce(101, 0x0800_0000, 8),
-    Said::Announce(101, 0x0A00_0000, 8),
-    Said::Announce(101, 0x0C00_0000, 8),
-    Said::Announce(101, 0x0E00_0000, 8),
-    Said::Announce(101, 0x0300_0000, 8),
-    Said::Announce(101, 0x0100_0000, 8),
-    Said::Close(0, Reason::EndOfFile),
+const EXPECTED: [Given; 16] = [
+    Given::Withdraw(101, 0x0500_0000, 8),
+    Given::Withdraw(101, 0x0700_0000, 8),
+    Given::Withdraw(101, 0x0900_0000, 8),
+    Given::Withdraw(101, 0x0B00_0000, 8),
+    Given::Withdraw(101, 0x0D00_0000, 8),
+    Given::Announce(101, 0x1400_0000, 8),
+    Given::Announce(101, 0x0200_0000, 8),
+    Given::Announce(101, 0x0400_0000, 8),
+    Given::Announce(101, 0x0600_0000, 8),
+    Given::Announce(101, 0x0800_0000, 8),
+    Given::Announce(101, 0x0A00_0000, 8),
+    Given::Announce(101, 0x0C00_0000, 8),
+    Given::Announce(101, 0x0E00_0000, 8),
+    Given::Announce(101, 0x0300_0000, 8),
+    Given::Announce(101, 0x0100_0000, 8),
+    Given::Close(0, Reason::EndOfFile),
 ];
 
 // It holds whichever allocation is refused: the file takes none, so that all of them are the session's.

@@ -3,7 +3,7 @@
 //! Our choices: a prefix that the same UPDATE announces isn't withdrawn, nor is a multicast prefix.
 
 ghost use Rattle.std.specs.Prelude.{◌≡◌, IsSorted, OnOk};
-ghost use Rattle.rs_session.specs.PrefixOrder.{prefix_cmp};
+ghost use Rattle.rs_update.specs.PrefixOrder.{prefix_cmp};
 ghost use Rattle.rs_session.specs.UpdateChanges.{is_listed, unicast, withdrawn_only};
 
 use rs_update::Prefix;

@@ -1,9 +1,7 @@
 -- The examples are computed.
-use Rattle.std.proofs.Common.{◌≡◌, List, [], ◌∷◌, Option, Some, None, refl, sym, ◌∙◌}
+use Rattle.std.proofs.Common.{[], ◌∷◌, refl, sym, ◌∙◌}
 use Rattle.rs_choice.specs.Decision.{choice, remaining, unbeaten}
-use Rattle.rs_session.specs.Change.{Change}
-use Rattle.rs_table.specs.Left.{RouteLeft, left}
-use Rattle.rs_table.specs.Examples.{ten, ended, documentation, left_on_ten, LeftExamples, TableExamples}
+use Rattle.rs_table.specs.Examples.{ten, ended, LeftExamples, TableExamples}
 use Rattle.rs_table.proofs.LeftLemmas.{get-left, left-from-leaves}
 
 pub left_examples : LeftExamples

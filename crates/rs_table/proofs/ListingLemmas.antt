@@ -10,7 +10,7 @@ use Rattle.std.specs.Map.{lookup}
 use Rattle.std.specs.BTreeSet.{BTreeSet, contains}
 use Rattle.std.proofs.lemmas.List.{at_drop_more, at_drop_all, append_assoc, map-append}
 use Rattle.rs_update.specs.IpPrefix.{IpPrefix}
-use Rattle.rs_session.specs.PrefixOrder.{prefix_cmp}
+use Rattle.rs_update.specs.PrefixOrder.{prefix_cmp}
 use Rattle.rs_table.specs.declared.adj_rib_in.Held.{Held}
 use Rattle.rs_table.specs.declared.route.Row.{Row}
 use Rattle.rs_table.specs.Content.{TablesContent, nothing_held, rib_of}

@@ -8,7 +8,7 @@ use Rattle.std.specs.Option.{option_map}
 use Rattle.std.specs.Ordering.{eq_by_cmp}
 use Rattle.std.specs.Cmp.{eq_by_cmp_equiv}
 use Rattle.rs_update.specs.IpPrefix.{IpPrefix}
-use Rattle.rs_session.specs.PrefixOrder.{prefix_cmp}
+use Rattle.rs_update.specs.PrefixOrder.{prefix_cmp}
 use Rattle.rs_table.specs.declared.adj_rib_in.Held.{Held}
 use Rattle.rs_table.specs.Left.{Routes}
 use Rattle.rs_table.specs.RibView.{route_of, entry_of}

@@ -10,7 +10,6 @@ use Rattle.std.proofs.lemmas.List.Elements.{All-cons}
 use Rattle.rs_update.specs.IpPrefix.{IpPrefix}
 use Rattle.rs_choice.specs.Decision.{SentRoute, sent_route_of, standing_of, choice}
 use Rattle.rs_choice.specs.Naturality.{choice-map, choice-All}
-use Rattle.rs_choice.specs.Plan.{Plan}
 use Rattle.rs_choice.specs.Eligibility.{is_eligible}
 use Rattle.rs_choice.specs.Policy.{is_permitted}
 use Rattle.rs_choice.specs.declared.candidate.Candidate.{Candidate}

@@ -1,17 +1,17 @@
 -- Examples of the definitions, computed.
-use Rattle.std.specs.Prelude.{◌≡◌, ℕ, ◌+◌, ◌*◌, false, List, [], ◌∷◌, Option, Some, None, map}
+use Rattle.std.specs.Prelude.{◌≡◌, ℕ, false, List, [], ◌∷◌, Option, Some, None}
 use Rattle.std.specs.FinMap.{get}
 use Rattle.std.specs.Option.{option_map}
 use Rattle.rs_update.specs.declared.values.Origin.TheVariants.{Igp}
 use Rattle.rs_update.specs.IpPrefix.{IpPrefix}
-use Rattle.rs_update.specs.PathAttributes.{PathAttributes, PathSegment, AsSequence, CommunityList}
+use Rattle.rs_update.specs.PathAttributes.{PathAttributes, AsSequence, CommunityList}
 use Rattle.rs_session.specs.declared.word.Reason.TheVariants.{EndOfFile, Bgp}
 use Rattle.rs_session.specs.Change.{Change, Announced, Withdrawn, Closed}
 use Rattle.rs_choice.specs.Plan.{Peer, Plan}
 use Rattle.rs_table.specs.declared.why.Why.TheVariants.{Own, Absent, Ineligible, Refused, Best, Lost}
 use Rattle.rs_table.specs.Content.{RibContent, TablesContent}
 use Rattle.rs_table.specs.Left.{RouteLeft, Leaves, left}
-use Rattle.rs_table.specs.Table.{PeerRoute, best_of, why_of}
+use Rattle.rs_table.specs.Table.{best_of, why_of}
 
 -- 10.0.0.0/8, 10.0.0.0/16 and 203.0.113.0/24
 abbrev pub ten : IpPrefix

@@ -13,7 +13,7 @@ use Rattle.rs_update.specs.PathAttributes.{PathAttributes}
 use Rattle.rs_session.specs.declared.word.Reason.{Reason}
 use Rattle.rs_session.specs.declared.word.Reason.TheVariants as reasons
 use Rattle.rs_session.specs.Change.{Change, ChangeBody, Announced, Withdrawn, Closed}
-use Rattle.rs_session.specs.PrefixOrder.{prefix_cmp}
+use Rattle.rs_update.specs.PrefixOrder.{prefix_cmp}
 
 -- whether two prefixes are one and the same
 abbrev pub same_prefix : IpPrefix → IpPrefix → Bool

@@ -1,7 +1,7 @@
 pub use Rattle.rs_update.specs.IpPrefix
 pub use Rattle.rs_update.specs.PathAttributes
 pub use Rattle.rs_session.specs.Change
-pub use Rattle.rs_session.specs.PrefixOrder
+pub use Rattle.rs_update.specs.PrefixOrder
 pub use Rattle.rs_choice.specs.Decision
 pub use Rattle.rs_choice.specs.Eligibility
 pub use Rattle.rs_choice.specs.Plan

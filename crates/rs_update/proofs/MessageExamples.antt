@@ -1,10 +1,9 @@
 -- Messages by hand, each with what it says.
-use Rattle.std.proofs.Common.{◌≡◌, ℕ, List, [], ◌∷◌, Option, Some, None, Bool, true, false, Result, Ok, Err, refl}
-use Rattle.rs_update.specs.declared.fault.MessageFault.{MessageFault}
+use Rattle.std.proofs.Common.{◌≡◌, [], ◌∷◌, Some, None, false, Ok, Err, refl}
 use Rattle.rs_update.specs.declared.fault.MessageFault.TheVariants.{Bgp}
 use Rattle.rs_update.specs.declared.values.Origin.TheVariants.{Igp}
-use Rattle.rs_update.specs.PathAttributes.{AsSequence, PathAttributes}
-use Rattle.rs_update.specs.Message.{message_of, MessageContent, IsUpdate, IsKeepAlive}
+use Rattle.rs_update.specs.PathAttributes.{AsSequence}
+use Rattle.rs_update.specs.Message.{message_of, IsUpdate, IsKeepAlive}
 use Rattle.rs_update.specs.Parts.{parts_within}
 use Rattle.rs_update.specs.Section.{item_at, first_item_fault}
 use Rattle.rs_update.specs.Message.{update_of}

@@ -1,8 +1,8 @@
 -- Reading parts one after another finds exactly the parts that stand in a field.
-use Rattle.std.proofs.Common.{◌≡◌, ℕ, zero, suc, ◌+◌, ◌<◌, ◌≤◌, List, [], ◌∷◌, ◌++◌, length, Option, Some, None, refl, sym, ap, subst, ◌∙◌, append_assoc, length-append, arith}
-use Rattle.std.specs.Prelude.{slice_index, ◌↔◌}
-use Rattle.std.proofs.lemmas.List.{append-nil, get_or-append-add, append_cancel_left}
-use Rattle.rs_update.specs.Parts.{AreOctets, IsSpelledBy, IsNoPart, IsWholeFront, parts_within, parts_of}
+use Rattle.std.proofs.Common.{◌≡◌, ℕ, zero, suc, ◌+◌, ◌<◌, ◌≤◌, List, [], ◌∷◌, ◌++◌, length, Option, Some, None, refl, sym, ap, subst, ◌∙◌, arith}
+use Rattle.std.specs.Prelude.{◌↔◌}
+use Rattle.std.proofs.lemmas.List.{get_or-append-add}
+use Rattle.rs_update.specs.Parts.{AreOctets, IsNoPart, IsWholeFront, parts_within, parts_of}
 
 -- a reader of one part takes at least one octet
 pub record Shrinks {A : Type 0} (read : List ℕ → Option (A × List ℕ)) : Type 0 where

@@ -1,14 +1,14 @@
 -- A prefix is read exactly where a front of the octets spells it.
-use Rattle.std.proofs.Common.{◌≡◌, ℕ, zero, suc, ◌+◌, ◌-◌, ◌*◌, ◌/◌, ◌^◌, ◌%◌, ◌<◌, ◌≤◌, Bool, true, false, cond, ltb, eqb, List, [], ◌∷◌, ◌++◌, length, get_or, take, drop, Option, Some, None, refl, sym, ap, subst, ◌∙◌, length-append, length-drop, arith, inl, inr}
+use Rattle.std.proofs.Common.{◌≡◌, ℕ, zero, suc, ◌+◌, ◌-◌, ◌*◌, ◌/◌, ◌^◌, ◌%◌, ◌<◌, ◌≤◌, Bool, true, false, cond, ltb, eqb, List, [], ◌∷◌, ◌++◌, length, take, drop, Option, Some, None, refl, sym, ap, subst, ◌∙◌, length-append, length-drop, arith, inl, inr}
 use Rattle.std.proofs.lemmas.Bool.{ltb-false, le-ltb, eq-eqb, eqb-true, ne_eqb, cases_eq}
-use Rattle.std.proofs.lemmas.List.{append-nil, take_at, drop_at, take-append-drop, length-take-le, get_or_past, nil_from_length}
+use Rattle.std.proofs.lemmas.List.{take_at, drop_at, take-append-drop, length-take-le, get_or_past, nil_from_length}
 use Rattle.std.proofs.lemmas.Nat.{pow-add}
 use Rattle.std.proofs.lemmas.Option.{some_pair_parts, none-some, cond_some}
 use Rattle.std.specs.Prelude.{◌↔◌}
 use Rattle.std.specs.Option.{option_map}
 use Rattle.std.proofs.Math.Nat.{mul-div_cancel, mul-div-mul_right, mul-mod_left, one-le-pow, div-add-mod'}
 use Rattle.byteorder.specs.Endian.{big_number}
-use Rattle.rs_update.specs.IpPrefix.{IpPrefix, IsPrefix}
+use Rattle.rs_update.specs.IpPrefix.{IpPrefix}
 use Rattle.rs_update.specs.Prefix.{network_of, octets_for, Spells, IsField, prefix_at, prefixes_of}
 use Rattle.rs_update.specs.Parts.{AreOctets, IsSpelledBy, IsNoPart, parts_within, parts_of}
 use Rattle.rs_update.proofs.PartsLemmas.{Shrinks, Reads, parts_of-some, parts_of-none, parts_of-whole, whole-parts_of}

@@ -15,6 +15,7 @@ pub mod Parts
 pub mod PathAttributes
 pub mod PathSegments
 pub mod Prefix
+pub mod PrefixOrder
 pub mod Section
 pub mod Segments
 pub mod Shapes

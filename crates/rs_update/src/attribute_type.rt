@@ -12,7 +12,7 @@ use crate::values::{is_next_hop, is_origin};
 
 /// The type of a path attribute.
 #[derive(Clone, Copy, Debug, PartialEq, Eq)]
-pub enum AttributeType {
+pub(crate) enum AttributeType {
     /// ORIGIN, type 1.
     Origin,
     /// AS_PATH, type 2.
@@ -43,7 +43,7 @@ pub enum AttributeType {
 
 /// What the flags of an attribute must say.
 #[derive(Clone, Copy, Debug, PartialEq, Eq)]
-pub enum WantedFlags {
+pub(crate) enum WantedFlags {
     /// Well-known: Optional 0, Transitive 1.
     WellKnown,
     /// Optional 1, Transitive 0.
@@ -58,7 +58,7 @@ pub enum WantedFlags {
 
 impl AttributeType {
     /// The type with this number.
-    pub fn of(number: u8) -> AttributeType
+    pub(crate) fn of(number: u8) -> AttributeType
         ensures { result ≡ type_of number }
     {
         match number {
@@ -79,7 +79,7 @@ impl AttributeType {
     }
 
     /// What the flags of an attribute of this type must say.
-    pub fn flags(self) -> WantedFlags
+    pub(crate) fn flags(self) -> WantedFlags
         ensures { result ≡ flags_of self }
     {
         match self {

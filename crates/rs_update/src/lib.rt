@@ -28,7 +28,6 @@ mod update;
 mod values;
 
 pub use as_path::Segment;
-pub use attribute_type::{AttributeType, WantedFlags};
 pub use attributes::{Attributes, Communities, Unrecognized};
 pub use fault::{HeaderFault, MessageFault, UpdateFault};
 pub use header::MessageType;

@@ -2,15 +2,15 @@
 use Rattle.std.proofs.Common.{◌≡◌, refl, ap, ◌∷◌, ◌∙◌, arith, length, List, ◌<◌, suc}
 use Rattle.rs_mrt.specs.Record.{records_of, end_of}
 use Rattle.rs_session.specs.Change.{Change, change_of}
-use Rattle.rs_session.specs.Said.{said, passed_in}
+use Rattle.rs_session.specs.FileChanges.{changes_in, passed_in}
 use Rattle.rs_table.specs.Content.{rib_of}
 use Rattle.route_server.proofs.SessionLemmas.{to_come, to_come-says, to_come-given, to_come-closed, to_come-none, always_readable, reading-fresh, reading-given, reading-whole, open-before}
 use Rattle.route_server.proofs.sessions.read_session.Goals as goal
 
 pub loop-session-init : goal.loop-session-init
 loop-session-init c = record {
-  reading = reading-fresh (said c.args.id c.args.file.now) c.new-session.result (rib_of c.args.tables.now c.args.peer)
-      (to_come-says c.new-session.result (said c.args.id c.args.file.now) (passed_in c.args.id c.args.file.now) c.new-session.ensures.says) c.requires.untouched;
+  reading = reading-fresh (changes_in c.args.id c.args.file.now) c.new-session.result (rib_of c.args.tables.now c.args.peer)
+      (to_come-says c.new-session.result (changes_in c.args.id c.args.file.now) (passed_in c.args.id c.args.file.now) c.new-session.ensures.says) c.requires.untouched;
   others = λ other apart. refl;
   plan = refl;
 }
@@ -19,7 +19,7 @@ pub apply-requires-clause-open : goal.apply-requires-clause-open
 apply-requires-clause-open c =
     let says = rw c.in-Some.is at c.in_ok-word.ensures.says in
     let readable = always_readable c.loop-session.session.source c.in-Some.word (rw c.in-Some.is at c.in_ok-word.ensures.failures) in
-    open-before (said c.args.id c.args.file.now) c.loop-session.session (rib_of c.loop-session.tables c.args.peer) (change_of c.in-Some.word) (to_come c.next_word.new.self) c.loop-session.invariant.reading
+    open-before (changes_in c.args.id c.args.file.now) c.loop-session.session (rib_of c.loop-session.tables c.args.peer) (change_of c.in-Some.word) (to_come c.next_word.new.self) c.loop-session.invariant.reading
     (to_come-given c.loop-session.session c.next_word.new.self c.in-Some.word says readable)
 
 pub loop-session-smaller : goal.loop-session-smaller
@@ -35,7 +35,7 @@ loop-session-preserved c =
     let says = rw c.in-Some.is at c.in_ok-word.ensures.says in
     let readable = always_readable c.loop-session.session.source c.in-Some.word (rw c.in-Some.is at c.in_ok-word.ensures.failures) in
     record {
-      reading = reading-given (said c.args.id c.args.file.now) c.loop-session.session c.next_word.new.self (rib_of c.loop-session.tables c.args.peer) (rib_of c.apply.new.self c.args.peer) c.in-Some.word
+      reading = reading-given (changes_in c.args.id c.args.file.now) c.loop-session.session c.next_word.new.self (rib_of c.loop-session.tables c.args.peer) (rib_of c.apply.new.self c.args.peer) c.in-Some.word
           c.loop-session.invariant.reading (to_come-given c.loop-session.session c.next_word.new.self c.in-Some.word says readable) (to_come-closed c.loop-session.session c.next_word.new.self c.in-Some.word says)
           c.in_ok-apply.ensures.routes c.in_ok-apply.ensures.closed;
       others = λ other apart. c.in_ok-apply.ensures.others other apart ∙ c.loop-session.invariant.others other apart;
@@ -45,5 +45,5 @@ loop-session-preserved c =
 pub returns-clause-read : goal.returns-clause-read
 returns-clause-read c =
     let says = rw c.in_default.is at c.in_ok-word.ensures.says in
-    reading-whole (said c.args.id c.args.file.now) c.loop-session.session (rib_of c.loop-session.tables c.args.peer) c.loop-session.invariant.reading
+    reading-whole (changes_in c.args.id c.args.file.now) c.loop-session.session (rib_of c.loop-session.tables c.args.peer) c.loop-session.invariant.reading
     (to_come-none c.loop-session.session c.next_word.new.self says) (c.a_session_closes_once.ensures c.args.id (records_of c.args.file.now) (end_of c.args.file.now))

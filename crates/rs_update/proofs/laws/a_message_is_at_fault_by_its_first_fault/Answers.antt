@@ -1,4 +1,4 @@
-use Rattle.std.proofs.Common.{◌≡◌, Option, Some, None, Result, ◌∙◌, sym}
+use Rattle.std.proofs.Common.{◌∙◌, sym}
 use Rattle.rs_update.specs.Message.{message_of}
 use Rattle.rs_update.proofs.MessageLemmas.{err_of-message, err_of-iff, ok_iff}
 use Rattle.rs_update.proofs.laws.a_message_is_at_fault_by_its_first_fault.Goals as goal

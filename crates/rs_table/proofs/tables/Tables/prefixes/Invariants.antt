@@ -1,7 +1,7 @@
 use Rattle.std.proofs.Common.{◌≡◌, ◌||◌, drop, length}
 use Rattle.std.specs.BTreeSet.{contains}
 use Rattle.rs_update.specs.IpPrefix.{IpPrefix}
-use Rattle.rs_session.specs.PrefixOrder.{prefix_cmp}
+use Rattle.rs_update.specs.PrefixOrder.{prefix_cmp}
 use Rattle.rs_table.specs.Listing.{is_held}
 use Rattle.rs_table.proofs.tables.Tables.prefixes.Given as goal
 

@@ -6,7 +6,7 @@ use Rattle.rs_mrt.specs.Record.{MrtRecord}
 use Rattle.rs_mrt.specs.declared.fault.MrtFault.{MrtFault}
 use Rattle.rs_session.specs.Change.{Change}
 use Rattle.rs_session.specs.Effect.{RecordEffect, PassesOver, Gives, Ends, effect_of}
-use Rattle.rs_session.specs.Said.{changes_of, passed_of, close_at, reason_at_end, open_records, ends, passes_over, changes_by, closing}
+use Rattle.rs_session.specs.FileChanges.{changes_of, passed_of, close_at, reason_at_end, open_records, ends, passes_over, changes_by, closing}
 use Rattle.rs_session.specs.declared.peer.PeerId.{PeerId}
 use Rattle.rs_session.specs.declared.word.Reason.{Reason}
 

@@ -60,8 +60,8 @@ passed_of peer records = count_by (λ r. passes_over (effect_of peer r)) (open_r
 -- ---- a file
 
 -- the changes that a file says of a peer
-abbrev pub said : PeerId → List ℕ → List Change
-said peer file = changes_of peer (records_of file) (end_of file)
+abbrev pub changes_in : PeerId → List ℕ → List Change
+changes_in peer file = changes_of peer (records_of file) (end_of file)
 
 -- how many of its records are passed over
 abbrev pub passed_in : PeerId → List ℕ → ℕ
