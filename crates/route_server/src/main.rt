@@ -7,8 +7,11 @@
 
 mod ended;
 mod example;
+mod options;
 mod plain;
+mod run_fault;
 mod sessions;
+mod setup;
 
 use ended::Ended;
 use example::two_peers;

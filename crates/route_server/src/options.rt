@@ -1,0 +1,31 @@
+//! What the command line asks for.
+
+use std::alloc::AllocError;
+
+/// What the words of the command line ask for.
+#[derive(Drop)]
+pub struct Options {
+    /// The path of the configuration.
+    pub config: String,
+    /// The folder that takes the dumps.
+    pub out: String,
+    /// The Timestamp of every record written, in seconds since 1970 (RFC 6396, section 2).
+    pub time: u32,
+}
+
+/// Why the words of the command line give no options.
+#[derive(Drop)]
+pub enum WordsFault {
+    /// Help was asked for: its text.
+    Help(String),
+    /// The words are refused: the text that says why.
+    Refused(String),
+    /// Memory was refused.
+    Memory,
+}
+
+impl From<AllocError> for WordsFault {
+    fn from(_refused: AllocError) -> WordsFault {
+        WordsFault::Memory
+    }
+}

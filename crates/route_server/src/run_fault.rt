@@ -1,0 +1,20 @@
+//! Why a run stops short.
+
+use std::alloc::AllocError;
+
+/// Why a run stops short. Dumps that were kept before stay.
+#[derive(Drop)]
+pub enum RunFault {
+    /// Memory was refused.
+    Memory,
+    /// The dump of the client of this number can't be made or written.
+    Dump(usize),
+    /// The report can't be written; a beginning of it may be out.
+    Report,
+}
+
+impl From<AllocError> for RunFault {
+    fn from(_refused: AllocError) -> RunFault {
+        RunFault::Memory
+    }
+}
