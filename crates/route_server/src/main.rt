@@ -7,7 +7,10 @@
 
 mod ended;
 mod example;
+mod folder_outlet;
+mod memory_outlet;
 mod options;
+mod outlet;
 mod plain;
 mod run_fault;
 mod sessions;
