@@ -1,0 +1,212 @@
+//! Worked decisions of both bodies.
+
+use super::*;
+
+// A candidate by its peer's number, and its attributes, spelled.
+type Sent = (usize, &'static [&'static str]);
+
+// The attributes of candidates.
+fn all_attributes(alloc: Global, sent: &[Sent]) -> Result<Vec<Attributes>, Fail> {
+    let mut all = Vec::new(alloc);
+    for (_, texts) in sent {
+        all.push(attributes(alloc, texts)?)?;
+    }
+    Ok(all)
+}
+
+// The place of the choice among candidates.
+fn chosen(
+    rt: &impl Abort,
+    alloc: Global,
+    exchange: &Exchange,
+    sent: &[Sent],
+) -> Result<Option<usize>, Fail> {
+    let routes = all_attributes(alloc, sent)?;
+    let mut candidates = Vec::new(alloc);
+    for ((peer, _), attributes) in sent.iter().zip(&routes) {
+        candidates.push(Candidate {
+            peer: *peer,
+            attributes,
+        })?;
+    }
+    Ok(choice(rt, exchange, &candidates))
+}
+
+const MED_0: &str = "800404 00000000";
+
+const MED_1: &str = "800404 00000001";
+
+const MED_5: &str = "800404 00000005";
+
+const MED_10: &str = "800404 0000000A";
+
+// From a and b, both of AS 64501, and c, of AS 64502.
+const OF_A: Sent = (0, &[IGP, PATH_64501_65010, NEXT_HOP_A, MED_10]);
+
+const OF_B: Sent = (1, &[IGP, PATH_64501_65010, NEXT_HOP_A, MED_5]);
+
+const OF_C: Sent = (2, &[IGP, PATH_64502_65010, NEXT_HOP_A]);
+
+// No member is ahead of all others by pairs: b of a by MED, c of b and a of c by identifier.
+const ORDERS: &[(&[Sent], Option<usize>)] = &[
+    (&[OF_A, OF_B, OF_C], Some(2)),
+    (&[OF_A, OF_C, OF_B], Some(1)),
+    (&[OF_B, OF_A, OF_C], Some(2)),
+    (&[OF_B, OF_C, OF_A], Some(1)),
+    (&[OF_C, OF_A, OF_B], Some(0)),
+    (&[OF_C, OF_B, OF_A], Some(0)),
+    // b has withdrawn.
+    (&[OF_A, OF_C], Some(0)),
+    (&[], None),
+];
+
+#[test]
+fn med_is_not_transitive(rt: HostRuntime) -> Result<(), Fail> {
+    let rows = [
+        Row { id: 1, ..A },
+        Row {
+            asn: 64501,
+            id: 9,
+            ..B
+        },
+        Row {
+            asn: 64502,
+            id: 5,
+            ..C
+        },
+    ];
+    let exchange = exchange(rt.alloc(), true, &rows)?;
+    for (sent, want) in ORDERS {
+        assert_eq!(rt; chosen(&rt, rt.alloc(), &exchange, sent)?, *want);
+    }
+    Ok(())
+}
+
+const PLAIN_OF_A: Sent = (0, &[IGP, PATH_64501, NEXT_HOP_A]);
+
+const PLAIN_OF_B: Sent = (1, &[IGP, PATH_64501, NEXT_HOP_A]);
+
+// AS_SET {65010, 65011, 65012}, then AS_SEQUENCE 65013 65014: length 3.
+const SET_OF_A: Sent = (
+    0,
+    &[
+        IGP,
+        "400218 0103 0000FDF2 0000FDF3 0000FDF4 0202 0000FDF5 0000FDF6",
+        NEXT_HOP_A,
+    ],
+);
+
+const LENGTH_2_OF_B: Sent = (1, &[IGP, PATH_64501_65010, NEXT_HOP_A]);
+
+const LENGTH_4_OF_B: Sent = (
+    1,
+    &[
+        IGP,
+        "400212 0204 0000FBF5 0000FDF2 0000FDF3 0000FDF4",
+        NEXT_HOP_A,
+    ],
+);
+
+const EGP_OF_A: Sent = (0, &[EGP, PATH_64501, NEXT_HOP_A]);
+
+const MED_0_OF_A: Sent = (0, &[IGP, PATH_64501, NEXT_HOP_A, MED_0]);
+
+const MED_1_OF_A: Sent = (0, &[IGP, PATH_64501, NEXT_HOP_A, MED_1]);
+
+// Of candidates from a and b, both of AS 64501.
+const STEPS: &[(&[Sent], Option<usize>, &str)] = &[
+    (
+        &[SET_OF_A, LENGTH_2_OF_B],
+        Some(1),
+        "an AS_SET counts 1: 3 against 2",
+    ),
+    (
+        &[SET_OF_A, LENGTH_4_OF_B],
+        Some(0),
+        "an AS_SET counts 1: 3 against 4",
+    ),
+    (&[EGP_OF_A, PLAIN_OF_B], Some(1), "EGP against IGP"),
+    (
+        &[MED_1_OF_A, PLAIN_OF_B],
+        Some(1),
+        "MED 1 against a missing one",
+    ),
+    (
+        &[MED_0_OF_A, PLAIN_OF_B],
+        Some(0),
+        "MED 0 against a missing one",
+    ),
+    (
+        &[PLAIN_OF_B, MED_0_OF_A],
+        Some(1),
+        "the lower identifier, not the place",
+    ),
+    (
+        &[PLAIN_OF_A, PLAIN_OF_A],
+        Some(0),
+        "two of one peer: the least place",
+    ),
+];
+
+#[test]
+fn each_step_decides(rt: HostRuntime) -> Result<(), Fail> {
+    let exchange = exchange(rt.alloc(), true, &[A, Row { asn: 64501, ..B }])?;
+    for (sent, want, what) in STEPS {
+        assert_eq!(rt; chosen(&rt, rt.alloc(), &exchange, sent)?, *want, "{what}");
+    }
+    Ok(())
+}
+
+#[test]
+fn the_last_tie_goes_to_the_lower_address(rt: HostRuntime) -> Result<(), Fail> {
+    let rows = [
+        Row {
+            id: 0xC000_0209,
+            ..A
+        },
+        Row {
+            asn: 64501,
+            id: 0xC000_0209,
+            ..B
+        },
+    ];
+    let exchange = exchange(rt.alloc(), true, &rows)?;
+    assert_eq!(rt;
+        chosen(&rt, rt.alloc(), &exchange, &[PLAIN_OF_A, PLAIN_OF_B])?,
+        Some(0)
+    );
+    assert_eq!(rt;
+        chosen(&rt, rt.alloc(), &exchange, &[PLAIN_OF_B, PLAIN_OF_A])?,
+        Some(1)
+    );
+    assert_eq!(rt;
+        chosen(
+            &rt,
+            rt.alloc(),
+            &exchange,
+            &[PLAIN_OF_B, PLAIN_OF_A, PLAIN_OF_A]
+        )?,
+        Some(1),
+        "the least place of a's"
+    );
+    Ok(())
+}
+
+#[test]
+fn preference_goes_before_path_length(rt: HostRuntime) -> Result<(), Fail> {
+    let alloc = rt.alloc();
+    let preferred = PeerSpec {
+        preference: 101,
+        ..peer(alloc, &B)?
+    };
+    let exchange = Exchange::new(
+        alloc,
+        server(true),
+        vec![in alloc; peer(alloc, &A)?, preferred]?,
+    )?;
+    assert_eq!(rt;
+        chosen(&rt, rt.alloc(), &exchange, &[PLAIN_OF_A, LENGTH_4_OF_B])?,
+        Some(1)
+    );
+    Ok(())
+}
