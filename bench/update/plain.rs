@@ -35,6 +35,14 @@ pub struct Update {
     pub nlri: Vec<Prefix>,
 }
 
+pub enum Message {
+    Open,
+    Update(Update),
+    Notification,
+    KeepAlive,
+    Refresh,
+}
+
 type Fault = (u8, u8);
 
 fn number(octets: &[u8]) -> u32 {
@@ -212,15 +220,40 @@ fn prefixes(mut field: &[u8]) -> Result<Vec<Prefix>, Fault> {
     Ok(list)
 }
 
-pub fn read_update(octets: &[u8]) -> Result<Update, Fault> {
-    if octets.len() < 19 || octets[..16].iter().any(|octet| *octet != 0xff) {
+// The tests of the header, in the order of `rs_update`: the type, or the fault.
+fn read_header(octets: &[u8]) -> Result<u8, Fault> {
+    if octets.len() < 19 {
+        return Err((1, 2));
+    }
+    if octets[..16].iter().any(|octet| *octet != 0xff) {
         return Err((1, 1));
     }
     let length = usize::from(u16::from_be_bytes([octets[16], octets[17]]));
-    if !(19..=4096).contains(&length) || length != octets.len() || octets[18] != 2 || length < 23 {
+    if !(19..=4096).contains(&length) || length != octets.len() {
         return Err((1, 2));
     }
-    let body = &octets[19..];
+    let suits = match octets[18] {
+        1 => length >= 29,
+        2 => length >= 23,
+        3 => length >= 21,
+        4 => length == 19,
+        5 => true,
+        _ => return Err((1, 3)),
+    };
+    if suits { Ok(octets[18]) } else { Err((1, 2)) }
+}
+
+pub fn read_message(octets: &[u8]) -> Result<Message, Fault> {
+    match read_header(octets)? {
+        1 => Ok(Message::Open),
+        2 => Ok(Message::Update(read_update(&octets[19..])?)),
+        3 => Ok(Message::Notification),
+        4 => Ok(Message::KeepAlive),
+        _ => Ok(Message::Refresh),
+    }
+}
+
+fn read_update(body: &[u8]) -> Result<Update, Fault> {
     let withdrawn_length = usize::from(u16::from_be_bytes([body[0], body[1]]));
     if body.len() < withdrawn_length + 4 {
         return Err((3, 1));
@@ -242,7 +275,7 @@ fn round(file: &[u8]) -> (u64, u64) {
     let mut sum = 0u64;
     while !rest.is_empty() {
         let length = usize::from(u16::from_be_bytes([rest[16], rest[17]]));
-        if let Ok(update) = read_update(&rest[..length]) {
+        if let Ok(Message::Update(update)) = read_message(&rest[..length]) {
             sum += (update.withdrawn.len() + update.nlri.len()) as u64;
             sum += update.attributes.map_or(0, |attributes| u64::from(attributes.path_length) + attributes.spelling.len() as u64);
         }

@@ -1,6 +1,6 @@
 -- A message behind its header.
-use Rattle.std.proofs.Common.{◌≡◌, ℕ, suc, ◌<◌, Bool, true, false, not, ◌&&◌, cond, eqb, ltb, List, [], ◌∷◌, length, drop, Option, Some, None, Result, Ok, Err, refl, sym, ap, ◌∙◌, arith}
-use Rattle.std.specs.Prelude.{◌↔◌, IsOk, IsSome}
+use Rattle.std.proofs.Common.{◌≡◌, ℕ, suc, ◌<◌, Bool, true, false, not, ◌&&◌, cond, eqb, ltb, List, [], ◌∷◌, length, drop, Option, Some, None, Result, Ok, Err, refl, sym, ap, ◌∙◌, arith, inl, inr}
+use Rattle.std.specs.Prelude.{◌↔◌, IsOk, IsSome, is_err}
 use Rattle.std.specs.Option.{is_none, is_some, option_map, ok_or}
 use Rattle.std.proofs.lemmas.Bool.{ne_eqb, true≢false}
 use Rattle.rs_update.specs.declared.fault.HeaderFault.{HeaderFault}
@@ -19,6 +19,7 @@ use Rattle.rs_update.specs.Prefix.{prefixes_of}
 use Rattle.rs_update.specs.Section.{items_of, section_fault}
 use Rattle.rs_update.specs.IpPrefix.{IpPrefix}
 use Rattle.rs_update.specs.PathAttributes.{PathAttributes}
+use Rattle.rs_update.proofs.KindLemmas.{cases_Option}
 use Rattle.rs_update.proofs.PrefixLemmas.{no_prefix, some_prefix}
 
 -- behind a header without fault, a message is what its type says
@@ -165,3 +166,12 @@ unfolding update_of
 attributes_for_routes body content e =
     let given = steps-content (first_fault (length_tests body)) (section_fault (section_field body)) (announced_attributes (section_field body) (nlri_field body)) (listed_prefixes (withdrawn_field body)) (listed_prefixes (nlri_field body)) content e in
     both_there (section_field body) (nlri_field body) content.attributes content.nlri given.0 (listed_is (nlri_field body) content.nlri given.1)
+
+-- where routes are announced, a section that gives them no attributes is at fault
+pub announced-missing : (section nlri : List ℕ) → 0 < length nlri → not (is_some (attributes_of (items_of section))) ≡ is_err (announced_attributes section nlri)
+announced-missing section [] some = absurd (omega (some, arith))
+announced-missing section (octet ∷ nlri) some =
+    elim (cases_Option (attributes_of (items_of section))) [
+      | inl none ↦ rw (announced_attributes, none) refl
+      | inr given ↦ rw (announced_attributes, given.1) refl
+    ]

@@ -9,7 +9,7 @@ use Rattle.rs_update.specs.declared.attributes.Unrecognized.{Unrecognized}
 use Rattle.rs_update.specs.declared.item.Item.{Item as ItemThere}
 use Rattle.rs_update.specs.declared.values.Aggregator.{Aggregator}
 use Rattle.rs_update.specs.declared.values.Origin.{Origin}
-use Rattle.rs_update.specs.Found.{found_in, spelled_found}
+use Rattle.rs_update.specs.Found.{found_in, has_mandatory, spelled_found}
 use Rattle.rs_update.specs.Gathered.{look, is_passed_on, passed_on_of, passed_on_in, others_of, attributes_from, attributes_of}
 use Rattle.rs_update.specs.Items.{item_of}
 use Rattle.rs_update.specs.PathAttributes.{PathAttributes, PathSegment, CommunityList, PassedOn}
@@ -173,6 +173,22 @@ made_of items attributes e =
                     has_next_hop = third.1;
                     are = some_same _ _ (sym (attributes_of-found items first.0 second.0 third.0 first.1 second.1 third.1) ∙ e);
                   }
+                ]
+          ]
+    ]
+
+-- what is found in a section has the mandatory attributes exactly where the section gives a route attributes
+pub mandatory-found : (items : List Item) → has_mandatory (found_in items) ≡ is_some (attributes_of items)
+mandatory-found items =
+    elim (cases_Option (look 1 items)) [
+      | inl none ↦ rw (no_origin items none) (rw none refl)
+      | inr first ↦
+          elim (cases_Option (look 2 items)) [
+            | inl none ↦ rw (no_path items none) (rw (first.1, none) refl)
+            | inr second ↦
+                elim (cases_Option (look 3 items)) [
+                  | inl none ↦ rw (no_next_hop items none) (rw (first.1, second.1, none) refl)
+                  | inr third ↦ rw (attributes_of-found items first.0 second.0 third.0 first.1 second.1 third.1) (rw (first.1, second.1, third.1) refl)
                 ]
           ]
     ]

@@ -1,5 +1,5 @@
 -- The attributes that a section gives a route, where they stand in it (RFC 4271, section 5).
-use Rattle.std.specs.Prelude.{◌≡◌, ℕ, ◌+◌, ◌<◌, Bool, true, false, not, ◌||◌, ◌==◌, nat_lt, List, [], ◌++◌, length, insert, take_while, Option, Some, None, map, filter, option_and_then, if◌then◌else◌}
+use Rattle.std.specs.Prelude.{◌≡◌, ℕ, ◌+◌, ◌<◌, Bool, true, false, not, ◌&&◌, ◌||◌, ◌==◌, nat_lt, List, [], ◌++◌, length, insert, take_while, Option, Some, None, is_some, map, filter, option_and_then, if◌then◌else◌}
 use Rattle.std.specs.List.{list_any, flat_map}
 use Rattle.std.specs.Option.{ForSome, option_or, option_map}
 use Rattle.rs_update.specs.declared.attribute_type.AttributeType.{AttributeType}
@@ -48,6 +48,10 @@ found_of found = record {
   communities = option_map item_of found.communities;
   passes_on = found.passes_on;
 }
+
+-- none of the mandatory ones misses
+abbrev pub has_mandatory : FoundItems → Bool
+has_mandatory found = is_some found.origin && is_some found.path && is_some found.next_hop
 
 -- what was found earlier, or else later
 abbrev pub found_before : FoundItems → FoundItems → FoundItems

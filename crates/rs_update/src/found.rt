@@ -1,9 +1,10 @@
 //! The attributes of a section that a route keeps, where they stand in it (RFC 4271, section 5).
 //!
-//! One pass finds them. A section without fault has one of each type at most; of several the first would count.
+//! One pass finds them, once for each message. A section without fault has one of each type at most; of several the first would count.
 
-ghost use Rattle.std.specs.Prelude.{◌≡◌, [], ◌∷◌};
-ghost use Rattle.rs_update.specs.Found.{found_in, found_of, found_before};
+ghost use Rattle.std.specs.Prelude.{◌≡◌, [], ◌∷◌, Some};
+ghost use Rattle.std.specs.Option.{option_map, option_or};
+ghost use Rattle.rs_update.specs.Found.{found_in, found_of, found_before, has_mandatory};
 ghost use Rattle.rs_update.specs.Items.{item_of};
 ghost use Rattle.rs_update.specs.Section.{items_of};
 
@@ -24,45 +25,39 @@ pub(crate) struct Found<'a> {
 }
 
 impl<'a> Found<'a> {
-    // What was found, and one attribute more.
-    fn with(self, item: Item<'a>) -> Found<'a>
-        ensures { found_of result ≡ found_before (found_of self.entry) (found_in (item_of item.entry ∷ [])) }
+    // Whether ORIGIN, AS_PATH and NEXT_HOP were found.
+    pub(crate) fn has_mandatory(&self) -> bool
+        ensures { result ≡ has_mandatory (found_of self.now) }
+    {
+        self.origin.is_some() && self.path.is_some() && self.next_hop.is_some()
+    }
+
+    // Finds one attribute more.
+    fn add(&mut self, item: Item<'a>)
+        ensures { found_of self.new ≡ found_before (found_of self.old) (found_in (item_of item.entry ∷ [])) }
     {
         match AttributeType::of(item.kind) {
-            AttributeType::Origin => Found {
-                origin: self.origin.or(Some(item)),
-                ..self
-            },
-            AttributeType::AsPath => Found {
-                path: self.path.or(Some(item)),
-                ..self
-            },
-            AttributeType::NextHop => Found {
-                next_hop: self.next_hop.or(Some(item)),
-                ..self
-            },
-            AttributeType::MultiExitDisc => Found {
-                med: self.med.or(Some(item)),
-                ..self
-            },
-            AttributeType::AtomicAggregate => Found {
-                atomic: self.atomic.or(Some(item)),
-                ..self
-            },
-            AttributeType::Aggregator => Found {
-                aggregator: self.aggregator.or(Some(item)),
-                ..self
-            },
-            AttributeType::Communities => Found {
-                communities: self.communities.or(Some(item)),
-                ..self
-            },
-            AttributeType::Unrecognized => Found {
-                passes_on: self.passes_on || item.flags.is_transitive(),
-                ..self
-            },
-            _ => self,
+            AttributeType::Origin => keep(&mut self.origin, item),
+            AttributeType::AsPath => keep(&mut self.path, item),
+            AttributeType::NextHop => keep(&mut self.next_hop, item),
+            AttributeType::MultiExitDisc => keep(&mut self.med, item),
+            AttributeType::AtomicAggregate => keep(&mut self.atomic, item),
+            AttributeType::Aggregator => keep(&mut self.aggregator, item),
+            AttributeType::Communities => keep(&mut self.communities, item),
+            AttributeType::Unrecognized => {
+                self.passes_on = self.passes_on || item.flags.is_transitive();
+            }
+            _ => {}
         }
+    }
+}
+
+// Keeps an attribute, unless one of its type is kept.
+fn keep<'a>(place: &mut Option<Item<'a>>, item: Item<'a>)
+    ensures { option_map item_of place.new ≡ option_or (option_map item_of place.old) (Some (item_of item.entry)) }
+{
+    if place.is_none() {
+        *place = Some(item);
     }
 }
 
@@ -82,7 +77,7 @@ pub(crate) fn find_items(section: &[u8]) -> Found<'_>
     };
     let mut rest = section;
     while let Some(front) = split_item(rest) {
-        found = found.with(front.0);
+        found.add(front.0);
         rest = front.1;
     }
     found

@@ -13,7 +13,7 @@ ghost use Rattle.rs_update.specs.Shapes.{other_of};
 use crate::as_path::{first_as, path_length};
 use crate::attribute_type::AttributeType;
 use crate::attributes::{Attributes, Unrecognized};
-use crate::found::{Found, find_items};
+use crate::found::Found;
 use crate::item::{Item, split_item};
 use crate::readers::{med_of, origin_of, read_aggregator, read_communities, read_path};
 use crate::spelling::spell;
@@ -85,21 +85,21 @@ fn passed_on(alloc: Global, section: &[u8], any: bool) -> Result<Vec<Unrecognize
     Ok(Vec::new(alloc))
 }
 
-// Makes the attributes whole, out of the mandatory ones and the others that were found.
+// Makes the attributes whole, out of what was found and the mandatory ones among it.
 fn whole(
     alloc: Global,
     section: &[u8],
-    found: Found<'_>,
-    origin: Item<'_>,
-    path: Item<'_>,
-    next_hop: Item<'_>,
+    found: &Found<'_>,
+    origin: &Item<'_>,
+    path: &Item<'_>,
+    next_hop: &Item<'_>,
 ) -> Result<Attributes, AllocError>
     requires faultless { section_fault section.now ≡ None }
     requires short { length section.now ≤ 4073 }
-    requires are_found { found_of found ≡ found_in (items_of section.now) }
-    requires origin_is { found.origin ≡ Some origin }
-    requires path_is { found.path ≡ Some path }
-    requires next_hop_is { found.next_hop ≡ Some next_hop }
+    requires are_found { found_of found.now ≡ found_in (items_of section.now) }
+    requires origin_is { found.now.origin ≡ Some origin.now }
+    requires path_is { found.now.path ≡ Some path.now }
+    requires next_hop_is { found.now.next_hop ≡ Some next_hop.now }
     ensures { IfOk result (λ attributes. attributes_of (items_of section.now) ≡ Some attributes) }
 {
     let segments = read_path(alloc, path.value)?;
@@ -121,20 +121,25 @@ fn whole(
     })
 }
 
-/// The attributes that a section without fault gives a route, or None where ORIGIN, AS_PATH or NEXT_HOP misses; then it takes no memory.
-pub(crate) fn gather(alloc: Global, section: &[u8]) -> Result<Option<Attributes>, AllocError>
+/// The attributes that a section without fault gives a route, out of what was found in it, or None where ORIGIN, AS_PATH or NEXT_HOP
+/// misses; then it takes no memory.
+pub(crate) fn gather(
+    alloc: Global,
+    section: &[u8],
+    found: &Found<'_>,
+) -> Result<Option<Attributes>, AllocError>
     requires faultless { section_fault section.now ≡ None }
     requires short { length section.now ≤ 4073 }
-    ensures { IfOk result (λ found. found ≡ attributes_of (items_of section.now)) }
+    requires are_found { found_of found.now ≡ found_in (items_of section.now) }
+    ensures { IfOk result (λ attributes. attributes ≡ attributes_of (items_of section.now)) }
 {
-    let found = find_items(section);
-    let Some(origin) = found.origin else {
+    let Some(origin) = &found.origin else {
         return Ok(None);
     };
-    let Some(path) = found.path else {
+    let Some(path) = &found.path else {
         return Ok(None);
     };
-    let Some(next_hop) = found.next_hop else {
+    let Some(next_hop) = &found.next_hop else {
         return Ok(None);
     };
     Ok(Some(whole(alloc, section, found, origin, path, next_hop)?))
@@ -143,6 +148,7 @@ pub(crate) fn gather(alloc: Global, section: &[u8]) -> Result<Option<Attributes>
 #[cfg(test)]
 mod tests {
     use super::*;
+    use crate::found::find_items;
     use crate::section::section_fault;
     use crate::spelling::write_attributes;
     use crate::values::Origin;
@@ -158,10 +164,10 @@ mod tests {
         if section.len() > 4073 {
             return Ok(None);
         }
-        match section_fault(section) {
-            None => gather(alloc, section),
-            Some(_) => Ok(None),
+        if section_fault(section).is_some() {
+            return Ok(None);
         }
+        gather(alloc, section, &find_items(section))
     }
 
     // What is written after some attributes were received behind the mandatory ones.

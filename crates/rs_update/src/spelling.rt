@@ -46,12 +46,12 @@ pub fn write_attributes(attributes: &Attributes, out: &mut Vec<u8>) -> Result<()
 pub(crate) fn spell(
     alloc: Global,
     size: usize,
-    found: Found<'_>,
+    found: &Found<'_>,
     others: &[Unrecognized],
 ) -> Result<Vec<u8>, AllocError>
-    requires found_short { AreSpellable found }
+    requires found_short { AreSpellable found.now }
     requires others_short { All (λ other. length other.value.items < 65536) others.now }
-    ensures { IfOk result (λ spelling. spelling.items ≡ spelled_found (found_of found.entry) (map other_of others.now)) }
+    ensures { IfOk result (λ spelling. spelling.items ≡ spelled_found (found_of found.now) (map other_of others.now)) }
 {
     let mut out = Vec::with_capacity(alloc, size)?;
     push_others(&mut out, others, true)?;

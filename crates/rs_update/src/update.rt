@@ -3,16 +3,16 @@
 //! The standard leaves the order of the tests open. Ours: both lengths, the path attributes, the mandatory attributes, the withdrawn
 //! routes, the NLRI.
 
-ghost use Rattle.std.specs.Prelude.{◌≡◌, ◌≤◌, length, None, Some, IfOk, IfErr, OnOk, is_some};
+ghost use Rattle.std.specs.Prelude.{◌≡◌, ◌≤◌, length, None, Some, IfOk, IfErr, OnOk};
 ghost use Rattle.std.specs.Result.{is_err};
 ghost use Rattle.rs_update.specs.Fault.{first_fault};
 ghost use Rattle.rs_update.specs.Message as spec;
-ghost use Rattle.rs_update.specs.Gathered.{attributes_of};
+ghost use Rattle.rs_update.specs.Found.{found_in, found_of};
 ghost use Rattle.rs_update.specs.Section.{items_of, section_fault as section_fault_of};
 
 use crate::attributes::Attributes;
 use crate::fault::{MessageFault, UpdateFault};
-use crate::found::find_items;
+use crate::found::{Found, find_items};
 use crate::gather::gather;
 use crate::message::Update;
 use crate::prefix::{count_prefixes, read_prefixes};
@@ -56,35 +56,29 @@ fn split_fields(body: &[u8]) -> Result<UpdateFields<'_>, UpdateFault>
     })
 }
 
-// Whether ORIGIN, AS_PATH and NEXT_HOP stand in a section.
-#[tactic(auto, unfolding(crate::specs::Gathered::attributes_of))]
-fn has_mandatory(section: &[u8]) -> bool
-    ensures { result ≡ is_some (attributes_of (items_of section.now)) }
-{
-    let found = find_items(section);
-    found.origin.is_some() && found.path.is_some() && found.next_hop.is_some()
-}
-
-// Whether routes are announced without one of them.
-fn lacks_mandatory(fields: UpdateFields<'_>) -> bool
+// Whether routes are announced without one of the mandatory attributes.
+fn lacks_mandatory(fields: UpdateFields<'_>, found: &Found<'_>) -> bool
+    requires { found_of found.now ≡ found_in (items_of fields.section.now) }
     ensures { result ≡ is_err (spec.announced_attributes fields.entry.section.now fields.entry.nlri.now) }
 {
-    !fields.nlri.is_empty() && !has_mandatory(fields.section)
+    !fields.nlri.is_empty() && !found.has_mandatory()
 }
 
 // The attributes of the announced routes, or None where none is announced.
 fn announced_attributes(
     alloc: Global,
     fields: UpdateFields<'_>,
+    found: &Found<'_>,
 ) -> Result<Option<Attributes>, AllocError>
     requires faultless { section_fault_of fields.section.now ≡ None }
     requires short { length fields.section.now ≤ 4073 }
+    requires are_found { found_of found.now ≡ found_in (items_of fields.section.now) }
     ensures { IfOk result (λ attributes. IfOk (spec.announced_attributes fields.entry.section.now fields.entry.nlri.now) (λ announced. attributes ≡ announced)) }
 {
     if fields.nlri.is_empty() {
         return Ok(None);
     }
-    gather(alloc, fields.section)
+    gather(alloc, fields.section, found)
 }
 
 /// Reads an UPDATE behind its header. Memory is taken only once it is known to be without fault.
@@ -98,12 +92,13 @@ pub(crate) fn read_update(alloc: Global, body: &[u8]) -> Result<Update, MessageF
     if let Some(fault) = section_fault(fields.section) {
         return Err(fault.into());
     }
-    if lacks_mandatory(fields) {
+    let found = find_items(fields.section);
+    if lacks_mandatory(fields, &found) {
         return Err(UpdateFault::MissingWellKnown.into());
     }
     let withdrawn_count = count_prefixes(fields.withdrawn).ok_or(UpdateFault::InvalidNetworkField)?;
     let nlri_count = count_prefixes(fields.nlri).ok_or(UpdateFault::InvalidNetworkField)?;
-    let attributes = announced_attributes(alloc, fields)?;
+    let attributes = announced_attributes(alloc, fields, &found)?;
     let withdrawn = read_prefixes(alloc, fields.withdrawn, withdrawn_count)?;
     let nlri = read_prefixes(alloc, fields.nlri, nlri_count)?;
     Ok(Update {

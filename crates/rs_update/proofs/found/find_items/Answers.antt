@@ -11,7 +11,7 @@ loop-front-smaller c = item_at-takes c.loop-front.rest.now (split_of c.in-Some.f
 
 pub loop-front-preserved : goal.loop-front-preserved
 loop-front-preserved c =
-    found_before-step (found_of c.loop-front.found) (found_of c.with-found.result) (item_of c.in-Some.front.0) (items_of c.in-Some.front.1.now) c.with-found.ensures
+    found_before-step (found_of c.loop-front.found) _ (item_of c.in-Some.front.0) (items_of c.in-Some.front.1.now) c.add.ensures
     ∙ ap (λ (items : List Item). found_before (found_of c.loop-front.found) (found_in items)) (sym (items_of-step c.loop-front.rest.now (split_of c.in-Some.front) (sym c.in-Some.ensures)))
     ∙ c.loop-front.invariant
 

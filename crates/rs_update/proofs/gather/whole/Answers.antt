@@ -26,13 +26,13 @@ spell-requires-clause-found_short c =
     let fit : AreOctets c.args.section.now = λ place. omega (arith, c.type_inv.section place) in
     let sound = sound_section c.args.section.now fit c.requires.faultless in
     record {
-      origin = λ x e. found_short items 1 (item_of x) sound (there 1 items c.args.found.origin x (ap (λ (f : FoundItems). f.origin) c.requires.are_found) e);
-      path = λ x e. found_short items 2 (item_of x) sound (there 2 items c.args.found.path x (ap (λ (f : FoundItems). f.path) c.requires.are_found) e);
-      next_hop = λ x e. found_short items 3 (item_of x) sound (there 3 items c.args.found.next_hop x (ap (λ (f : FoundItems). f.next_hop) c.requires.are_found) e);
-      med = λ x e. found_short items 4 (item_of x) sound (there 4 items c.args.found.med x (ap (λ (f : FoundItems). f.med) c.requires.are_found) e);
-      atomic = λ x e. found_short items 6 (item_of x) sound (there 6 items c.args.found.atomic x (ap (λ (f : FoundItems). f.atomic) c.requires.are_found) e);
-      aggregator = λ x e. found_short items 7 (item_of x) sound (there 7 items c.args.found.aggregator x (ap (λ (f : FoundItems). f.aggregator) c.requires.are_found) e);
-      communities = λ x e. found_short items 8 (item_of x) sound (there 8 items c.args.found.communities x (ap (λ (f : FoundItems). f.communities) c.requires.are_found) e);
+      origin = λ x e. found_short items 1 (item_of x) sound (there 1 items c.args.found.now.origin x (ap (λ (f : FoundItems). f.origin) c.requires.are_found) e);
+      path = λ x e. found_short items 2 (item_of x) sound (there 2 items c.args.found.now.path x (ap (λ (f : FoundItems). f.path) c.requires.are_found) e);
+      next_hop = λ x e. found_short items 3 (item_of x) sound (there 3 items c.args.found.now.next_hop x (ap (λ (f : FoundItems). f.next_hop) c.requires.are_found) e);
+      med = λ x e. found_short items 4 (item_of x) sound (there 4 items c.args.found.now.med x (ap (λ (f : FoundItems). f.med) c.requires.are_found) e);
+      atomic = λ x e. found_short items 6 (item_of x) sound (there 6 items c.args.found.now.atomic x (ap (λ (f : FoundItems). f.atomic) c.requires.are_found) e);
+      aggregator = λ x e. found_short items 7 (item_of x) sound (there 7 items c.args.found.now.aggregator x (ap (λ (f : FoundItems). f.aggregator) c.requires.are_found) e);
+      communities = λ x e. found_short items 8 (item_of x) sound (there 8 items c.args.found.now.communities x (ap (λ (f : FoundItems). f.communities) c.requires.are_found) e);
     }
 
 pub spell-requires-clause-others_short : goal.spell-requires-clause-others_short
@@ -45,8 +45,8 @@ origin_of-requires c =
     let items = items_of c.args.section.now in
     let fit : AreOctets c.args.section.now = λ place. omega (arith, c.type_inv.section place) in
     let sound = sound_section c.args.section.now fit c.requires.faultless in
-    let found = there 1 items c.args.found.origin c.args.origin (ap (λ (f : FoundItems). f.origin) c.requires.are_found) c.requires.origin_is in
-    let size = (origin_value (item_of c.args.origin) (look_sound items 1 (item_of c.args.origin) sound found)).0 in
+    let found = there 1 items c.args.found.now.origin c.args.origin.now (ap (λ (f : FoundItems). f.origin) c.requires.are_found) c.requires.origin_is in
+    let size = (origin_value (item_of c.args.origin.now) (look_sound items 1 (item_of c.args.origin.now) sound found)).0 in
     omega (arith, size)
 
 pub read_u32-requires : goal.read_u32-requires
@@ -54,8 +54,8 @@ read_u32-requires c =
     let items = items_of c.args.section.now in
     let fit : AreOctets c.args.section.now = λ place. omega (arith, c.type_inv.section place) in
     let sound = sound_section c.args.section.now fit c.requires.faultless in
-    let found = there 3 items c.args.found.next_hop c.args.next_hop (ap (λ (f : FoundItems). f.next_hop) c.requires.are_found) c.requires.next_hop_is in
-    let size = next_hop_value (item_of c.args.next_hop) (look_sound items 3 (item_of c.args.next_hop) sound found) in
+    let found = there 3 items c.args.found.now.next_hop c.args.next_hop.now (ap (λ (f : FoundItems). f.next_hop) c.requires.are_found) c.requires.next_hop_is in
+    let size = next_hop_value (item_of c.args.next_hop.now) (look_sound items 3 (item_of c.args.next_hop.now) sound found) in
     omega (arith, size)
 
 pub med_of-requires : goal.med_of-requires
@@ -63,7 +63,7 @@ med_of-requires c = λ x e.
     let items = items_of c.args.section.now in
     let fit : AreOctets c.args.section.now = λ place. omega (arith, c.type_inv.section place) in
     let sound = sound_section c.args.section.now fit c.requires.faultless in
-    let found = there 4 items c.args.found.med x (ap (λ (f : FoundItems). f.med) c.requires.are_found) e in
+    let found = there 4 items c.args.found.now.med x (ap (λ (f : FoundItems). f.med) c.requires.are_found) e in
     let size = med_value (item_of x) (look_sound items 4 (item_of x) sound found) in
     omega (arith, size)
 
@@ -72,7 +72,7 @@ read_aggregator-requires c = λ x e.
     let items = items_of c.args.section.now in
     let fit : AreOctets c.args.section.now = λ place. omega (arith, c.type_inv.section place) in
     let sound = sound_section c.args.section.now fit c.requires.faultless in
-    let found = there 7 items c.args.found.aggregator x (ap (λ (f : FoundItems). f.aggregator) c.requires.are_found) e in
+    let found = there 7 items c.args.found.now.aggregator x (ap (λ (f : FoundItems). f.aggregator) c.requires.are_found) e in
     let size = aggregator_value (item_of x) (look_sound items 7 (item_of x) sound found) in
     omega (arith, size)
 
@@ -81,10 +81,10 @@ path_length-requires c =
     let items = items_of c.args.section.now in
     let fit : AreOctets c.args.section.now = λ place. omega (arith, c.type_inv.section place) in
     let sound = sound_section c.args.section.now fit c.requires.faultless in
-    let found = there 2 items c.args.found.path c.args.path (ap (λ (f : FoundItems). f.path) c.requires.are_found) c.requires.path_is in
-    let is = look_sound items 2 (item_of c.args.path) sound found in
-    let path : map segment_of c.deref-2.result.now ≡ (segments_of c.args.path.value.now).0 = ap (map segment_of) c.deref-2.ensures.value ∙ c.in_ok-segments.ensures in
-    rw path (omega (arith, path_length_fits c.args.path.value.now is.received.value_octets, found_short items 2 (item_of c.args.path) sound found))
+    let found = there 2 items c.args.found.now.path c.args.path.now (ap (λ (f : FoundItems). f.path) c.requires.are_found) c.requires.path_is in
+    let is = look_sound items 2 (item_of c.args.path.now) sound found in
+    let path : map segment_of c.deref-2.result.now ≡ (segments_of c.args.path.now.value.now).0 = ap (map segment_of) c.deref-2.ensures.value ∙ c.in_ok-segments.ensures in
+    rw path (omega (arith, path_length_fits c.args.path.now.value.now is.received.value_octets, found_short items 2 (item_of c.args.path.now) sound found))
 
 -- the fields are the attributes that the section gives
 agrees : (c : goal.After-first_as) → attributes_of (items_of c.args.section.now) ≡ Some (view_of (record {
@@ -103,16 +103,16 @@ agrees : (c : goal.After-first_as) → attributes_of (items_of c.args.section.no
 agrees c =
     let items = items_of c.args.section.now in
     let are = c.requires.are_found in
-    let origin = there 1 items c.args.found.origin c.args.origin (ap (λ (f : FoundItems). f.origin) are) c.requires.origin_is in
-    let path = there 2 items c.args.found.path c.args.path (ap (λ (f : FoundItems). f.path) are) c.requires.path_is in
-    let next_hop = there 3 items c.args.found.next_hop c.args.next_hop (ap (λ (f : FoundItems). f.next_hop) are) c.requires.next_hop_is in
-    attributes_of-found items (item_of c.args.origin) (item_of c.args.path) (item_of c.args.next_hop) origin path next_hop
+    let origin = there 1 items c.args.found.now.origin c.args.origin.now (ap (λ (f : FoundItems). f.origin) are) c.requires.origin_is in
+    let path = there 2 items c.args.found.now.path c.args.path.now (ap (λ (f : FoundItems). f.path) are) c.requires.path_is in
+    let next_hop = there 3 items c.args.found.now.next_hop c.args.next_hop.now (ap (λ (f : FoundItems). f.next_hop) are) c.requires.next_hop_is in
+    attributes_of-found items (item_of c.args.origin.now) (item_of c.args.path.now) (item_of c.args.next_hop.now) origin path next_hop
     ∙ ap (λ (attributes : PathAttributes). Some attributes) (same_attributes
     (sym c.origin_of.ensures)
     (sym c.in_ok-segments.ensures)
     (sym c.read_u32.ensures)
     (sym (c.med_of.ensures ∙ ap (option_map (λ (med : Item). big_number 4 med.value)) (ap (λ (f : FoundItems). f.med) are)))
-    (sym (c.is_some.ensures ∙ sym (is_some-map item_of c.args.found.atomic) ∙ ap (λ (found : Option Item). is_some found) (ap (λ (f : FoundItems). f.atomic) are)))
+    (sym (c.is_some.ensures ∙ sym (is_some-map item_of c.args.found.now.atomic) ∙ ap (λ (found : Option Item). is_some found) (ap (λ (f : FoundItems). f.atomic) are)))
     (sym (c.read_aggregator.ensures ∙ ap (option_map aggregator_of) (ap (λ (f : FoundItems). f.aggregator) are)))
     (sym (c.in_ok-communities.ensures ∙ ap (option_map community_list_of) (ap (λ (f : FoundItems). f.communities) are)))
     (sym c.in_ok-others.ensures))
@@ -124,11 +124,11 @@ invariant_of-result c =
     let fit : AreOctets section = λ place. omega (arith, c.type_inv.section place) in
     let sound = sound_section section fit c.requires.faultless in
     let are = c.requires.are_found in
-    let origin = there 1 items c.args.found.origin c.args.origin (ap (λ (f : FoundItems). f.origin) are) c.requires.origin_is in
-    let path = there 2 items c.args.found.path c.args.path (ap (λ (f : FoundItems). f.path) are) c.requires.path_is in
-    let next_hop = there 3 items c.args.found.next_hop c.args.next_hop (ap (λ (f : FoundItems). f.next_hop) are) c.requires.next_hop_is in
+    let origin = there 1 items c.args.found.now.origin c.args.origin.now (ap (λ (f : FoundItems). f.origin) are) c.requires.origin_is in
+    let path = there 2 items c.args.found.now.path c.args.path.now (ap (λ (f : FoundItems). f.path) are) c.requires.path_is in
+    let next_hop = there 3 items c.args.found.now.next_hop c.args.next_hop.now (ap (λ (f : FoundItems). f.next_hop) are) c.requires.next_hop_is in
     let others : map other_of c.deref.result.now ≡ others_of items = ap (map other_of) c.deref.ensures.value ∙ c.in_ok-others.ensures in
-    let given = attributes_of-found items (item_of c.args.origin) (item_of c.args.path) (item_of c.args.next_hop) origin path next_hop in
+    let given = attributes_of-found items (item_of c.args.origin.now) (item_of c.args.path.now) (item_of c.args.next_hop.now) origin path next_hop in
     let same = some_same _ _ (sym given ∙ agrees c) in
     record {
       section = section;
@@ -142,7 +142,7 @@ invariant_of-result c =
           c.in_ok-spelling.ensures
           ∙ ap (λ (found : FoundItems). spelled_found found (map other_of c.deref.result.now)) are
           ∙ ap (spelled_found (found_in items)) others
-          ∙ written-found items (item_of c.args.origin) (item_of c.args.path) (item_of c.args.next_hop) sound origin path next_hop
+          ∙ written-found items (item_of c.args.origin.now) (item_of c.args.path.now) (item_of c.args.next_hop.now) sound origin path next_hop
           ∙ ap written same;
     }
 
