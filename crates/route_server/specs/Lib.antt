@@ -1,2 +1,3 @@
 pub mod Outlet
 pub mod Recorded
+pub mod SessionEnd

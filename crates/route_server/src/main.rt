@@ -11,6 +11,7 @@ mod folder_outlet;
 mod memory_outlet;
 mod options;
 mod outlet;
+mod peer_end;
 mod plain;
 mod run_fault;
 mod sessions;

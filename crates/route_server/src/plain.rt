@@ -38,7 +38,7 @@ pub fn plain_run<W: Write>(
     ensures failed_failures { IsErrOf result DumpFault.Write → W.failures out.new ≡ W.failures out.old + 1 }
 {
     table_is_computed();
-    let tables = read_sessions(alloc, plan, files)?;
-    let rows = tables.rows(client)?;
+    let sessions = read_sessions(alloc, plan, files)?;
+    let rows = sessions.tables.rows(client)?;
     write_dump(alloc, out, plan, client, &rows, time)
 }
