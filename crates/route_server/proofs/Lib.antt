@@ -1,2 +1,3 @@
 pub mod RibLemmas
 pub mod SessionLemmas
+pub mod WordLemmas

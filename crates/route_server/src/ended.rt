@@ -1,60 +1,53 @@
-//! How the program stops short: its line on standard error and its status.
+//! How the program ends where it stops short: its status, and its line on standard error.
 
+ghost use Rattle.std.specs.Prelude.{◌≡◌};
+ghost use Rattle.route_server.specs.Status.{status_of};
+
+use crate::options::WordsFault;
+use crate::run_fault::RunFault;
+use crate::setup::SetupFault;
 use rs_choice::PlanFault;
-use rs_dump::DumpFault;
-use std::alloc::AllocError;
-use thiserror::Error;
 
-/// Why the program stops short. Its text, behind the program's name, is the line on standard error.
-#[derive(Debug, Drop, Error)]
+/// Why the program stops short.
+#[derive(Drop)]
 pub enum Ended {
-    /// The recorded file can't be read.
-    #[error("cannot read standard input")]
-    Unread,
-    /// The dump can't be written; a beginning of it may be out.
-    #[error("cannot write standard output")]
-    Unwritten,
-    /// The plan has a fault.
-    #[error("{0}")]
-    Plan(PlanFault),
-    /// Memory was refused.
-    #[error("out of memory")]
+    /// The command line gives no options: help was asked for, or it is refused.
+    Words(WordsFault),
+    /// The configuration is refused.
+    Setup(SetupFault),
+    /// The configuration or a peer's recorded file can't be read: its path.
+    Unread(String),
+    /// Memory was refused while a file was read.
     Memory,
+    /// The run stopped short.
+    Run(RunFault),
 }
 
-impl Ended {
-    /// The status with which the program ends: 1 where the plan is refused, 2 where a device failed, 3 for want of memory.
-    pub fn status(&self) -> u8 {
-        match self {
-            Ended::Plan(_) => 1,
-            Ended::Unread => 2,
-            Ended::Unwritten => 2,
-            Ended::Memory => 3,
-        }
-    }
-}
+// The command line or the configuration is refused.
+const REFUSED: u8 = 1;
 
-impl From<AllocError> for Ended {
-    fn from(_refused: AllocError) -> Ended {
-        Ended::Memory
-    }
-}
+// A file, a folder or a device failed.
+const FAILED: u8 = 2;
 
-impl From<PlanFault> for Ended {
-    fn from(fault: PlanFault) -> Ended {
-        match fault {
-            PlanFault::Memory => Ended::Memory,
-            fault => Ended::Plan(fault),
-        }
-    }
-}
+// Memory was refused.
+const OUT_OF_MEMORY: u8 = 3;
 
-impl From<DumpFault> for Ended {
-    fn from(fault: DumpFault) -> Ended {
-        match fault {
-            DumpFault::Memory => Ended::Memory,
-            DumpFault::Write => Ended::Unwritten,
-            DumpFault::TooManyRows => Ended::Unwritten,
-        }
+/// The status with which the program ends: 0 where help was asked for, 1 where the command line or the configuration is refused, 2 where a file, a
+/// folder or a device failed, 3 for want of memory.
+pub fn status(ended: &Ended) -> u8
+    ensures { result ≡ status_of ended.now }
+{
+    match ended {
+        Ended::Words(WordsFault::Help(_)) => 0,
+        Ended::Words(WordsFault::Refused(_)) => REFUSED,
+        Ended::Words(WordsFault::Memory) => OUT_OF_MEMORY,
+        Ended::Setup(SetupFault::Plan(PlanFault::Memory)) => OUT_OF_MEMORY,
+        Ended::Setup(SetupFault::Memory) => OUT_OF_MEMORY,
+        Ended::Setup(_) => REFUSED,
+        Ended::Unread(_) => FAILED,
+        Ended::Memory => OUT_OF_MEMORY,
+        Ended::Run(RunFault::Memory) => OUT_OF_MEMORY,
+        Ended::Run(RunFault::Dump(_)) => FAILED,
+        Ended::Run(RunFault::Report) => FAILED,
     }
 }

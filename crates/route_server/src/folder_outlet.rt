@@ -41,8 +41,8 @@ impl<'a, R: Files> FolderOutlet<'a, R> {
     }
 }
 
-// The path of a file in a folder: a folder that ends in `/` gets no second one.
-fn path_in(alloc: Global, folder: &str, name: &str) -> Result<String, AllocError>
+/// The path of a file in a folder: a folder that ends in `/` gets no second one. Fails where memory is refused.
+pub fn path_in(alloc: Global, folder: &str, name: &str) -> Result<String, AllocError>
     ensures { IfOk result (λ path. string_bytes path ≡ the_path folder.now name.now) }
 {
     if folder.as_bytes().ends_with(b"/") {

@@ -16,8 +16,10 @@ mod plain;
 mod run_fault;
 mod sessions;
 mod setup;
+mod stdin_ended;
+mod texts;
+mod words;
 
-use ended::Ended;
 use example::two_peers;
 use plain::plain_run;
 use rs_mrt::IoWriter;
@@ -25,6 +27,7 @@ use std::io;
 use std::io::{ErrorKind, Read};
 use std::process::ExitCode;
 use std::sync::Arc;
+use stdin_ended::Ended;
 
 // The client whose dump is written: the second peer.
 const CLIENT: usize = 1;
@@ -60,4 +63,8 @@ fn read_input(rt: &(impl AllocGlobal + Input)) -> Result<Vec<u8>, Ended> {
 }
 
 #[cfg(test)]
+mod ended_tests;
+#[cfg(test)]
 mod tests;
+#[cfg(test)]
+mod words_tests;

@@ -2,9 +2,9 @@
 
 ghost use Rattle.std.specs.Prelude.{◌<◌};
 
-use crate::ended::Ended;
 use crate::example::two_peers;
 use crate::plain::plain_run;
+use crate::stdin_ended::Ended;
 use rs_choice::{Exchange, Local, PeerSpec, PlanFault};
 use rs_dump::DumpFault;
 use rs_mrt::{Limits, MemoryWriter};
