@@ -1,5 +1,7 @@
 //! Worked exchanges, with routes read from octets: which route each client gets, and why.
 
+mod refusals;
+
 use super::*;
 use rs_choice::{Exchange, Local, PeerSpec};
 use rs_session::{Body, Reason, Word};
