@@ -42,7 +42,7 @@ plain_partial : (partial : Bool) → IsPlain (cond partial 0xE0 0xC0)
 plain_partial true = plain_E0
 plain_partial false = plain_C0
 
-kept_as-is : (type : AttributeType) (item kept : Item) → kept_as type item ≡ Some kept → IsKept item kept
+pub kept_as-is : (type : AttributeType) (item kept : Item) → kept_as type item ≡ Some kept → IsKept item kept
 kept_as-is types.Origin item kept e = record { flags = 0x40; plain = plain_40; is = sym (some_same _ _ e) }
 kept_as-is types.AsPath item kept e = record { flags = 0x40; plain = plain_40; is = sym (some_same _ _ e) }
 kept_as-is types.NextHop item kept e = record { flags = 0x40; plain = plain_40; is = sym (some_same _ _ e) }

@@ -1,3 +1,4 @@
+pub mod AgainLemmas
 pub mod BoundLemmas
 pub mod FirstFaultLemmas
 pub mod FoundLemmas
@@ -21,3 +22,4 @@ pub mod SoundLemmas
 pub mod SpelledParts
 pub mod SplitLemmas
 pub mod WholeLemmas
+pub mod WrittenLemmas

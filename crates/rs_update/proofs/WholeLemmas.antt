@@ -66,7 +66,7 @@ none_passed items none = filter_map-none (passed_on_in items) (range_with_len 0 
           | inr some ↦ let no_item = skipped kind xs no_pass some.0 some.1 in rw (some.1, no_item) refl
         ]
 
-All-filter_map : {X Y : Type 0} (P : Y → Type 0) (f : X → Option Y) (xs : List X) → AllByRecursion (λ x. (y : Y) → f x ≡ Some y → P y) xs → AllByRecursion P (filter_map f xs)
+pub All-filter_map : {X Y : Type 0} (P : Y → Type 0) (f : X → Option Y) (xs : List X) → AllByRecursion (λ x. (y : Y) → f x ≡ Some y → P y) xs → AllByRecursion P (filter_map f xs)
 All-filter_map P f [] each = tt
 All-filter_map P f (x ∷ xs) each =
     let later = All-filter_map P f xs each.1 in

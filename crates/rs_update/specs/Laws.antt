@@ -1,15 +1,17 @@
 -- What holds of the definitions: each is the contract of a function that does nothing.
-use Rattle.std.specs.Prelude.{◌≡◌, ◌≢◌, ◌⊎◌, ℕ, ◌<◌, ◌↔◌, List, [], length, Some, None, Ok, Err, IsOk, IsSome}
+use Rattle.std.specs.Prelude.{◌≡◌, ◌≢◌, ◌⊎◌, ℕ, ◌<◌, ◌≤◌, ◌↔◌, List, [], length, Some, None, Ok, Err, IsOk, IsSome}
 use Rattle.rs_update.specs.declared.fault.MessageFault.{MessageFault}
 use Rattle.rs_update.specs.declared.fault.UpdateFault.{UpdateFault}
 use Rattle.rs_update.specs.declared.fault.UpdateFault.TheVariants.{MalformedAttributeList}
+use Rattle.rs_update.specs.Gathered.{attributes_of}
 use Rattle.rs_update.specs.IpPrefix.{IpPrefix}
 use Rattle.rs_update.specs.Message.{UpdateContent, update_of, message_of, message_fault}
 use Rattle.rs_update.specs.Parts.{AreOctets, IsWholeFront}
-use Rattle.rs_update.specs.PathAttributes.{PathSegment}
+use Rattle.rs_update.specs.PathAttributes.{PathAttributes, PathSegment}
 use Rattle.rs_update.specs.PathSegments.{SpellsSegment, segments_of}
 use Rattle.rs_update.specs.Prefix.{IsField, prefixes_of}
 use Rattle.rs_update.specs.Section.{Item, SpellsItem, items_of, rest_of, section_fault, AreFaultless, IsFirstAtFault}
+use Rattle.rs_update.specs.Spelling.{written}
 
 -- a field lists at most one list of prefixes, and reading finds it exactly where there is one (RFC 4271, section 4.3)
 abbrev pub FieldIsRead : Type 0
@@ -49,3 +51,10 @@ NoFaultIsMessage = (octets : List ℕ) → IsOk (message_of octets) ↔ (message
 -- an UPDATE has attributes exactly where it announces prefixes
 abbrev pub AttributesAreForRoutes : Type 0
 AttributesAreForRoutes = (body : List ℕ) (content : UpdateContent) → update_of body ≡ Ok content → IsSome content.attributes ↔ (0 < length content.nlri)
+
+-- what is written of the attributes that a section without fault gives is a section without fault that gives the same attributes, Partial bits
+-- included, and it is never longer
+abbrev pub WrittenIsRead : Type 0
+WrittenIsRead =
+    (section : List ℕ) (attributes : PathAttributes) → AreOctets section → section_fault section ≡ None → attributes_of (items_of section) ≡ Some attributes
+    → (section_fault (written attributes) ≡ None) × (attributes_of (items_of (written attributes)) ≡ Some attributes) × (length (written attributes) ≤ length section)

@@ -1,10 +1,12 @@
 //! The path attributes that a route keeps (RFC 4271, section 5; RFC 6793; RFC 1997).
 
-ghost use Rattle.std.specs.Prelude.{◌≡◌, ◌≤◌, length, map};
+ghost use Rattle.std.specs.Prelude.{◌≡◌, ◌≤◌, length, map, None, Some};
 ghost use Rattle.std.specs.Option.{option_map};
 ghost use Rattle.rs_update.specs.AsPath.{segment_of, path_length_of, neighbour_of, holds_as_in};
 ghost use Rattle.rs_update.specs.Shapes.{communities_of, other_of};
 ghost use Rattle.rs_update.specs.Community.{has_community_in, has_value};
+ghost use Rattle.rs_update.specs.Gathered.{attributes_of};
+ghost use Rattle.rs_update.specs.Section.{items_of, section_fault};
 ghost use Rattle.rs_update.specs.Spelling.{written};
 
 use crate::as_path::{Segment, holds_as};
@@ -148,10 +150,12 @@ impl Attributes {
         self.spelling().len()
     }
 
-    // The written form, at most 4,073 octets.
+    // The written form, at most 4,073 octets: it is a section without fault, and read as these attributes.
     pub(crate) fn spelling(&self) -> &[u8]
         ensures value { result.now ≡ written self.now }
         ensures bound { length (written self.now) ≤ 4073 }
+        ensures faultless { section_fault (written self.now) ≡ None }
+        ensures same { attributes_of (items_of (written self.now)) ≡ Some self.now }
     {
         &self.spelling
     }

@@ -1,6 +1,12 @@
 //! What holds of the definitions that the contracts cite: each law is the contract of a function that does nothing.
 
-ghost use Rattle.rs_update.specs.Laws.{FieldIsRead, SectionIsRead, SectionIsFaultless, SectionFaultIsFirst, PathIsRead, FaultIsFirst, NoFaultIsMessage, AttributesAreForRoutes};
+ghost use Rattle.std.specs.Prelude.{◌≡◌, None, Some};
+ghost use Rattle.rs_update.specs.Gathered.{attributes_of};
+ghost use Rattle.rs_update.specs.Laws.{FieldIsRead, SectionIsRead, SectionIsFaultless, SectionFaultIsFirst, PathIsRead, FaultIsFirst, NoFaultIsMessage, AttributesAreForRoutes, WrittenIsRead};
+ghost use Rattle.rs_update.specs.Section.{items_of, section_fault};
+ghost use Rattle.rs_update.specs.Spelling.{written};
+
+use crate::attributes::Attributes;
 
 /// A field of withdrawn routes or of NLRI lists at most one list of prefixes, and reading finds it exactly where there is one
 /// (RFC 4271, section 4.3).
@@ -38,3 +44,17 @@ pub fn a_message_is_at_fault_by_its_first_fault()
 pub fn attributes_are_for_announced_routes()
     ensures { AttributesAreForRoutes }
 {}
+
+/// What is written of the attributes that a section gives is a section without fault that gives the same attributes, Partial bits
+/// included, and it is never longer than the section received (RFC 4271, section 4.3). Written again after reading it is the same octets.
+pub fn what_is_written_reads_as_the_same_attributes()
+    ensures { WrittenIsRead }
+{}
+
+/// So the written form of every route's attributes is a section without fault, and it is read as these attributes.
+pub fn the_attributes_of_a_route_read_back(attributes: &Attributes)
+    ensures faultless { section_fault (written attributes.now) ≡ None }
+    ensures same { attributes_of (items_of (written attributes.now)) ≡ Some attributes.now }
+{
+    let _spelling = attributes.spelling();
+}

@@ -35,6 +35,7 @@ pub use laws::{
     a_field_is_one_list_of_prefixes, a_message_is_at_fault_by_its_first_fault,
     a_path_is_one_list_of_segments, a_section_is_at_fault_by_its_first_attribute_at_fault,
     a_section_is_one_list_of_attributes, attributes_are_for_announced_routes,
+    the_attributes_of_a_route_read_back, what_is_written_reads_as_the_same_attributes,
 };
 pub use message::{Message, Update, read_message};
 pub use prefix::Prefix;
