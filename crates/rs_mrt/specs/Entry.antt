@@ -1,4 +1,4 @@
--- What a record says of a BGP session (RFC 6396, sections 3, 4.4.3 and 4.4.4).
+-- What a record says of a BGP session (RFC 6396, sections 3, 4.4.3, 4.4.4 and 4.5).
 use Rattle.std.specs.Prelude.{◌≡◌, ℕ, ◌+◌, ◌-◌, nat_lt, ◌==◌, ◌&&◌, not, if◌then◌else◌, List, length, take, drop, Result, Ok, Err}
 use Rattle.byteorder.specs.Endian.{big_number}
 use Rattle.rs_mrt.specs.declared.fault.MrtFault.{MrtFault}
@@ -27,7 +27,7 @@ answer_of (Err fault) = Err fault
 
 -- ---- codes and places
 
--- the Types of records of BGP sessions, without and with microseconds (section 4)
+-- the Types of records of BGP sessions, without and with microseconds (sections 4.4 and 4.5)
 abbrev pub type_bgp4mp : ℕ
 type_bgp4mp = 16
 

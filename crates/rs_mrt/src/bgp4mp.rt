@@ -1,4 +1,4 @@
-//! What a record of Type BGP4MP or BGP4MP_ET says (RFC 6396, sections 3 and 4.4).
+//! What a record of Type BGP4MP or BGP4MP_ET says (RFC 6396, sections 4.4 and 4.5).
 //!
 //! Our choices: only the Subtypes for AS numbers of four octets and only IPv4 peers are read; a record of another
 //! Subtype is not tested for its length, nor is one of another Address Family beyond that field; microseconds, Local AS,
@@ -16,7 +16,7 @@ use byteorder::{BigEndian, ByteOrder};
 /// The Type of records of BGP sessions (RFC 6396, section 4.4).
 pub const BGP4MP: u16 = 16;
 
-/// The Type of the same records with microseconds (RFC 6396, section 3).
+/// The Type of the same records with microseconds (RFC 6396, section 4.5).
 pub const BGP4MP_ET: u16 = 17;
 
 /// The Subtype of a BGP message, with AS numbers of four octets (RFC 6396, section 4.4.3).

@@ -2,7 +2,7 @@
 //! and the header of a record that is written.
 //!
 //! Reading order: `record`, `fault`, `meaning`, `bgp4mp`, `source`, `spelling`, `stream`, `memory`, `laws`.
-//! Standards: RFC 6396, sections 2, 3 (BGP4MP_ET), 4.4.3 and 4.4.4 (BGP4MP with AS numbers of four octets).
+//! Standards: RFC 6396, sections 2 (header), 3 and 4.5 (BGP4MP_ET), 4.4.3 and 4.4.4 (BGP4MP with AS numbers of four octets).
 #![tactic(auto)]
 
 mod bgp4mp;

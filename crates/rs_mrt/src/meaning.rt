@@ -1,4 +1,4 @@
-//! What a record says of a BGP session (RFC 6396, section 4.4).
+//! What a record says of a BGP session (RFC 6396, sections 4.4 and 4.5).
 
 /// What a record says of a session between a recorder and one of its peers.
 #[derive(Clone, Copy, Debug, PartialEq, Eq, Drop)]

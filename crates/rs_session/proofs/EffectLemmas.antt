@@ -1,6 +1,5 @@
 -- What any record says: changes without a close, no more than its body has octets, or a close by a reason that records say.
-use Rattle.std.proofs.Common.{◌≡◌, ℕ, zero, suc, ◌+◌, ◌≤◌, ◌==◌, Bool, true, false, cond, not, ◌&&◌, List, [], ◌∷◌, ◌++◌, length, take, drop, map, filter, Option, Some, None, Result, Ok, Err, refl, sym, ◌∙◌, ap, arith, length-append, length-take, length-drop}
-use Rattle.std.specs.List.{list_any}
+use Rattle.std.proofs.Common.{◌≡◌, ℕ, zero, suc, ◌+◌, ◌≤◌, ◌==◌, Bool, true, false, cond, not, ◌&&◌, List, [], ◌∷◌, length, drop, map, filter, Option, Some, None, Result, Ok, Err, refl, ◌∙◌, arith, length-append, length-take, length-drop}
 use Rattle.std.proofs.lemmas.List.Folds.{list_any-append}
 use Rattle.std.proofs.lemmas.List.Sums.{length-filter, count_by-le-length}
 use Rattle.std.proofs.lemmas.List.{length-map}
@@ -8,20 +7,19 @@ use Rattle.rs_mrt.specs.Entry.{Meaning, Message, State, Other, entry_of, fields_
 use Rattle.rs_mrt.specs.Record.{MrtRecord}
 use Rattle.rs_mrt.specs.declared.fault.MrtFault.{MrtFault}
 use Rattle.rs_mrt.specs.declared.fault.MrtFault.TheVariants.{FieldsCutShort, MicrosecondsCutShort}
-use Rattle.rs_update.specs.Fault.{first_fault, of_header, of_update}
+use Rattle.rs_update.specs.Fault.{first_fault, of_header}
 use Rattle.rs_update.specs.Section.{section_fault}
 use Rattle.rs_update.specs.Header.{header_of}
 use Rattle.rs_update.specs.IpPrefix.{IpPrefix}
-use Rattle.rs_update.specs.Message.{UpdateContent, MessageContent, IsUpdate, message_of, typed_message, update_message, update_of, listed_prefixes, withdrawn_field, withdrawn_length, behind_withdrawn, section_length, section_field, nlri_field, length_tests, passes, announced_attributes, ◌>>=◌}
+use Rattle.rs_update.specs.Message.{UpdateContent, message_of, typed_message, update_message, update_of, listed_prefixes, withdrawn_field, withdrawn_length, behind_withdrawn, section_length, section_field, nlri_field, length_tests, passes, announced_attributes, ◌>>=◌}
 use Rattle.rs_update.specs.Parts.{parts_within}
 use Rattle.rs_update.specs.PathAttributes.{PathAttributes}
-use Rattle.rs_update.specs.Prefix.{prefix_at, prefixes_of, is_multicast}
+use Rattle.rs_update.specs.Prefix.{prefix_at, is_multicast}
 use Rattle.rs_update.specs.declared.fault.HeaderFault.{HeaderFault}
 use Rattle.rs_update.specs.declared.fault.UpdateFault.{UpdateFault}
 use Rattle.rs_update.specs.declared.fault.UpdateFault.TheVariants.{InvalidNetworkField}
 use Rattle.rs_update.specs.declared.header.MessageType.{MessageType}
 use Rattle.rs_update.specs.declared.header.MessageType.TheVariants as types
-use Rattle.rs_session.specs.Change.{Change}
 use Rattle.rs_session.specs.Effect.{RecordEffect, PassesOver, Gives, Ends, effect_of, effect_of_entry, effect_of_message, effect_of_state}
 use Rattle.rs_session.specs.Laws.{is_closing, has_close, is_recorded}
 use Rattle.rs_session.specs.Peer.{is_of}

@@ -1,21 +1,21 @@
 -- The front of a record says what the record says.
-use Rattle.std.proofs.Common.{◌≡◌, ℕ, ◌+◌, ◌-◌, ◌*◌, ◌≤◌, ◌<◌, Bool, true, false, cond, not, ◌&&◌, ◌==◌, List, [], ◌∷◌, length, take, drop, Option, Some, None, Result, Ok, Err, inl, inr, refl, sym, ◌∙◌, ap, arith, length-take}
+use Rattle.std.proofs.Common.{◌≡◌, ℕ, ◌<◌, Bool, true, false, cond, not, ◌&&◌, ◌==◌, List, [], ◌∷◌, length, take, Some, Result, Ok, Err, inl, inr, refl, sym, ◌∙◌, ap, arith, length-take}
 use Rattle.std.specs.Prelude.{nat_lt, nat_le}
 use Rattle.std.proofs.lemmas.Bool.Decides.{leb_tells}
 use Rattle.std.proofs.lemmas.Grind.{common_steps}
 use Rattle.std.proofs.lemmas.List.{take_all, take-take}
-use Rattle.rs_mrt.specs.Entry.{Meaning, Message, State, Other, entry_of, front_of, cut_message, message_room, FrontSaysTheSame}
+use Rattle.rs_mrt.specs.Entry.{Meaning, Message, State, Other, entry_of, cut_message, message_room, FrontSaysTheSame}
 use Rattle.rs_mrt.specs.Record.{MrtRecord}
 use Rattle.rs_mrt.specs.declared.fault.MrtFault.{MrtFault}
 use Rattle.std.specs.List.{list_all}
 use Rattle.std.specs.Option.{is_none}
 use Rattle.rs_update.specs.Fault.{of_header, first_fault}
-use Rattle.rs_update.specs.Header.{header_of, is_marked, has_length, length_field, type_of, type_field, suits_type}
+use Rattle.rs_update.specs.Header.{is_marked, has_length, length_field, type_of, type_field, suits_type}
 use Rattle.rs_update.specs.Message.{MessageContent, message_of}
 use Rattle.rs_update.specs.declared.fault.HeaderFault.{HeaderFault}
 use Rattle.rs_update.specs.declared.fault.HeaderFault.TheVariants.{NotSynchronized, BadLength, BadType}
 use Rattle.rs_update.specs.declared.fault.MessageFault.{MessageFault}
-use Rattle.rs_session.specs.Effect.{effect_of, effect_of_entry, effect_of_message}
+use Rattle.rs_session.specs.Effect.{effect_of, effect_of_entry}
 use Rattle.rs_session.specs.Laws.{FrontSuffices}
 use Rattle.rs_session.specs.declared.peer.PeerId.{PeerId}
 

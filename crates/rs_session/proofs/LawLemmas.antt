@@ -1,22 +1,13 @@
 -- Closes, the number of changes, and the front of a record.
-use Rattle.std.proofs.Common.{◌≡◌, ℕ, zero, suc, ◌+◌, ◌-◌, ◌≤◌, ◌<◌, Bool, true, false, not, ◌&&◌, ◌||◌, cond, List, [], ◌∷◌, ◌++◌, length, take, drop, map, filter, Option, Some, None, Result, Ok, Err, refl, sym, ◌∙◌, ap, arith, append_assoc, length-append, length-take, length-drop}
-use Rattle.std.specs.List.{list_any, sum_by}
+use Rattle.std.proofs.Common.{◌≡◌, ℕ, zero, suc, ◌+◌, ◌≤◌, Bool, true, false, cond, List, [], ◌∷◌, ◌++◌, length, drop, Option, Some, None, refl, sym, ◌∙◌, ap, arith, append_assoc, length-append, length-take, length-drop}
 use Rattle.std.proofs.lemmas.List.Folds.{list_any-append}
-use Rattle.std.proofs.lemmas.List.Sums.{length-filter, count_by-le-length, sum_by-cons}
-use Rattle.rs_mrt.specs.Entry.{Meaning, Message, State, Other, entry_of, fields_entry, message_entry, state_entry, front_of, cut_message, message_room, FrontSaysTheSame}
 use Rattle.rs_mrt.specs.Record.{MrtRecord, records_of, records_within, end_of, has_record, front_record, after_record, length_field}
 use Rattle.rs_mrt.specs.declared.record.TheConstants.{HEADER_LEN}
 use Rattle.rs_mrt.specs.declared.fault.MrtFault.{MrtFault}
-use Rattle.rs_mrt.specs.declared.fault.MrtFault.TheVariants.{FieldsCutShort, MicrosecondsCutShort}
-use Rattle.rs_update.specs.IpPrefix.{IpPrefix}
-use Rattle.rs_update.specs.PathAttributes.{PathAttributes}
-use Rattle.rs_session.specs.Change.{Change}
 use Rattle.rs_session.specs.Effect.{RecordEffect, PassesOver, Gives, Ends, effect_of}
-use Rattle.rs_session.specs.Laws.{is_closing, has_close, is_recorded, ClosesLast}
+use Rattle.rs_session.specs.Laws.{is_closing, is_recorded, ClosesLast}
 use Rattle.rs_session.specs.FileChanges.{changes_of, close_at, reason_at_end, changes_in}
-use Rattle.rs_session.specs.UpdateChanges.{withdraws, announces, announcements}
 use Rattle.rs_session.specs.declared.peer.PeerId.{PeerId}
-use Rattle.rs_session.specs.declared.word.Reason.{Reason}
 use Rattle.rs_session.proofs.EffectLemmas.{IsFine, fine-effect}
 use Rattle.rs_session.proofs.FileChangesLemmas.{changes_of-nil, changes_of-passes, changes_of-gives, changes_of-ends}
 

@@ -1,11 +1,8 @@
 -- A sorted list of prefixes, searched, and the lists that hold the same prefixes.
 use Rattle.std.proofs.lemmas.Bool.Decides.{leb_tells}
-use Rattle.std.proofs.Common.{inl, inr, ◌≡◌, ℕ, ◌<◌, ◌≤◌, Bool, true, false, not, List, length, IsSorted, IsPermutation, refl, sym, ◌∙◌, ap, rules, arith, is_ok, Result, Ok, Err, cond, slice_index_or, ◌&&◌, ◌==◌, filter}
-use Rattle.std.specs.Ordering.{nat_cmp}
-use Rattle.std.specs.declared.cmp.Ordering.{Ordering}
+use Rattle.std.proofs.Common.{inl, inr, ◌≡◌, ℕ, true, false, not, List, length, IsSorted, IsPermutation, sym, ap, arith, is_ok, Result, Ok, Err, slice_index_or, ◌&&◌}
 use Rattle.std.specs.declared.cmp.Ordering.TheVariants.{Less, Equal, Greater}
 use Rattle.std.specs.Cmp.{IsTotalOrder}
-use Rattle.std.specs.List.{list_any, All}
 use Rattle.std.specs.List.Sorted.{IsBinarySearchResult, IsSearchInRange}
 use Rattle.std.proofs.lemmas.List.Elements.{filter_agree}
 use Rattle.std.proofs.lemmas.Cmp.{nat_cmp_total, on_total, then_total}

@@ -1,14 +1,14 @@
 -- What a step leaves to come.
-use Rattle.std.proofs.Common.{◌≡◌, ℕ, ◌+◌, Bool, true, false, not, ◌&&◌, List, [], ◌∷◌, ◌++◌, Option, Some, None, Result, Ok, Err, IfOk, OnErr, refl, sym, ◌∙◌, ap, arith, add-zero, length, length-append}
+use Rattle.std.proofs.Common.{◌≡◌, ℕ, Bool, true, false, List, [], ◌∷◌, ◌++◌, Option, Some, None, Result, Ok, Err, IfOk, OnErr, refl, sym, ◌∙◌, ap, arith, add-zero, length, length-append}
 use Rattle.std.specs.Option.{option_to_list}
 use Rattle.std.specs.declared.alloc.AllocError.{AllocError}
 use Rattle.rs_mrt.specs.Record.{MrtRecord, reading_of, records_of, end_of}
 use Rattle.rs_mrt.specs.Source.{Advances, IsLeft, SomethingComes}
 use Rattle.rs_mrt.specs.declared.fault.MrtFault.{MrtFault}
-use Rattle.rs_session.specs.Change.{Change, change_of, closing_word, is_close, is_read, is_read_failure}
+use Rattle.rs_session.specs.Change.{Change, change_of, closing_word, is_read}
 use Rattle.rs_session.specs.Effect.{RecordEffect, PassesOver, Gives, Ends, effect_of}
-use Rattle.rs_session.specs.FileChanges.{changes_in, passed_in, changes_of, passed_of, close_at, reason_at_end}
-use Rattle.rs_session.specs.Stage.{Stage, MayRead, May, Keeps, KeepsBehind, IsOver, Says, SaysJust, fresh, to_read, changes_left, passed_in_the_end}
+use Rattle.rs_session.specs.FileChanges.{changes_in, passed_in, changes_of, close_at}
+use Rattle.rs_session.specs.Stage.{Stage, MayRead, May, Keeps, KeepsBehind, IsOver, SaysJust, fresh, to_read, changes_left, passed_in_the_end}
 use Rattle.rs_session.specs.Laws.{SomethingMayCome}
 use Rattle.rs_session.specs.declared.peer.PeerId.{PeerId}
 use Rattle.rs_session.specs.Steps.{closed_by, Fetches, Applies, ReadsShown, Steps}

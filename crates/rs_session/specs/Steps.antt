@@ -1,11 +1,11 @@
 -- One step in the reading of a session: a record is fetched, and what it says is applied.
-use Rattle.std.specs.Prelude.{◌≡◌, ℕ, ◌+◌, Bool, true, false, not, ◌&&◌, List, [], ◌∷◌, Option, Some, None, Result, Ok, Err}
+use Rattle.std.specs.Prelude.{◌≡◌, ℕ, ◌+◌, Bool, true, false, List, [], ◌∷◌, Option, Some, None, Result, Ok, Err}
 use Rattle.std.specs.declared.alloc.AllocError.{AllocError}
 use Rattle.rs_mrt.specs.Record.{MrtRecord}
 use Rattle.rs_mrt.specs.declared.fault.MrtFault.{MrtFault}
 use Rattle.rs_mrt.specs.declared.fault.SourceFault.{SourceFault}
 use Rattle.rs_mrt.specs.declared.fault.SourceFault.TheVariants as faults
-use Rattle.rs_session.specs.Change.{Change, change_of, closing_word, is_close, is_read, is_read_failure}
+use Rattle.rs_session.specs.Change.{change_of, closing_word, is_close, is_read, is_read_failure}
 use Rattle.rs_session.specs.Effect.{RecordEffect, PassesOver, Gives, Ends, effect_of}
 use Rattle.rs_session.specs.FileChanges.{reason_at_end}
 use Rattle.rs_session.specs.Stage.{Stage, MayRead, Keeps, KeepsBehind, IsOver}
