@@ -1,3 +1,4 @@
 pub mod RibLemmas
 pub mod SessionLemmas
+pub mod SetupLemmas
 pub mod WordLemmas

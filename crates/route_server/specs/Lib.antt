@@ -1,6 +1,9 @@
 pub mod CommandLine
 pub mod Outlet
 pub mod Recorded
+pub mod Section
 pub mod SessionEnd
+pub mod Setup
+pub mod SetupValues
 pub mod Status
 pub mod Texts

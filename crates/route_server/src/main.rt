@@ -16,6 +16,13 @@ mod plain;
 mod run_fault;
 mod sessions;
 mod setup;
+#[cfg(test)]
+mod setup_fault_tests;
+mod setup_keys;
+mod setup_peers;
+#[cfg(test)]
+mod setup_tests;
+mod setup_values;
 mod stdin_ended;
 mod texts;
 mod words;
