@@ -343,6 +343,32 @@ fn each_write_may_fail(rt: HostRuntime) -> Result<(), Fail> {
     Ok(())
 }
 
+// 97 writes of one octet: each is refused in turn, and what is out then is all that was written before.
+#[test]
+fn each_write_of_one_octet_may_fail(rt: HostRuntime) -> Result<(), Fail> {
+    let alloc = rt.alloc();
+    let plan = exchange(alloc, 2)?;
+    let plain = attributes(alloc, PLAIN)?;
+    let rows = [row(documentation()?, &plain)];
+    let whole = dump(&rt, alloc, NO_LIMITS, &plan, 1, &rows, 0);
+    for calls in 0..97 {
+        let failing = Limits {
+            calls_before_failure: Some(calls),
+            room: usize::MAX,
+            piece: 1,
+        };
+        let written = dump(&rt, alloc, failing, &plan, 1, &rows, 0);
+        assert_eq!(rt;
+            written.answer,
+            Err(DumpFault::Write),
+            "after {calls} writes"
+        );
+        assert_eq!(rt; written.octets.len() as u64, calls);
+        assert!(rt; whole.octets.starts_with(&written.octets));
+    }
+    Ok(())
+}
+
 #[test]
 fn each_fault_has_a_text(rt: HostRuntime) -> Result<(), Fail> {
     let alloc = rt.alloc();
