@@ -1,4 +1,4 @@
--- What a record says to the session of one peer (RFC 6396, sections 4.4.2 and 4.4.3; RFC 4271, sections 4.2 to 4.5 and 6).
+-- What a record says to the session of one peer (RFC 6396, sections 4.4.3 and 4.4.4; RFC 4271, sections 4.2 to 4.5 and 6).
 use Rattle.std.specs.Prelude.{ℕ, not, ◌&&◌, ◌==◌, List, [], Result, Ok, Err, if◌then◌else◌}
 use Rattle.rs_mrt.specs.Entry.{Meaning, Message, State, Other, entry_of}
 use Rattle.rs_mrt.specs.Fault.{number_of}

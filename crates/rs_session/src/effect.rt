@@ -1,4 +1,4 @@
-//! What a record says to the session of one peer (RFC 6396, sections 4.4.2 and 4.4.3; RFC 4271, sections 4.2 to 4.5 and 6).
+//! What a record says to the session of one peer (RFC 6396, sections 4.4.3 and 4.4.4; RFC 4271, sections 4.2 to 4.5 and 6).
 //!
 //! Our choices: a record of another kind or of another peer is passed over; only the loss of Established counts among changes of
 //! state; a fault of the recording or of a message ends the session.

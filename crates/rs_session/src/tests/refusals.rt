@@ -80,7 +80,18 @@ const EXPECTED: [Given; 16] = [
     Given::Close(0, Reason::EndOfFile),
 ];
 
-// It holds whichever allocation is refused: the file takes none, so that all of them are the session's.
+#[test]
+fn a_recording_says_its_changes(rt: HostRuntime) -> Result<(), Fail> {
+    let mut session = Session::new(rt.alloc(), RECORDED, PEER);
+    for change in EXPECTED {
+        assert_eq!(rt; session.next_word()?.as_ref().map(seen), Some(change));
+    }
+    assert_eq!(rt; session.next_word()?.as_ref().map(seen), None);
+    Ok(())
+}
+
+// It holds whichever allocation is refused: the recording takes none, so that all of them are the session's.
+// `tools/refuse_in_a_session` refuses each in turn.
 #[test]
 fn refused_memory_loses_nothing(rt: HostRuntime) {
     let mut session = Session::new(rt.alloc(), RECORDED, PEER);
