@@ -1,4 +1,6 @@
+pub mod ListingLemmas
 pub mod RibLemmas
+pub mod RunLemmas
 pub mod SessionLemmas
 pub mod SetupLemmas
 pub mod WordLemmas

@@ -1,6 +1,8 @@
 pub mod CommandLine
 pub mod Outlet
 pub mod Recorded
+pub mod Report
+pub mod Run
 pub mod Section
 pub mod SessionEnd
 pub mod Setup

@@ -13,7 +13,9 @@ mod options;
 mod outlet;
 mod peer_end;
 mod plain;
+mod report;
 mod run_fault;
+mod runner;
 mod sessions;
 mod setup;
 #[cfg(test)]

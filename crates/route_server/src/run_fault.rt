@@ -1,5 +1,8 @@
 //! Why a run stops short.
 
+ghost use Rattle.std.specs.Prelude.{◌≡◌};
+ghost use Rattle.route_server.specs.declared.run_fault.RunFault.TheVariants.{Memory};
+
 use std::alloc::AllocError;
 
 /// Why a run stops short. Dumps that were kept before stay.
@@ -14,6 +17,8 @@ pub enum RunFault {
 }
 
 impl From<AllocError> for RunFault {
+    ghost from_gives = { λ _ e. e ≡ Memory };
+
     fn from(_refused: AllocError) -> RunFault {
         RunFault::Memory
     }
