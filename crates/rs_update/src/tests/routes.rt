@@ -1,0 +1,89 @@
+//! What a route's attributes say (RFC 4271, section 5; RFC 1997; RFC 6793).
+
+use super::*;
+
+#[test]
+fn attributes_of_one_route(rt: HostRuntime) -> Result<(), Fail> {
+    let alloc = rt.alloc();
+    let attributes = attributes_of(
+        alloc,
+        &octets(
+            alloc,
+            &[
+                "40010101",
+                "400210 0102 0000FBF7 0000FBF8 0201 0000FDF2",
+                NEXT_HOP,
+                "80040400000007",
+                "400600",
+                "E00708 0000FBF5 C0000201",
+                "C00808 FBF4FBF6 FDE80001",
+                "C0200107",
+            ],
+        )?,
+    )?;
+    assert_eq!(rt; attributes.origin(), Origin::Egp);
+    assert_eq!(rt; attributes.path().len(), 2);
+    assert!(rt;
+        attributes.holds_as(64504) && attributes.holds_as(65010) && !attributes.holds_as(64501)
+    );
+    assert_eq!(rt; attributes.next_hop(), 0xC000_020B);
+    assert_eq!(rt; attributes.med(), Some(7));
+    assert!(rt; attributes.atomic());
+    let aggregator = Aggregator {
+        asn: 64501,
+        address: 0xC000_0201,
+        partial: true,
+    };
+    assert_eq!(rt; attributes.aggregator(), Some(aggregator));
+    assert!(rt; attributes.has_community(64500, 64502) && attributes.has_community(65000, 1));
+    assert!(rt;
+        !attributes.has_community(64502, 64500) && !attributes.has_community(0, 0xFBF4_FBF6)
+    );
+    let communities = attributes.communities().ok_or("communities")?;
+    assert_eq!(rt;
+        communities.values.as_slice(),
+        [0xFBF4_FBF6, 0xFDE8_0001].as_slice()
+    );
+    assert!(rt; !communities.partial);
+    let other = attributes.others().first().ok_or("another attribute")?;
+    assert_eq!(rt; (other.kind, other.value.as_slice()), (32, [7].as_slice()));
+    Ok(())
+}
+
+#[test]
+fn what_was_not_received_is_not_there(rt: HostRuntime) -> Result<(), Fail> {
+    let alloc = rt.alloc();
+    let attributes = attributes_of(alloc, &octets(alloc, &[ORIGIN, AS_PATH, NEXT_HOP])?)?;
+    assert_eq!(rt; attributes.origin(), Origin::Igp);
+    assert_eq!(rt; attributes.med(), None);
+    assert_eq!(rt; attributes.aggregator(), None);
+    assert!(rt; !attributes.atomic() && !attributes.has_community(0, 0));
+    assert!(rt; attributes.communities().is_none() && attributes.others().is_empty());
+    assert_eq!(rt; attributes.written_len(), 20);
+    Ok(())
+}
+
+// AS_PATH, its length, and the neighbour AS where the sending peer's is 64501.
+const PATHS: &[(&str, u32, u32)] = &[
+    ("400200", 0, 64501),
+    ("40020A 0202 0000FBF6 0000FDF2", 2, 64502),
+    ("40020A 0102 0000FBF6 0000FDF2", 1, 64501),
+    ("400210 0102 0000FBF6 0000FDF2 0201 0000FDF3", 2, 64501),
+    (
+        "400218 0103 0000FDF2 0000FDF3 0000FDF4 0202 0000FDF5 0000FDF6",
+        3,
+        64501,
+    ),
+    ("400210 0201 0000FBF6 0102 0000FDF2 0000FDF3", 2, 64502),
+];
+
+#[test]
+fn an_as_set_counts_one_and_gives_no_neighbour(rt: HostRuntime) -> Result<(), Fail> {
+    let alloc = rt.alloc();
+    for (path, length, neighbour) in PATHS {
+        let attributes = attributes_of(alloc, &octets(alloc, &[ORIGIN, path, NEXT_HOP])?)?;
+        assert_eq!(rt; attributes.path_length(), *length, "{path}");
+        assert_eq!(rt; attributes.neighbour(64501), *neighbour, "{path}");
+    }
+    Ok(())
+}
