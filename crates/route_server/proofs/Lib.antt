@@ -1,3 +1,4 @@
+pub mod FilesLemmas
 pub mod ListingLemmas
 pub mod RibLemmas
 pub mod RunLemmas

@@ -2,11 +2,13 @@
 
 ghost use Rattle.std.specs.Prelude.{◌≡◌};
 ghost use Rattle.route_server.specs.Status.{status_of};
+ghost use Rattle.route_server.specs.declared.ended.Ended.TheVariants.{Memory};
 
 use crate::options::WordsFault;
 use crate::run_fault::RunFault;
 use crate::setup::SetupFault;
 use rs_choice::PlanFault;
+use std::alloc::AllocError;
 
 /// Why the program stops short.
 #[derive(Drop)]
@@ -23,14 +25,14 @@ pub enum Ended {
     Run(RunFault),
 }
 
-// The command line or the configuration is refused.
-const REFUSED: u8 = 1;
+/// The command line or the configuration is refused.
+pub const REFUSED: u8 = 1;
 
-// A file, a folder or a device failed.
-const FAILED: u8 = 2;
+/// A file, a folder or a device failed.
+pub const FAILED: u8 = 2;
 
-// Memory was refused.
-const OUT_OF_MEMORY: u8 = 3;
+/// Memory was refused.
+pub const OUT_OF_MEMORY: u8 = 3;
 
 /// The status with which the program ends: 0 where help was asked for, 1 where the command line or the configuration is refused, 2 where a file, a
 /// folder or a device failed, 3 for want of memory.
@@ -49,5 +51,13 @@ pub fn status(ended: &Ended) -> u8
         Ended::Run(RunFault::Memory) => OUT_OF_MEMORY,
         Ended::Run(RunFault::Dump(_)) => FAILED,
         Ended::Run(RunFault::Report) => FAILED,
+    }
+}
+
+impl From<AllocError> for Ended {
+    ghost from_gives = { λ _ ended. ended ≡ Memory };
+
+    fn from(_refused: AllocError) -> Ended {
+        Ended::Memory
     }
 }

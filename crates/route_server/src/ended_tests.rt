@@ -7,7 +7,7 @@ use crate::ended::{Ended, status};
 use crate::options::{Options, WordsFault};
 use crate::run_fault::RunFault;
 use crate::setup::{Setup, SetupFault};
-use crate::texts::{OUT_OF_MEMORY, line};
+use crate::texts::{MEMORY_LINE, line};
 use rs_choice::{Exchange, Local, PeerSpec, PlanFault};
 use std::alloc::{AllocError, Global};
 use std::process::Abort;
@@ -87,7 +87,7 @@ fn a_command_line_ends_with_the_text_of_clap(rt: HostRuntime) -> Result<(), Fail
         1,
         "error: so\n",
     )?;
-    ends(&rt, Ended::Words(WordsFault::Memory), 3, OUT_OF_MEMORY)
+    ends(&rt, Ended::Words(WordsFault::Memory), 3, MEMORY_LINE)
 }
 
 #[test]

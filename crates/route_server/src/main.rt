@@ -1,12 +1,15 @@
 //! A BGP-4 route server that replays recorded sessions: which routes does each client get?
 //!
-//! For now the program reads the file of one peer from standard input and writes the dump of another client to standard output, under a plan of two peers.
+//! The program reads the configuration of an exchange and the recorded session of each peer, and writes a dump of each client's table and a report.
 //!
-//! Supported standards: RFC 4271, RFC 7947, RFC 6396.
+//! Supported standards: RFC 4271, RFC 6793, RFC 1997, RFC 7947, RFC 6396.
 #![tactic(auto)]
 
+ghost use Rattle.std.specs.Prelude.{◌≡◌, None, Some, IfErr, IfOk, length};
+ghost use Rattle.route_server.specs.Texts.{CanTell};
+
 mod ended;
-mod example;
+mod files;
 mod folder_outlet;
 mod memory_outlet;
 mod options;
@@ -18,61 +21,119 @@ mod run_fault;
 mod runner;
 mod sessions;
 mod setup;
-#[cfg(test)]
-mod setup_fault_tests;
 mod setup_keys;
 mod setup_peers;
-#[cfg(test)]
-mod setup_tests;
 mod setup_values;
-mod stdin_ended;
 mod texts;
 mod words;
 
-use example::two_peers;
-use plain::plain_run;
+use ended::{Ended, FAILED, OUT_OF_MEMORY, status};
+use files::{read_file, read_files};
+use folder_outlet::FolderOutlet;
+use options::{Options, WordsFault};
 use rs_mrt::IoWriter;
-use std::io;
-use std::io::{ErrorKind, Read};
+use runner::run;
+use setup::{Setup, read_setup};
+use std::env::Env;
+use std::fs::Files;
+use std::io::ErrorKind;
 use std::process::ExitCode;
-use std::sync::Arc;
-use stdin_ended::Ended;
-
-// The client whose dump is written: the second peer.
-const CLIENT: usize = 1;
+use std::{env, io};
+use texts::{MEMORY_LINE, NOT_UTF_8, OUTPUT_LINE, line};
+use words::read_words;
 
 fn main(rt: HostRuntime) -> ExitCode {
-    match run(&rt) {
+    let options = match command_line(&rt) {
+        Ok(options) => options,
+        Err(fault) => return end(&rt, &Ended::Words(fault), None, None),
+    };
+    let setup = match configuration(&rt, &options) {
+        Ok(setup) => setup,
+        Err(ended) => return end(&rt, &ended, None, None),
+    };
+    match serve(&rt, &setup, &options) {
         Ok(()) => ExitCode::SUCCESS,
-        Err(ended) => {
-            let _ = eprintln!(rt; "route_server: {ended}");
-            ExitCode::from(ended.status())
-        }
+        Err(ended) => end(&rt, &ended, Some(&setup), Some(&options)),
     }
 }
 
-// Reads standard input whole as the first peer's file, and writes the second peer's dump.
-fn run(rt: &(impl AllocGlobal + Input + Print)) -> Result<(), Ended> {
+// The options of the command line.
+fn command_line<R: AllocGlobal + Env>(rt: &R) -> Result<Options, WordsFault> {
     let alloc = rt.alloc();
-    let file = read_input(rt)?;
-    let plan = Arc::new(alloc, two_peers(alloc)?).map_err(|_| Ended::Memory)?;
-    let files = [file.as_slice(), [].as_slice()];
-    let mut out = IoWriter::new(io::writer(rt));
-    plain_run(alloc, &plan, &files, CLIENT, 0, &mut out)?;
-    Ok(())
+    match env::args(rt) {
+        Ok(words) => read_words(alloc, words.collect(alloc)?),
+        Err(error) if error.kind() == ErrorKind::OutOfMemory => Err(WordsFault::Memory),
+        Err(_) => Err(WordsFault::Refused(String::from_str(alloc, NOT_UTF_8)?)),
+    }
 }
 
-fn read_input(rt: &(impl AllocGlobal + Input)) -> Result<Vec<u8>, Ended> {
-    let mut file = Vec::new(rt.alloc());
-    match rt.reader().read_to_end(&mut file) {
-        Ok(_count) => Ok(file),
-        Err(error) if error.kind() == ErrorKind::OutOfMemory => Err(Ended::Memory),
-        Err(_) => Err(Ended::Unread),
+// The setup of the configuration.
+fn configuration<R: AllocGlobal + Files>(rt: &R, options: &Options) -> Result<Setup, Ended>
+    ensures one_for_each { IfOk result (λ setup. length setup.files.items ≡ length setup.plan.value.peers) }
+    ensures refused { IfErr result (λ ended. CanTell ended None None) }
+{
+    let text = read_file(rt, &options.config)?;
+    match read_setup(rt.alloc(), &text) {
+        Ok(setup) => Ok(setup),
+        Err(fault) => Err(Ended::Setup(fault)),
+    }
+}
+
+// Reads the peers' files, and runs over them: dumps go to the folder of the options, the report to standard output.
+fn serve<R: AllocGlobal + Files + Print>(
+    rt: &R,
+    setup: &Setup,
+    options: &Options,
+) -> Result<(), Ended>
+    requires { length setup.now.files.items ≡ length setup.now.plan.value.peers }
+    ensures { IfErr result (λ ended. CanTell ended (Some setup.entry) (Some options.entry)) }
+{
+    let alloc = rt.alloc();
+    let octets = read_files(rt, &setup.files)?;
+    let files: Vec<&[u8]> = octets.iter().map(|file| file.as_slice()).collect(alloc)?;
+    let mut outlet = FolderOutlet::new(rt, alloc, &options.out);
+    let mut report = IoWriter::new(io::writer(rt));
+    match run(alloc, setup, &files, options, &mut outlet, &mut report) {
+        Ok(()) => Ok(()),
+        Err(fault) => Err(Ended::Run(fault)),
+    }
+}
+
+// Says why the program stops short, and gives its status.
+fn end<R: AllocGlobal + Print + Eprint>(
+    rt: &R,
+    ended: &Ended,
+    setup: Option<&Setup>,
+    options: Option<&Options>,
+) -> ExitCode
+    requires { CanTell ended.now setup options }
+{
+    let Ok(text) = line(rt.alloc(), ended, setup, options) else {
+        let _ = eprintln!(rt; "{MEMORY_LINE}");
+        return ExitCode::from(OUT_OF_MEMORY);
+    };
+    let said = match ended {
+        Ended::Words(WordsFault::Help(_)) => print!(rt; "{text}"),
+        Ended::Words(WordsFault::Refused(_)) => eprint!(rt; "{text}"),
+        _ => eprintln!(rt; "{text}"),
+    };
+    match (ended, said) {
+        (Ended::Words(WordsFault::Help(_)), Err(_)) => {
+            let _ = eprintln!(rt; "{OUTPUT_LINE}");
+            ExitCode::from(FAILED)
+        }
+        _ => ExitCode::from(status(ended)),
     }
 }
 
 #[cfg(test)]
 mod ended_tests;
+#[cfg(test)]
+mod files_tests;
+#[cfg(test)]
+mod setup_fault_tests;
+#[cfg(test)]
+mod setup_tests;
 #[cfg(test)]
 mod tests;
 #[cfg(test)]

@@ -2,9 +2,7 @@
 
 ghost use Rattle.std.specs.Prelude.{◌<◌};
 
-use crate::example::two_peers;
 use crate::plain::plain_run;
-use crate::stdin_ended::Ended;
 use rs_choice::{Exchange, Local, PeerSpec, PlanFault};
 use rs_dump::DumpFault;
 use rs_mrt::{Limits, MemoryWriter};
@@ -567,7 +565,8 @@ fn decisions_give_these_dumps(rt: HostRuntime) -> Result<(), Fail> {
 #[test]
 fn a_device_of_thirty_octets_takes_a_beginning(rt: HostRuntime) -> Result<(), Fail> {
     let alloc = rt.alloc();
-    let plan = Arc::new(alloc, two_peers(alloc)?)?;
+    let plan = Arc::new(alloc, exchange(alloc, &TWO_PEERS)?)?;
+    assert!(rt; plan.count() == 2);
     let files: [&[u8]; 2] = [&[], &[]];
     let limits = Limits {
         calls_before_failure: None,
@@ -582,37 +581,5 @@ fn a_device_of_thirty_octets_takes_a_beginning(rt: HostRuntime) -> Result<(), Fa
     let whole = octets(alloc, "00000000000D000100000023C00002010001620002")?;
     assert_eq!(rt; out.octets().len(), 30);
     assert!(rt; out.octets().starts_with(&whole));
-    Ok(())
-}
-
-#[test]
-fn each_way_to_stop_short_has_its_line_and_status(rt: HostRuntime) -> Result<(), Fail> {
-    let alloc = rt.alloc();
-    let rows = [
-        (Ended::Unread, "cannot read standard input", 2),
-        (Ended::Unwritten, "cannot write standard output", 2),
-        (
-            Ended::Plan(PlanFault::RepeatedName(1)),
-            "plan fault P4 at peer 1",
-            1,
-        ),
-        (Ended::from(PlanFault::NoPeer), "plan fault P1", 1),
-        (Ended::from(PlanFault::Memory), "out of memory", 3),
-        (
-            Ended::from(DumpFault::Write),
-            "cannot write standard output",
-            2,
-        ),
-        (
-            Ended::from(DumpFault::TooManyRows),
-            "cannot write standard output",
-            2,
-        ),
-        (Ended::from(DumpFault::Memory), "out of memory", 3),
-    ];
-    for (ended, line, status) in &rows {
-        assert_eq!(rt; format!(in alloc; "{ended}")?.as_str(), *line);
-        assert_eq!(rt; ended.status(), *status);
-    }
     Ok(())
 }

@@ -12,7 +12,13 @@ use rs_choice::PlanFault;
 use std::alloc::{AllocError, Global};
 
 /// The line of want of memory, for where no other line can be made.
-pub const OUT_OF_MEMORY: &str = "route_server: out of memory";
+pub const MEMORY_LINE: &str = "route_server: out of memory";
+
+/// The line where standard output can't be written.
+pub const OUTPUT_LINE: &str = "route_server: cannot write standard output";
+
+/// The text that refuses a command line of other words than texts.
+pub const NOT_UTF_8: &str = "error: an argument is not UTF-8\n";
 
 /// The line that says why the program stops short, without a line break at its end; for help and a refused command line the whole text of `clap`.
 ///
@@ -30,13 +36,13 @@ pub fn line(
     match ended {
         Ended::Words(WordsFault::Help(text)) => String::from_str(alloc, text),
         Ended::Words(WordsFault::Refused(text)) => String::from_str(alloc, text),
-        Ended::Words(WordsFault::Memory) => String::from_str(alloc, OUT_OF_MEMORY),
+        Ended::Words(WordsFault::Memory) => String::from_str(alloc, MEMORY_LINE),
         Ended::Setup(fault) => setup_line(alloc, fault),
         Ended::Unread(path) => {
             let path = on_one_line(alloc, path)?;
             format!(in alloc; "route_server: cannot read {path}")
         }
-        Ended::Memory => String::from_str(alloc, OUT_OF_MEMORY),
+        Ended::Memory => String::from_str(alloc, MEMORY_LINE),
         Ended::Run(fault) => match (setup, options) {
             (Some(setup), Some(options)) => run_line(alloc, fault, setup, options),
             _ => unreachable!(),
@@ -54,7 +60,7 @@ fn setup_line(alloc: Global, fault: &SetupFault) -> Result<String, AllocError>
         SetupFault::Missing(key) => key_line(alloc, key, "missing"),
         SetupFault::NotValid(key) => key_line(alloc, key, "not valid"),
         SetupFault::Plan(fault) => plan_line(alloc, *fault),
-        SetupFault::Memory => String::from_str(alloc, OUT_OF_MEMORY),
+        SetupFault::Memory => String::from_str(alloc, MEMORY_LINE),
     }
 }
 
@@ -71,7 +77,7 @@ fn plan_line(alloc: Global, fault: PlanFault) -> Result<String, AllocError>
     ensures { IfOk result (λ line. string_bytes line ≡ plan_line fault) }
 {
     if let PlanFault::Memory = fault {
-        return String::from_str(alloc, OUT_OF_MEMORY);
+        return String::from_str(alloc, MEMORY_LINE);
     }
     let number = fault.number();
     match fault.peer() {
@@ -91,7 +97,7 @@ fn run_line(
     ensures { IfOk result (λ line. string_bytes line ≡ run_line fault.now setup.now options.now) }
 {
     match fault {
-        RunFault::Memory => String::from_str(alloc, OUT_OF_MEMORY),
+        RunFault::Memory => String::from_str(alloc, MEMORY_LINE),
         RunFault::Dump(client) => {
             let path = dump_path(alloc, setup, options, *client)?;
             let path = on_one_line(alloc, &path)?;
