@@ -10,8 +10,10 @@ from typing import NamedTuple, Optional
 SERVER_AS = 64500
 SERVER = "192.0.2.1"
 
-# name, AS number, address
-PEERS = (("a", 64501, "192.0.2.11"), ("b", 64502, "192.0.2.12"))
+# name, AS number, address: b is the client, the others send
+PEERS = (("a", 64501, "192.0.2.11"), ("b", 64502, "192.0.2.12"), ("c", 64503, "192.0.2.13"), ("d", 4200000004, "192.0.2.14"))
+CLIENT = 1
+SENDERS = (0, 2, 3)
 
 SET, SEQUENCE = 1, 2
 ORIGIN, AS_PATH, NEXT_HOP, MED, LOCAL_PREF, ATOMIC_AGGREGATE, AGGREGATOR, COMMUNITIES = range(1, 9)
@@ -175,17 +177,30 @@ def absent_rows():
     yield Row("198.18.4.0/24", 55)
 
 
+def sender(prefix):
+    """Which peer sends a prefix: one alone, so that nothing is to be chosen."""
+    return SENDERS[(int(ipaddress.ip_network(prefix).network_address) >> 8) % len(SENDERS)]
+
+
+def configuration():
+    """The exchange as the program reads it; each peer's file has the peer's name."""
+    text = f'[server]\nas = {SERVER_AS}\naddress = "{SERVER}"\nsubnet = "192.0.2.0/24"\n'
+    for name, number, peer_address in PEERS:
+        text += f'\n[[peer]]\nname = "{name}"\nas = {number}\naddress = "{peer_address}"\nfile = "{name}.mrt"\n'
+    return text
+
+
 def exchange(count):
-    """The recorded file of the sending peer, and the rows that the client's dump must have, in its order."""
-    rows = [*chosen_rows(), *random_rows(count)]
+    """The recorded file of each peer, and the rows that the client's dump must have, in its order."""
+    rows = [row._replace(peer=sender(row.prefix)) for row in [*chosen_rows(), *random_rows(count)]]
     absent = list(absent_rows())
-    file = bytearray()
+    files = [bytearray() for _ in PEERS]
     for number, row in enumerate([*absent, *rows]):
         sent = sent_attributes(row)
         if number % 3 == 1:
             sent.reverse()
         microseconds = number if number % 5 == 2 else None
-        file += record(row.time, row.peer, attributes=b"".join(sent), nlri=spelled_prefix(row.prefix), microseconds=microseconds)
-    file += record(60, 0, withdrawn=spelled_prefix(absent[-1].prefix))
+        files[row.peer] += record(row.time, row.peer, attributes=b"".join(sent), nlri=spelled_prefix(row.prefix), microseconds=microseconds)
+    files[absent[-1].peer] += record(60, absent[-1].peer, withdrawn=spelled_prefix(absent[-1].prefix))
     latest = {row.prefix: row for row in rows}
-    return bytes(file), sorted(latest.values(), key=Row.key)
+    return files, sorted(latest.values(), key=Row.key)
