@@ -4,4 +4,5 @@ pub mod RibLemmas
 pub mod RunLemmas
 pub mod SessionLemmas
 pub mod SetupLemmas
+pub mod SetupUnique
 pub mod WordLemmas

@@ -6,6 +6,7 @@ pub mod Run
 pub mod Section
 pub mod SessionEnd
 pub mod Setup
+pub mod SetupLaws
 pub mod SetupValues
 pub mod Status
 pub mod Texts

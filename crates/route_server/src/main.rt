@@ -22,6 +22,7 @@ mod runner;
 mod sessions;
 mod setup;
 mod setup_keys;
+mod setup_laws;
 mod setup_peers;
 mod setup_values;
 mod texts;

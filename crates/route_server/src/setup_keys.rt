@@ -34,6 +34,9 @@ impl Place {
 }
 
 /// A table of a configuration, and where it stands.
+///
+/// A key that must be there and isn't is refused as `Missing`, one whose value is of another type or out of its range as `NotValid`. `Memory` is answered where
+/// the text of a fault or a copy of a text finds no memory.
 #[derive(Drop)]
 pub struct Section<'a> {
     place: Place,
@@ -50,7 +53,7 @@ impl<'a> Section<'a> {
         Section { place, table }
     }
 
-    /// Tests that the table has no key but the known ones. Else the least unknown key, by its bytes, is named.
+    /// Tests that the table has no key but the known ones. Else it is refused as `Unknown`, which names the least unknown key by its bytes.
     pub fn has_only(&self, alloc: Global, known: &[&str]) -> Result<(), SetupFault>
         ensures { IfOk result (λ _. HasOnly (map (λ key. key.now) known.now) (members_in self.now)) }
     {
