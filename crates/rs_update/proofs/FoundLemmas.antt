@@ -1,8 +1,8 @@
 -- What is found in a section, one attribute after another.
 use Rattle.std.proofs.Common.{◌≡◌, ℕ, ◌||◌, ◌&&◌, ◌⊎◌, Bool, true, false, eqb, List, [], ◌∷◌, Option, Some, None, refl, sym, ap, ◌∙◌, inl, inr}
 use Rattle.std.specs.List.{list_any}
-use Rattle.std.specs.Option.{option_or, option_map}
-use Rattle.std.proofs.lemmas.Bool.{cases_Bool, cases_eq, eq-eqb, ne_eqb}
+use Rattle.std.specs.Option.{option_or}
+use Rattle.std.proofs.lemmas.Bool.{cases_Bool, cases_eq, ne_eqb}
 use Rattle.rs_update.specs.declared.attribute_type.AttributeType.{AttributeType}
 use Rattle.rs_update.specs.declared.attribute_type.AttributeType.TheVariants as types
 use Rattle.rs_update.specs.AttributeType.{type_of, is_unrecognized, is_transitive}
@@ -87,10 +87,6 @@ found_before-step found next item items is =
     ap (λ (f : FoundItems). found_before f (found_in items)) is
     ∙ found_before-assoc found (found_in (item ∷ [])) (found_in items)
     ∙ ap (found_before found) (sym (found_in-cons item items))
-
-pub option_map-or : {X Y : Type 0} (h : X → Y) (a b : Option X) → option_map h (option_or a b) ≡ option_or (option_map h a) (option_map h b)
-option_map-or h None b = refl
-option_map-or h (Some x) b = refl
 
 -- ---- one attribute by its type
 
@@ -213,100 +209,9 @@ other_of_unrecognized kind is = record {
 passes_by : (found : Option Item) (item : Item) (kind : ℕ) → (item.kind ≡ kind → ⊥) → option_or found (look kind (item ∷ [])) ≡ found
 passes_by found item kind other = rw (ne_eqb item.kind kind other) (option_or-none found)
 
-stands : (found : Option Item) (item : Item) (kind : ℕ) → item.kind ≡ kind → option_or found (look kind (item ∷ [])) ≡ option_or found (Some item)
-stands found item kind same = rw (eq-eqb item.kind kind same) refl
-
 module _ (found : FoundItems) (item : Item) where
   passes : (passed : Bool) → is_passed_on item ≡ passed → (found.passes_on || (is_passed_on item || false)) ≡ (found.passes_on || passed)
   passes passed is = ap (λ (b : Bool). found.passes_on || (b || false)) is ∙ ap (λ (b : Bool). found.passes_on || b) (or-false passed)
-
-  recognized : (kind : ℕ) → item.kind ≡ kind → is_unrecognized (type_of kind) ≡ false → is_passed_on item ≡ false
-  recognized kind is known =
-      ap (λ (k : ℕ). is_unrecognized (type_of k) && is_transitive item.flags) is ∙ ap (λ (b : Bool). b && is_transitive item.flags) known
-
-  pub with-origin : item.kind ≡ 1 → record found { origin = option_or found.origin (Some item) } ≡ found_before found (found_in (item ∷ []))
-  with-origin is =
-      let the_origin = stands found.origin item 1 is in
-      let the_path = passes_by found.path item 2 (λ e. let same : 1 ≡ 2 = sym is ∙ e in absurd cc) in
-      let the_next_hop = passes_by found.next_hop item 3 (λ e. let same : 1 ≡ 3 = sym is ∙ e in absurd cc) in
-      let the_med = passes_by found.med item 4 (λ e. let same : 1 ≡ 4 = sym is ∙ e in absurd cc) in
-      let the_atomic = passes_by found.atomic item 6 (λ e. let same : 1 ≡ 6 = sym is ∙ e in absurd cc) in
-      let the_aggregator = passes_by found.aggregator item 7 (λ e. let same : 1 ≡ 7 = sym is ∙ e in absurd cc) in
-      let the_communities = passes_by found.communities item 8 (λ e. let same : 1 ≡ 8 = sym is ∙ e in absurd cc) in
-      let the_others = passes false (recognized 1 is refl) ∙ or-false found.passes_on in
-      cc
-
-  pub with-path : item.kind ≡ 2 → record found { path = option_or found.path (Some item) } ≡ found_before found (found_in (item ∷ []))
-  with-path is =
-      let the_origin = passes_by found.origin item 1 (λ e. let same : 2 ≡ 1 = sym is ∙ e in absurd cc) in
-      let the_path = stands found.path item 2 is in
-      let the_next_hop = passes_by found.next_hop item 3 (λ e. let same : 2 ≡ 3 = sym is ∙ e in absurd cc) in
-      let the_med = passes_by found.med item 4 (λ e. let same : 2 ≡ 4 = sym is ∙ e in absurd cc) in
-      let the_atomic = passes_by found.atomic item 6 (λ e. let same : 2 ≡ 6 = sym is ∙ e in absurd cc) in
-      let the_aggregator = passes_by found.aggregator item 7 (λ e. let same : 2 ≡ 7 = sym is ∙ e in absurd cc) in
-      let the_communities = passes_by found.communities item 8 (λ e. let same : 2 ≡ 8 = sym is ∙ e in absurd cc) in
-      let the_others = passes false (recognized 2 is refl) ∙ or-false found.passes_on in
-      cc
-
-  pub with-next_hop : item.kind ≡ 3 → record found { next_hop = option_or found.next_hop (Some item) } ≡ found_before found (found_in (item ∷ []))
-  with-next_hop is =
-      let the_origin = passes_by found.origin item 1 (λ e. let same : 3 ≡ 1 = sym is ∙ e in absurd cc) in
-      let the_path = passes_by found.path item 2 (λ e. let same : 3 ≡ 2 = sym is ∙ e in absurd cc) in
-      let the_next_hop = stands found.next_hop item 3 is in
-      let the_med = passes_by found.med item 4 (λ e. let same : 3 ≡ 4 = sym is ∙ e in absurd cc) in
-      let the_atomic = passes_by found.atomic item 6 (λ e. let same : 3 ≡ 6 = sym is ∙ e in absurd cc) in
-      let the_aggregator = passes_by found.aggregator item 7 (λ e. let same : 3 ≡ 7 = sym is ∙ e in absurd cc) in
-      let the_communities = passes_by found.communities item 8 (λ e. let same : 3 ≡ 8 = sym is ∙ e in absurd cc) in
-      let the_others = passes false (recognized 3 is refl) ∙ or-false found.passes_on in
-      cc
-
-  pub with-med : item.kind ≡ 4 → record found { med = option_or found.med (Some item) } ≡ found_before found (found_in (item ∷ []))
-  with-med is =
-      let the_origin = passes_by found.origin item 1 (λ e. let same : 4 ≡ 1 = sym is ∙ e in absurd cc) in
-      let the_path = passes_by found.path item 2 (λ e. let same : 4 ≡ 2 = sym is ∙ e in absurd cc) in
-      let the_next_hop = passes_by found.next_hop item 3 (λ e. let same : 4 ≡ 3 = sym is ∙ e in absurd cc) in
-      let the_med = stands found.med item 4 is in
-      let the_atomic = passes_by found.atomic item 6 (λ e. let same : 4 ≡ 6 = sym is ∙ e in absurd cc) in
-      let the_aggregator = passes_by found.aggregator item 7 (λ e. let same : 4 ≡ 7 = sym is ∙ e in absurd cc) in
-      let the_communities = passes_by found.communities item 8 (λ e. let same : 4 ≡ 8 = sym is ∙ e in absurd cc) in
-      let the_others = passes false (recognized 4 is refl) ∙ or-false found.passes_on in
-      cc
-
-  pub with-atomic : item.kind ≡ 6 → record found { atomic = option_or found.atomic (Some item) } ≡ found_before found (found_in (item ∷ []))
-  with-atomic is =
-      let the_origin = passes_by found.origin item 1 (λ e. let same : 6 ≡ 1 = sym is ∙ e in absurd cc) in
-      let the_path = passes_by found.path item 2 (λ e. let same : 6 ≡ 2 = sym is ∙ e in absurd cc) in
-      let the_next_hop = passes_by found.next_hop item 3 (λ e. let same : 6 ≡ 3 = sym is ∙ e in absurd cc) in
-      let the_med = passes_by found.med item 4 (λ e. let same : 6 ≡ 4 = sym is ∙ e in absurd cc) in
-      let the_atomic = stands found.atomic item 6 is in
-      let the_aggregator = passes_by found.aggregator item 7 (λ e. let same : 6 ≡ 7 = sym is ∙ e in absurd cc) in
-      let the_communities = passes_by found.communities item 8 (λ e. let same : 6 ≡ 8 = sym is ∙ e in absurd cc) in
-      let the_others = passes false (recognized 6 is refl) ∙ or-false found.passes_on in
-      cc
-
-  pub with-aggregator : item.kind ≡ 7 → record found { aggregator = option_or found.aggregator (Some item) } ≡ found_before found (found_in (item ∷ []))
-  with-aggregator is =
-      let the_origin = passes_by found.origin item 1 (λ e. let same : 7 ≡ 1 = sym is ∙ e in absurd cc) in
-      let the_path = passes_by found.path item 2 (λ e. let same : 7 ≡ 2 = sym is ∙ e in absurd cc) in
-      let the_next_hop = passes_by found.next_hop item 3 (λ e. let same : 7 ≡ 3 = sym is ∙ e in absurd cc) in
-      let the_med = passes_by found.med item 4 (λ e. let same : 7 ≡ 4 = sym is ∙ e in absurd cc) in
-      let the_atomic = passes_by found.atomic item 6 (λ e. let same : 7 ≡ 6 = sym is ∙ e in absurd cc) in
-      let the_aggregator = stands found.aggregator item 7 is in
-      let the_communities = passes_by found.communities item 8 (λ e. let same : 7 ≡ 8 = sym is ∙ e in absurd cc) in
-      let the_others = passes false (recognized 7 is refl) ∙ or-false found.passes_on in
-      cc
-
-  pub with-communities : item.kind ≡ 8 → record found { communities = option_or found.communities (Some item) } ≡ found_before found (found_in (item ∷ []))
-  with-communities is =
-      let the_origin = passes_by found.origin item 1 (λ e. let same : 8 ≡ 1 = sym is ∙ e in absurd cc) in
-      let the_path = passes_by found.path item 2 (λ e. let same : 8 ≡ 2 = sym is ∙ e in absurd cc) in
-      let the_next_hop = passes_by found.next_hop item 3 (λ e. let same : 8 ≡ 3 = sym is ∙ e in absurd cc) in
-      let the_med = passes_by found.med item 4 (λ e. let same : 8 ≡ 4 = sym is ∙ e in absurd cc) in
-      let the_atomic = passes_by found.atomic item 6 (λ e. let same : 8 ≡ 6 = sym is ∙ e in absurd cc) in
-      let the_aggregator = passes_by found.aggregator item 7 (λ e. let same : 8 ≡ 7 = sym is ∙ e in absurd cc) in
-      let the_communities = stands found.communities item 8 is in
-      let the_others = passes false (recognized 8 is refl) ∙ or-false found.passes_on in
-      cc
 
   pub with-other : IsOther item.kind → record found { passes_on = found.passes_on || is_passed_on item } ≡ found_before found (found_in (item ∷ []))
   with-other is =

@@ -11,6 +11,7 @@ pub mod OctetLemmas
 pub mod OrderLemmas
 pub mod OthersLemmas
 pub mod PartsLemmas
+pub mod PathExamples
 pub mod PathLemmas
 pub mod PathWalkLemmas
 pub mod PrefixLemmas

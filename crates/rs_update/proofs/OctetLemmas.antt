@@ -18,9 +18,6 @@ AreOctets-take n octets fit place =
       | inr le ↦ rw (get_or_past (take n octets) place 0 (omega (arith, length-take n octets))) (omega arith)
     ]
 
-pub AreOctets-tail : (octet : ℕ) (octets : List ℕ) → AreOctets (octet ∷ octets) → AreOctets octets
-AreOctets-tail octet octets fit place = fit (suc place)
-
 -- one octet of a number of two octets
 pub two_from : (high low : ℕ) → high < 256 → low < 256 → big_bytes 2 (high * 256 + low) ≡ high ∷ low ∷ []
 two_from high low h l =

@@ -1,14 +1,13 @@
 -- Sections of path attributes by hand, each with its first fault.
-use Rattle.std.proofs.Common.{◌≡◌, [], ◌∷◌, Some, None, true, false, refl, lit<, lit≤, arith}
+use Rattle.std.proofs.Common.{◌≡◌, [], ◌∷◌, Some, None, true, false, refl, lit<}
 use Rattle.rs_update.specs.declared.attribute_type.AttributeType.TheVariants.{Origin, MultiExitDisc, As4Path, Communities, Unrecognized}
 use Rattle.rs_update.specs.declared.attribute_type.WantedFlags.TheVariants.{WellKnown}
 use Rattle.rs_update.specs.declared.fault.UpdateFault.TheVariants.{MalformedAttributeList, UnrecognizedWellKnown, AttributeFlags, AttributeLength, InvalidOrigin, InvalidNextHop, MalformedAsPath}
 use Rattle.rs_update.specs.AttributeType.{type_of, flags_of, suits}
 use Rattle.rs_update.specs.Numbers.{numbers_at}
 use Rattle.rs_update.specs.Parts.{parts_within}
-use Rattle.rs_update.specs.PathAttributes.{AsSet, AsSequence}
-use Rattle.rs_update.specs.PathSegments.{SpellsSegment, segment_at, segments_of}
-use Rattle.rs_update.specs.Section.{SpellsItem, item_at, items_of, rest_of, suits_length, is_origin, is_next_hop, is_path, fault_behind, first_item_fault, section_fault, AreFaultless, IsFirstAtFault}
+use Rattle.rs_update.specs.PathSegments.{segment_at}
+use Rattle.rs_update.specs.Section.{SpellsItem, item_at, items_of, rest_of, suits_length, is_origin, is_next_hop, fault_behind, first_item_fault, section_fault, AreFaultless, IsFirstAtFault}
 use Rattle.rs_update.proofs.FirstFaultLemmas.{nothing_before}
 
 -- ---- the first fault of a section
@@ -214,61 +213,10 @@ type_stands_earlier = refl
 pub type_does_not_stand_earlier : fault_behind (record { flags = 0x80; kind = 33; value = 0 ∷ [] } ∷ []) (record { flags = 0x40; kind = 32; value = [] }) ≡ Some UnrecognizedWellKnown
 type_does_not_stand_earlier = refl
 
--- ---- segments of an AS_PATH
-
-pub numbers_of_four_octets : numbers_at 2 (0x00 ∷ 0x00 ∷ 0xFB ∷ 0xF5 ∷ 0x00 ∷ 0x01 ∷ 0x11 ∷ 0x2E ∷ []) ≡ 64501 ∷ 69934 ∷ []
-unfolding parts_within item_at first_item_fault segment_at numbers_at
-numbers_of_four_octets = refl
-
-pub one_number_of_two : numbers_at 1 (0x00 ∷ 0x00 ∷ 0xFB ∷ 0xF5 ∷ 0x00 ∷ 0x01 ∷ 0x11 ∷ 0x2E ∷ []) ≡ 64501 ∷ []
-unfolding parts_within item_at first_item_fault segment_at numbers_at
-one_number_of_two = refl
-
-pub segment_and_octets_behind : segment_at (0x01 ∷ 0x01 ∷ 0x00 ∷ 0x00 ∷ 0xFB ∷ 0xF5 ∷ 0x02 ∷ []) ≡ Some (AsSet (64501 ∷ []), 2 ∷ [])
-unfolding parts_within item_at first_item_fault segment_at numbers_at
-segment_and_octets_behind = refl
-
-pub no_segment_of_count_0 : segment_at (0x02 ∷ 0x00 ∷ []) ≡ None
-unfolding parts_within item_at first_item_fault segment_at numbers_at
-no_segment_of_count_0 = refl
-
-pub no_segment_of_type_3 : segment_at (0x03 ∷ 0x01 ∷ 0x00 ∷ 0x00 ∷ 0xFB ∷ 0xF5 ∷ []) ≡ None
-unfolding parts_within item_at first_item_fault segment_at numbers_at
-no_segment_of_type_3 = refl
-
-pub no_segment_past_the_end : segment_at (0x02 ∷ 0x02 ∷ 0x00 ∷ 0x00 ∷ 0xFB ∷ 0xF5 ∷ []) ≡ None
-unfolding parts_within item_at first_item_fault segment_at numbers_at
-no_segment_past_the_end = refl
-
-pub set_then_sequence : segments_of (0x01 ∷ 0x01 ∷ 0x00 ∷ 0x00 ∷ 0xFB ∷ 0xF5 ∷ 0x02 ∷ 0x01 ∷ 0x00 ∷ 0x00 ∷ 0xFD ∷ 0xF2 ∷ []) ≡ (AsSet (64501 ∷ []) ∷ AsSequence (65010 ∷ []) ∷ [], [])
-unfolding parts_within item_at first_item_fault segment_at numbers_at
-set_then_sequence = refl
-
-pub segment_left_over : segments_of (0x01 ∷ 0x01 ∷ 0x00 ∷ 0x00 ∷ 0xFB ∷ 0xF5 ∷ 0x02 ∷ 0x00 ∷ []) ≡ (AsSet (64501 ∷ []) ∷ [], 0x02 ∷ 0x00 ∷ [])
-unfolding parts_within item_at first_item_fault segment_at numbers_at
-segment_left_over = refl
-
-pub a_path_may_be_empty : is_path [] ≡ true
-unfolding parts_within item_at first_item_fault segment_at numbers_at
-a_path_may_be_empty = refl
-
-pub octets_behind_a_path : is_path (0x01 ∷ 0x01 ∷ 0x00 ∷ 0x00 ∷ 0xFB ∷ 0xF5 ∷ 0x02 ∷ []) ≡ false
-unfolding parts_within item_at first_item_fault segment_at numbers_at
-octets_behind_a_path = refl
-
-pub a_segment_is_spelled : SpellsSegment (0x01 ∷ 0x01 ∷ 0x00 ∷ 0x00 ∷ 0xFB ∷ 0xF5 ∷ []) (AsSet (64501 ∷ []))
-a_segment_is_spelled = (refl, record { some = lit< tt; most = lit≤ tt; each = (lit< tt, tt) })
-
 -- ---- what must not hold
 
 pub other_octets_spell_another : SpellsItem (0x40 ∷ 0x01 ∷ 0x01 ∷ 0x01 ∷ []) (record { flags = 0x40; kind = 1; value = 0 ∷ [] }) → ⊥
 other_octets_spell_another spells = let e = spells.0 in cc
-
-pub no_segment_without_numbers : SpellsSegment (0x02 ∷ 0x00 ∷ []) (AsSequence []) → ⊥
-no_segment_without_numbers spells = let some = spells.1.some in omega arith
-
-pub no_segment_with_a_longer_number : SpellsSegment (0x02 ∷ 0x01 ∷ 0x00 ∷ 0x00 ∷ 0xFB ∷ 0xF5 ∷ []) (AsSequence (4295031797 ∷ [])) → ⊥
-no_segment_with_a_longer_number spells = let below = spells.1.each.0 in omega arith
 
 pub an_attribute_at_fault_is_not_faultless : AreFaultless (record { flags = 0x40; kind = 1; value = 3 ∷ [] } ∷ []) → ⊥
 an_attribute_at_fault_is_not_faultless all = let none = all [] (record { flags = 0x40; kind = 1; value = 3 ∷ [] }) [] refl in cc

@@ -4,11 +4,8 @@ use Rattle.std.specs.List.{flat_map, AllByRecursion}
 use Rattle.std.proofs.lemmas.List.{append-nil, length-append}
 use Rattle.rs_update.specs.Parts.{parts_within, parts_of}
 use Rattle.rs_update.specs.Section.{Item, FitsItsLength, item_at}
-use Rattle.rs_update.specs.PathAttributes.{PathSegment, AsSet, AsSequence}
-use Rattle.rs_update.specs.PathSegments.{IsSegment, spelled_segment, segment_at}
 use Rattle.rs_update.specs.Spelling.{spelled_item}
 use Rattle.rs_update.proofs.ItemLemmas.{item_at-spelled}
-use Rattle.rs_update.proofs.SegmentLemmas.{segment_at-spelled}
 
 -- a reader that reads each part that fits from its spelling, and no spelling is empty
 module _ {A : Type 0} (read : List ℕ → Option (A × List ℕ)) (spell : A → List ℕ) (Fits : A → Type 0)
@@ -38,13 +35,3 @@ pub items_of-spelled : (items : List Item) → AllByRecursion FitsItsLength item
 unfolding item_at
 items_of-spelled items fit =
     ap (parts_of item_at) (sym (append-nil (flat_map spelled_item items))) ∙ parts_of-spelled item_at spelled_item FitsItsLength item_at-spelled (λ item. omega arith) items [] fit refl
-
-length-spelled_segment : (segment : PathSegment) → 0 < length (spelled_segment segment)
-length-spelled_segment (AsSet numbers) = omega arith
-length-spelled_segment (AsSequence numbers) = omega arith
-
--- segments of an AS_PATH are the segments of the value that they are spelled as, and nothing is left over
-pub segments_of-spelled : (path : List PathSegment) → AllByRecursion IsSegment path → parts_of segment_at (flat_map spelled_segment path) ≡ (path, [])
-unfolding segment_at
-segments_of-spelled path fit =
-    ap (parts_of segment_at) (sym (append-nil (flat_map spelled_segment path))) ∙ parts_of-spelled segment_at spelled_segment IsSegment segment_at-spelled length-spelled_segment path [] fit refl
