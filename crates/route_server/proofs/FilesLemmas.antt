@@ -1,5 +1,5 @@
 -- A configuration sets up one recorded file for each peer.
-use Rattle.std.proofs.Common.{◌≡◌, ◌∙◌, List, [], ◌∷◌, length, suc, map, ap, sym, refl, ℕ, Option, None, Some}
+use Rattle.std.proofs.Common.{◌≡◌, ◌∙◌, List, [], ◌∷◌, length, suc, ap, sym, refl, ℕ, Option, None, Some}
 use Rattle.toml.specs.Data.{Data, Items, no_items, item, Members, get_member}
 use Rattle.rs_choice.specs.Plan.{Peer, Plan}
 use Rattle.route_server.specs.Setup.{ArePeers, ArePeersOf, IsSetup}
