@@ -17,7 +17,8 @@ use std::sync::Arc;
 /// Reads the recorded sessions of all peers and writes the dump of one client's table to `out`; answers the number of its rows.
 ///
 /// `files` has the recorded file of each peer, in the order of the peers. `time`, in seconds since 1970, is the Timestamp of every record of the dump
-/// (RFC 6396, section 2). It doesn't flush. Want of memory comes before the first write; after a failed write a beginning of the dump is out.
+/// (RFC 6396, section 2). It doesn't flush. `TooManyRows` comes only where the table has more rows than Sequence Numbers, 4,294,967,295. It and
+/// want of memory come before the first write; after a failed write a beginning of the dump is out.
 pub fn plain_run<W: Write>(
     alloc: Global,
     plan: &Arc<Exchange>,
@@ -32,6 +33,7 @@ pub fn plain_run<W: Write>(
     ensures count { IfOk result (λ count. count ≡ length (table_of (tables_of_files plan.now.value (map (λ file. file.now) files.now)) client)) }
     ensures written { OnOk result (Appends (W.taken out.old) (W.taken out.new) (dump_of_files plan.now.value (map (λ file. file.now) files.now) client time)) }
     ensures written_failures { OnOk result (W.failures out.new ≡ W.failures out.old) }
+    ensures too_many { IsErrOf result DumpFault.TooManyRows → u32.MAX < length (table_of (tables_of_files plan.now.value (map (λ file. file.now) files.now)) client) }
     ensures too_many_writes_nothing { IsErrOf result DumpFault.TooManyRows → out.new ≡ out.old }
     ensures memory_writes_nothing { IsErrOf result DumpFault.Memory → out.new ≡ out.old }
     ensures failed { IsErrOf result DumpFault.Write → AppendsBeginning (W.taken out.old) (W.taken out.new) (dump_of_files plan.now.value (map (λ file. file.now) files.now) client time) }

@@ -21,6 +21,13 @@ returns-clause-count g c =
     let counted : length c.deref-2.result.now ≡ length (table_of tables c.args.client) = ap length c.deref-2.ensures.value ∙ sym (length-map c.in_ok-rows.rows.items row_of) ∙ ap length rows in
     subst (λ (n : ℕ). IfOk c.write_dump.result (λ count. count ≡ n)) counted c.write_dump.ensures.count
 
+pub returns-clause-too_many : goal.returns-clause-too_many
+returns-clause-too_many g c =
+    let tables = tables_of_files c.args.plan.now.value (map (λ file. file.now) c.args.files.now) in
+    let rows : map row_of c.in_ok-rows.rows.items ≡ table_of tables c.args.client = (c.table_is_computed.ensures c.in_ok-sessions.sessions.tables c.args.client (map row_of c.in_ok-rows.rows.items)).0 c.in_ok-rows.ensures.table ∙ ap (λ (t : TablesContent). table_of t c.args.client) c.in_ok-sessions.ensures.tables in
+    let counted : length c.deref-2.result.now ≡ length (table_of tables c.args.client) = ap length c.deref-2.ensures.value ∙ sym (length-map c.in_ok-rows.rows.items row_of) ∙ ap length rows in
+    λ many. subst (λ (n : ℕ). 4294967295 < n) counted (c.write_dump.ensures.too_many.0 many)
+
 pub returns-clause-written : goal.returns-clause-written
 returns-clause-written g c =
     let tables = tables_of_files c.args.plan.now.value (map (λ file. file.now) c.args.files.now) in
