@@ -4,7 +4,6 @@ use Rattle.std.proofs.lemmas.Fmt.{decimal_injective}
 use Rattle.std.proofs.NetLemmas.Ipv4.{read_ipv4_complete}
 use Rattle.std.proofs.NetLemmas.Options.{same_parts}
 use Rattle.std.specs.Int.{w32, from_be_bytes}
-use Rattle.std.specs.Net.Grammar.{IsDotted}
 use Rattle.std.specs.Net.Reader.{read_ipv4}
 use Rattle.std.specs.Prelude.{IsSomeAnd, MatchOption}
 use Rattle.toml.specs.Data.{Data, integer, string, array, table, Items, no_items, item, Members, get_member}

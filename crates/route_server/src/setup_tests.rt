@@ -1,7 +1,5 @@
 //! Configurations and what they set up. Each text was written by hand.
 
-ghost use Rattle.std.specs.Prelude.{◌<◌, length};
-
 use crate::setup::{Setup, SetupFault, read_setup};
 use rs_choice::{MAX_PEERS, PeerSpec, PlanFault};
 use rs_update::Prefix;

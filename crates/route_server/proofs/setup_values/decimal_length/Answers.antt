@@ -1,4 +1,4 @@
-use Rattle.std.proofs.Common.{◌≡◌, ◌∙◌, ◌<◌, ◌≤◌, ◌+◌, ◌-◌, ◌*◌, sym, refl, arith, get_or, decimal}
+use Rattle.std.proofs.Common.{◌≡◌, ◌∙◌, ◌<◌, ◌≤◌, ◌+◌, ◌-◌, sym, refl, arith, get_or}
 use Rattle.std.proofs.lemmas.Fmt.{decimal_digit}
 use Rattle.route_server.proofs.SetupLemmas.{decimal-two, one_octet, two_octets}
 use Rattle.route_server.proofs.setup_values.decimal_length.Goals as goal

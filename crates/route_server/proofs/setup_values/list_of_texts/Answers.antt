@@ -1,7 +1,7 @@
-use Rattle.std.proofs.Common.{◌≡◌, ◌∙◌, ◌+◌, List, [], ◌∷◌, ◌++◌, Some, map, take, ap, sym, option_map, string_bytes}
+use Rattle.std.proofs.Common.{◌≡◌, ◌∙◌, ◌+◌, [], ◌∷◌, ◌++◌, map, take, ap, sym, string_bytes}
 use Rattle.std.proofs.lemmas.List.{take_more, map-append}
-use Rattle.toml.specs.Data.{string, push_item}
-use Rattle.toml.specs.View.{items_of, items_view, view}
+use Rattle.toml.specs.Data.{string}
+use Rattle.toml.specs.View.{items_view, view}
 use Rattle.toml.proofs.Views.{items_view-push}
 use Rattle.route_server.proofs.SetupLemmas.{as_str-string, items_of-push}
 use Rattle.route_server.proofs.setup_values.list_of_texts.Goals as goal

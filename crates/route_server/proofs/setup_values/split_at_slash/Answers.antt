@@ -1,4 +1,4 @@
-use Rattle.std.proofs.Common.{◌<◌, arith}
+use Rattle.std.proofs.Common.{arith}
 use Rattle.route_server.proofs.SetupLemmas.{parts_at_slash}
 use Rattle.route_server.proofs.setup_values.split_at_slash.Goals as goal
 
