@@ -80,7 +80,8 @@ fn split_segment(alloc: Global, octets: &[u8]) -> Result<Option<(Segment, &[u8])
 pub(crate) fn read_path(alloc: Global, value: &[u8]) -> Result<Vec<Segment>, AllocError>
     ensures { IfOk result (λ path. map segment_of path.items ≡ (segments_of value.now).0) }
 {
-    let mut path = Vec::new(alloc);
+    // Nearly all paths have one segment, and a list that grows would have room for four.
+    let mut path = Vec::with_capacity(alloc, 1)?;
     let mut rest = value;
     while let Some(front) = split_segment(alloc, rest)? {
         path.push(front.0)?;
