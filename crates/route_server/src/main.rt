@@ -15,7 +15,6 @@ mod memory_outlet;
 mod options;
 mod outlet;
 mod peer_end;
-mod plain;
 mod report;
 mod run_fault;
 mod runner;
@@ -132,10 +131,14 @@ mod ended_tests;
 #[cfg(test)]
 mod files_tests;
 #[cfg(test)]
+mod folder_outlet_tests;
+#[cfg(test)]
+mod recorded_runs;
+#[cfg(test)]
+mod run_tests;
+#[cfg(test)]
 mod setup_fault_tests;
 #[cfg(test)]
 mod setup_tests;
-#[cfg(test)]
-mod tests;
 #[cfg(test)]
 mod words_tests;

@@ -6,7 +6,7 @@ ghost use Rattle.route_server.specs.declared.run_fault.RunFault.TheVariants.{Mem
 use std::alloc::AllocError;
 
 /// Why a run stops short. Dumps that were kept before stay.
-#[derive(Drop)]
+#[derive(Clone, Copy, Debug, PartialEq, Eq, Drop)]
 pub enum RunFault {
     /// Memory was refused.
     Memory,
