@@ -8,7 +8,7 @@ mod update;
 use std::hint::black_box;
 use std::io::{self, Write};
 use std::time::Instant;
-use update::{read_update, Attributes, Prefix, Update};
+use update::{read_message, Attributes, Message, Prefix, Update};
 
 const PIECE_LEN: usize = 65536;
 const BUFFER_LEN: usize = 69640;
@@ -100,7 +100,9 @@ fn updates(mut file: &[u8]) -> Vec<Update> {
     let mut updates = Vec::new();
     while !file.is_empty() {
         let (message, rest) = file.split_at(usize::from(u16::from_be_bytes([file[16], file[17]])));
-        updates.extend(read_update(message));
+        if let Ok(Message::Update(update)) = read_message(message) {
+            updates.push(update);
+        }
         file = rest;
     }
     updates
