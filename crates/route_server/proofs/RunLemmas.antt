@@ -1,7 +1,7 @@
 -- A run, client by client: what is kept, and what the report says.
-use Rattle.std.proofs.Common.{◌≡◌, ℕ, ◌+◌, ◌≤◌, List, [], ◌∷◌, ◌++◌, Option, Some, None, length, take, sym, ap, subst, ◌∙◌, append_assoc, arith}
+use Rattle.std.proofs.Common.{◌≡◌, ℕ, ◌+◌, ◌≤◌, List, [], ◌∷◌, ◌++◌, Option, Some, None, length, take, refl, sym, ap, subst, ◌∙◌, append_assoc, arith}
 use Rattle.std.specs.Prelude.{slice_get}
-use Rattle.std.specs.List.{flat_map, enumerate_from}
+use Rattle.std.specs.List.{flat_map, enumerate_from, zip}
 use Rattle.std.specs.Option.{option_map}
 use Rattle.std.proofs.lemmas.List.{length-map, take_all}
 use Rattle.std.proofs.lemmas.List.FromFn.{length-enumerate_from}
@@ -9,10 +9,10 @@ use Rattle.std.proofs.lemmas.Option.{slice_get-map}
 use Rattle.rs_choice.specs.Plan.{Peer, Plan}
 use Rattle.rs_table.specs.Table.{table_of}
 use Rattle.route_server.specs.Outlet.{KeptDump, Grows}
-use Rattle.route_server.specs.Recorded.{dump_of_files, tables_of_files}
+use Rattle.route_server.specs.Recorded.{dump_of_files, id_of, tables_of_files}
 use Rattle.route_server.specs.Report.{peer_lines, table_line, table_line_of, report_of_files}
 use Rattle.route_server.specs.Run.{dump_name, kept_dump_of, dumps_of_files}
-use Rattle.route_server.specs.SessionEnd.{ends_of_files}
+use Rattle.route_server.specs.SessionEnd.{end_in, ends_of_files}
 use Rattle.route_server.proofs.ListingLemmas.{flat_map-one_more, lines-one_more, slice_get-enumerated, take-one_more}
 
 -- a told list grows twice
@@ -57,3 +57,12 @@ pub reported-all : (plan : Plan) (files : List (List ℕ)) (client : ℕ) (text 
 reported-all plan files client text past so_far =
     let all = take_all client (enumerate_from 0 plan.peers) (omega (arith, length-enumerate_from 0 plan.peers)) in
     so_far ∙ ap (λ told. peer_lines plan.peers (ends_of_files plan files) ++ flat_map (table_line_of plan files) told) all
+
+-- one end of a session for each peer
+length-zip_same : {X Y : Type 0} (xs : List X) (ys : List Y) → length ys ≡ length xs → length (zip xs ys) ≡ length xs
+length-zip_same [] ys same = refl
+length-zip_same (x ∷ xs) [] same = absurd (omega (arith, same))
+length-zip_same (x ∷ xs) (y ∷ ys) same = omega (arith, length-zip_same xs ys (omega (arith, same)))
+
+pub length-ends : (plan : Plan) (files : List (List ℕ)) → length files ≡ length plan.peers → length (ends_of_files plan files) ≡ length plan.peers
+length-ends plan files same = length-map (zip plan.peers files) (λ (peer, file). end_in (id_of peer) file) ∙ length-zip_same plan.peers files same

@@ -120,7 +120,7 @@ left_more_at changes change q unclosed =
     ∙ ap (λ o. cond (drops_routes change) None o) (split (is_on q change) ∙ ap (cond (is_on q change) (route change)) (sym (route_left_open q changes unclosed)))
 
 -- what the step on a map of routes leaves on a prefix
-get-after : (routes : Routes) (change : Change) (q : IpPrefix) →
+pub get-after : (routes : Routes) (change : Change) (q : IpPrefix) →
     map.get (after routes change) q ≡ cond (drops_routes change) None (cond (is_on q change) (body_route change.time change.body) (map.get routes q))
 get-after routes change q = by_body change.body
   where

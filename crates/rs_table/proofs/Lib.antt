@@ -1,8 +1,14 @@
+pub mod CellsLemmas
+pub mod CloseLemmas
+pub mod DecisionLemmas
 pub mod ExampleLemmas
 pub mod KnownLemmas
 pub mod LeftLemmas
 pub mod ListingLemmas
 pub mod PrefixLemmas
 pub mod RibLemmas
+pub mod RowLemmas
 pub mod SelectionLemmas
+pub mod SlotLemmas
 pub mod TableLemmas
+pub mod TablesLemmas

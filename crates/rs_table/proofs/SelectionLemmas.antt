@@ -24,7 +24,7 @@ map_none f None e = refl
 map_none f (Some x) e = absurd (cc e)
 
 -- two filters of a list, at its first member
-two_filters : {X : Type 0} (eligible permitted : X → Bool) (first : Option X) (later : List X) →
+pub two_filters : {X : Type 0} (eligible permitted : X → Bool) (first : Option X) (later : List X) →
     filter permitted (filter eligible (cons_option first later))
     ≡ cons_option (option_and_then (λ x. cond (eligible x && permitted x) (Some x) None) first) (filter permitted (filter eligible later))
 two_filters eligible permitted None later = refl
@@ -34,11 +34,11 @@ two_filters eligible permitted (Some x) later =
       | false ↦ refl
     ]
 
-filter_none : {X : Type 0} (test : X → Bool) → ((x : X) → test x ≡ false) → (xs : List X) → filter test xs ≡ []
+pub filter_none : {X : Type 0} (test : X → Bool) → ((x : X) → test x ≡ false) → (xs : List X) → filter test xs ≡ []
 filter_none test none [] = refl
 filter_none test none (x ∷ xs) = rw (none x) (filter_none test none xs)
 
-all_places : {X : Type 0} (P : X → Type 0) (xs : List X) → AllByRecursion P xs → All P xs
+pub all_places : {X : Type 0} (P : X → Type 0) (xs : List X) → AllByRecursion P xs → All P xs
 all_places P [] all = λ k d below. absurd (omega arith)
 all_places P (x ∷ xs) all = All-cons P x xs all.0 (all_places P xs all.1)
 

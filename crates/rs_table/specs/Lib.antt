@@ -6,12 +6,16 @@ pub use Rattle.rs_choice.specs.Decision
 pub use Rattle.rs_choice.specs.Eligibility
 pub use Rattle.rs_choice.specs.Plan
 pub use Rattle.rs_choice.specs.Policy
+pub mod Cell
+pub mod CellView
+pub mod Cells
 pub mod Codes
 pub mod Content
 pub mod Examples
 pub mod Laws
 pub mod Left
 pub mod Listing
+pub mod PlainTablesView
 pub mod RibView
 pub mod RouteView
 pub mod Selection

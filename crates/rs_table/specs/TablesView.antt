@@ -1,11 +1,18 @@
 -- The tables by their fields.
-use Rattle.std.specs.Prelude.{◌≡◌, length}
+use Rattle.std.specs.Prelude.{◌≡◌, ℕ, Bool, List, map, length}
+use Rattle.std.specs.List.{enumerate_from}
 use Rattle.rs_table.specs.declared.tables.Tables.TheInside.{Inside}
-use Rattle.rs_table.specs.Content.{TablesContent}
+use Rattle.rs_table.specs.Content.{RibContent, TablesContent}
+use Rattle.rs_table.specs.Cells.{Entries, AreCells, routes_from}
+
+-- what is held of each peer, from one number on
+abbrev pub ribs_from : Entries → ℕ → List Bool → List RibContent
+ribs_from entries first closed = map (λ (peer, is_closed). record { routes = routes_from entries peer; closed = is_closed }) (enumerate_from first closed)
 
 abbrev pub tables_view : Inside → TablesContent
-tables_view fields = record { plan = fields.plan.value; ribs = fields.ribs.items }
+tables_view fields = record { plan = fields.plan.value; ribs = ribs_from fields.cells.entries 0 fields.closed.items }
 
--- each peer of the plan has its Adj-RIB-In
-abbrev pub HasRibs : Inside → Type 0
-HasRibs fields = length fields.ribs.items ≡ length fields.plan.value.peers
+-- each peer of the plan is open or closed, and the cells are the plan's
+pub record AreTables (fields : Inside) : Type 0 where
+  pub peers : length fields.closed.items ≡ length fields.plan.value.peers
+  pub cells : AreCells fields.plan.value fields.cells.entries

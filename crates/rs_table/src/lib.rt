@@ -3,21 +3,29 @@
 //! Standards: RFC 4271, sections 3.2 (Adj-RIB-In) and 9.1 (decision process); RFC 7947, section 2.3 (a table for each client, its
 //! export policy before its decision).
 //!
-//! Reading order: `adj_rib_in` (what one peer has left), `tables` (of all peers), `route` (what is answered), `selection` (what a
-//! client gets on a prefix), `listing` (its whole table), `why` (and why not), `laws` (of the definitions).
+//! Reading order: `tables` (what each peer has left, and what a client gets on a prefix), `route` (what is answered), `listing` (a
+//! client's whole table), `why` (and why not), `laws` (of the definitions). Below them `cells` (of all prefixes), `cell` (of one) and
+//! `decision` (who gets which route on it). The plain program that keeps the same contract by a list of routes for each peer:
+//! `plain_tables`, `adj_rib_in`, `plain_selection`, `plain_listing`.
 #![tactic(auto)]
 
 mod adj_rib_in;
+mod cell;
+mod cells;
+mod decision;
 mod laws;
 mod listing;
+mod plain_listing;
+mod plain_selection;
+mod plain_tables;
 mod route;
-mod selection;
 mod tables;
 #[cfg(test)]
 mod tests;
 mod why;
 
 pub use laws::{examples_hold, left_after_one_more, left_by_last_changes, table_is_computed};
+pub use plain_tables::PlainTables;
 pub use route::{Route, Row};
 pub use tables::Tables;
 pub use why::Why;

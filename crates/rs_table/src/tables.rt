@@ -1,16 +1,28 @@
 //! The tables of an exchange: what each peer has left, and what each client gets of it (RFC 4271, sections 3.2 and 9.1).
 //!
-//! Each peer's routes are kept as one list, its Adj-RIB-In; what a client gets is decided when it is asked.
+//! They are kept by prefix: a cell has the routes of all peers on one prefix, and what each client gets of them, decided anew with
+//! each change.
 
-ghost use Rattle.std.specs.Prelude.{◌≡◌, ◌≢◌, ◌<◌, ◌≤◌, ℕ, false, IfOk, OnOk, OnErr, length, replicate};
+ghost use Rattle.std.specs.Prelude.{◌≡◌, ◌≢◌, ◌<◌, ◌≤◌, ℕ, false, IfOk, OnOk, OnErr, None, length};
+ghost use Rattle.std.specs.Option.{option_map};
+ghost use Rattle.rs_update.specs.IpPrefix.{IpPrefix};
 ghost use Rattle.rs_session.specs.Change.{change_of};
+ghost use Rattle.rs_table.specs.Cells.{cell_at};
 ghost use Rattle.rs_table.specs.Content.{nothing_held, rib_of};
 ghost use Rattle.rs_table.specs.Left.{is_close, BecomeBy, IsNewAnnouncement};
+ghost use Rattle.rs_table.specs.Listing.{is_held, IsFirstAnnouncement};
+ghost use Rattle.rs_table.specs.RouteView.{peer_route_of};
+ghost use Rattle.rs_table.specs.Selection.{route_from};
+ghost use Rattle.rs_table.specs.Table.{best_of};
 
-use crate::adj_rib_in::AdjRibIn;
+use crate::cell::Cell;
+use crate::cells::change;
+use crate::route::Route;
 use rs_choice::{Exchange, MAX_PEERS};
-use rs_session::Word;
+use rs_session::{Body, Word};
+use rs_update::Prefix;
 use std::alloc::{AllocError, Global};
+use std::collections::BTreeMap;
 use std::marker::Model;
 use std::sync::Arc;
 
@@ -20,7 +32,9 @@ use std::sync::Arc;
 #[derive(Drop)]
 pub struct Tables {
     plan: Arc<Exchange>,
-    ribs: Vec<AdjRibIn>,
+    // Of each peer, whether its session closed.
+    closed: Vec<bool>,
+    cells: BTreeMap<Prefix, Cell>,
 }
 
 impl Model for Tables {
@@ -31,11 +45,11 @@ impl Model for Tables {
 
     ghost coded = { tables_code };
 
-    ghost use Rattle.rs_table.specs.TablesView.{tables_view, HasRibs};
+    ghost use Rattle.rs_table.specs.TablesView.{tables_view, AreTables};
 
     ghost view = { tables_view };
 
-    ghost invariant = { HasRibs };
+    ghost invariant = { AreTables };
 }
 
 impl Tables {
@@ -47,16 +61,22 @@ impl Tables {
         ensures empty { IfOk result (λ tables. (peer : ℕ) → rib_of tables peer ≡ nothing_held) }
         ensures count { IfOk result (λ tables. length tables.ribs ≡ length plan.value.peers) }
     {
-        let ribs = open_ribs(alloc, plan.count())?;
-        Ok(Tables { plan, ribs })
+        let mut closed = Vec::with_capacity(alloc, plan.count())?;
+        closed.resize(plan.count(), false)?;
+        let cells = BTreeMap::new(alloc);
+        Ok(Tables {
+            plan,
+            closed,
+            cells,
+        })
     }
 
     /// Whether the session of the peer of number `peer` closed; false where there is no such peer.
     pub fn is_closed(&self, peer: usize) -> bool
         ensures { result ≡ (rib_of self.now peer).closed }
     {
-        match self.ribs.get(peer) {
-            Some(rib) => rib.is_closed(),
+        match self.closed.get(peer) {
+            Some(closed) => *closed,
             None => false,
         }
     }
@@ -64,8 +84,8 @@ impl Tables {
     /// Takes the next change of the peer of number `peer`: an announcement replaces the peer's route on that prefix, a withdrawal
     /// removes it, a close at the end of the file leaves the peer's routes, and any other close drops them (our choice).
     ///
-    /// Refused memory, which only an announcement of a prefix on which the peer has no route can be, nothing changed, and the
-    /// change is dropped.
+    /// Refused memory, which only an announcement of a prefix on which no peer has a route can be, nothing changed, and the change
+    /// is dropped. An announcement of a prefix on which some peer has a route left, eligible or not, takes no memory and succeeds.
     pub fn apply(&mut self, peer: usize, word: Word) -> Result<(), AllocError>
         requires known { peer < length self.old.plan.peers }
         requires open { (rib_of self.old peer).closed ≡ false }
@@ -73,23 +93,18 @@ impl Tables {
         ensures closed { OnOk result ((rib_of self.new peer).closed ≡ is_close (change_of word)) }
         ensures err { OnErr result (self.new ≡ self.old) }
         ensures succeeds { OnErr result (IsNewAnnouncement (rib_of self.old peer).routes (change_of word)) }
+        ensures first { OnErr result (IsFirstAnnouncement self.old.ribs (change_of word)) }
         ensures others { (other : ℕ) → other ≢ peer → rib_of self.new other ≡ rib_of self.old other }
         ensures plan { self.new.plan ≡ self.old.plan }
         ensures count { length self.new.ribs ≡ length self.old.ribs }
     {
-        self.ribs[peer].apply(word)
-    }
-
-    // The plan.
-    pub(crate) fn plan(&self) -> &Exchange
-        ensures { result.now ≡ self.now.plan }
-    {
-        &self.plan
-    }
-
-    // The allocator.
-    pub(crate) fn allocator(&self) -> Global {
-        *self.ribs.allocator()
+        let closes = closes(&word);
+        let alloc = *self.closed.allocator();
+        change(alloc, &mut self.cells, &self.plan, peer, word)?;
+        if closes {
+            self.closed[peer] = true;
+        }
+        Ok(())
     }
 
     /// How many peers there are: as many as the plan has, and something is held of each one.
@@ -98,26 +113,50 @@ impl Tables {
         ensures ribs { result ≡ length self.now.ribs }
         ensures bound { result ≤ MAX_PEERS }
     {
-        let _ribs = &self.ribs;
+        let _closed = &self.closed;
         self.plan.count()
     }
 
-    // What a peer has left.
-    pub(crate) fn rib(&self, peer: usize) -> &AdjRibIn
-        requires { peer < length self.now.plan.peers }
-        ensures { result.now ≡ rib_of self.now peer }
+    /// The route that the peer of number `client` gets on a prefix: the choice of the decision process among the routes that other
+    /// peers have left there, that are eligible and that export policy permits to the client. None where there is none, or no such
+    /// peer. It takes no memory.
+    pub fn best(&self, client: usize, prefix: Prefix) -> Option<Route<'_>>
+        ensures { option_map peer_route_of result ≡ best_of self.now client prefix }
     {
-        &self.ribs[peer]
+        self.cells.get(&prefix)?.best(client)
+    }
+
+    // The route that a peer has left on a prefix.
+    pub(crate) fn route(&self, peer: usize, prefix: Prefix) -> Option<Route<'_>>
+        requires { peer < length self.now.plan.peers }
+        ensures { option_map peer_route_of result ≡ route_from self.now prefix peer }
+    {
+        self.cells.get(&prefix)?.route(peer)
+    }
+
+    // The cells: where a prefix has none, no peer has left a route.
+    pub(crate) fn cells(&self) -> &BTreeMap<Prefix, Cell>
+        ensures { (prefix : IpPrefix) → cell_at result.now.entries prefix ≡ None → is_held self.now.ribs prefix ≡ false }
+    {
+        &self.cells
+    }
+
+    // The allocator.
+    pub(crate) fn allocator(&self) -> Global {
+        *self.closed.allocator()
+    }
+
+    // The plan.
+    pub(crate) fn plan(&self) -> &Exchange
+        ensures { result.now ≡ self.now.plan }
+    {
+        &self.plan
     }
 }
 
-// As many Adj-RIBs-In, without a route and open.
-fn open_ribs(alloc: Global, count: usize) -> Result<Vec<AdjRibIn>, AllocError>
-    ensures { IfOk result (λ ribs. ribs.items ≡ replicate count nothing_held) }
+// Whether a change closes the session.
+fn closes(word: &Word) -> bool
+    ensures { result ≡ is_close (change_of word.now) }
 {
-    let mut ribs = Vec::with_capacity(alloc, count)?;
-    for _made in 0..count {
-        ribs.push(AdjRibIn::new(alloc))?;
-    }
-    Ok(ribs)
+    matches!(word.body, Body::Close(_))
 }

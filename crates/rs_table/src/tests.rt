@@ -1,5 +1,6 @@
 //! Worked exchanges, with routes read from octets: which route each client gets, and why.
 
+mod both_bodies;
 mod refusals;
 
 use super::*;
@@ -45,6 +46,8 @@ const MED_5: &str = "800404 00000005";
 const MED_10: &str = "800404 0000000A";
 
 const NOT_TO_64502: &str = "C00804 0000FBF6";
+
+const TO_NOBODY: &str = "C00804 0000FBF4";
 
 // The digit that the letter is.
 fn digit(letter: u8) -> Option<u8> {

@@ -33,13 +33,13 @@ impl Tables {
         if client == peer {
             return Why::Own;
         }
-        let Some(held) = self.rib(peer).get(prefix) else {
+        let Some(held) = self.route(peer, prefix) else {
             return Why::Absent;
         };
-        if !self.plan().eligible(peer, &held.attributes) {
+        if !self.plan().eligible(peer, held.attributes) {
             return Why::Ineligible;
         }
-        if !self.plan().permits(client, peer, &held.attributes) {
+        if !self.plan().permits(client, peer, held.attributes) {
             return Why::Refused;
         }
         if self.gets_from(client, peer, prefix) {

@@ -69,10 +69,10 @@ fn word(
 }
 
 // Takes what a peer says of a prefix, and once more where memory was refused; the clients then get what is wanted, and a refusal
-// changed nothing.
+// changed nothing. Where some peer has a route on the prefix, none comes.
 fn take_again(
     tables: &mut Tables,
-    (peer, time): (usize, u32),
+    (peer, time, is_held): (usize, u32, bool),
     prefix: Prefix,
     attributes: Option<&Arc<Attributes>>,
     wanted: Table,
@@ -84,7 +84,7 @@ fn take_again(
     }
     let before = table(tables)?;
     if tables.apply(peer, first).is_err() {
-        if table(tables)? != before || !lists(tables, &before)? {
+        if is_held || table(tables)? != before || !lists(tables, &before)? {
             return Ok(false);
         }
         take(tables, peer, again.time, again.body)?;
@@ -99,14 +99,14 @@ fn a_refusal_changes_nothing(rt: HostRuntime) -> Result<(), Fail> {
     let (ten, other) = (ten()?, documentation()?);
     let (a, b, c) = (Some((A, 100)), Some((B, 101)), Some((A, 102)));
     let wanted = [[None, None], [a, None], [a, None], [a, None]];
-    assert!(rt; take_again(&mut tables, (A, 100), ten, Some(&route), wanted)?);
+    assert!(rt; take_again(&mut tables, (A, 100, false), ten, Some(&route), wanted)?);
     let wanted = [[b, None], [a, None], [a, None], [a, None]];
-    assert!(rt; take_again(&mut tables, (B, 101), ten, Some(&route), wanted)?);
+    assert!(rt; take_again(&mut tables, (B, 101, true), ten, Some(&route), wanted)?);
     let wanted = [[b, None], [a, c], [a, c], [a, c]];
-    assert!(rt; take_again(&mut tables, (A, 102), other, Some(&route), wanted)?);
+    assert!(rt; take_again(&mut tables, (A, 102, false), other, Some(&route), wanted)?);
     let wanted = [[b, None], [None, c], [b, c], [b, c]];
-    assert!(rt; take_again(&mut tables, (A, 103), ten, None, wanted)?);
+    assert!(rt; take_again(&mut tables, (A, 103, true), ten, None, wanted)?);
     let wanted = [[b, None], [None, None], [b, None], [b, None]];
-    assert!(rt; take_again(&mut tables, (A, 104), other, None, wanted)?);
+    assert!(rt; take_again(&mut tables, (A, 104, true), other, None, wanted)?);
     Ok(())
 }

@@ -1,6 +1,7 @@
 -- One client more: its dump is kept, and the report tells of its table. After the last one all is kept and told.
-use Rattle.std.proofs.Common.{◌≡◌, ℕ, ◌+◌, ◌≤◌, List, length, map, ap, subst, ◌∙◌, arith}
+use Rattle.std.proofs.Common.{◌≡◌, ℕ, ◌+◌, ◌≤◌, List, length, map, sym, ap, subst, ◌∙◌, arith}
 use Rattle.std.specs.Prelude.{Some, slice_get, string_bytes}
+use Rattle.std.proofs.lemmas.List.{length-map}
 use Rattle.std.specs.Io.KnownBytes.{Appends}
 use Rattle.rs_choice.specs.Plan.{Plan, peer_of}
 use Rattle.rs_dump.specs.Dump.{dumped}
@@ -10,8 +11,15 @@ use Rattle.rs_table.specs.Table.{table_of}
 use Rattle.route_server.specs.Outlet.{KeptDump, Grows}
 use Rattle.route_server.specs.Recorded.{dump_of_files, tables_of_files}
 use Rattle.route_server.specs.Run.{dump_name}
-use Rattle.route_server.proofs.RunLemmas.{kept-one_more, kept-all, reported-one_more, reported-all}
+use Rattle.route_server.proofs.RunLemmas.{length-ends, kept-one_more, kept-all, reported-one_more, reported-all}
 use Rattle.route_server.proofs.runner.run.Goals as goal
+
+pub add_peer_lines-requires : goal.add_peer_lines-requires
+add_peer_lines-requires g c =
+    let files = map (λ file. file.now) c.args.files.now in
+    ap length (c.deref-3.ensures.value ∙ c.in_ok-sessions.ensures.ends)
+    ∙ length-ends c.args.setup.now.plan.value files (length-map c.args.files.now (λ file. file.now) ∙ c.requires.one_for_each)
+    ∙ sym (ap (λ (held : Plan). length held.peers) c.deref-2.ensures)
 
 pub loop-client-preserved : goal.loop-client-preserved
 loop-client-preserved g c =

@@ -1,27 +1,82 @@
-use Rattle.std.proofs.Common.{◌≡◌, ◌<◌, length, get_or, get_or-set_same, OnOk, Result, Ok, Err, List, set, arith, sym, ap, ◌∙◌}
-use Rattle.std.proofs.lemmas.List.{get_or_read}
+use Rattle.std.proofs.Common.{◌≡◌, ◌<◌, true, false, length, length-set, get_or-set_same, set, rules, arith, refl, sym, ap, subst, ◌∙◌}
+use Rattle.std.proofs.lemmas.List.{get_or-set_other}
 use Rattle.rs_session.specs.Change.{Change, change_of}
-use Rattle.rs_table.specs.Content.{nothing_held, rib_of, RibContent}
-use Rattle.rs_table.specs.Left.{Routes, after, BecomeBy}
+use Rattle.rs_table.specs.Content.{rib_of}
+use Rattle.rs_table.specs.Left.{Routes, after, BecomeBy, IsNewAnnouncement}
+use Rattle.rs_table.specs.Listing.{IsFirstAnnouncement}
 use Rattle.rs_table.proofs.LeftLemmas.{left_more}
+use Rattle.rs_table.proofs.CellsLemmas.{length-ribs}
+use Rattle.rs_table.proofs.TablesLemmas.{rib-of, rib-closed, rib-other, first-new, first-held, applied-routes}
 use Rattle.rs_table.proofs.tables.Tables.apply.Goals as goal
 
 become : (before others : Routes) (change : Change) → others ≡ after before change → BecomeBy before change others
 become before others change step changes unclosed is = left_more changes change unclosed ∙ ap (λ routes. after routes change) is ∙ sym step
 
-if_ok : {V E : Type 0} {P Q : Type 0} (r : Result V E) → (P → Q) → OnOk r P → OnOk r Q
-if_ok (Ok v) f p = f p
-if_ok (Err e) f p = p
+pub returns-in_err-change-clause-succeeds : goal.returns-in_err-change-clause-succeeds
+returns-in_err-change-clause-succeeds c =
+    let inside = c.self.inside in
+    let known : c.args.peer < length inside.closed.items = omega (arith, c.requires.known, c.self.invariant.peers, ap (λ tables. length tables.plan.peers) c.self.view_is) in
+    let own = ap (λ rib. rib.routes) (sym (rib-of inside.plan.value inside.cells.entries inside.closed.items c.args.peer known)) ∙ ap (λ tables. (rib_of tables c.args.peer).routes) c.self.view_is in
+    let new : IsNewAnnouncement (rib_of c.args.self.now c.args.peer).routes (change_of c.args.word) =
+    subst (λ routes. IsNewAnnouncement routes (change_of c.args.word)) own (first-new inside.cells.entries c.args.peer (change_of c.args.word).body c.in_err-change.ensures.first) in
+    search rules
 
-pub returns-clause-routes : goal.returns-clause-routes
-returns-clause-routes c =
-    let here : List RibContent = c.self.inside.ribs.items in
-    let known : c.args.peer < length here = omega (arith, c.self.invariant, ap (λ tables. length tables.plan.peers) c.self.view_is) in
-    let before : rib_of c.args.self.now c.args.peer ≡ c.index_mut.result.now =
-    ap (λ tables. rib_of tables c.args.peer) (sym c.self.view_is)
-    ∙ sym (get_or_read here c.args.peer c.index_mut.result.now known c.index_mut.ensures.value nothing_held) in
-    let later : get_or (set here c.args.peer c.apply.new.self) c.args.peer nothing_held ≡ c.apply.new.self =
-    get_or-set_same here c.args.peer c.apply.new.self nothing_held known in
-    if_ok c.apply.result
-    (λ step. become _ _ (change_of c.args.word) (ap (λ rib. rib.routes) later ∙ step ∙ ap (λ rib. after rib.routes (change_of c.args.word)) (sym before)))
-    c.apply.ensures.routes
+pub returns-in_err-change-clause-first : goal.returns-in_err-change-clause-first
+returns-in_err-change-clause-first c =
+    let inside = c.self.inside in
+    let first : IsFirstAnnouncement c.args.self.now.ribs (change_of c.args.word) =
+    subst (λ tables. IsFirstAnnouncement tables.ribs (change_of c.args.word)) c.self.view_is (first-held inside.cells.entries inside.closed.items (change_of c.args.word).body c.in_err-change.ensures.first) in
+    search rules
+
+pub returns-then-closes-clause-routes : goal.returns-then-closes-clause-routes
+returns-then-closes-clause-routes c =
+    let inside = c.self.inside in
+    let known : c.args.peer < length inside.closed.items = omega (arith, c.requires.known, c.self.invariant.peers, ap (λ tables. length tables.plan.peers) c.self.view_is) in
+    become _ _ (change_of c.args.word)
+    (applied-routes inside.plan.value inside.cells.entries c.change.new.cells.entries inside.closed.items (set inside.closed.items c.args.peer true) c.args.peer (change_of c.args.word) c.in_ok-change.ensures.routes (length-set inside.closed.items c.args.peer true) known
+    ∙ ap (λ tables. after (rib_of tables c.args.peer).routes (change_of c.args.word)) c.self.view_is)
+
+pub returns-then-closes-clause-closed : goal.returns-then-closes-clause-closed
+returns-then-closes-clause-closed c =
+    let inside = c.self.inside in
+    let known : c.args.peer < length inside.closed.items = omega (arith, c.requires.known, c.self.invariant.peers, ap (λ tables. length tables.plan.peers) c.self.view_is) in
+    rib-closed inside.plan.value c.change.new.cells.entries (set inside.closed.items c.args.peer true) c.args.peer
+    ∙ get_or-set_same inside.closed.items c.args.peer true false known
+    ∙ sym c.if-closes.true ∙ c.closes-closes.ensures
+
+pub returns-then-closes-clause-others : goal.returns-then-closes-clause-others
+returns-then-closes-clause-others c = λ other apart.
+    let inside = c.self.inside in
+    rib-other inside.cells.entries c.change.new.cells.entries c.args.peer (change_of c.args.word) c.in_ok-change.ensures.routes inside.closed.items (set inside.closed.items c.args.peer true) (length-set inside.closed.items c.args.peer true) other apart
+    (get_or-set_other inside.closed.items c.args.peer other true false apart)
+    ∙ ap (λ tables. rib_of tables other) c.self.view_is
+
+pub returns-then-closes-clause-count : goal.returns-then-closes-clause-count
+returns-then-closes-clause-count c =
+    let inside = c.self.inside in
+    length-ribs c.change.new.cells.entries 0 (set inside.closed.items c.args.peer true)
+    ∙ length-set inside.closed.items c.args.peer true
+    ∙ sym (length-ribs inside.cells.entries 0 inside.closed.items)
+    ∙ ap (λ tables. length tables.ribs) c.self.view_is
+
+pub returns-else-closes-clause-routes : goal.returns-else-closes-clause-routes
+returns-else-closes-clause-routes c =
+    let inside = c.self.inside in
+    let known : c.args.peer < length inside.closed.items = omega (arith, c.requires.known, c.self.invariant.peers, ap (λ tables. length tables.plan.peers) c.self.view_is) in
+    become _ _ (change_of c.args.word)
+    (applied-routes inside.plan.value inside.cells.entries c.change.new.cells.entries inside.closed.items inside.closed.items c.args.peer (change_of c.args.word) c.in_ok-change.ensures.routes refl known
+    ∙ ap (λ tables. after (rib_of tables c.args.peer).routes (change_of c.args.word)) c.self.view_is)
+
+pub returns-else-closes-clause-closed : goal.returns-else-closes-clause-closed
+returns-else-closes-clause-closed c =
+    let inside = c.self.inside in
+    rib-closed inside.plan.value c.change.new.cells.entries inside.closed.items c.args.peer
+    ∙ sym (rib-closed inside.plan.value inside.cells.entries inside.closed.items c.args.peer)
+    ∙ ap (λ tables. (rib_of tables c.args.peer).closed) c.self.view_is
+    ∙ c.requires.open ∙ sym c.if-closes.false ∙ c.closes-closes.ensures
+
+pub returns-else-closes-clause-others : goal.returns-else-closes-clause-others
+returns-else-closes-clause-others c = λ other apart.
+    let inside = c.self.inside in
+    rib-other inside.cells.entries c.change.new.cells.entries c.args.peer (change_of c.args.word) c.in_ok-change.ensures.routes inside.closed.items inside.closed.items refl other apart refl
+    ∙ ap (λ tables. rib_of tables other) c.self.view_is

@@ -1,7 +1,7 @@
 use Rattle.std.proofs.Common.{◌≡◌, drop, length}
 use Rattle.rs_table.specs.Selection.{candidates_from}
 use Rattle.rs_table.specs.Table.{candidates_of}
-use Rattle.rs_table.proofs.tables.Tables.first_candidate.Given as goal
+use Rattle.rs_table.proofs.plain_tables.PlainTables.first_candidate.Given as goal
 
 abbrev pub invariant-loop-peer : goal.invariant-loop-peer
 invariant-loop-peer l = record {

@@ -3,7 +3,7 @@ use Rattle.std.specs.BTreeSet.{contains}
 use Rattle.rs_update.specs.IpPrefix.{IpPrefix}
 use Rattle.rs_update.specs.PrefixOrder.{prefix_cmp}
 use Rattle.rs_table.specs.Listing.{is_held}
-use Rattle.rs_table.proofs.tables.Tables.prefixes.Given as goal
+use Rattle.rs_table.proofs.plain_tables.PlainTables.prefixes.Given as goal
 
 -- the prefixes gathered, with those of the peers to come, are all that are held
 abbrev pub invariant-loop-peer : goal.invariant-loop-peer

@@ -1,8 +1,8 @@
 use Rattle.std.proofs.Common.{arith, ◌<◌, length, length-set}
 use Rattle.rs_table.specs.Table.{sent_route}
 use Rattle.rs_table.proofs.SelectionLemmas.{gathers_none, gathers_some, map_none}
-use Rattle.rs_table.proofs.tables.Tables.gather.Goals as goal
-use Rattle.rs_table.proofs.tables.Tables.gather.Goals.{in-Some, in_default}
+use Rattle.rs_table.proofs.plain_tables.PlainTables.gather.Goals as goal
+use Rattle.rs_table.proofs.plain_tables.PlainTables.gather.Goals.{in-Some, in_default}
 
 pub loop-peer-preserved : goal.loop-peer-preserved
 loop-peer-preserved c =

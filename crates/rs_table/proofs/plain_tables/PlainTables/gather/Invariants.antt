@@ -1,6 +1,6 @@
 use Rattle.std.proofs.Common.{◌≡◌, ◌≤◌, length}
 use Rattle.rs_table.proofs.SelectionLemmas.{Gathers}
-use Rattle.rs_table.proofs.tables.Tables.gather.Given as goal
+use Rattle.rs_table.proofs.plain_tables.PlainTables.gather.Given as goal
 
 abbrev pub invariant-loop-peer : goal.invariant-loop-peer
 invariant-loop-peer l = record {

@@ -12,12 +12,12 @@ ghost use Rattle.rs_table.specs.RouteView.{peer_route_of};
 ghost use Rattle.rs_table.specs.Selection.{candidate_from, route_from};
 ghost use Rattle.rs_table.specs.Table.{best_of, candidates_of, sent_route};
 
+use crate::plain_tables::PlainTables;
 use crate::route::Route;
-use crate::tables::Tables;
 use rs_choice::{Candidate, MAX_PEERS};
 use rs_update::Prefix;
 
-impl Tables {
+impl PlainTables {
     /// The route that the peer of number `client` gets on a prefix: the choice of the decision process among the routes that other
     /// peers have left there, that are eligible and that export policy permits to the client. None where there is none, or no such
     /// peer. It takes no memory.

@@ -1,0 +1,175 @@
+-- The routes on one prefix, in ascending order of their peers.
+use Rattle.std.proofs.Common.{◌≡◌, ℕ, ◌+◌, ◌<◌, ◌≤◌, Bool, true, false, cond, not, List, [], ◌∷◌, length, get_or, set, Some, None, refl, ap, ◌∙◌, arith, inl, inr, ◌⊎◌}
+use Rattle.std.specs.List.{insert}
+use Rattle.std.specs.Prelude.{◌==◌, nat_lt}
+use Rattle.std.proofs.lemmas.List.Edits.{length-insert}
+use Rattle.std.proofs.lemmas.Bool.{cases_Bool, eq-eqb}
+use Rattle.std.proofs.lemmas.Bool.Decides.{eqb_tells, nat_tests}
+use Rattle.rs_table.specs.Left.{RouteLeft}
+use Rattle.rs_table.specs.Table.{PeerRoute}
+use Rattle.rs_table.specs.Cell.{IsRow, route_at, with_route, without_route, place_of}
+
+below : (a b : ℕ) → nat_lt a b ≡ true → a < b
+below a b e = grind (arith, nat_tests)
+
+not_below : (a b : ℕ) → nat_lt a b ≡ false → b ≤ a
+not_below a b e = grind (arith, nat_tests)
+
+pub IsRow-from : (from more to : ℕ) (routes : List PeerRoute) → from ≤ more → IsRow more to routes → IsRow from to routes
+IsRow-from from more to [] le row = tt
+IsRow-from from more to (route ∷ later) le row = (omega (arith, row.0), row.1, row.2)
+
+pub IsRow-without : (from to peer : ℕ) (routes : List PeerRoute) → IsRow from to routes → IsRow from to (without_route routes peer)
+IsRow-without from to peer [] row = tt
+IsRow-without from to peer (route ∷ later) row =
+    let rest : IsRow (route.peer + 1) to (without_route later peer) = IsRow-without (route.peer + 1) to peer later row.2 in
+    elim (not (route.peer == peer)) as (λ b. IsRow from to (cond b (route ∷ without_route later peer) (without_route later peer))) [
+      | true ↦ (row.0, row.1, rest)
+      | false ↦ IsRow-from from (route.peer + 1) to (without_route later peer) (omega (arith, row.0)) rest
+    ]
+
+pub IsRow-with : (from to : ℕ) (routes : List PeerRoute) (route : PeerRoute) → from ≤ route.peer → route.peer < to → IsRow from to routes → IsRow from to (with_route routes route)
+IsRow-with from to [] route lo hi row = (lo, hi, tt)
+IsRow-with from to (first ∷ later) route lo hi row =
+    elim (cases_Bool (nat_lt first.peer route.peer)) [
+      | inl less ↦ rw less (row.0, row.1, IsRow-with (first.peer + 1) to later route (omega (arith, below first.peer route.peer less)) hi row.2)
+      | inr more ↦ rw more (elim (eqb_tells first.peer route.peer) [
+        | inl same ↦ rw same.0 (lo, hi, IsRow-from (route.peer + 1) (first.peer + 1) to later (omega (arith, same.1)) row.2)
+        | inr apart ↦ rw apart.0 (lo, hi, (omega (arith, not_below first.peer route.peer more, apart.1), row.1, row.2))
+      ])
+    ]
+
+-- no more routes than peers
+pub length-row : (from to : ℕ) (routes : List PeerRoute) → from ≤ to → IsRow from to routes → length routes + from ≤ to
+length-row from to [] le row = omega (arith, le)
+length-row from to (route ∷ later) le row = omega (arith, length-row (route.peer + 1) to later (omega (arith, row.1)) row.2, row.0)
+
+-- the peers from one on have no route where all routes are of later ones
+pub route_at-before : (from to peer : ℕ) (routes : List PeerRoute) → peer < from → IsRow from to routes → route_at routes peer ≡ None
+route_at-before from to peer [] less row = refl
+route_at-before from to peer (route ∷ later) less row =
+    elim (eqb_tells route.peer peer) [
+      | inl same ↦ absurd (omega (arith, same.1, row.0, less))
+      | inr apart ↦ rw apart.0 (route_at-before (route.peer + 1) to peer later (omega (arith, row.0, less)) row.2)
+    ]
+
+-- ---- what a change leaves of each peer
+
+swap_tests : {X : Type 0} (one other : Bool) (x y z : X) → (one ≡ true → other ≡ true → ⊥) → cond one x (cond other y z) ≡ cond other y (cond one x z)
+swap_tests true true x y z apart = absurd (apart refl refl)
+swap_tests true false x y z apart = refl
+swap_tests false other x y z apart = refl
+
+abbrev left_of : PeerRoute → RouteLeft
+left_of route = record { time = route.time; attributes = route.attributes }
+
+pub route_at-with : (routes : List PeerRoute) (route : PeerRoute) (peer : ℕ) →
+    route_at (with_route routes route) peer ≡ cond (route.peer == peer) (Some (record { time = route.time; attributes = route.attributes })) (route_at routes peer)
+route_at-with [] route peer = refl
+route_at-with (first ∷ later) route peer =
+    elim (cases_Bool (nat_lt first.peer route.peer)) [
+      | inl less ↦ rw less (
+          ap (cond (first.peer == peer) (Some (left_of first))) (route_at-with later route peer)
+          ∙ swap_tests (first.peer == peer) (route.peer == peer) (Some (left_of first)) (Some (left_of route)) (route_at later peer)
+          (λ one other. elim (eqb_tells first.peer peer) [
+            | inl here ↦ elim (eqb_tells route.peer peer) [
+              | inl there ↦ absurd (omega (arith, below first.peer route.peer less, here.1, there.1))
+              | inr apart ↦ absurd (cc (apart.0, other))
+            ]
+            | inr apart ↦ absurd (cc (apart.0, one))
+          ]))
+      | inr more ↦ rw more (elim (eqb_tells first.peer route.peer) [
+        | inl same ↦ rw same.0 (elim (eqb_tells route.peer peer) [
+          | inl here ↦ rw here.0 refl
+          | inr there ↦ rw there.0 (elim (eqb_tells first.peer peer) [
+            | inl both ↦ absurd (there.1 (omega (arith, same.1, both.1)))
+            | inr none ↦ rw none.0 refl
+          ])
+        ])
+        | inr apart ↦ rw apart.0 refl
+      ])
+    ]
+
+either_way : {X : Type 0} (b : Bool) (x : X) → x ≡ cond b x x
+either_way true x = refl
+either_way false x = refl
+
+pub route_at-without : (routes : List PeerRoute) (gone peer : ℕ) → route_at (without_route routes gone) peer ≡ cond (gone == peer) None (route_at routes peer)
+route_at-without [] gone peer = either_way (gone == peer) None
+route_at-without (route ∷ later) gone peer =
+    elim (eqb_tells route.peer gone) [
+      | inl same ↦ rw same.0 (route_at-without later gone peer ∙ elim (eqb_tells gone peer) [
+        | inl here ↦ rw here.0 refl
+        | inr there ↦ rw there.0 (elim (eqb_tells route.peer peer) [
+          | inl both ↦ absurd (there.1 (omega (arith, same.1, both.1)))
+          | inr none ↦ rw none.0 refl
+        ])
+      ])
+      | inr apart ↦ rw apart.0 (elim (eqb_tells route.peer peer) [
+        | inl here ↦ rw here.0 (elim (eqb_tells gone peer) [
+          | inl both ↦ absurd (apart.1 (omega (arith, here.1, both.1)))
+          | inr none ↦ rw none.0 refl
+        ])
+        | inr there ↦ rw there.0 (route_at-without later gone peer)
+      ])
+    ]
+
+-- nothing goes where the length stays
+pub without_none : (routes : List PeerRoute) (peer : ℕ) → length routes ≤ length (without_route routes peer) → without_route routes peer ≡ routes
+without_none routes peer long = elim (longer routes) [ inl short ↦ absurd (omega (arith, short, long)) | inr same ↦ same ]
+  where
+    longer : (routes : List PeerRoute) → (length (without_route routes peer) < length routes) ⊎ (without_route routes peer ≡ routes)
+    longer [] = inr refl
+    longer (route ∷ later) =
+        elim (cases_Bool (route.peer == peer)) [
+          | inl here ↦ rw here (inl (elim (longer later) [ inl short ↦ omega (arith, short) | inr same ↦ rw same (omega arith) ]))
+          | inr there ↦ rw there (elim (longer later) [ inl short ↦ inl (omega (arith, short)) | inr same ↦ inr (ap (λ rest. route ∷ rest) same) ])
+        ]
+
+-- ---- places
+
+pub place-within : (routes : List PeerRoute) (peer : ℕ) → place_of routes peer ≤ length routes
+place-within [] peer = omega arith
+place-within (route ∷ later) peer =
+    elim (cases_Bool (nat_lt route.peer peer)) [
+      | inl less ↦ rw less (omega (arith, place-within later peer))
+      | inr more ↦ rw more (omega arith)
+    ]
+
+pub with-set : (routes : List PeerRoute) (route : PeerRoute) → place_of routes route.peer < length routes → ((d : PeerRoute) → (get_or routes (place_of routes route.peer) d).peer ≡ route.peer) → with_route routes route ≡ set routes (place_of routes route.peer) route
+with-set [] route within same = absurd (omega (arith, within))
+with-set (first ∷ later) route within same =
+    elim (cases_Bool (nat_lt first.peer route.peer)) [
+      | inl less ↦ rw less (
+          let inside : place_of later route.peer < length later = omega (arith, rw less at within) in
+          let here : (d : PeerRoute) → (get_or later (place_of later route.peer) d).peer ≡ route.peer = λ d. rw less at (same d) in
+          ap (λ rest. first ∷ rest) (with-set later route inside here))
+      | inr more ↦
+          let here : first.peer ≡ route.peer = rw more at (same first) in
+          rw (more, eq-eqb first.peer route.peer here) refl
+    ]
+
+pub with-insert : (routes : List PeerRoute) (route : PeerRoute) → (place_of routes route.peer < length routes → (d : PeerRoute) → (get_or routes (place_of routes route.peer) d).peer ≡ route.peer → ⊥) → with_route routes route ≡ insert routes (place_of routes route.peer) route
+with-insert [] route none = refl
+with-insert (first ∷ later) route none =
+    elim (cases_Bool (nat_lt first.peer route.peer)) [
+      | inl less ↦ rw less (ap (λ rest. first ∷ rest) (with-insert later route (λ within d same. (rw less at none) (omega (arith, within)) d same)))
+      | inr more ↦ elim (eqb_tells first.peer route.peer) [
+        | inl same ↦ absurd ((rw more at none) (omega arith) first same.1)
+        | inr apart ↦ rw (more, apart.0) refl
+      ]
+    ]
+
+pub length-with : (routes : List PeerRoute) (route : PeerRoute) → (place_of routes route.peer < length routes → (d : PeerRoute) → (get_or routes (place_of routes route.peer) d).peer ≡ route.peer → ⊥) → length (with_route routes route) ≡ length routes + 1
+length-with routes route none = ap length (with-insert routes route none) ∙ length-insert routes (place_of routes route.peer) route (place-within routes route.peer)
+
+pub with-some : (routes : List PeerRoute) (route : PeerRoute) → 0 < length (with_route routes route)
+with-some [] route = omega arith
+with-some (first ∷ later) route =
+    elim (cases_Bool (nat_lt first.peer route.peer)) [
+      | inl less ↦ rw less (omega arith)
+      | inr more ↦ elim (eqb_tells first.peer route.peer) [
+        | inl same ↦ rw (more, same.0) (omega arith)
+        | inr apart ↦ rw (more, apart.0) (omega arith)
+      ]
+    ]

@@ -1,0 +1,263 @@
+-- The tables by cells: what each peer has, and what each client gets.
+use Rattle.std.proofs.Common.{◌≡◌, ◌≢◌, ℕ, ◌+◌, ◌<◌, ◌≤◌, Bool, true, false, cond, not, ◌&&◌, ◌||◌, ◌==◌, List, [], ◌∷◌, length, filter, get_or, Option, Some, None, refl, sym, ap, subst, ◌∙◌, arith, inl, inr}
+use Rattle.std.specs.List.{AllByRecursion, list_any}
+use Rattle.std.specs.FinMap as fin
+use Rattle.std.specs.Option.{option_map, option_map_or, option_and_then, is_some}
+use Rattle.std.proofs.lemmas.Bool.{cases_Bool, cases_lt, and_right, eq-eqb}
+use Rattle.std.proofs.lemmas.Bool.Decides.{eqb_tells}
+use Rattle.std.proofs.lemmas.Option.{slice_get-get_or, slice_get_past}
+use Rattle.std.proofs.lemmas.List.{get_or_past}
+use Rattle.rs_update.specs.IpPrefix.{IpPrefix}
+use Rattle.rs_session.specs.Change.{Change, ChangeBody, Announced, Withdrawn, Closed}
+use Rattle.rs_choice.specs.Plan.{Plan}
+use Rattle.rs_choice.specs.Decision.{standing_of}
+use Rattle.rs_choice.specs.Eligibility.{is_eligible}
+use Rattle.rs_choice.specs.Policy.{is_permitted}
+use Rattle.rs_choice.specs.Naturality.{choice-All}
+use Rattle.rs_table.specs.Left.{RouteLeft, after, same_prefix, is_on, drops_routes, reason_drops, body_route, body_drops, body_prefix, IsNewBody}
+use Rattle.rs_table.specs.Content.{TablesContent, nothing_held, rib_of}
+use Rattle.rs_table.specs.Listing.{is_held}
+use Rattle.rs_table.specs.Listing as listing
+use Rattle.rs_table.specs.Cells as cells
+use Rattle.rs_table.specs.Selection.{route_from}
+use Rattle.rs_table.specs.Table.{PeerRoute, peer_route, sent_route, best_of}
+use Rattle.rs_table.specs.Cell.{CellContent, IsCell, IsRow, route_at, candidates_among, best_among, best_peer, stored_best, route_unless_own}
+use Rattle.rs_table.specs.Cells.{Entries, AreCells, cell_at, routes_at, routes_of, routes_from, changed_routes, changed_routes_body, ChangeTo}
+use Rattle.rs_table.specs.TablesView.{ribs_from}
+use Rattle.rs_table.proofs.PrefixLemmas.{prefix_total, prefix_cmp-IsAntisymmetric}
+use Rattle.rs_table.proofs.LeftLemmas.{get-after}
+use Rattle.rs_table.proofs.RowLemmas.{route_at-with, route_at-without}
+use Rattle.rs_table.proofs.CellsLemmas.{get-routes_from, rib-at, rib-past, routes_on-cells, cell-IsCell}
+use Rattle.rs_table.proofs.SelectionLemmas.{all_places, filter_none}
+use Rattle.rs_table.proofs.TableLemmas.{choice-nil}
+
+-- ---- what is stored for a client is its choice
+
+abbrev left_of : PeerRoute → RouteLeft
+left_of route = record { time = route.time; attributes = route.attributes }
+
+filter_passes : {X : Type 0} (test : X → Bool) (xs : List X) → AllByRecursion (λ x. test x ≡ true) (filter test xs)
+filter_passes test [] = tt
+filter_passes test (x ∷ xs) =
+    elim (cases_Bool (test x)) [
+      | inl passes ↦ rw passes (passes, filter_passes test xs)
+      | inr fails ↦ rw fails (filter_passes test xs)
+    ]
+
+filter_keeps : {X : Type 0} (P : X → Type 0) (test : X → Bool) (xs : List X) → AllByRecursion P xs → AllByRecursion P (filter test xs)
+filter_keeps P test [] all = tt
+filter_keeps P test (x ∷ xs) all =
+    elim (test x) as (λ b. AllByRecursion P (cond b (x ∷ filter test xs) (filter test xs))) [
+      | true ↦ (all.0, filter_keeps P test xs all.1)
+      | false ↦ filter_keeps P test xs all.1
+    ]
+
+both : {X : Type 0} (P Q R : X → Type 0) (xs : List X) → ((x : X) → P x → Q x → R x) → AllByRecursion P xs → AllByRecursion Q xs → AllByRecursion R xs
+both P Q R [] f p q = tt
+both P Q R (x ∷ xs) f p q = (f x p.0 q.0, both P Q R xs f p.1 q.1)
+
+-- each route of a row is found at its peer
+from_there : (from to : ℕ) (routes : List PeerRoute) → IsRow from to routes → AllByRecursion (λ (route : PeerRoute). from ≤ route.peer) routes
+from_there from to [] row = tt
+from_there from to (route ∷ later) row = (
+  row.0,
+  both (λ (r : PeerRoute). route.peer + 1 ≤ r.peer) (λ (r : PeerRoute). route.peer + 1 ≤ r.peer) (λ (r : PeerRoute). from ≤ r.peer) later (λ r p q. omega (arith, p, row.0))
+      (from_there (route.peer + 1) to later row.2) (from_there (route.peer + 1) to later row.2),
+)
+
+each_found : (from to : ℕ) (routes : List PeerRoute) → IsRow from to routes → AllByRecursion (λ (route : PeerRoute). route_at routes route.peer ≡ Some (left_of route)) routes
+each_found from to [] row = tt
+each_found from to (route ∷ later) row =
+    let passed : (r : PeerRoute) → route.peer + 1 ≤ r.peer → route_at later r.peer ≡ Some (left_of r) → route_at (route ∷ later) r.peer ≡ Some (left_of r) =
+    λ r more found. elim (eqb_tells route.peer r.peer) [ inl same ↦ absurd (omega (arith, same.1, more)) | inr apart ↦ rw apart.0 found ] in (
+      rw (eq-eqb route.peer route.peer refl) refl,
+      both (λ (r : PeerRoute). route.peer + 1 ≤ r.peer) (λ (r : PeerRoute). route_at later r.peer ≡ Some (left_of r)) (λ (r : PeerRoute). route_at (route ∷ later) r.peer ≡ Some (left_of r)) later passed
+          (from_there (route.peer + 1) to later row.2) (each_found (route.peer + 1) to later row.2),
+    )
+
+not_own : (client peer : ℕ) (b : Bool) → (not (client == peer) && b) ≡ true → (peer == client) ≡ false
+not_own client peer b e =
+    elim (eqb_tells client peer) [
+      | inl same ↦ absurd (cc (rw same.0 at e))
+      | inr apart ↦ elim (eqb_tells peer client) [ inl other ↦ absurd (apart.1 (sym other.1)) | inr no_one ↦ no_one.0 ]
+    ]
+
+module _ (plan : Plan) (client : ℕ) (routes : List PeerRoute) (row : IsRow 0 (length plan.peers) routes) where
+  abbrev IsOthers : PeerRoute → Type 0
+  IsOthers route = ((route.peer == client) ≡ false) × (route_at routes route.peer ≡ Some (left_of route))
+
+  all_others : AllByRecursion IsOthers (candidates_among plan client routes)
+  all_others =
+      let eligible = filter (λ (route : PeerRoute). is_eligible plan route.peer route.attributes) routes in
+      let permitted : PeerRoute → Bool = λ route. is_permitted plan client route.peer route.attributes in
+      both (λ (route : PeerRoute). permitted route ≡ true) (λ (route : PeerRoute). route_at routes route.peer ≡ Some (left_of route)) IsOthers (candidates_among plan client routes)
+      (λ route is_one found. (not_own client route.peer _ is_one, found))
+      (filter_passes permitted eligible)
+      (filter_keeps (λ (route : PeerRoute). route_at routes route.peer ≡ Some (left_of route)) permitted eligible
+      (filter_keeps (λ (route : PeerRoute). route_at routes route.peer ≡ Some (left_of route)) (λ (route : PeerRoute). is_eligible plan route.peer route.attributes) routes (each_found 0 (length plan.peers) routes row)))
+
+  pub unless_own-best : route_unless_own routes client (best_peer plan client routes) ≡ best_among plan client routes
+  unless_own-best = by_best (best_among plan client routes) refl
+    where
+      by_best : (o : Option PeerRoute) → best_among plan client routes ≡ o → route_unless_own routes client (option_map_or (λ route. route.peer) o client) ≡ o
+      by_best None e = rw (eq-eqb client client refl) refl
+      by_best (Some route) e =
+          let other : IsOthers route = choice-All IsOthers (λ route. standing_of plan (sent_route route)) (candidates_among plan client routes) route (all_places IsOthers (candidates_among plan client routes) all_others) e in
+          rw other.0 (ap (option_map (peer_route route.peer)) other.1)
+
+pub best-past : (plan : Plan) (client : ℕ) (routes : List PeerRoute) → length plan.peers ≤ client → best_among plan client routes ≡ None
+best-past plan client routes past =
+    let refused : (route : PeerRoute) → is_permitted plan client route.peer route.attributes ≡ false =
+    λ route. rw (slice_get_past plan.peers client past) (and_right (not (client == route.peer)) false refl) in
+    rw (filter_none (λ route. is_permitted plan client route.peer route.attributes) refused (filter (λ route. is_eligible plan route.peer route.attributes) routes)) (choice-nil plan sent_route)
+
+pub stored : (plan : Plan) (cell : CellContent) (client : ℕ) → IsCell plan cell → stored_best cell client ≡ best_among plan client cell.routes
+stored plan cell client is =
+    elim (cases_lt client (length plan.peers)) [
+      | inl known ↦
+          ap (option_and_then (route_unless_own cell.routes client)) (slice_get-get_or cell.bests client 0 (omega (arith, known, is.count)))
+          ∙ ap (route_unless_own cell.routes client) (is.decided client known)
+          ∙ unless_own-best plan client cell.routes is.row
+      | inr past ↦
+          ap (option_and_then (route_unless_own cell.routes client)) (slice_get_past cell.bests client (omega (arith, past, is.count)))
+          ∙ sym (best-past plan client cell.routes past)
+    ]
+
+-- ---- the tables of cells
+
+module _ (plan : Plan) (entries : Entries) (closed : List Bool) where
+  abbrev pub tables : TablesContent
+  tables = record { plan = plan; ribs = ribs_from entries 0 closed }
+
+  pub rib-of : (peer : ℕ) → peer < length closed → rib_of tables peer ≡ record { routes = routes_from entries peer; closed = get_or closed peer false }
+  rib-of peer known = rib-at entries 0 closed peer known ∙ ap (λ n. record { routes = routes_from entries n; closed = get_or closed peer false }) (omega arith)
+
+  pub rib-closed : (peer : ℕ) → (rib_of tables peer).closed ≡ get_or closed peer false
+  rib-closed peer =
+      elim (cases_lt peer (length closed)) [
+        | inl known ↦ ap (λ rib. rib.closed) (rib-of peer known)
+        | inr past ↦ ap (λ rib. rib.closed) (rib-past entries 0 closed peer past) ∙ sym (get_or_past closed peer false past)
+      ]
+
+  module _ (peers : length closed ≡ length plan.peers) where
+    pub route-from : (prefix : IpPrefix) (peer : ℕ) → peer < length plan.peers → route_from tables prefix peer ≡ option_map (peer_route peer) (route_at (routes_at entries prefix) peer)
+    route-from prefix peer known =
+        ap (λ rib. option_map (peer_route peer) (fin.get rib.routes prefix)) (rib-of peer (omega (arith, known, peers)))
+        ∙ ap (option_map (peer_route peer)) (get-routes_from entries peer prefix)
+
+    module _ (cells : AreCells plan entries) where
+      row-at : (prefix : IpPrefix) → IsRow 0 (length plan.peers) (routes_at entries prefix)
+      row-at prefix = by_cell (cell_at entries prefix) refl
+        where
+          by_cell : (o : Option CellContent) → cell_at entries prefix ≡ o → IsRow 0 (length plan.peers) (routes_of o)
+          by_cell None e = tt
+          by_cell (Some cell) e = (cell-IsCell plan entries prefix cell cells e).row
+
+      pub best-of : (client : ℕ) (prefix : IpPrefix) → best_of tables client prefix ≡ best_among plan client (routes_at entries prefix)
+      best-of client prefix = ap (best_among plan client) (routes_on-cells entries prefix closed (subst (λ n. IsRow 0 n (routes_at entries prefix)) (sym peers) (row-at prefix)))
+
+      pub best-none : (client : ℕ) (prefix : IpPrefix) → cell_at entries prefix ≡ None → best_of tables client prefix ≡ None
+      best-none client prefix none = best-of client prefix ∙ ap (λ cell. best_among plan client (routes_of cell)) none ∙ choice-nil plan sent_route
+
+      pub best-some : (client : ℕ) (prefix : IpPrefix) (cell : CellContent) → cell_at entries prefix ≡ Some cell → stored_best cell client ≡ best_of tables client prefix
+      best-some client prefix cell found =
+          stored plan cell client (cell-IsCell plan entries prefix cell cells found) ∙ ap (λ cell. best_among plan client (routes_of cell)) (sym found) ∙ sym (best-of client prefix)
+
+-- ---- a change
+
+either_way : {X : Type 0} (b : Bool) (x : X) → x ≡ cond b x x
+either_way true x = refl
+either_way false x = refl
+
+-- what a peer's change makes of the routes on a prefix, peer by peer
+abbrev changed_at : Change → IpPrefix → Option RouteLeft → Option RouteLeft
+changed_at change q held = cond (drops_routes change) None (cond (is_on q change) (body_route change.time change.body) held)
+
+route_at-changed : (peer p : ℕ) (change : Change) (q : IpPrefix) (routes : List PeerRoute) →
+    route_at (changed_routes peer change q routes) p ≡ cond (peer == p) (changed_at change q (route_at routes p)) (route_at routes p)
+route_at-changed peer p change q routes = by_body change.body
+  where
+    by_body : (body : ChangeBody) → route_at (changed_routes_body peer change.time body q routes) p
+        ≡ cond (peer == p) (cond (body_drops body) None (cond (option_map_or (same_prefix q) (body_prefix body) false) (body_route change.time body) (route_at routes p))) (route_at routes p)
+    by_body (Announced prefix attributes) =
+        elim (cases_Bool (same_prefix q prefix)) [
+          | inl here ↦ rw here (route_at-with routes (record { peer = peer; time = change.time; attributes = attributes }) p)
+          | inr there ↦ rw there (either_way (peer == p) (route_at routes p))
+        ]
+    by_body (Withdrawn prefix) =
+        elim (cases_Bool (same_prefix q prefix)) [
+          | inl here ↦ rw here (route_at-without routes peer p)
+          | inr there ↦ rw there (either_way (peer == p) (route_at routes p))
+        ]
+    by_body (Closed reason) =
+        elim (cases_Bool (reason_drops reason)) [
+          | inl drops ↦ rw drops (route_at-without routes peer p)
+          | inr keeps ↦ rw keeps (either_way (peer == p) (route_at routes p))
+        ]
+
+module _ (entries others : Entries) (peer : ℕ) (change : Change) (to : ChangeTo peer change entries others) where
+  at_changed : (p : ℕ) (q : IpPrefix) → fin.get (routes_from others p) q ≡ cond (peer == p) (changed_at change q (fin.get (routes_from entries p) q)) (fin.get (routes_from entries p) q)
+  at_changed p q =
+      get-routes_from others p q
+      ∙ ap (λ routes. route_at routes p) (to q)
+      ∙ route_at-changed peer p change q (routes_at entries q)
+      ∙ ap (λ held. cond (peer == p) (changed_at change q held) held) (sym (get-routes_from entries p q))
+
+  pub routes-own : routes_from others peer ≡ after (routes_from entries peer) change
+  routes-own =
+      fin.same_map prefix_total prefix_cmp-IsAntisymmetric _ _
+      (λ q. at_changed peer q
+      ∙ ap (λ b. cond b (changed_at change q (fin.get (routes_from entries peer) q)) (fin.get (routes_from entries peer) q)) (eq-eqb peer peer refl)
+      ∙ sym (get-after (routes_from entries peer) change q))
+
+  pub routes-other : (p : ℕ) → p ≢ peer → routes_from others p ≡ routes_from entries p
+  routes-other p apart =
+      fin.same_map prefix_total prefix_cmp-IsAntisymmetric _ _
+      (λ q. at_changed p q ∙ elim (eqb_tells peer p) [ inl same ↦ absurd (apart (sym same.1)) | inr other ↦ rw other.0 refl ])
+
+  -- the others keep all that is held of them
+  pub rib-other : (closed later : List Bool) → length later ≡ length closed → (other : ℕ) → other ≢ peer → get_or later other false ≡ get_or closed other false →
+      get_or (ribs_from others 0 later) other nothing_held ≡ get_or (ribs_from entries 0 closed) other nothing_held
+  rib-other closed later long other apart same =
+      elim (cases_lt other (length closed)) [
+        | inl known ↦
+            rib-at others 0 later other (omega (arith, known, long))
+            ∙ (λ i. record { routes = routes-other (0 + other) (λ e. apart (omega (arith, e))) i; closed = same i })
+            ∙ sym (rib-at entries 0 closed other known)
+        | inr past ↦ rib-past others 0 later other (omega (arith, past, long)) ∙ sym (rib-past entries 0 closed other past)
+      ]
+
+-- ---- a prefix that no peer has a route on
+
+pub none_held : (entries : Entries) (prefix : IpPrefix) → cell_at entries prefix ≡ None → (first : ℕ) (closed : List Bool) → is_held (ribs_from entries first closed) prefix ≡ false
+none_held entries prefix none first [] = refl
+none_held entries prefix none first (c ∷ cs) =
+    let here : fin.get (routes_from entries first) prefix ≡ None = get-routes_from entries first prefix ∙ ap (λ cell. route_at (routes_of cell) first) none in
+    ap (λ o. is_some o || list_any (λ rib. fin.contains_key rib.routes prefix) (ribs_from entries (first + 1) cs)) here ∙ none_held entries prefix none (first + 1) cs
+
+-- an announcement of a prefix without a cell is new to its peer, and the first there
+pub first-new : (entries : Entries) (peer : ℕ) (body : ChangeBody) → cells.IsFirstOn entries body → IsNewBody (routes_from entries peer) body
+first-new entries peer (Announced prefix attributes) none = get-routes_from entries peer prefix ∙ ap (λ cell. route_at (routes_of cell) peer) none
+first-new entries peer (Withdrawn prefix) none = none
+first-new entries peer (Closed reason) none = none
+
+pub first-held : (entries : Entries) (closed : List Bool) (body : ChangeBody) → cells.IsFirstOn entries body → listing.IsFirstBody (ribs_from entries 0 closed) body
+first-held entries closed (Announced prefix attributes) none = none_held entries prefix none 0 closed
+first-held entries closed (Withdrawn prefix) none = none
+first-held entries closed (Closed reason) none = none
+
+-- the peer's own routes after its change
+pub applied-routes : (plan : Plan) (entries others : Entries) (closed later : List Bool) (peer : ℕ) (change : Change) → ChangeTo peer change entries others →
+    length later ≡ length closed → peer < length closed → (rib_of (tables plan others later) peer).routes ≡ after (rib_of (tables plan entries closed) peer).routes change
+applied-routes plan entries others closed later peer change to long known =
+    ap (λ rib. rib.routes) (rib-of plan others later peer (omega (arith, known, long)))
+    ∙ routes-own entries others peer change to
+    ∙ ap (λ rib. after rib.routes change) (sym (rib-of plan entries closed peer known))
+
+-- before any change
+pub empty-ribs : (entries : Entries) → entries ≡ [] → (closed : List Bool) → ((k : ℕ) → k < length closed → get_or closed k false ≡ false) → (peer : ℕ) → get_or (ribs_from entries 0 closed) peer nothing_held ≡ nothing_held
+empty-ribs entries none closed open_all peer =
+    elim (cases_lt peer (length closed)) [
+      | inl known ↦ rib-at entries 0 closed peer known ∙ (λ i. record { routes = routes_from (none i) (0 + peer); closed = open_all peer known i })
+      | inr past ↦ rib-past entries 0 closed peer past
+    ]

@@ -1,0 +1,11 @@
+use Rattle.std.proofs.Common.{◌∙◌, rules}
+use Rattle.rs_table.proofs.CellsLemmas.{length-ribs}
+use Rattle.rs_table.proofs.TablesLemmas.{empty-ribs}
+use Rattle.rs_table.proofs.tables.Tables.new.Goals as goal
+
+pub returns-clause-empty : goal.returns-clause-empty
+returns-clause-empty c = λ peer. empty-ribs c.new-cells.result.entries c.new-cells.ensures.empty c.resize.new.self.items (search rules) peer
+
+pub returns-clause-count : goal.returns-clause-count
+returns-clause-count c =
+    length-ribs c.new-cells.result.entries 0 c.resize.new.self.items ∙ search rules

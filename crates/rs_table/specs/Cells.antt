@@ -1,0 +1,58 @@
+-- The cells of all prefixes.
+use Rattle.std.specs.Prelude.{◌≡◌, ℕ, if◌then◌else◌, List, [], map, Option, None, Some}
+use Rattle.std.specs.BTreeMap.{is_at}
+use Rattle.std.specs.FinMap.{from_entries}
+use Rattle.std.specs.List.{AllByRecursion, filter_map}
+use Rattle.std.specs.Map.{lookup}
+use Rattle.std.specs.Option.{option_map}
+use Rattle.rs_update.specs.IpPrefix.{IpPrefix}
+use Rattle.rs_update.specs.PrefixOrder.{prefix_cmp}
+use Rattle.rs_session.specs.Change.{Change, ChangeBody, Announced, Withdrawn, Closed}
+use Rattle.rs_choice.specs.Plan.{Plan}
+use Rattle.rs_table.specs.Left.{same_prefix, reason_drops, Routes}
+use Rattle.rs_table.specs.Table.{PeerRoute}
+use Rattle.rs_table.specs.Cell.{CellContent, IsCell, route_at, with_route, without_route}
+
+abbrev pub Entries : Type 0
+Entries = List (IpPrefix × CellContent)
+
+-- the cell of a prefix
+abbrev pub cell_at : Entries → IpPrefix → Option CellContent
+cell_at entries prefix = lookup (is_at (prefix_cmp prefix)) entries
+
+-- the routes on a prefix
+abbrev pub routes_of : Option CellContent → List PeerRoute
+routes_of None = []
+routes_of (Some cell) = cell.routes
+
+abbrev pub routes_at : Entries → IpPrefix → List PeerRoute
+routes_at entries prefix = routes_of (cell_at entries prefix)
+
+-- the routes of one peer, by prefix
+abbrev pub routes_from : Entries → ℕ → Routes
+routes_from entries peer =
+    from_entries (filter_map (λ prefix. option_map (λ route. (prefix, route)) (route_at (routes_at entries prefix) peer)) (map (λ entry. entry.0) entries))
+
+-- each one is a cell of the plan
+abbrev pub AreCells : Plan → Entries → Type 0
+AreCells plan entries = AllByRecursion (λ (entry : IpPrefix × CellContent). IsCell plan entry.1) entries
+
+-- what a peer's change makes of the routes on a prefix
+abbrev pub changed_routes_body : ℕ → ℕ → ChangeBody → IpPrefix → List PeerRoute → List PeerRoute
+changed_routes_body peer time (Announced announced attributes) prefix routes =
+    if same_prefix prefix announced then with_route routes (record { peer = peer; time = time; attributes = attributes }) else routes
+changed_routes_body peer time (Withdrawn withdrawn) prefix routes = if same_prefix prefix withdrawn then without_route routes peer else routes
+changed_routes_body peer time (Closed reason) prefix routes = if reason_drops reason then without_route routes peer else routes
+
+abbrev pub changed_routes : ℕ → Change → IpPrefix → List PeerRoute → List PeerRoute
+changed_routes peer change prefix routes = changed_routes_body peer change.time change.body prefix routes
+
+-- the entries became others by a peer's change
+abbrev pub ChangeTo : ℕ → Change → Entries → Entries → Type 0
+ChangeTo peer change before others = (prefix : IpPrefix) → routes_at others prefix ≡ changed_routes peer change prefix (routes_at before prefix)
+
+-- a change announces a prefix on which no peer has a route
+abbrev pub IsFirstOn : Entries → ChangeBody → Type 0
+IsFirstOn entries (Announced prefix attributes) = cell_at entries prefix ≡ None
+IsFirstOn entries (Withdrawn prefix) = ⊥
+IsFirstOn entries (Closed reason) = ⊥

@@ -1,0 +1,102 @@
+//! The cells of all prefixes, and what a change of a peer makes of them (RFC 4271, section 3.2).
+
+ghost use Rattle.std.specs.Prelude.{◌≡◌, ◌<◌, if◌then◌else◌, None, OnOk, OnErr, length};
+ghost use Rattle.rs_session.specs.Change.{change_of};
+ghost use Rattle.rs_update.specs.IpPrefix.{IpPrefix};
+ghost use Rattle.rs_table.specs.Cell.{with_route, without_route};
+ghost use Rattle.rs_table.specs.Cells.{cell_at, routes_at, AreCells, ChangeTo, IsFirstOn};
+ghost use Rattle.rs_table.specs.CellView.{route_of_slot};
+ghost use Rattle.rs_table.specs.Left.{same_prefix};
+
+use crate::cell::{Cell, Slot};
+use rs_choice::Exchange;
+use rs_session::{Body, Reason, Word};
+use rs_update::Prefix;
+use std::alloc::{AllocError, Global};
+use std::collections::BTreeMap;
+
+// Takes a change of a peer. Refused, nothing changed.
+pub(crate) fn change(
+    alloc: Global,
+    cells: &mut BTreeMap<Prefix, Cell>,
+    plan: &Exchange,
+    peer: usize,
+    word: Word,
+) -> Result<(), AllocError>
+    requires known { peer < length plan.now.peers }
+    requires cells { AreCells plan.now cells.old.entries }
+    ensures routes { OnOk result (ChangeTo peer (change_of word) cells.old.entries cells.new.entries) }
+    ensures err { OnErr result (cells.new.entries ≡ cells.old.entries) }
+    ensures first { OnErr result (IsFirstOn cells.old.entries (change_of word).body) }
+    ensures cells { AreCells plan.now cells.new.entries }
+{
+    let _peers = plan.count();
+    let Word { time, body } = word;
+    match body {
+        Body::Announce(prefix, attributes) => {
+            let slot = Slot {
+                peer: peer as u8,
+                time,
+                attributes,
+            };
+            announce(alloc, cells, plan, prefix, slot)
+        }
+        Body::Withdraw(prefix) => {
+            withdraw(cells, plan, peer, prefix);
+            Ok(())
+        }
+        Body::Close(reason) => {
+            if reason != Reason::EndOfFile {
+                withdraw_all(cells, plan, peer);
+            }
+            Ok(())
+        }
+    }
+}
+
+// Puts a route into the cell of a prefix, which is made where there is none. Refused, nothing changed.
+fn announce(
+    alloc: Global,
+    cells: &mut BTreeMap<Prefix, Cell>,
+    plan: &Exchange,
+    prefix: Prefix,
+    slot: Slot,
+) -> Result<(), AllocError>
+    requires known { slot.peer < length plan.now.peers }
+    requires cells { AreCells plan.now cells.old.entries }
+    ensures routes { OnOk result ((q : IpPrefix) → routes_at cells.new.entries q ≡ (if same_prefix q prefix then with_route (routes_at cells.old.entries q) (route_of_slot slot) else routes_at cells.old.entries q)) }
+    ensures err { OnErr result (cells.new.entries ≡ cells.old.entries) }
+    ensures first { OnErr result (cell_at cells.old.entries prefix ≡ None) }
+    ensures cells { AreCells plan.now cells.new.entries }
+{
+    if let Some(cell) = cells.get_mut(&prefix) {
+        cell.announce(plan, slot);
+        return Ok(());
+    }
+    let cell = Cell::new(alloc, plan, slot)?;
+    cells.insert(prefix, cell)?;
+    Ok(())
+}
+
+// Removes a peer's route on a prefix, if there is one, and the cell with its last route.
+fn withdraw(cells: &mut BTreeMap<Prefix, Cell>, plan: &Exchange, peer: usize, prefix: Prefix)
+    requires { AreCells plan.now cells.old.entries }
+    ensures routes { (q : IpPrefix) → routes_at cells.new.entries q ≡ (if same_prefix q prefix then without_route (routes_at cells.old.entries q) peer else routes_at cells.old.entries q) }
+    ensures cells { AreCells plan.now cells.new.entries }
+{
+    let Some(cell) = cells.get_mut(&prefix) else {
+        return;
+    };
+    if !cell.withdraw(plan, peer) {
+        cells.remove(&prefix);
+    }
+}
+
+// Removes all routes of a peer, and each cell with its last route.
+fn withdraw_all(cells: &mut BTreeMap<Prefix, Cell>, plan: &Exchange, peer: usize)
+    requires { AreCells plan.now cells.old.entries }
+    ensures routes { (q : IpPrefix) → routes_at cells.new.entries q ≡ without_route (routes_at cells.old.entries q) peer }
+    ensures cells { AreCells plan.now cells.new.entries }
+{
+    cells.retain(|_, cell| cell.withdraw(plan, peer));
+}
