@@ -1,10 +1,10 @@
 -- What is kept of one prefix: the routes that peers have left there, and what each client gets of them.
-use Rattle.std.specs.Prelude.{◌≡◌, ◌<◌, ◌≤◌, ◌+◌, ℕ, suc, ◌==◌, nat_lt, not, ◌&&◌, Bool, if◌then◌else◌, List, [], ◌∷◌, length, filter, Option, None, Some, slice_get, slice_index_or, refl}
+use Rattle.std.specs.Prelude.{◌≡◌, ◌<◌, ◌≤◌, ◌+◌, ℕ, suc, ◌==◌, nat_lt, not, Bool, if◌then◌else◌, List, [], ◌∷◌, length, map, filter, Option, None, Some, slice_get, slice_index_or, refl}
 use Rattle.std.specs.Coded.{Coded, code_by, coded×, coded_ℕ, coded_list}
 use Rattle.std.specs.Option.{option_map, option_map_or, option_and_then}
 use Rattle.rs_update.specs.PathAttributes.{PathAttributes}
 use Rattle.rs_update.specs.contracts.attributes.Attributes as attributes
-use Rattle.rs_choice.specs.Decision.{standing_of, choice}
+use Rattle.rs_choice.specs.Decision.{SentRoute, standing_of, choice}
 use Rattle.rs_choice.specs.Eligibility.{is_eligible}
 use Rattle.rs_choice.specs.Policy.{is_permitted}
 use Rattle.rs_choice.specs.Plan.{Plan}
@@ -50,11 +50,6 @@ place_of (first ∷ later) peer = if nat_lt first.peer peer then suc (place_of l
 abbrev pub without_route : List PeerRoute → ℕ → List PeerRoute
 without_route routes peer = filter (λ route. not (route.peer == peer)) routes
 
--- whether a route is a candidate of a client
-abbrev pub is_candidate_of : Plan → ℕ → PeerRoute → Bool
-is_candidate_of plan client route =
-    is_eligible plan route.peer route.attributes && is_permitted plan client route.peer route.attributes
-
 -- of routes on one prefix, those that are candidates of a client
 abbrev pub candidates_among : Plan → ℕ → List PeerRoute → List PeerRoute
 candidates_among plan client routes =
@@ -68,6 +63,20 @@ best_among plan client routes = choice (λ route. standing_of plan (sent_route r
 -- by the number of its peer, or the client's own where it gets none
 abbrev pub best_peer : Plan → ℕ → List PeerRoute → ℕ
 best_peer plan client routes = option_map_or (λ route. route.peer) (best_among plan client routes) client
+
+-- the same without times: the eligible routes, those among them that policy permits to a client, and the peer of its choice
+abbrev pub is_sent_to : Plan → ℕ → SentRoute → Bool
+is_sent_to plan client sent = is_permitted plan client sent.peer sent.attributes
+
+abbrev pub eligible_sent : Plan → List PeerRoute → List SentRoute
+eligible_sent plan routes = filter (λ sent. is_eligible plan sent.peer sent.attributes) (map sent_route routes)
+
+abbrev pub peer_or_own : Option ℕ → ℕ → ℕ
+peer_or_own None client = client
+peer_or_own (Some peer) client = peer
+
+abbrev pub best_sent : Plan → ℕ → List SentRoute → ℕ
+best_sent plan client eligible = peer_or_own (option_map (λ sent. sent.peer) (choice (standing_of plan) (filter (is_sent_to plan client) eligible))) client
 
 -- the route that a client gets by what is kept
 abbrev pub route_unless_own : List PeerRoute → ℕ → ℕ → Option PeerRoute
