@@ -1,10 +1,14 @@
 -- The command line: the program's command as `clap` knows it, and the options that its words ask for.
-use Rattle.std.specs.Prelude.{◌≡◌, ℕ, pos, true, List, [], ◌∷◌, Some, codes, option_map, string_bytes}
+use Rattle.std.specs.Prelude.{◌≡◌, ◌≢◌, ℕ, ⊤, pos, true, List, [], ◌∷◌, Some, codes, option_map, string_bytes}
 use Rattle.std.specs.Str.Parse.{digits_value, without_leading_plus}
-use Rattle.clap.specs.Words.{App, Row, Rule, Text, first_of, matches_of, new_app, new_rule, one_of, with_rule}
+use Rattle.clap.specs.Words.{App, IsAmong, Kinds, Row, Rule, Text, fault_of, first_of, matches_of, new_app, new_rule, one_of, with_rule}
 use Rattle.clap.specs.declared.builder.ArgAction.TheVariants.{Set}
 use Rattle.clap.specs.declared.builder.value_parser.ValueParser.TheVariants.{Signed}
+use Rattle.clap.specs.declared.error.kind.ErrorKind.{ErrorKind}
+use Rattle.clap.specs.declared.error.kind.ErrorKind.TheVariants.{DisplayHelp, OutOfMemory}
 use Rattle.route_server.specs.declared.options.Options.{Options}
+use Rattle.route_server.specs.declared.options.WordsFault.{WordsFault}
+use Rattle.route_server.specs.declared.options.WordsFault.TheVariants.{Help, Refused, Memory}
 
 -- an option of one value that must be there
 abbrev pub required_option : Text → Rule
@@ -45,3 +49,19 @@ pub record HoldOptions (rows : List Row) (options : Options) : Type 0 where
 -- the options are the values that the command's matches of the words hold, the default included
 abbrev pub AreOptionsOf : List Text → Options → Type 0
 AreOptionsOf words options = HoldOptions (matches_of program words) options
+
+-- what `clap` finds in the words, a request for help included: its error is of one of these kinds; none where it takes them
+abbrev pub faults_in : List Text → Kinds
+faults_in words = fault_of program words
+
+-- a kind of error, and what it is told as
+abbrev pub IsToldAs : ErrorKind → WordsFault → Type 0
+IsToldAs kind (Help text) = kind ≡ DisplayHelp
+IsToldAs kind (Refused text) = (kind ≢ DisplayHelp) × (kind ≢ OutOfMemory)
+IsToldAs kind Memory = ⊤
+
+-- words are answered with help only where asking for it is among what is found in them, and aren't refused where it is all that is found
+abbrev pub SaysWhy : Kinds → WordsFault → Type 0
+SaysWhy kinds (Help text) = IsAmong DisplayHelp kinds
+SaysWhy kinds (Refused text) = kinds ≢ DisplayHelp ∷ []
+SaysWhy kinds Memory = ⊤

@@ -1,5 +1,8 @@
 //! What the command line asks for.
 
+ghost use Rattle.std.specs.Prelude.{◌≡◌};
+ghost use Rattle.route_server.specs.declared.options.WordsFault.TheVariants.{Memory};
+
 use std::alloc::AllocError;
 
 /// What the words of the command line ask for.
@@ -25,6 +28,8 @@ pub enum WordsFault {
 }
 
 impl From<AllocError> for WordsFault {
+    ghost from_gives = { λ _ fault. fault ≡ Memory };
+
     fn from(_refused: AllocError) -> WordsFault {
         WordsFault::Memory
     }

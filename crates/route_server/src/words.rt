@@ -1,8 +1,8 @@
 //! Reads the words of the command line, with `clap`.
 
-ghost use Rattle.std.specs.Prelude.{◌≡◌, IfOk, false, map, string_bytes};
-ghost use Rattle.clap.specs.Words.{app_of, found_of, rows_of, rule_of};
-ghost use Rattle.route_server.specs.CommandLine.{AreOptionsOf, HoldOptions, config_rule, out_rule, program, time_rule};
+ghost use Rattle.std.specs.Prelude.{◌≡◌, [], IfErr, IfOk, OnOk, false, map, string_bytes};
+ghost use Rattle.clap.specs.Words.{app_of, found_of, kind_of, rows_of, rule_of};
+ghost use Rattle.route_server.specs.CommandLine.{AreOptionsOf, HoldOptions, IsToldAs, SaysWhy, config_rule, faults_in, out_rule, program, time_rule};
 
 use crate::options::{Options, WordsFault};
 use clap::error::ErrorKind;
@@ -41,6 +41,8 @@ const INCOMPLETE: &str = "error: an option has no value\n";
 /// Answers `Help` where help is asked for and `Refused` where the words aren't such, each with the text of `clap`; `Memory` where memory is refused.
 pub fn read_words(alloc: Global, words: Vec<String>) -> Result<Options, WordsFault>
     ensures options { IfOk result (λ options. AreOptionsOf (map string_bytes words.items) options) }
+    ensures taken { OnOk result (faults_in (map string_bytes words.items) ≡ []) }
+    ensures refused { IfErr result (SaysWhy (faults_in (map string_bytes words.items))) }
 {
     match program(alloc)?.try_get_matches_from(words.as_slice()) {
         Ok(matches) => options_of(alloc, &matches),
@@ -50,7 +52,8 @@ pub fn read_words(alloc: Global, words: Vec<String>) -> Result<Options, WordsFau
 
 // The options that the matches hold. `clap` gives each of the three a value, so nothing is refused here but memory.
 fn options_of(alloc: Global, matches: &ArgMatches<'_>) -> Result<Options, WordsFault>
-    ensures { IfOk result (HoldOptions (rows_of (found_of matches.now))) }
+    ensures options { IfOk result (HoldOptions (rows_of (found_of matches.now))) }
+    ensures refused { IfErr result (SaysWhy []) }
 {
     let (Some(config), Some(out), Some(time)) = (
         matches.get_str("config"),
@@ -67,7 +70,9 @@ fn options_of(alloc: Global, matches: &ArgMatches<'_>) -> Result<Options, WordsF
 }
 
 // Why the words give no options, with the text of `clap`.
-fn fault_of(alloc: Global, error: &Error) -> WordsFault {
+fn fault_of(alloc: Global, error: &Error) -> WordsFault
+    ensures { IsToldAs (kind_of error.now) result }
+{
     let Ok(text) = error.to_string(alloc) else {
         return WordsFault::Memory;
     };

@@ -6,8 +6,8 @@ use Rattle.clap.proofs.WalkLemmas.{first_value-rows, one_text-rows}
 use Rattle.route_server.proofs.WordLemmas.{number_read}
 use Rattle.route_server.proofs.words.options_of.Goals as goal
 
-pub returns : goal.returns
-returns c =
+pub returns-clause-options : goal.returns-clause-options
+returns-clause-options c =
     let found = found_of c.args.matches.now in
     record {
       config = sym (first_value-rows found (codes "config")) ∙ (sym c.get_str.ensures ∙ search rules);
