@@ -19,8 +19,9 @@ impl Tables {
     {
         let _peers = self.count();
         let mut rows = Vec::new(self.allocator());
-        for prefix in self.cells().keys() {
-            if let Some(route) = self.best(client, *prefix) {
+        let cells = self.cells();
+        for (prefix, cell) in cells.iter() {
+            if let Some(route) = cell.best(client) {
                 let row = Row {
                     prefix: *prefix,
                     route,

@@ -3,10 +3,11 @@
 //! They are kept by prefix: a cell has the routes of all peers on one prefix, and what each client gets of them, decided anew with
 //! each change.
 
-ghost use Rattle.std.specs.Prelude.{◌≡◌, ◌≢◌, ◌<◌, ◌≤◌, ℕ, false, IfOk, OnOk, OnErr, None, length};
+ghost use Rattle.std.specs.Prelude.{◌≡◌, ◌≢◌, ◌<◌, ◌≤◌, ℕ, false, IfOk, OnOk, OnErr, None, Some, length};
 ghost use Rattle.std.specs.Option.{option_map};
 ghost use Rattle.rs_update.specs.IpPrefix.{IpPrefix};
 ghost use Rattle.rs_session.specs.Change.{change_of};
+ghost use Rattle.rs_table.specs.Cell.{CellContent, stored_best};
 ghost use Rattle.rs_table.specs.Cells.{cell_at};
 ghost use Rattle.rs_table.specs.Content.{nothing_held, rib_of};
 ghost use Rattle.rs_table.specs.Left.{is_close, BecomeBy, IsNewAnnouncement};
@@ -134,9 +135,10 @@ impl Tables {
         self.cells.get(&prefix)?.route(peer)
     }
 
-    // The cells: where a prefix has none, no peer has left a route.
+    // The cells: where a prefix has none, no peer has left a route, and else each client gets what its cell keeps for it.
     pub(crate) fn cells(&self) -> &BTreeMap<Prefix, Cell>
-        ensures { (prefix : IpPrefix) → cell_at result.now.entries prefix ≡ None → is_held self.now.ribs prefix ≡ false }
+        ensures bests { (client : ℕ) → (prefix : IpPrefix) → (cell : CellContent) → cell_at result.now.entries prefix ≡ Some cell → stored_best cell client ≡ best_of self.now client prefix }
+        ensures none { (prefix : IpPrefix) → cell_at result.now.entries prefix ≡ None → is_held self.now.ribs prefix ≡ false }
     {
         &self.cells
     }
