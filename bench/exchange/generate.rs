@@ -3,6 +3,10 @@
 //! from one set, so that a prefix has about five routes. The same numbers always give the same files.
 //!
 //! usage: generate FOLDER PEERS ROUTES
+#[path = "../random.rs"]
+mod random;
+
+use random::Random;
 use std::fs;
 use std::io;
 
@@ -12,21 +16,6 @@ const FIRST_AS: u32 = 64501;
 const FIRST_ADDRESS: u32 = 0xC000_020B;
 const FIRST_PREFIX: u32 = 20 << 24;
 const START: u32 = 1_700_000_000;
-
-struct Random(u64);
-
-impl Random {
-    fn next(&mut self) -> u64 {
-        self.0 ^= self.0 << 13;
-        self.0 ^= self.0 >> 7;
-        self.0 ^= self.0 << 17;
-        self.0
-    }
-
-    fn below(&mut self, bound: u64) -> u64 {
-        self.next() % bound
-    }
-}
 
 struct Peer {
     number: u32,

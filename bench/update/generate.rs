@@ -2,22 +2,11 @@
 //! a withdrawal. The same number always gives the same messages.
 //!
 //! usage: generate COUNT > messages
+#[path = "../random.rs"]
+mod random;
+
+use random::Random;
 use std::io::{self, BufWriter, Write};
-
-struct Random(u64);
-
-impl Random {
-    fn next(&mut self) -> u64 {
-        self.0 ^= self.0 << 13;
-        self.0 ^= self.0 >> 7;
-        self.0 ^= self.0 << 17;
-        self.0
-    }
-
-    fn below(&mut self, bound: u64) -> u64 {
-        self.next() % bound
-    }
-}
 
 fn prefix(random: &mut Random, out: &mut Vec<u8>) {
     let len = 16 + random.below(9) as u8;
