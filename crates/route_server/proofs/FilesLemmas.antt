@@ -2,7 +2,7 @@
 use Rattle.std.proofs.Common.{◌≡◌, ◌∙◌, List, [], ◌∷◌, length, suc, ap, sym, refl, ℕ, Option, None, Some}
 use Rattle.toml.specs.Data.{Data, Items, no_items, item, Members, get_member}
 use Rattle.rs_choice.specs.Plan.{Peer, Plan}
-use Rattle.route_server.specs.Setup.{ArePeers, ArePeersOf, IsSetup}
+use Rattle.rs_setup.specs.Setup.{ArePeers, ArePeersOf, IsSetup}
 use Rattle.std.specs.Prelude.{codes, MatchOption}
 
 as_many : (values : Items) (peers : List Peer) (files : List (List ℕ)) → ArePeers values peers files → length files ≡ length peers

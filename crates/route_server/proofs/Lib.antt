@@ -3,6 +3,4 @@ pub mod ListingLemmas
 pub mod RibLemmas
 pub mod RunLemmas
 pub mod SessionLemmas
-pub mod SetupLemmas
-pub mod SetupUnique
 pub mod WordLemmas

@@ -3,10 +3,6 @@ pub mod Outlet
 pub mod Recorded
 pub mod Report
 pub mod Run
-pub mod Section
 pub mod SessionEnd
-pub mod Setup
-pub mod SetupLaws
-pub mod SetupValues
 pub mod Status
 pub mod Texts

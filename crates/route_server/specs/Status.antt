@@ -5,7 +5,7 @@ use Rattle.route_server.specs.declared.ended.Ended.{Ended}
 use Rattle.route_server.specs.declared.ended.Ended.TheVariants.{Words, Setup, Unread, Memory, Run}
 use Rattle.route_server.specs.declared.options.WordsFault.TheVariants as words
 use Rattle.route_server.specs.declared.run_fault.RunFault.TheVariants as run
-use Rattle.route_server.specs.declared.setup.SetupFault.TheVariants as setup
+use Rattle.rs_setup.specs.declared.setup.SetupFault.TheVariants as setup
 
 -- all is done, or help was shown
 abbrev pub done : ℕ

@@ -15,9 +15,9 @@ use Rattle.route_server.specs.declared.options.Options.{Options}
 use Rattle.route_server.specs.declared.options.WordsFault.TheVariants as words
 use Rattle.route_server.specs.declared.run_fault.RunFault.{RunFault}
 use Rattle.route_server.specs.declared.run_fault.RunFault.TheVariants as run
-use Rattle.route_server.specs.declared.setup.Setup.{Setup as SetUp}
-use Rattle.route_server.specs.declared.setup.SetupFault.{SetupFault}
-use Rattle.route_server.specs.declared.setup.SetupFault.TheVariants as setup
+use Rattle.rs_setup.specs.declared.setup.Setup.{Setup as SetUp}
+use Rattle.rs_setup.specs.declared.setup.SetupFault.{SetupFault}
+use Rattle.rs_setup.specs.declared.setup.SetupFault.TheVariants as setup
 
 abbrev pub Text : Type 0
 Text = List ℕ

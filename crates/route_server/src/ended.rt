@@ -6,8 +6,8 @@ ghost use Rattle.route_server.specs.declared.ended.Ended.TheVariants.{Memory};
 
 use crate::options::WordsFault;
 use crate::run_fault::RunFault;
-use crate::setup::SetupFault;
 use rs_choice::PlanFault;
+use rs_setup::SetupFault;
 use std::alloc::AllocError;
 
 /// Why the program stops short.

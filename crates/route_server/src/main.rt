@@ -19,11 +19,6 @@ mod report;
 mod run_fault;
 mod runner;
 mod sessions;
-mod setup;
-mod setup_keys;
-mod setup_laws;
-mod setup_peers;
-mod setup_values;
 mod texts;
 mod words;
 
@@ -32,8 +27,8 @@ use files::{read_file, read_files};
 use folder_outlet::FolderOutlet;
 use options::{Options, WordsFault};
 use rs_mrt::IoWriter;
+use rs_setup::{Setup, read_setup};
 use runner::run;
-use setup::{Setup, read_setup};
 use std::env::Env;
 use std::fs::Files;
 use std::io::ErrorKind;
@@ -136,9 +131,5 @@ mod folder_outlet_tests;
 mod recorded_runs;
 #[cfg(test)]
 mod run_tests;
-#[cfg(test)]
-mod setup_fault_tests;
-#[cfg(test)]
-mod setup_tests;
 #[cfg(test)]
 mod words_tests;

@@ -17,10 +17,10 @@ use crate::outlet::Outlet;
 use crate::report::{add_peer_lines, add_table_line};
 use crate::run_fault::RunFault;
 use crate::sessions::read_sessions;
-use crate::setup::Setup;
 use rs_choice::Exchange;
 use rs_dump::{DumpFault, write_dump};
 use rs_mrt::{Write, write_all};
+use rs_setup::Setup;
 use rs_table::{Tables, table_is_computed};
 use std::alloc::Global;
 

@@ -7,8 +7,8 @@ use crate::ended::Ended;
 use crate::folder_outlet::path_in;
 use crate::options::{Options, WordsFault};
 use crate::run_fault::RunFault;
-use crate::setup::{Setup, SetupFault};
 use rs_choice::PlanFault;
+use rs_setup::{Setup, SetupFault};
 use std::alloc::{AllocError, Global};
 
 /// The line of want of memory, for where no other line can be made.

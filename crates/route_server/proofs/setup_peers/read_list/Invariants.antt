@@ -1,9 +1,0 @@
-use Rattle.std.proofs.Common.{map, take, string_bytes}
-use Rattle.rs_choice.specs.Plan.{peer_of}
-use Rattle.toml.specs.View.{items_view}
-use Rattle.route_server.specs.Setup.{ArePeers}
-use Rattle.route_server.proofs.setup_peers.read_list.Given as goal
-
--- the values so far are the peers and the files so far
-abbrev pub invariant-loop-number : goal.invariant-loop-number
-invariant-loop-number l = ArePeers (items_view (take l.number l.values)) (map peer_of l.peers.items) (map string_bytes l.files.items)

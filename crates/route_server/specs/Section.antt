@@ -1,8 +1,0 @@
--- What contracts see of a table of a configuration.
-use Rattle.toml.specs.Data.{Members}
-use Rattle.toml.specs.View.{table_view}
-use Rattle.route_server.specs.declared.setup_keys.Section.{Section}
-
--- its keys and their values
-abbrev pub members_in : Section → Members
-members_in section = table_view section.table.now

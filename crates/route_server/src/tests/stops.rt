@@ -1,0 +1,259 @@
+//! The status and the line of each way to stop short.
+
+ghost use Rattle.std.specs.Prelude.{None};
+ghost use Rattle.route_server.specs.Texts.{CanTell};
+
+use crate::ended::{Ended, status};
+use crate::options::{Options, WordsFault};
+use crate::run_fault::RunFault;
+use crate::texts::{MEMORY_LINE, line};
+use rs_choice::{Exchange, Local, PeerSpec, PlanFault};
+use rs_setup::{Setup, SetupFault};
+use std::alloc::{AllocError, Global};
+use std::process::Abort;
+use std::sync::Arc;
+use std::test::Fail;
+
+// The peers a and b of a server 192.0.2.1 of AS 64500.
+fn two_peers(alloc: Global) -> Result<Setup, Fail> {
+    let local = Local {
+        asn: 64500,
+        address: 0xC000_0201,
+        id: 0xC000_0201,
+        subnet: None,
+    };
+    let mut peers = Vec::new(alloc);
+    peers.push(peer(alloc, "a", 64501, 0xC000_020B)?)?;
+    peers.push(peer(alloc, "b", 64502, 0xC000_020C)?)?;
+    let exchange = Exchange::new(alloc, local, peers).map_err(|_| Fail::from(
+        "the plan has no fault",
+    ))?;
+    Ok(Setup {
+        plan: Arc::new(alloc, exchange)?,
+        files: Vec::new(alloc),
+    })
+}
+
+fn peer(alloc: Global, name: &str, asn: u32, address: u32) -> Result<PeerSpec, AllocError> {
+    Ok(PeerSpec {
+        name: String::from_str(alloc, name)?,
+        asn,
+        address,
+        id: address,
+        preference: 100,
+        refuse_from: Vec::new(alloc),
+    })
+}
+
+fn options(alloc: Global, out: &str) -> Result<Options, AllocError> {
+    Ok(Options {
+        config: String::from_str(alloc, "exchange.toml")?,
+        out: String::from_str(alloc, out)?,
+        time: 0,
+    })
+}
+
+fn text(alloc: Global, text: &str) -> Result<String, AllocError> {
+    String::from_str(alloc, text)
+}
+
+// A stop that isn't the run's has this status and this line.
+fn ends<R: AllocGlobal + Abort>(rt: &R, ended: Ended, code: u8, wanted: &str) -> Result<(), Fail>
+    requires { CanTell ended None None }
+{
+    assert_eq!(rt; status(&ended), code, "{wanted}");
+    let said = line(rt.alloc(), &ended, None, None)?;
+    assert_eq!(rt; said.as_str(), wanted);
+    Ok(())
+}
+
+// A refused configuration has status 1 and this line.
+fn refuses<R: AllocGlobal + Abort>(rt: &R, fault: SetupFault, wanted: &str) -> Result<(), Fail> {
+    ends(rt, Ended::Setup(fault), 1, wanted)
+}
+
+#[test]
+fn a_command_line_ends_with_the_text_of_clap(rt: HostRuntime) -> Result<(), Fail> {
+    let alloc = rt.alloc();
+    ends(
+        &rt,
+        Ended::Words(WordsFault::Help(text(alloc, "Usage\n")?)),
+        0,
+        "Usage\n",
+    )?;
+    ends(
+        &rt,
+        Ended::Words(WordsFault::Refused(text(alloc, "error: so\n")?)),
+        1,
+        "error: so\n",
+    )?;
+    ends(&rt, Ended::Words(WordsFault::Memory), 3, MEMORY_LINE)
+}
+
+#[test]
+fn a_refused_configuration_has_status_1_and_one_line(rt: HostRuntime) -> Result<(), Fail> {
+    let alloc = rt.alloc();
+    refuses(
+        &rt,
+        SetupFault::NotToml,
+        "route_server: configuration is not TOML",
+    )?;
+    refuses(
+        &rt,
+        SetupFault::Unknown(text(alloc, "alpha")?),
+        "route_server: configuration: alpha is unknown",
+    )?;
+    refuses(
+        &rt,
+        SetupFault::Unknown(text(alloc, "peer[0].a\nb\r")?),
+        "route_server: configuration: peer[0].a\\nb\\r is unknown",
+    )?;
+    refuses(
+        &rt,
+        SetupFault::Missing(text(alloc, "server")?),
+        "route_server: configuration: server is missing",
+    )?;
+    refuses(
+        &rt,
+        SetupFault::NotValid(text(alloc, "peer[0].as")?),
+        "route_server: configuration: peer[0].as is not valid",
+    )
+}
+
+#[test]
+fn a_fault_of_the_plan_is_told_by_its_number_and_its_peer(rt: HostRuntime) -> Result<(), Fail> {
+    refuses(
+        &rt,
+        SetupFault::Plan(PlanFault::NoPeer),
+        "route_server: plan fault P1",
+    )?;
+    refuses(
+        &rt,
+        SetupFault::Plan(PlanFault::TooManyPeers),
+        "route_server: plan fault P2",
+    )?;
+    refuses(
+        &rt,
+        SetupFault::Plan(PlanFault::InvalidName(255)),
+        "route_server: plan fault P3 at peer 255",
+    )?;
+    refuses(
+        &rt,
+        SetupFault::Plan(PlanFault::RepeatedName(1)),
+        "route_server: plan fault P4 at peer 1",
+    )?;
+    refuses(
+        &rt,
+        SetupFault::Plan(PlanFault::RepeatedAddress(2)),
+        "route_server: plan fault P5 at peer 2",
+    )?;
+    refuses(
+        &rt,
+        SetupFault::Plan(PlanFault::ZeroAs(None)),
+        "route_server: plan fault P6",
+    )?;
+    refuses(
+        &rt,
+        SetupFault::Plan(PlanFault::ZeroAs(Some(3))),
+        "route_server: plan fault P6 at peer 3",
+    )?;
+    refuses(
+        &rt,
+        SetupFault::Plan(PlanFault::UnknownName(0)),
+        "route_server: plan fault P7 at peer 0",
+    )
+}
+
+#[test]
+fn a_file_that_cannot_be_read_is_named(rt: HostRuntime) -> Result<(), Fail> {
+    let alloc = rt.alloc();
+    ends(
+        &rt,
+        Ended::Unread(text(alloc, "gone.mrt")?),
+        2,
+        "route_server: cannot read gone.mrt",
+    )?;
+    ends(
+        &rt,
+        Ended::Unread(text(alloc, "a\nb.mrt")?),
+        2,
+        "route_server: cannot read a\\nb.mrt",
+    )
+}
+
+#[test]
+fn want_of_memory_has_status_3_and_one_line(rt: HostRuntime) -> Result<(), Fail> {
+    ends(&rt, Ended::Memory, 3, "route_server: out of memory")?;
+    ends(
+        &rt,
+        Ended::Setup(SetupFault::Memory),
+        3,
+        "route_server: out of memory",
+    )?;
+    ends(
+        &rt,
+        Ended::Setup(SetupFault::Plan(PlanFault::Memory)),
+        3,
+        "route_server: out of memory",
+    )
+}
+
+// A run under two peers that stopped short has this status and this line.
+fn run_ends<R: AllocGlobal + Abort>(
+    rt: &R,
+    fault: RunFault,
+    out: &str,
+    code: u8,
+    wanted: &str,
+) -> Result<(), Fail> {
+    let alloc = rt.alloc();
+    let setup = two_peers(alloc)?;
+    if let RunFault::Dump(client) = &fault {
+        assert!(rt; *client < setup.plan.count());
+    }
+    let options = options(alloc, out)?;
+    let ended = Ended::Run(fault);
+    assert_eq!(rt; status(&ended), code, "{wanted}");
+    let said = line(alloc, &ended, Some(&setup), Some(&options))?;
+    assert_eq!(rt; said.as_str(), wanted);
+    Ok(())
+}
+
+#[test]
+fn a_run_that_stopped_short_names_what_failed(rt: HostRuntime) -> Result<(), Fail> {
+    run_ends(
+        &rt,
+        RunFault::Memory,
+        "tables",
+        3,
+        "route_server: out of memory",
+    )?;
+    run_ends(
+        &rt,
+        RunFault::Dump(0),
+        "tables",
+        2,
+        "route_server: cannot write tables/a.mrt",
+    )?;
+    run_ends(
+        &rt,
+        RunFault::Dump(1),
+        "tables/",
+        2,
+        "route_server: cannot write tables/b.mrt",
+    )?;
+    run_ends(
+        &rt,
+        RunFault::Dump(1),
+        "t\n",
+        2,
+        "route_server: cannot write t\\n/b.mrt",
+    )?;
+    run_ends(
+        &rt,
+        RunFault::Report,
+        "tables",
+        2,
+        "route_server: cannot write standard output",
+    )
+}

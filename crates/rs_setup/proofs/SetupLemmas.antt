@@ -1,0 +1,85 @@
+-- What the reading of a configuration rests on: how lengths are written, keys among known ones, and lists that grow by one item.
+use Rattle.std.proofs.Common.{◌≡◌, ◌∙◌, ◌<◌, ◌≤◌, ◌+◌, ◌*◌, ◌/◌, ◌%◌, ◌==◌, ℕ, true, List, [], ◌∷◌, ◌++◌, length, map, take, get_or, codes, Option, None, Some, append_assoc, decimal, Bor, sym, ap, refl, arith}
+use Rattle.std.proofs.lemmas.Fmt.{decimal_digit, decimal_step}
+use Rattle.std.proofs.lemmas.List.Sums.{split_at_first, passes_at_first}
+use Rattle.std.proofs.lemmas.Bool.{eqb-true}
+use Rattle.std.proofs.lemmas.List.{get_or-map, length-map}
+use Rattle.std.proofs.lemmas.List.Folds.{Any-from_list_any}
+use Rattle.std.proofs.lemmas.Option.{same_Some}
+use Rattle.std.proofs.lemmas.Slice.Eq.{bytes_eq-Decides}
+use Rattle.std.specs.List.{Contains, list_any, position_or_len, before_first, after_first}
+use Rattle.std.specs.Prelude.{IfSome, MatchOption}
+use Rattle.std.specs.Str.{bytes_eq}
+use Rattle.toml.specs.Data.{Data, string, integer, float, boolean, datetime, array, table, as_str, Items, no_items, item, push_item}
+use Rattle.toml.specs.View.{items_of}
+use Rattle.rs_choice.specs.Plan.{Peer}
+use Rattle.rs_setup.specs.Setup.{ArePeers, IsPeer}
+
+-- a number of two digits is written by them
+pub decimal-two : (tens ones : ℕ) → 1 ≤ tens → tens < 10 → ones < 10 → decimal (10 * tens + ones) ≡ (48 + tens) ∷ (48 + ones) ∷ []
+decimal-two tens ones low high below =
+    let front : (10 * tens + ones) / 10 ≡ tens = omega arith in
+    let last : (10 * tens + ones) % 10 ≡ ones = omega arith in
+    decimal_step (10 * tens + ones) (omega arith) (omega arith)
+    ∙ rw (front, last, decimal_digit tens high) refl
+
+-- lists of one and of two octets
+pub one_octet : (octets : List ℕ) → 1 ≤ length octets → length octets < 2 → octets ≡ get_or octets 0 0 ∷ []
+one_octet [] some few = absurd (omega arith)
+one_octet (x ∷ []) some few = refl
+one_octet (x ∷ y ∷ octets) some few = absurd (omega arith)
+
+pub two_octets : (octets : List ℕ) → 2 ≤ length octets → length octets < 3 → octets ≡ get_or octets 0 0 ∷ get_or octets 1 0 ∷ []
+two_octets [] some few = absurd (omega arith)
+two_octets (x ∷ []) some few = absurd (omega arith)
+two_octets (x ∷ y ∷ []) some few = refl
+two_octets (x ∷ y ∷ z ∷ octets) some few = absurd (omega arith)
+
+-- a text is what stands before its first slash, the slash, and what stands after it
+pub split_at_slash : (text : List ℕ) → position_or_len (λ octet. octet == 47) text < length text
+    → text ≡ before_first (λ octet. octet == 47) text ++ codes "/" ++ after_first (λ octet. octet == 47) text
+split_at_slash text found =
+    let place = position_or_len (λ octet. octet == 47) text in
+    let slash : get_or text place 0 ≡ 47 = eqb-true (get_or text place 0) 47 (passes_at_first (λ octet. octet == 47) text 0 found) in
+    split_at_first (λ octet. octet == 47) text 0 found ∙ rw slash (sym (append_assoc (take place text) (47 ∷ []) (after_first (λ octet. octet == 47) text)))
+
+-- the same of the parts that a split at the first slash gives
+pub parts_at_slash : (text : List ℕ) (parts : Option (Bor (List ℕ) × Bor (List ℕ)))
+    → MatchOption parts (position_or_len (λ octet. octet == 47) text ≡ length text) (λ both. (both.0.now ≡ before_first (λ octet. octet == 47) text) × (both.1.now ≡ after_first (λ octet. octet == 47) text) × (position_or_len (λ octet. octet == 47) text < length text))
+    → IfSome parts (λ both. text ≡ both.0.now ++ codes "/" ++ both.1.now)
+parts_at_slash text None none = tt
+parts_at_slash text (Some both) (front, back, found) = rw (front, back) (split_at_slash text found)
+
+-- a key that is equal to a known one is among them
+pub known_key : (known : List (Bor (List ℕ))) (key : List ℕ) → list_any (λ one. bytes_eq one.now key) known ≡ true → Contains (map (λ one. one.now) known) key
+known_key known key found =
+    let (place, one, within, is, same) = Any-from_list_any (λ (one : Bor (List ℕ)). bytes_eq one.now key) known found in (
+      place,
+      omega (arith, length-map known (λ (one : Bor (List ℕ)). one.now)),
+      get_or-map (λ (one : Bor (List ℕ)). one.now) known place one key within ∙ ap (λ (one : Bor (List ℕ)). one.now) is ∙ (bytes_eq-Decides one.now key).0 same,
+    )
+
+-- a value whose text there is is that text
+pub as_str-string : (value : Data) (text : List ℕ) → as_str value ≡ Some text → value ≡ string text
+as_str-string (string one) text found = ap string (same_Some one text found)
+as_str-string (integer number) text found = cc
+as_str-string (float number) text found = cc
+as_str-string (boolean one) text found = cc
+as_str-string (datetime one) text found = cc
+as_str-string (array values) text found = cc
+as_str-string (table keys) text found = cc
+
+-- one more text of a list
+pub items_of-push : (texts : List (List ℕ)) (text : List ℕ) → items_of (map string (texts ++ text ∷ [])) ≡ push_item (items_of (map string texts)) (string text)
+items_of-push [] text = refl
+items_of-push (first ∷ texts) text = ap (item (string first)) (items_of-push texts text)
+
+-- one more peer of a list
+pub ArePeers-push : (values : Items) (peers : List Peer) (files : List (List ℕ)) (value : Data) (peer : Peer) (file : List ℕ)
+    → ArePeers values peers files → IsPeer value peer file → ArePeers (push_item values value) (peers ++ peer ∷ []) (files ++ file ∷ [])
+ArePeers-push no_items [] [] value peer file so_far is = (is, tt)
+ArePeers-push (item first values) (one ∷ peers) (path ∷ files) value peer file so_far is = (so_far.0, ArePeers-push values peers files value peer file so_far.1 is)
+ArePeers-push no_items (one ∷ peers) files value peer file so_far is = absurd so_far
+ArePeers-push no_items [] (path ∷ files) value peer file so_far is = absurd so_far
+ArePeers-push (item first values) [] files value peer file so_far is = absurd so_far
+ArePeers-push (item first values) (one ∷ peers) [] value peer file so_far is = absurd so_far

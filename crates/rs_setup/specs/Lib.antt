@@ -1,0 +1,4 @@
+pub mod Laws
+pub mod Section
+pub mod Setup
+pub mod Values

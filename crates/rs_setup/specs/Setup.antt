@@ -1,0 +1,64 @@
+-- What a configuration sets up: the server, its peers and their recorded files (our choice: RFC 4271 leaves configuration to the implementation).
+use Rattle.std.specs.Prelude.{◌≡◌, ℕ, List, [], ◌∷◌, codes, None}
+use Rattle.toml.specs.Data.{Data, table, array, Items, no_items, item, Members}
+use Rattle.rs_choice.specs.Plan.{Peer, Plan}
+use Rattle.rs_choice.specs.declared.plan.Local.{Local}
+use Rattle.rs_setup.specs.Values.{HasOnly, IsAddress, IsSomeSubnet, IsText, IsTexts, IsWholeNumber, MayHave, Needs}
+
+-- the keys of a configuration, of its server and of a peer
+abbrev pub top_keys : List (List ℕ)
+top_keys = codes "peer" ∷ codes "server" ∷ []
+
+abbrev pub server_keys : List (List ℕ)
+server_keys = codes "address" ∷ codes "as" ∷ codes "id" ∷ codes "subnet" ∷ []
+
+abbrev pub peer_keys : List (List ℕ)
+peer_keys = codes "address" ∷ codes "as" ∷ codes "file" ∷ codes "id" ∷ codes "name" ∷ codes "preference" ∷ codes "refuse_from" ∷ []
+
+-- the preference of a peer that is configured none of its own
+abbrev pub default_preference : ℕ
+default_preference = 100
+
+-- the server by its keys; its identifier is its address where no other is configured
+pub record IsServerOf (keys : Members) (server : Local) : Type 0 where
+  pub known : HasOnly server_keys keys
+  pub asn : Needs keys (codes "as") IsWholeNumber server.asn
+  pub address : Needs keys (codes "address") IsAddress server.address
+  pub id : MayHave keys (codes "id") IsAddress server.address server.id
+  pub subnet : MayHave keys (codes "subnet") IsSomeSubnet None server.subnet
+
+-- a peer and the path of its recorded file by the peer's keys; where nothing else is configured its identifier is its address, its preference is the default
+-- and it refuses no routes
+pub record IsPeerOf (keys : Members) (peer : Peer) (path : List ℕ) : Type 0 where
+  pub known : HasOnly peer_keys keys
+  pub name : Needs keys (codes "name") IsText peer.name
+  pub asn : Needs keys (codes "as") IsWholeNumber peer.asn
+  pub address : Needs keys (codes "address") IsAddress peer.address
+  pub id : MayHave keys (codes "id") IsAddress peer.address peer.id
+  pub preference : MayHave keys (codes "preference") IsWholeNumber default_preference peer.preference
+  pub refuse_from : MayHave keys (codes "refuse_from") IsTexts [] peer.refuse_from
+  pub file : Needs keys (codes "file") IsText path
+
+-- a table that is the server's
+abbrev pub IsServer : Data → Local → Type 0
+IsServer value server = (keys : Members) × (value ≡ table keys) × IsServerOf keys server
+
+-- a table that is a peer's
+abbrev pub IsPeer : Data → Peer → List ℕ → Type 0
+IsPeer value peer file = (keys : Members) × (value ≡ table keys) × IsPeerOf keys peer file
+
+-- as many peers and files as there are items, each those of the item at its place
+abbrev pub ArePeers : Items → List Peer → List (List ℕ) → Type 0
+ArePeers no_items [] [] = Unit {0}
+ArePeers (item value values) (peer ∷ peers) (file ∷ files) = IsPeer value peer file × ArePeers values peers files
+ArePeers _ _ _ = ⊥
+
+-- a list of peers' tables
+abbrev pub ArePeersOf : Data → List Peer × List (List ℕ) → Type 0
+ArePeersOf value (peers, files) = (values : Items) × (value ≡ array values) × ArePeers values peers files
+
+-- what a configuration's table sets up: the plan of the exchange, and the path of each peer's recorded file in the order of the peers
+pub record IsSetup (keys : Members) (plan : Plan) (files : List (List ℕ)) : Type 0 where
+  pub known : HasOnly top_keys keys
+  pub server : Needs keys (codes "server") IsServer plan.local
+  pub peers : MayHave keys (codes "peer") ArePeersOf ([], []) (plan.peers, files)
