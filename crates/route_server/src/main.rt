@@ -107,12 +107,12 @@ fn end<R: AllocGlobal + Print + Eprint>(
         let _ = eprintln!(rt; "{MEMORY_LINE}");
         return ExitCode::from(OUT_OF_MEMORY);
     };
-    let said = match ended {
+    let printed = match ended {
         Ended::Words(WordsFault::Help(_)) => print!(rt; "{text}"),
         Ended::Words(WordsFault::Refused(_)) => eprint!(rt; "{text}"),
         _ => eprintln!(rt; "{text}"),
     };
-    match (ended, said) {
+    match (ended, printed) {
         (Ended::Words(WordsFault::Help(_)), Err(_)) => {
             let _ = eprintln!(rt; "{OUTPUT_LINE}");
             ExitCode::from(FAILED)

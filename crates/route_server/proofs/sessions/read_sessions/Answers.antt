@@ -14,8 +14,8 @@ pub loop-peer-preserved : goal.loop-peer-preserved
 loop-peer-preserved c =
     let files = map (λ file. file.now) c.args.files.now in
     let octets : (get_or c.args.files.now c.loop-peer.peer (record { ref_ptr = (0, 0); now = [] })).now ≡ get_or files c.loop-peer.peer [] = sym (get_or-map (λ (file : Bor (List ℕ)). file.now) c.args.files.now c.loop-peer.peer (record { ref_ptr = (0, 0); now = [] })) in
-    let said = c.in_ok-read_session.ensures.end ∙ ap (end_in (id_of (peer_of c.peer-spec.result.now))) octets in
-    let ends = one_more-of_files end_in no_end c.args.plan.now.value.peers files c.loop-peer.ends.items c.in_ok-read_session.field-0 c.loop-peer.peer (peer_of c.peer-spec.result.now) c.loop-peer.invariant.as_many c.loop-peer.invariant.ends (search rules) said in
+    let end = c.in_ok-read_session.ensures.end ∙ ap (end_in (id_of (peer_of c.peer-spec.result.now))) octets in
+    let ends = one_more-of_files end_in no_end c.args.plan.now.value.peers files c.loop-peer.ends.items c.in_ok-read_session.field-0 c.loop-peer.peer (peer_of c.peer-spec.result.now) c.loop-peer.invariant.as_many c.loop-peer.invariant.ends (search rules) end in
     record {
       plan = search rules;
       read = search rules;
