@@ -122,14 +122,4 @@ fn end<R: AllocGlobal + Print + Eprint>(
 }
 
 #[cfg(test)]
-mod ended_tests;
-#[cfg(test)]
-mod files_tests;
-#[cfg(test)]
-mod folder_outlet_tests;
-#[cfg(test)]
-mod recorded_runs;
-#[cfg(test)]
-mod run_tests;
-#[cfg(test)]
-mod words_tests;
+mod tests;

@@ -2,10 +2,10 @@
 
 ghost use Rattle.std.specs.Prelude.{◌<◌};
 
+use super::recorded::{DECISIONS, Plan, RECORDED_FILES, Run, UPDATES};
 use crate::memory_outlet::{Kept, MemoryOutlet, OutletLimits};
 use crate::options::Options;
 use crate::outlet::Outlet;
-use crate::recorded_runs::{DECISIONS, Plan, RECORDED_FILES, Run, UPDATES};
 use crate::run_fault::RunFault;
 use crate::runner::run;
 use rs_choice::{Exchange, Local, PeerSpec, PlanFault};

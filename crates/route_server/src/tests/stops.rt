@@ -62,8 +62,8 @@ fn ends<R: AllocGlobal + Abort>(rt: &R, ended: Ended, code: u8, wanted: &str) ->
     requires { CanTell ended None None }
 {
     assert_eq!(rt; status(&ended), code, "{wanted}");
-    let said = line(rt.alloc(), &ended, None, None)?;
-    assert_eq!(rt; said.as_str(), wanted);
+    let told = line(rt.alloc(), &ended, None, None)?;
+    assert_eq!(rt; told.as_str(), wanted);
     Ok(())
 }
 
@@ -98,16 +98,15 @@ fn a_refused_configuration_has_status_1_and_one_line(rt: HostRuntime) -> Result<
         SetupFault::NotToml,
         "route_server: configuration is not TOML",
     )?;
-    refuses(
-        &rt,
-        SetupFault::Unknown(text(alloc, "alpha")?),
-        "route_server: configuration: alpha is unknown",
-    )?;
-    refuses(
-        &rt,
-        SetupFault::Unknown(text(alloc, "peer[0].a\nb\r")?),
-        "route_server: configuration: peer[0].a\\nb\\r is unknown",
-    )?;
+    for (key, wanted) in [
+        ("alpha", "route_server: configuration: alpha is unknown"),
+        (
+            "peer[0].a\nb\r",
+            "route_server: configuration: peer[0].a\\nb\\r is unknown",
+        ),
+    ] {
+        refuses(&rt, SetupFault::Unknown(text(alloc, key)?), wanted)?;
+    }
     refuses(
         &rt,
         SetupFault::Missing(text(alloc, "server")?),
@@ -122,63 +121,45 @@ fn a_refused_configuration_has_status_1_and_one_line(rt: HostRuntime) -> Result<
 
 #[test]
 fn a_fault_of_the_plan_is_told_by_its_number_and_its_peer(rt: HostRuntime) -> Result<(), Fail> {
-    refuses(
-        &rt,
-        SetupFault::Plan(PlanFault::NoPeer),
-        "route_server: plan fault P1",
-    )?;
-    refuses(
-        &rt,
-        SetupFault::Plan(PlanFault::TooManyPeers),
-        "route_server: plan fault P2",
-    )?;
-    refuses(
-        &rt,
-        SetupFault::Plan(PlanFault::InvalidName(255)),
-        "route_server: plan fault P3 at peer 255",
-    )?;
-    refuses(
-        &rt,
-        SetupFault::Plan(PlanFault::RepeatedName(1)),
-        "route_server: plan fault P4 at peer 1",
-    )?;
-    refuses(
-        &rt,
-        SetupFault::Plan(PlanFault::RepeatedAddress(2)),
-        "route_server: plan fault P5 at peer 2",
-    )?;
-    refuses(
-        &rt,
-        SetupFault::Plan(PlanFault::ZeroAs(None)),
-        "route_server: plan fault P6",
-    )?;
-    refuses(
-        &rt,
-        SetupFault::Plan(PlanFault::ZeroAs(Some(3))),
-        "route_server: plan fault P6 at peer 3",
-    )?;
-    refuses(
-        &rt,
-        SetupFault::Plan(PlanFault::UnknownName(0)),
-        "route_server: plan fault P7 at peer 0",
-    )
+    for (fault, wanted) in [
+        (PlanFault::NoPeer, "route_server: plan fault P1"),
+        (PlanFault::TooManyPeers, "route_server: plan fault P2"),
+        (
+            PlanFault::InvalidName(255),
+            "route_server: plan fault P3 at peer 255",
+        ),
+        (
+            PlanFault::RepeatedName(1),
+            "route_server: plan fault P4 at peer 1",
+        ),
+        (
+            PlanFault::RepeatedAddress(2),
+            "route_server: plan fault P5 at peer 2",
+        ),
+        (PlanFault::ZeroAs(None), "route_server: plan fault P6"),
+        (
+            PlanFault::ZeroAs(Some(3)),
+            "route_server: plan fault P6 at peer 3",
+        ),
+        (
+            PlanFault::UnknownName(0),
+            "route_server: plan fault P7 at peer 0",
+        ),
+    ] {
+        refuses(&rt, SetupFault::Plan(fault), wanted)?;
+    }
+    Ok(())
 }
 
 #[test]
 fn a_file_that_cannot_be_read_is_named(rt: HostRuntime) -> Result<(), Fail> {
-    let alloc = rt.alloc();
-    ends(
-        &rt,
-        Ended::Unread(text(alloc, "gone.mrt")?),
-        2,
-        "route_server: cannot read gone.mrt",
-    )?;
-    ends(
-        &rt,
-        Ended::Unread(text(alloc, "a\nb.mrt")?),
-        2,
-        "route_server: cannot read a\\nb.mrt",
-    )
+    for (path, wanted) in [
+        ("gone.mrt", "route_server: cannot read gone.mrt"),
+        ("a\nb.mrt", "route_server: cannot read a\\nb.mrt"),
+    ] {
+        ends(&rt, Ended::Unread(text(rt.alloc(), path)?), 2, wanted)?;
+    }
+    Ok(())
 }
 
 #[test]
@@ -214,46 +195,41 @@ fn run_ends<R: AllocGlobal + Abort>(
     let options = options(alloc, out)?;
     let ended = Ended::Run(fault);
     assert_eq!(rt; status(&ended), code, "{wanted}");
-    let said = line(alloc, &ended, Some(&setup), Some(&options))?;
-    assert_eq!(rt; said.as_str(), wanted);
+    let told = line(alloc, &ended, Some(&setup), Some(&options))?;
+    assert_eq!(rt; told.as_str(), wanted);
     Ok(())
 }
 
 #[test]
 fn a_run_that_stopped_short_names_what_failed(rt: HostRuntime) -> Result<(), Fail> {
-    run_ends(
-        &rt,
-        RunFault::Memory,
-        "tables",
-        3,
-        "route_server: out of memory",
-    )?;
-    run_ends(
-        &rt,
-        RunFault::Dump(0),
-        "tables",
-        2,
-        "route_server: cannot write tables/a.mrt",
-    )?;
-    run_ends(
-        &rt,
-        RunFault::Dump(1),
-        "tables/",
-        2,
-        "route_server: cannot write tables/b.mrt",
-    )?;
-    run_ends(
-        &rt,
-        RunFault::Dump(1),
-        "t\n",
-        2,
-        "route_server: cannot write t\\n/b.mrt",
-    )?;
-    run_ends(
-        &rt,
-        RunFault::Report,
-        "tables",
-        2,
-        "route_server: cannot write standard output",
-    )
+    for (fault, out, code, wanted) in [
+        (RunFault::Memory, "tables", 3, "route_server: out of memory"),
+        (
+            RunFault::Dump(0),
+            "tables",
+            2,
+            "route_server: cannot write tables/a.mrt",
+        ),
+        (
+            RunFault::Dump(1),
+            "tables/",
+            2,
+            "route_server: cannot write tables/b.mrt",
+        ),
+        (
+            RunFault::Dump(1),
+            "t\n",
+            2,
+            "route_server: cannot write t\\n/b.mrt",
+        ),
+        (
+            RunFault::Report,
+            "tables",
+            2,
+            "route_server: cannot write standard output",
+        ),
+    ] {
+        run_ends(&rt, fault, out, code, wanted)?;
+    }
+    Ok(())
 }
