@@ -1,12 +1,8 @@
 //! Recorded files, and the report and the dumps that they give. The octets were written by hand from the standards, or read from them by another program.
 
-mod decisions;
-mod updates;
-mod whole_files;
-
-pub use decisions::DECISIONS;
-pub use updates::UPDATES;
-pub use whole_files::RECORDED_FILES;
+pub mod decisions;
+pub mod updates;
+pub mod whole_files;
 
 /// A peer of an exchange.
 #[derive(Clone, Copy)]

@@ -2,7 +2,7 @@
 
 ghost use Rattle.std.specs.Prelude.{◌<◌};
 
-use super::recorded::{DECISIONS, Plan, RECORDED_FILES, Run, UPDATES};
+use super::recorded::{Plan, Run, decisions, updates, whole_files};
 use crate::memory_outlet::{Kept, MemoryOutlet, OutletLimits};
 use crate::options::Options;
 use crate::outlet::Outlet;
@@ -143,7 +143,7 @@ fn check_whole(rt: &(impl AllocGlobal + Abort), row: &Run) -> Result<(), Fail> {
 
 #[test]
 fn recorded_files_give_this_report_and_these_dumps(rt: HostRuntime) -> Result<(), Fail> {
-    for row in &RECORDED_FILES {
+    for row in whole_files::rows() {
         check_whole(&rt, row)?;
     }
     Ok(())
@@ -151,7 +151,7 @@ fn recorded_files_give_this_report_and_these_dumps(rt: HostRuntime) -> Result<()
 
 #[test]
 fn updates_give_this_report_and_these_dumps(rt: HostRuntime) -> Result<(), Fail> {
-    for row in &UPDATES {
+    for row in updates::rows() {
         check_whole(&rt, row)?;
     }
     Ok(())
@@ -159,7 +159,7 @@ fn updates_give_this_report_and_these_dumps(rt: HostRuntime) -> Result<(), Fail>
 
 #[test]
 fn decisions_give_this_report_and_these_dumps(rt: HostRuntime) -> Result<(), Fail> {
-    for row in &DECISIONS {
+    for row in decisions::rows() {
         check_whole(&rt, row)?;
     }
     Ok(())
@@ -167,7 +167,7 @@ fn decisions_give_this_report_and_these_dumps(rt: HostRuntime) -> Result<(), Fai
 
 #[test]
 fn a_refused_start_or_keep_ends_the_run(rt: HostRuntime) -> Result<(), Fail> {
-    for row in &DECISIONS {
+    for row in decisions::rows() {
         let clients = row.plan.peers.len();
         for calls in 0..2 * clients as u64 {
             let limits = OutletLimits {
@@ -186,7 +186,7 @@ fn a_refused_start_or_keep_ends_the_run(rt: HostRuntime) -> Result<(), Fail> {
 
 #[test]
 fn a_failed_write_of_a_dump_ends_the_run(rt: HostRuntime) -> Result<(), Fail> {
-    for row in &DECISIONS {
+    for row in decisions::rows() {
         for client in 0..row.plan.peers.len() {
             let limits = OutletLimits {
                 dumps_before_limits: client,
@@ -207,7 +207,7 @@ fn a_failed_write_of_a_dump_ends_the_run(rt: HostRuntime) -> Result<(), Fail> {
 
 #[test]
 fn a_failed_write_of_the_report_leaves_a_beginning_of_it(rt: HostRuntime) -> Result<(), Fail> {
-    let row = &RECORDED_FILES[5];
+    let row = whole_files::rows().get(5).ok_or("no row")?;
     let whole = row.report.as_bytes();
     for (calls, piece) in (0u64..).zip((0..whole.len()).step_by(7)) {
         let limits = Limits {
@@ -225,7 +225,7 @@ fn a_failed_write_of_the_report_leaves_a_beginning_of_it(rt: HostRuntime) -> Res
 
 #[test]
 fn every_record_has_the_time_of_the_options(rt: HostRuntime) -> Result<(), Fail> {
-    let row = &RECORDED_FILES[0];
+    let row = whole_files::rows().first().ok_or("no row")?;
     let ran = run_row(&rt, row, u32::MAX, OutletLimits::none(), Limits::none())?;
     assert_eq!(rt; ran.answer, Ok(()));
     assert_eq!(rt; ran.report.octets(), row.report.as_bytes());

@@ -3,7 +3,11 @@
 use super::*;
 
 /// Which of several routes a client gets.
-pub static DECISIONS: [Run; 7] = [
+pub fn rows() -> &'static [Run] {
+    &ROWS
+}
+
+static ROWS: [Run; 7] = [
     Run {
         name: "MED is compared within one neighbour AS alone",
         plan: &SAME_NEIGHBOUR,

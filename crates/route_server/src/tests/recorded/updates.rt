@@ -3,7 +3,11 @@
 use super::*;
 
 /// What UPDATEs announce and withdraw.
-pub static UPDATES: [Run; 6] = [
+pub fn rows() -> &'static [Run] {
+    &ROWS
+}
+
+static ROWS: [Run; 6] = [
     Run {
         name: "a prefix that one UPDATE withdraws and announces",
         plan: &TWO_PEERS,

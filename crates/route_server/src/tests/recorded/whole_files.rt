@@ -3,7 +3,11 @@
 use super::*;
 
 /// Whole files, and files that end otherwise.
-pub static RECORDED_FILES: [Run; 7] = [
+pub fn rows() -> &'static [Run] {
+    &ROWS
+}
+
+static ROWS: [Run; 7] = [
     Run {
         name: "one route, with its dump",
         plan: &TWO_PEERS,
