@@ -1,9 +1,10 @@
 -- A run, client by client: what is kept, and what the report says.
-use Rattle.std.proofs.Common.{◌≡◌, ℕ, ◌+◌, ◌≤◌, List, [], ◌∷◌, ◌++◌, Option, Some, None, length, take, refl, sym, ap, subst, ◌∙◌, append_assoc, arith}
-use Rattle.std.specs.Prelude.{slice_get}
+use Rattle.std.proofs.Common.{◌≡◌, ℕ, ◌+◌, ◌≤◌, List, [], ◌∷◌, ◌++◌, Option, Some, None, length, take, refl, sym, ap, subst, ◌∙◌, append_assoc, arith, Result, Ok, Err}
+use Rattle.std.specs.Prelude.{slice_get, ◌<◌, IfErr}
+use Rattle.std.specs.Result.{IsErrAnd}
 use Rattle.std.specs.List.{flat_map, enumerate_from, zip}
 use Rattle.std.specs.Option.{option_map}
-use Rattle.std.proofs.lemmas.List.{length-map, take_all}
+use Rattle.std.proofs.lemmas.List.{append-nil, length-map, take_all}
 use Rattle.std.proofs.lemmas.List.FromFn.{length-enumerate_from}
 use Rattle.std.proofs.lemmas.Option.{slice_get-map}
 use Rattle.rs_choice.specs.Plan.{Peer, Plan}
@@ -11,7 +12,9 @@ use Rattle.rs_table.specs.Table.{table_of}
 use Rattle.route_server.specs.Outlet.{KeptDump, Grows}
 use Rattle.route_server.specs.Recorded.{dump_of_files, id_of, tables_of_files}
 use Rattle.route_server.specs.Report.{peer_lines, table_line, table_line_of, report_of_files}
-use Rattle.route_server.specs.Run.{dump_name, kept_dump_of, dumps_of_files}
+use Rattle.route_server.specs.declared.run_fault.RunFault.{RunFault}
+use Rattle.route_server.specs.declared.run_fault.RunFault.TheVariants.{Memory, Dump, Report}
+use Rattle.route_server.specs.Run.{dump_name, kept_dump_of, dumps_of_files, GrowsByBeginning, IsFaultAt, IsStop}
 use Rattle.route_server.specs.SessionEnd.{end_in, ends_of_files}
 use Rattle.route_server.proofs.ListingLemmas.{flat_map-one_more, lines-one_more, slice_get-enumerated, take-one_more}
 
@@ -66,3 +69,29 @@ length-zip_same (x ∷ xs) (y ∷ ys) same = omega (arith, length-zip_same xs ys
 
 pub length-ends : (plan : Plan) (files : List (List ℕ)) → length files ≡ length plan.peers → length (ends_of_files plan files) ≡ length plan.peers
 length-ends plan files same = length-map (zip plan.peers files) (λ (peer, file). end_in (id_of peer) file) ∙ length-zip_same plan.peers files same
+
+-- nothing was kept
+pub Grows-none : (kept : Option (List KeptDump)) → Grows kept kept []
+Grows-none None = tt
+Grows-none (Some kept) = sym (append-nil kept)
+
+-- memory was refused once a beginning of the dumps was kept
+pub stop-memory : (plan : Plan) (files : List (List ℕ)) (time : ℕ) (old new : Option (List KeptDump)) (before after : ℕ) {T : Type 0} (result : Result T RunFault) → IsErrAnd result (λ fault. fault ≡ Memory)
+    → GrowsByBeginning old new (dumps_of_files plan files time) → after ≡ before → IfErr result (IsStop plan files time old new before after)
+stop-memory plan files time old new before after (Ok value) is grown same = tt
+stop-memory plan files time old new before after (Err fault) is grown same = subst (IsStop plan files time old new before after) (sym is) (grown, same)
+
+-- the dumps of the clients before one were kept, and its own was not
+stop-at : (plan : Plan) (files : List (List ℕ)) (time client before after : ℕ) (old new : Option (List KeptDump)) (fault : RunFault) → client < length plan.peers → Grows old new (take client (dumps_of_files plan files time))
+    → IsFaultAt client (length (table_of (tables_of_files plan files) client)) before after fault → IsStop plan files time old new before after fault
+stop-at plan files time client before after old new Memory known grown is = ((client, grown), is)
+stop-at plan files time client before after old new (Dump at) known grown is =
+    subst (λ (number : ℕ). IsStop plan files time old new before after (Dump number)) (sym is.0) (known, grown, is.1)
+stop-at plan files time client before after old new Report known grown is = absurd is
+
+pub stop-client : (plan : Plan) (files : List (List ℕ)) (time client before after : ℕ) (old new : Option (List KeptDump)) (fault : RunFault) {T : Type 0} (result : Result T RunFault) → IsErrAnd result (λ found. found ≡ fault)
+    → client < length plan.peers → Grows old new (take client (dumps_of_files plan files time)) → IsFaultAt client (length (table_of (tables_of_files plan files) client)) before after fault
+    → IfErr result (IsStop plan files time old new before after)
+stop-client plan files time client before after old new fault (Ok value) same known grown is = tt
+stop-client plan files time client before after old new fault (Err found) same known grown is =
+    subst (IsStop plan files time old new before after) (sym same) (stop-at plan files time client before after old new fault known grown is)

@@ -1,11 +1,12 @@
 -- What a run keeps and reports. Nothing here is of a standard: all of it is our choice.
-use Rattle.std.specs.Prelude.{◌≡◌, ℕ, ◌+◌, ◌<◌, ◌⊎◌, List, ◌++◌, Option, codes, map, take}
+use Rattle.std.specs.Prelude.{◌≡◌, ℕ, ◌+◌, ◌<◌, ◌⊎◌, List, ◌++◌, Option, codes, length, map, take}
+use Rattle.rs_table.specs.Table.{table_of}
 use Rattle.std.specs.List.{enumerate_from}
 use Rattle.rs_choice.specs.Plan.{Peer, Plan}
 use Rattle.route_server.specs.declared.run_fault.RunFault.{RunFault}
 use Rattle.route_server.specs.declared.run_fault.RunFault.TheVariants.{Memory, Dump, Report}
 use Rattle.route_server.specs.Outlet.{KeptDump, Grows}
-use Rattle.route_server.specs.Recorded.{dump_of_files}
+use Rattle.route_server.specs.Recorded.{dump_of_files, tables_of_files}
 
 -- the name under which a client's dump is kept
 abbrev pub dump_name : List ℕ → List ℕ
@@ -36,3 +37,12 @@ abbrev pub IsFaultAt : ℕ → ℕ → ℕ → ℕ → RunFault → Type 0
 IsFaultAt client rows before after Memory = after ≡ before
 IsFaultAt client rows before after (Dump at) = (at ≡ client) × IsDumpFailure before after rows
 IsFaultAt client rows before after Report = ⊥
+
+-- how a run stops before its report
+abbrev pub IsStop : Plan → List (List ℕ) → ℕ → Option (List KeptDump) → Option (List KeptDump) → ℕ → ℕ → RunFault → Type 0
+IsStop plan files time kept later before after Memory = GrowsByBeginning kept later (dumps_of_files plan files time) × (after ≡ before)
+IsStop plan files time kept later before after (Dump client) =
+    (client < length plan.peers)
+    × Grows kept later (take client (dumps_of_files plan files time))
+    × IsDumpFailure before after (length (table_of (tables_of_files plan files) client))
+IsStop plan files time kept later before after Report = ⊥

@@ -2,7 +2,7 @@
 //!
 //! Our choices: all dumps are kept, in the order of the plan, before the first line of the report is written; the first failure ends the run.
 
-ghost use Rattle.std.specs.Prelude.{◌≡◌, ◌+◌, ◌<◌, ℕ, [], ◌∷◌, IfOk, IfErr, OnOk, OnErr, IsErrOf, length, map, take};
+ghost use Rattle.std.specs.Prelude.{◌≡◌, ◌+◌, ◌<◌, ℕ, [], ◌∷◌, IfOk, IfErr, OnOk, OnErr, IsErrOf, length, map, string_bytes, take};
 ghost use Rattle.std.specs.Io.KnownBytes.{Appends};
 ghost use Rattle.rs_dump.specs.Dump.{dumped};
 ghost use Rattle.rs_mrt.specs.Stream.{AppendsBeginning};
@@ -10,7 +10,7 @@ ghost use Rattle.rs_table.specs.Table.{table_of};
 ghost use Rattle.route_server.specs.Outlet.{Grows};
 ghost use Rattle.route_server.specs.Recorded.{tables_of_files};
 ghost use Rattle.route_server.specs.Report.{report_of_files};
-ghost use Rattle.route_server.specs.Run.{dump_name, dumps_of_files, GrowsByBeginning, IsDumpFailure, IsFaultAt};
+ghost use Rattle.route_server.specs.Run.{dump_name, dumps_of_files, GrowsByBeginning, IsDumpFailure, IsFaultAt, IsStop};
 
 use crate::options::Options;
 use crate::outlet::Outlet;
@@ -61,6 +61,28 @@ pub fn run<O: Outlet, W: Write>(
     ensures report_failures { IsErrOf result RunFault.Report → W.failures report.new ≡ W.failures report.old + 1 }
     ensures report_no_failure { IsErrOf result RunFault.Report → O.failures outlet.new ≡ O.failures outlet.old }
 {
+    let text = keep_dumps(alloc, setup, files, options, outlet)?;
+    match write_all(report, text.as_bytes()) {
+        Ok(()) => Ok(()),
+        Err(_) => Err(RunFault::Report),
+    }
+}
+
+// Reads all sessions, keeps the dump of each client, and answers the report.
+fn keep_dumps<O: Outlet>(
+    alloc: Global,
+    setup: &Setup,
+    files: &[&[u8]],
+    options: &Options,
+    outlet: &mut O,
+) -> Result<String, RunFault>
+    requires one_for_each { length files.now ≡ length setup.now.plan.value.peers }
+    requires failures { O.failures outlet.old < u64.MAX }
+    ensures report { IfOk result (λ text. string_bytes text ≡ report_of_files setup.now.plan.value (map (λ file. file.now) files.now)) }
+    ensures kept { OnOk result (Grows (O.kept outlet.old) (O.kept outlet.new) (dumps_of_files setup.now.plan.value (map (λ file. file.now) files.now) options.now.time)) }
+    ensures no_failure { OnOk result (O.failures outlet.new ≡ O.failures outlet.old) }
+    ensures fault { IfErr result (IsStop setup.now.plan.value (map (λ file. file.now) files.now) options.now.time (O.kept outlet.old) (O.kept outlet.new) (O.failures outlet.old) (O.failures outlet.new)) }
+{
     let plan = &setup.plan;
     let sessions = read_sessions(alloc, plan, files)?;
     let mut text = String::with_capacity(alloc, plan.count() * LINES_LEN)?;
@@ -78,10 +100,7 @@ pub fn run<O: Outlet, W: Write>(
         )?;
         add_table_line(&mut text, name, rows)?;
     }
-    match write_all(report, text.as_bytes()) {
-        Ok(()) => Ok(()),
-        Err(_) => Err(RunFault::Report),
-    }
+    Ok(text)
 }
 
 // Writes and keeps the dump of one client, of this name, and answers how many rows its table has.

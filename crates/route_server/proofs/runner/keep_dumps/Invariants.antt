@@ -4,7 +4,7 @@ use Rattle.route_server.specs.Outlet.{Grows}
 use Rattle.route_server.specs.Report.{peer_lines, table_line_of}
 use Rattle.route_server.specs.Run.{dumps_of_files}
 use Rattle.route_server.specs.SessionEnd.{ends_of_files}
-use Rattle.route_server.proofs.runner.run.Given as goal
+use Rattle.route_server.proofs.runner.keep_dumps.Given as goal
 
 -- the dumps of the clients so far are kept, and the report tells of all sessions and of these clients' tables
 abbrev pub invariant-loop-client : goal.invariant-loop-client
