@@ -4,7 +4,7 @@ ghost use Rattle.std.specs.Prelude.{◌≡◌, ◌≤◌, length, map, None, Som
 ghost use Rattle.std.specs.Option.{option_map};
 ghost use Rattle.rs_update.specs.AsPath.{segment_of, path_length_of, neighbour_of, holds_as_in};
 ghost use Rattle.rs_update.specs.Shapes.{communities_of, other_of};
-ghost use Rattle.rs_update.specs.Community.{has_community_in, has_value};
+ghost use Rattle.rs_update.specs.Community.{has_community_in, has_community_of_in, has_value, has_value_of};
 ghost use Rattle.rs_update.specs.Gathered.{attributes_of};
 ghost use Rattle.rs_update.specs.Section.{items_of, section_fault};
 ghost use Rattle.rs_update.specs.Spelling.{written};
@@ -31,6 +31,13 @@ impl Communities {
         ensures { result ≡ has_value self.now.values.items high low }
     {
         high < HALF && low < HALF && self.values.contains(&(high * HALF + low))
+    }
+
+    // Whether a value of this high half is listed.
+    fn holds_of(&self, high: u32) -> bool
+        ensures { result ≡ has_value_of self.now.values.items high }
+    {
+        self.values.iter().any(|value| *value / HALF == high)
     }
 }
 
@@ -174,6 +181,16 @@ impl Attributes {
         match &self.communities {
             None => false,
             Some(list) => list.holds(high, low),
+        }
+    }
+
+    /// Whether a community of the AS `high` was received: a value whose high half is its number.
+    pub fn has_community_of(&self, high: u32) -> bool
+        ensures { result ≡ has_community_of_in self.now.communities high }
+    {
+        match &self.communities {
+            None => false,
+            Some(list) => list.holds_of(high),
         }
     }
 }

@@ -39,6 +39,8 @@ fn attributes_of_one_route(rt: HostRuntime) -> Result<(), Fail> {
     assert!(rt;
         !attributes.has_community(64502, 64500) && !attributes.has_community(0, 0xFBF4_FBF6)
     );
+    assert!(rt; attributes.has_community_of(64500) && attributes.has_community_of(65000));
+    assert!(rt; !attributes.has_community_of(64502) && !attributes.has_community_of(1));
     let communities = attributes.communities().ok_or("communities")?;
     assert_eq!(rt;
         communities.values.as_slice(),
@@ -58,6 +60,7 @@ fn what_was_not_received_is_not_there(rt: HostRuntime) -> Result<(), Fail> {
     assert_eq!(rt; attributes.med(), None);
     assert_eq!(rt; attributes.aggregator(), None);
     assert!(rt; !attributes.atomic() && !attributes.has_community(0, 0));
+    assert!(rt; !attributes.has_community_of(0));
     assert!(rt; attributes.communities().is_none() && attributes.others().is_empty());
     assert_eq!(rt; attributes.written_len(), 20);
     Ok(())
