@@ -53,14 +53,14 @@ same_both First Equal Second In equal follows = record {
 abbrev pub By : {M : Type 0} → (M → Standing) → (Standing → Standing → Type 0) → M → M → Type 0
 By standing Beats w x = Beats (standing w) (standing x)
 
-not_true : (b : Bool) → not b ≡ true → b ≡ false
+pub not_true : (b : Bool) → not b ≡ true → b ≡ false
 not_true true h = absurd (cc)
 not_true false h = refl
 
-true_not_false : (b : Bool) → b ≡ true → b ≡ false → ⊥
+pub true_not_false : (b : Bool) → b ≡ true → b ≡ false → ⊥
 true_not_false b t f = absurd (cc (t, f))
 
-is_false : (b : Bool) → (b ≡ true → ⊥) → b ≡ false
+pub is_false : (b : Bool) → (b ≡ true → ⊥) → b ≡ false
 is_false true h = absurd (h refl)
 is_false false h = refl
 
@@ -106,7 +106,7 @@ holds_lower_origin one other h = grind (arith, nat_tests)
 pub means_lower_med : (one other : Standing) → beats steps.Med one other ≡ true → HasLowerMed one other
 means_lower_med one other h = grind (arith, nat_tests)
 
-holds_lower_med : (one other : Standing) → HasLowerMed one other → beats steps.Med one other ≡ true
+pub holds_lower_med : (one other : Standing) → HasLowerMed one other → beats steps.Med one other ≡ true
 holds_lower_med one other h = grind (arith, nat_tests)
 
 means_lower_id : (one other : Standing) → beats steps.Identifier one other ≡ true → HasLowerId one other
@@ -183,7 +183,7 @@ module _ {M : Type 0} (standing : M → Standing) (set : List M) where
       (same_both (By standing IsPreferred) (By standing IsAsPreferred) (By standing IsShorter) (Mem set)
       (λ w x. equal_preference (standing w) (standing x)) (λ u w x. follows_preference (standing u) (standing w) (standing x))))
 
-  same3 : Same (Mem s3) (Unbeaten (By standing IsAhead) (Mem set))
+  pub same3 : Same (Mem s3) (Unbeaten (By standing IsAhead) (Mem set))
   same3 =
       same_then (Mem s3) (Unbeaten (By standing HasLowerOrigin) (Mem s2)) (Unbeaten (By standing IsAhead) (Mem set))
       (same_step standing steps.Origin HasLowerOrigin means_lower_origin holds_lower_origin s2)

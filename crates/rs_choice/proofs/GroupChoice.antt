@@ -1,17 +1,19 @@
--- The first of the neighbour groups is the best of all candidates.
-use Rattle.std.proofs.Common.{◌≡◌, ◌∙◌, sym, refl, ℕ, ◌+◌, ◌<◌, ◌≤◌, suc, zero, arith, ◌⊎◌, inl, inr, List, [], ◌∷◌, length, Option, Some, None, below_more}
+-- The first of the neighbour groups is the choice.
+use Rattle.std.proofs.Common.{◌≡◌, ◌∙◌, sym, refl, ℕ, ◌+◌, ◌<◌, ◌≤◌, arith, ◌⊎◌, inl, inr, List, length, Option, Some, None, below_more}
 use Rattle.std.specs.Prelude.{slice_get}
-use Rattle.std.proofs.lemmas.Option.{slice_get_within}
+use Rattle.std.specs.Option.{option_map}
+use Rattle.std.proofs.lemmas.Option.{get_or_from_slice_get, slice_get-get_or, slice_get_within}
 use Rattle.std.proofs.lemmas.Bool.{cases_order}
 use Rattle.rs_choice.specs.declared.candidate.Standing.{Standing}
 use Rattle.rs_choice.specs.declared.candidate.Placed.{Placed}
-use Rattle.rs_choice.specs.declared.candidate.Candidate.{Candidate}
-use Rattle.rs_choice.specs.Plan.{Plan}
 use Rattle.rs_choice.specs.Comparison.{IsAhead, IsLevel, HasLowerMed, Precedes}
-use Rattle.rs_choice.specs.Scan.{standing_of_candidate, Holds, IsBest}
-use Rattle.rs_choice.specs.Grouping.{standing_at, GoesBefore, IsGrouping, GoesBeforeSome, IsFirstOf}
-use Rattle.rs_choice.proofs.Eliminations.{follows_level}
-use Rattle.rs_choice.proofs.ScanLemmas.{precedes_cases}
+use Rattle.rs_choice.specs.Decision.{no_standing, place_of_choice}
+use Rattle.rs_choice.specs.Scan.{Holds}
+use Rattle.rs_choice.specs.Grouping.{standing_in, GoesBefore, IsGrouping, GoesBeforeSome, IsFirstOf}
+use Rattle.rs_choice.proofs.Eliminations.{LeftByMed, follows_level}
+use Rattle.rs_choice.proofs.Members.{Mem}
+use Rattle.rs_choice.proofs.PlaceLemmas.{mem-slice_get, slice_get-mem, place_of_choice-Some, place_of_choice-None}
+use Rattle.rs_choice.proofs.ScanLemmas.{precedes_cases, not_both_precede}
 
 module _ (S : ℕ → Standing) where
   before_then : (a b c : Placed) → GoesBefore a.standing a.place b.standing b.place → GoesBefore b.standing b.place c.standing c.place → GoesBefore a.standing a.place c.standing c.place
@@ -115,46 +117,77 @@ module _ (S : ℕ → Standing) where
         ]
       ]
 
-some_at : {A : Type 0} (xs : List A) (k : ℕ) → k < length xs → (x : A) × (slice_get xs k ≡ Some x)
-some_at [] k within = absurd (omega arith)
-some_at (x ∷ xs) zero within = (x, refl)
-some_at (x ∷ xs) (suc k) within = some_at xs k (omega arith)
-
-module _ (plan : Plan) (candidates : List Candidate) where
+-- the first of the groups of all entrants is the choice among them
+module _ (standings : List Standing) where
   abbrev S : ℕ → Standing
-  S = standing_at plan candidates
+  S = standing_in standings
 
-  standing_at-is : (k : ℕ) (candidate : Candidate) → slice_get candidates k ≡ Some candidate → S k ≡ standing_of_candidate plan candidate
-  standing_at-is k candidate at = rw at refl
+  standing_is : (k : ℕ) (one : Standing) → slice_get standings k ≡ Some one → S k ≡ one
+  standing_is k one at = get_or_from_slice_get standings k one no_standing at
 
-  -- the first of the groups of all candidates is the best of them
-  pub first_is_best : (groups : List ℕ) → IsGrouping S (length candidates) groups → (best : Option Placed) → IsFirstOf S groups (length groups) best →
-      IsBest plan candidates (length candidates) best
-  first_is_best groups is None none =
-      λ k below candidate at left.
-      let found = is.all k below in
-      let within = slice_get_within groups found.0 found.1 found.2 in
-      absurd (omega (arith, within, none))
-  first_is_best groups is (Some best) first =
-      let n = length candidates in
-      let g = first.0.0 in
-      let p = best.place in
-      let at = first.0.1 in
-      let below = is.within g p at in
-      let candidate = some_at candidates p below in
-      let front : (k : ℕ) → k < n → IsAhead (S k) best.standing → ⊥ = rw first.1 (first_front S n groups is g p at) in
-      let least : (k : ℕ) → k < n → IsLevel (S k) best.standing × HasLowerMed (S k) best.standing → ⊥ = rw first.1 (first_least_med S n groups is g p at) in (
-        below,
-        (candidate.0, candidate.1, sym (standing_at-is p candidate.0 candidate.1) ∙ sym first.1),
-        (
-          (λ k other at_other ahead. front k (slice_get_within candidates k other at_other) (rw (standing_at-is k other at_other) ahead)),
-          λ k other at_other lower. least k (slice_get_within candidates k other at_other) (rw (standing_at-is k other at_other) lower),
-        ),
-        λ k below_k other at_other left.
-            let is_k = standing_at-is k other at_other in
-            let none_ahead : (j : ℕ) → j < n → IsAhead (S j) (S k) → ⊥ =
-            λ j below_j ahead. let c = some_at candidates j below_j in left.0 j c.0 c.1 (rw (standing_at-is j c.0 c.1, is_k) at ahead) in
-            let least_med : (j : ℕ) → j < n → IsLevel (S j) (S k) × HasLowerMed (S j) (S k) → ⊥ =
-            λ j below_j lower. let c = some_at candidates j below_j in left.1 j c.0 c.1 (rw (standing_at-is j c.0 c.1, is_k) at lower) in
-            rw is_k at (first_holds S n groups is best first k below_k none_ahead least_med),
-      )
+  abbrev IsLeft : Standing → Type 0
+  IsLeft = LeftByMed (λ one. one) (Mem standings)
+
+  none_ahead : (one : Standing) → IsLeft one → (j : ℕ) → j < length standings → IsAhead (S j) one → ⊥
+  none_ahead one left j below ahead = left.best (S j) (mem-slice_get standings j (S j) (slice_get-get_or standings j no_standing below)) (inl ahead)
+
+  none_lower : (one : Standing) → IsLeft one → (j : ℕ) → j < length standings → IsLevel (S j) one × HasLowerMed (S j) one → ⊥
+  none_lower one left j below lower = left.best (S j) (mem-slice_get standings j (S j) (slice_get-get_or standings j no_standing below)) (inr lower)
+
+  -- the first is left by the first four steps
+  first_left : (groups : List ℕ) → IsGrouping S (length standings) groups → (g p : ℕ) → slice_get groups g ≡ Some p → (one : Standing) → slice_get standings p ≡ Some one → IsLeft one
+  first_left groups is g p at one at_one =
+      let is_one = standing_is p one at_one in
+      record {
+        member = mem-slice_get standings p one at_one;
+        best = λ w h beaten.
+            let found = slice_get-mem standings w h in
+            let below = slice_get_within standings found.0 w found.1 in
+            let is_w = standing_is found.0 w found.1 in
+            elim beaten [
+              | inl ahead ↦ is.front g p at found.0 below (rw (is_w, is_one) ahead)
+              | inr lower ↦ first_least_med S (length standings) groups is g p at found.0 below (rw (is_w, is_one) lower)
+            ];
+      }
+
+  -- and holds against each that they leave
+  holds_against : (groups : List ℕ) → IsGrouping S (length standings) groups → (first : Placed) → IsFirstOf S groups (length groups) (Some first) →
+      (k : ℕ) (w : Standing) → slice_get standings k ≡ Some w → IsLeft w → Holds first k w
+  holds_against groups is first is_first k w at_w left =
+      let is_w = standing_is k w at_w in
+      rw is_w at
+      (first_holds S (length standings) groups is first is_first k (slice_get_within standings k w at_w)
+      (λ j below ahead. none_ahead w left j below (rw is_w at ahead)) (λ j below lower. none_lower w left j below (rw is_w at lower)))
+
+  pub first_is_choice : (groups : List ℕ) → IsGrouping S (length standings) groups → (first : Option Placed) → IsFirstOf S groups (length groups) first →
+      place_of_choice (λ one. one) standings ≡ option_map (λ first. first.place) first
+  first_is_choice groups is None none =
+      place_of_choice-None (λ one. one) standings
+      (λ x left.
+      let found = slice_get-mem standings x left.member.member in
+      let group = is.all found.0 (slice_get_within standings found.0 x found.1) in
+      let within = slice_get_within groups group.0 group.1 group.2 in
+      absurd (omega (arith, within, none)))
+  first_is_choice groups is (Some first) is_first =
+      let g = is_first.0.0 in
+      let p = first.place in
+      let at = is_first.0.1 in
+      let one = S p in
+      let at_one = slice_get-get_or standings p no_standing (is.within g p at) in
+      let left_one = first_left groups is g p at one at_one in
+      place_of_choice-Some (λ one. one) standings p one at_one
+      (record {
+        member = left_one;
+        best = λ w left before.
+            let found = slice_get-mem standings w left.member in
+            let before_first : Precedes w first.standing = rw (sym is_first.1) at before in
+            elim (holds_against groups is first is_first found.0 w found.1 left) [
+              | inl after ↦ not_both_precede w first.standing before_first after
+              | inr same ↦ absurd (grind (arith, same, before_first))
+            ];
+      })
+      (λ k w at_w left.
+      elim (holds_against groups is first is_first k w at_w left.member) [
+        | inl before ↦ let before_one : Precedes one w = rw is_first.1 at before in absurd (left.best one left_one before_one)
+        | inr same ↦ same.2
+      ])

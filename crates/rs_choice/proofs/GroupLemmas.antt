@@ -1,11 +1,11 @@
 -- The pass by neighbour groups: what each step keeps of the places that it has seen.
-use Rattle.std.proofs.Common.{◌≡◌, ◌∙◌, sym, refl, ℕ, ◌+◌, ◌<◌, arith, inl, inr, List, [], ◌∷◌, ◌++◌, length, Some, None, below_more, length-append}
+use Rattle.std.proofs.Common.{◌≡◌, ◌∙◌, sym, refl, ℕ, ◌+◌, ◌<◌, arith, inl, inr, List, [], ◌∷◌, ◌++◌, length, Some, below_more, length-append}
 use Rattle.std.specs.Prelude.{slice_get, slice_set}
 use Rattle.std.proofs.lemmas.Option.{slice_get_within}
 use Rattle.std.proofs.lemmas.Bool.{cases_order}
 use Rattle.rs_choice.specs.declared.candidate.Standing.{Standing}
 use Rattle.rs_choice.specs.Comparison.{IsAhead, IsLevel}
-use Rattle.rs_choice.specs.Grouping.{BeatsInGroup, StandsFor, IsGrouping, IsLevelWithSome, IsNeighboursGroup}
+use Rattle.rs_choice.specs.Grouping.{BeatsInGroup, StandsFor, IsGrouping, IsLevelWithSome}
 use Rattle.rs_choice.proofs.Eliminations.{equal_level, follows_level}
 use Rattle.rs_choice.proofs.ScanLemmas.{not_ahead_of_itself, ahead_then}
 use Rattle.rs_choice.proofs.GroupLists.{level_ahead, level_back, level_then, stands_for_itself, beats_stands, held_stands, single, push_cases, push_old, push_new, set_cases, set_same, set_other, length_set}
@@ -21,12 +21,12 @@ module _ (S : ℕ → Standing) where
   }
 
   -- all groups are level with one another
-  groups_level : (n : ℕ) (groups : List ℕ) → IsGrouping S n groups → (g h p q : ℕ) → slice_get groups g ≡ Some p → slice_get groups h ≡ Some q → IsLevel (S p) (S q)
+  pub groups_level : (n : ℕ) (groups : List ℕ) → IsGrouping S n groups → (g h p q : ℕ) → slice_get groups g ≡ Some p → slice_get groups h ≡ Some q → IsLevel (S p) (S q)
   groups_level n groups is g h p q at_p at_q =
       equal_level (S p) (S q) (is.front h q at_q p (is.within g p at_p)) (is.front g p at_p q (is.within h q at_q))
 
   -- one that is ahead of all before it begins the groups anew
-  alone : (n : ℕ) → ((k : ℕ) → k < n → IsAhead (S n) (S k)) → IsGrouping S (n + 1) (n ∷ [])
+  pub alone : (n : ℕ) → ((k : ℕ) → k < n → IsAhead (S n) (S k)) → IsGrouping S (n + 1) (n ∷ [])
   alone n ahead = record {
     few = omega arith;
     within = λ group place at. omega (arith, (single n group place at).1);
@@ -41,23 +41,23 @@ module _ (S : ℕ → Standing) where
     apart = λ i j place other at_i at_j same. (single n i place at_i).0 ∙ sym (single n j other at_j).0;
   }
 
-  pub first_group : (n : ℕ) (groups : List ℕ) → IsGrouping S n groups → length groups ≡ 0 → IsGrouping S (n + 1) (n ∷ [])
-  first_group n groups is none =
-      alone n (λ k below.
+  -- where there is no group, nothing is before it
+  pub ahead_of_none : (n : ℕ) (groups : List ℕ) → IsGrouping S n groups → length groups ≡ 0 → (k : ℕ) → k < n → IsAhead (S n) (S k)
+  ahead_of_none n groups is none k below =
       let found = is.all k below in
       let within = slice_get_within groups found.0 found.1 found.2 in
-      absurd (omega (arith, within, none)))
+      absurd (omega (arith, within, none))
 
-  pub new_groups : (n : ℕ) (groups : List ℕ) → IsGrouping S n groups → (h q : ℕ) → slice_get groups h ≡ Some q → IsAhead (S n) (S q) → IsGrouping S (n + 1) (n ∷ [])
-  new_groups n groups is h q at_q ahead =
-      alone n (λ k below.
+  -- who is ahead of one of the groups is ahead of all before it
+  pub ahead_of_all : (n : ℕ) (groups : List ℕ) → IsGrouping S n groups → (h q : ℕ) → slice_get groups h ≡ Some q → IsAhead (S n) (S q) → (k : ℕ) → k < n → IsAhead (S n) (S k)
+  ahead_of_all n groups is h q at_q ahead k below =
       let found = is.all k below in
       let level = groups_level n groups is h found.0 q found.1 at_q found.2 in
       let ahead_found = follows_level (S n) (S q) (S found.1) level ahead in
       elim found.3 [
         | inl before ↦ ahead_then (S n) (S found.1) (S k) ahead_found before
         | inr stands ↦ follows_level (S n) (S found.1) (S k) stands.0 ahead_found
-      ])
+      ]
 
   -- who is behind one of the groups is left out
   pub left_behind : (n : ℕ) (groups : List ℕ) → IsGrouping S n groups → (h q : ℕ) → slice_get groups h ≡ Some q → IsAhead (S q) (S n) → IsGrouping S (n + 1) groups
@@ -79,17 +79,17 @@ module _ (S : ℕ → Standing) where
       (λ before. is.front group place at level.1 (is.within level.0 level.1 level.2) (level_ahead (S level.1) (S n) (S place) (level_back (S n) (S level.1) level.3) before))
 
   -- and it is behind none
-  level_itself : (n : ℕ) (groups : List ℕ) → IsGrouping S n groups → IsLevelWithSome S n groups → (k : ℕ) → k < n + 1 → IsAhead (S k) (S n) → ⊥
+  pub level_itself : (n : ℕ) (groups : List ℕ) → IsGrouping S n groups → IsLevelWithSome S n groups → (k : ℕ) → k < n + 1 → IsAhead (S k) (S n) → ⊥
   level_itself n groups is level =
       below_more (λ k. IsAhead (S k) (S n) → ⊥) n
       (λ k below before. is.front level.0 level.1 level.2 k below (follows_level (S k) (S n) (S level.1) level.3 before))
       (not_ahead_of_itself (S n))
 
-  level_with_all : (n : ℕ) (groups : List ℕ) → IsGrouping S n groups → IsLevelWithSome S n groups → (h q : ℕ) → slice_get groups h ≡ Some q → IsLevel (S n) (S q)
+  pub level_with_all : (n : ℕ) (groups : List ℕ) → IsGrouping S n groups → IsLevelWithSome S n groups → (h q : ℕ) → slice_get groups h ≡ Some q → IsLevel (S n) (S q)
   level_with_all n groups is level h q at_q =
       level_then (S n) (S level.1) (S q) level.3 (groups_level n groups is level.0 h level.1 q level.2 at_q)
 
-  pub one_more_group : (n : ℕ) (groups : List ℕ) → IsGrouping S n groups → IsLevelWithSome S n groups → IsNeighboursGroup S groups (S n).neighbour None →
+  pub one_more_group : (n : ℕ) (groups : List ℕ) → IsGrouping S n groups → IsLevelWithSome S n groups → ((group place : ℕ) → slice_get groups group ≡ Some place → (S place).neighbour ≡ (S n).neighbour → ⊥) →
       IsGrouping S (n + 1) (groups ++ n ∷ [])
   one_more_group n groups is level differ = record {
     few = omega (arith, is.few, length-append groups (n ∷ []));

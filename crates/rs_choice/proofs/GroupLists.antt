@@ -76,11 +76,11 @@ held_stands held one held_place place level same beats_not earlier =
       ],
     )
 
-pub single : (n group place : ℕ) → slice_get (n ∷ []) group ≡ Some place → (group ≡ 0) × (place ≡ n)
+pub single : {X : Type 0} (n : X) (group : ℕ) (place : X) → slice_get (n ∷ []) group ≡ Some place → (group ≡ 0) × (place ≡ n)
 single n zero place at = (refl, cc)
 single n (suc group) place at = absurd (cc (at))
 
-pub push_cases : (groups : List ℕ) (n group place : ℕ) → slice_get (groups ++ n ∷ []) group ≡ Some place →
+pub push_cases : {X : Type 0} (groups : List X) (n : X) (group : ℕ) (place : X) → slice_get (groups ++ n ∷ []) group ≡ Some place →
     (slice_get groups group ≡ Some place) ⊎ ((group ≡ length groups) × (place ≡ n))
 push_cases [] n group place at = inr (single n group place at)
 push_cases (g ∷ groups) n zero place at = inl at
@@ -89,16 +89,16 @@ push_cases (g ∷ groups) n (suc group) place at = elim (push_cases groups n gro
   | inr new ↦ inr (ap suc new.0, new.1)
 ]
 
-pub push_old : (groups : List ℕ) (n group place : ℕ) → slice_get groups group ≡ Some place → slice_get (groups ++ n ∷ []) group ≡ Some place
+pub push_old : {X : Type 0} (groups : List X) (n : X) (group : ℕ) (place : X) → slice_get groups group ≡ Some place → slice_get (groups ++ n ∷ []) group ≡ Some place
 push_old [] n group place at = absurd (cc (at))
 push_old (g ∷ groups) n zero place at = at
 push_old (g ∷ groups) n (suc group) place at = push_old groups n group place at
 
-pub push_new : (groups : List ℕ) (n : ℕ) → slice_get (groups ++ n ∷ []) (length groups) ≡ Some n
+pub push_new : {X : Type 0} (groups : List X) (n : X) → slice_get (groups ++ n ∷ []) (length groups) ≡ Some n
 push_new [] n = refl
 push_new (g ∷ groups) n = push_new groups n
 
-pub set_cases : (groups : List ℕ) (at n group place : ℕ) → slice_get (slice_set groups at n) group ≡ Some place →
+pub set_cases : {X : Type 0} (groups : List X) (at : ℕ) (n : X) (group : ℕ) (place : X) → slice_get (slice_set groups at n) group ≡ Some place →
     ((group ≡ at) × (place ≡ n)) ⊎ ((group ≢ at) × (slice_get groups group ≡ Some place))
 set_cases [] at n group place here = absurd (cc (here))
 set_cases (g ∷ groups) zero n zero place here = inl (refl, cc)
@@ -109,19 +109,19 @@ set_cases (g ∷ groups) (suc at) n (suc group) place here = elim (set_cases gro
   | inr old ↦ inr ((λ e. old.0 (omega (arith, e))), old.1)
 ]
 
-pub set_same : (groups : List ℕ) (at n : ℕ) → at < length groups → slice_get (slice_set groups at n) at ≡ Some n
+pub set_same : {X : Type 0} (groups : List X) (at : ℕ) (n : X) → at < length groups → slice_get (slice_set groups at n) at ≡ Some n
 set_same [] at n within = absurd (omega arith)
 set_same (g ∷ groups) zero n within = refl
 set_same (g ∷ groups) (suc at) n within = set_same groups at n (omega arith)
 
-pub set_other : (groups : List ℕ) (at n group place : ℕ) → group ≢ at → slice_get groups group ≡ Some place → slice_get (slice_set groups at n) group ≡ Some place
+pub set_other : {X : Type 0} (groups : List X) (at : ℕ) (n : X) (group : ℕ) (place : X) → group ≢ at → slice_get groups group ≡ Some place → slice_get (slice_set groups at n) group ≡ Some place
 set_other [] at n group place differ here = absurd (cc (here))
 set_other (g ∷ groups) zero n zero place differ here = absurd (differ refl)
 set_other (g ∷ groups) zero n (suc group) place differ here = here
 set_other (g ∷ groups) (suc at) n zero place differ here = here
 set_other (g ∷ groups) (suc at) n (suc group) place differ here = set_other groups at n group place (λ e. differ (ap suc e)) here
 
-pub length_set : (groups : List ℕ) (at n : ℕ) → length (slice_set groups at n) ≡ length groups
+pub length_set : {X : Type 0} (groups : List X) (at : ℕ) (n : X) → length (slice_set groups at n) ≡ length groups
 length_set [] at n = refl
 length_set (g ∷ groups) zero n = refl
 length_set (g ∷ groups) (suc at) n = ap suc (length_set groups at n)

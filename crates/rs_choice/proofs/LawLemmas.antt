@@ -12,7 +12,7 @@ use Rattle.rs_choice.specs.Decision.{SentRoute, beats, decision_steps, unbeaten,
 use Rattle.rs_choice.specs.Laws.{SameMembers, ChoiceIsMember, ChoiceIsUnbeaten, ChoiceIgnoresOrder, MedDecidesWithinNeighbour, OpenPolicySharesChoice}
 use Rattle.rs_choice.proofs.Members.{Mem, mem-filter, mem_of-filter, list_any-none, none-list_any}
 use Rattle.rs_choice.proofs.Eliminations.{Same, same_unbeaten, Left, LeftByMed, By, same_remaining, means_lower_med}
-use Rattle.rs_choice.proofs.Places.{first_cases, mem-at}
+use Rattle.rs_choice.proofs.PlaceLemmas.{first_cases, mem-at}
 use Rattle.rs_choice.proofs.ScanLemmas.{precedes_cases}
 
 pub mem-contains : {M : Type 0} (xs : List M) (x : M) → Mem xs x → Contains xs x

@@ -1,12 +1,15 @@
--- Refusals by name, as an exchange keeps them, and the policy at two known peers.
-use Rattle.std.proofs.Common.{◌≡◌, ◌∙◌, sym, ap, arith, ℕ, ◌<◌, ◌==◌, Bool, false, not, ◌&&◌, ◌≢◌, List, [], ◌∷◌, length, map, get_or, Some, refl}
-use Rattle.std.specs.Prelude.{slice_get, string_bytes}
+-- Refusals by name, as an exchange keeps them, the policy at two known peers, and routes whose communities refuse nothing.
+use Rattle.std.proofs.Common.{◌≡◌, ◌∙◌, sym, ap, arith, ℕ, ◌<◌, ◌/◌, ◌*◌, ◌+◌, ◌==◌, Bool, true, false, not, ◌&&◌, ◌||◌, ◌≢◌, List, [], ◌∷◌, length, map, get_or, Option, None, Some, refl}
+use Rattle.std.specs.Prelude.{slice_get, string_bytes, nat_lt, if◌then◌else◌}
+use Rattle.std.specs.List.{list_any}
 use Rattle.std.specs.Str.{bytes_eq}
 use Rattle.std.specs.Option.{option_map}
 use Rattle.std.proofs.lemmas.Option.{slice_get-map, slice_get-get_or, get_or_from_slice_get, slice_get_read, slice_get_within}
 use Rattle.std.proofs.lemmas.List.{length-map}
+use Rattle.std.proofs.lemmas.Bool.{ltb-true}
 use Rattle.std.proofs.lemmas.Bool.Decides.{nat_tests}
-use Rattle.rs_update.specs.PathAttributes.{PathAttributes}
+use Rattle.rs_update.specs.PathAttributes.{PathAttributes, CommunityList}
+use Rattle.rs_update.specs.Community.{has_community_in, has_community_of_in, has_value_of}
 use Rattle.rs_choice.specs.declared.plan.PeerSpec.{PeerSpec}
 use Rattle.rs_choice.specs.Naturality.{list_any-map}
 use Rattle.rs_choice.specs.Checks.{refuses_spec}
@@ -63,6 +66,62 @@ is_permitted-not-refused plan client number attributes one refused answer at_one
     let says : refuses one other ≡ false = sym (refusal one other at_one at_other) ∙ refuses_not in
     let others : (client == number) ≡ false = grind (arith, nat_tests) in
     at_answer ∙ sym (is_permitted-known plan client number attributes one other at_one at_other ∙ rw (others, says) refl)
+
+-- where no value has the high half 0, none is that of (0, low)
+no_value_of_0 : (value low : ℕ) → low < 65536 → (value / 65536 == 0) ≡ false → (value == 0 * 65536 + low) ≡ false
+no_value_of_0 value low small other = grind (arith, nat_tests)
+
+none_in_front : (a b : Bool) → (a || b) ≡ false → a ≡ false
+none_in_front true b none = none
+none_in_front false b none = refl
+
+none_behind : (a b : Bool) → (a || b) ≡ false → b ≡ false
+none_behind true b none = absurd (grind (arith, none))
+none_behind false b none = none
+
+no_values_of_0 : (values : List ℕ) (low : ℕ) → low < 65536 → has_value_of values 0 ≡ false → list_any (λ value. value == 0 * 65536 + low) values ≡ false
+no_values_of_0 [] low small none = refl
+no_values_of_0 (value ∷ values) low small none =
+    let front = no_value_of_0 value low small (none_in_front (value / 65536 == 0) (has_value_of values 0) none) in
+    let behind = no_values_of_0 values low small (none_behind (value / 65536 == 0) (has_value_of values 0) none) in
+    rw (front, behind) refl
+
+none_of_both : (a b : Bool) → (a ≡ true → b ≡ false) → (a && b) ≡ false
+none_of_both true b none = none refl
+none_of_both false b none = refl
+
+-- a route without a community (0, AS) has none that refuses it to an AS
+pub no_community_of_0 : (communities : Option CommunityList) (low : ℕ) → has_community_of_in communities 0 ≡ false → has_community_in communities 0 low ≡ false
+no_community_of_0 None low none = refl
+no_community_of_0 (Some list) low none =
+    none_of_both (nat_lt low 65536) (list_any (λ value. value == 0 * 65536 + low) list.values) (λ small. no_values_of_0 list.values low (ltb-true low 65536 small) none)
+
+any_way : (b : Bool) → (if b then true else true) ≡ true
+any_way true = refl
+any_way false = refl
+
+-- so that the communities permit it to every client
+pub permits_without_0 : (local_asn client_asn : ℕ) (communities : Option CommunityList) → has_community_of_in communities 0 ≡ false →
+    permits_by_communities local_asn client_asn communities ≡ true
+permits_without_0 local_asn client_asn communities none = rw (no_community_of_0 communities client_asn none, no_community_of_0 communities local_asn none) (any_way (has_community_in communities local_asn client_asn))
+
+turned : (b : Bool) → (if b then false else true) ≡ not b
+turned true = refl
+turned false = refl
+
+-- and then a client gets the routes of another peer that it doesn't refuse
+pub is_permitted-without_0 : (plan : Plan) (client number : ℕ) (attributes : PathAttributes) (refused : Bool) →
+    client < length plan.peers → number < length plan.peers → client ≢ number → IsRefusal plan.peers client number refused →
+    has_community_of_in attributes.communities 0 ≡ false → not refused ≡ is_permitted plan client number attributes
+is_permitted-without_0 plan client number attributes refused known sender_known differ refusal none =
+    let one = get_or plan.peers client nobody in
+    let other = get_or plan.peers number nobody in
+    let at_one : slice_get plan.peers client ≡ Some one = slice_get-get_or plan.peers client nobody known in
+    let at_other : slice_get plan.peers number ≡ Some other = slice_get-get_or plan.peers number nobody sender_known in
+    let says : refuses one other ≡ refused = sym (refusal one other at_one at_other) in
+    let others : (client == number) ≡ false = grind (arith, nat_tests) in
+    let permits = permits_without_0 plan.local.asn one.asn attributes.communities none in
+    sym (is_permitted-known plan client number attributes one other at_one at_other ∙ rw (others, says, permits) (turned refused))
 
 map_alike : {A B : Type 0} (f g : A → B) (xs : List A) → ((x : A) → f x ≡ g x) → map f xs ≡ map g xs
 map_alike f g [] same = refl

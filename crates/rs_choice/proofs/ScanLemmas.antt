@@ -12,7 +12,7 @@ use Rattle.rs_choice.specs.Comparison.{IsAhead, IsLevel, Precedes}
 use Rattle.rs_choice.specs.Scan.{standing_of_candidate, HasNoneAhead, Leads, IsLeader, IsLeftByMed, GoesFirst, Holds, IsBest}
 use Rattle.rs_choice.proofs.Members.{Mem}
 use Rattle.rs_choice.proofs.Eliminations.{LeftByMed, equal_level, follows_level}
-use Rattle.rs_choice.proofs.Places.{mem-slice_get, slice_get-mem, place_of_choice-Some, place_of_choice-None}
+use Rattle.rs_choice.proofs.PlaceLemmas.{mem-slice_get, slice_get-mem, place_of_choice-Some, place_of_choice-None}
 
 pub not_ahead_of_itself : (one : Standing) → IsAhead one one → ⊥
 not_ahead_of_itself one h = grind arith

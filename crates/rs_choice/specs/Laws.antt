@@ -1,5 +1,5 @@
 -- Laws of the decision process, of export policy and of the faults of a plan.
-use Rattle.std.specs.Prelude.{◌≡◌, ◌<◌, ◌↔◌, ℕ, true, IsTrue, IsFalse, List, [], ◌∷◌, ◌++◌, filter, None, Some, MatchOption, slice_get}
+use Rattle.std.specs.Prelude.{◌≡◌, ◌<◌, ◌↔◌, ℕ, Bool, true, IsTrue, IsFalse, List, [], ◌∷◌, ◌++◌, filter, None, Some, MatchOption, slice_get}
 use Rattle.std.specs.List.{Contains}
 use Rattle.rs_choice.specs.declared.plan.Local.{Local}
 use Rattle.rs_choice.specs.declared.step.Step.{Step}
@@ -50,6 +50,21 @@ OpenPolicySharesChoice =
     (plan : Plan) (client : ℕ) (set : List SentRoute) →
     ((route : SentRoute) → Contains set route → IsTrue (is_permitted plan client route.peer route.attributes)) →
     choice (standing_of plan) (filter (λ route. is_permitted plan client route.peer route.attributes) set) ≡ choice (standing_of plan) set
+
+-- the members that reach the step by MED
+abbrev pub reaching_med : Plan → List SentRoute → List SentRoute
+reaching_med plan set = remaining (standing_of plan) (steps.Preference ∷ steps.PathLength ∷ steps.Origin ∷ []) set
+
+-- some members go, and the choice isn't one of them; of those that reach the step by MED, each one that stays and that it removes is
+-- removed by one that stays: the choice stays
+abbrev pub ChoiceStays : Type 0
+ChoiceStays =
+    (plan : Plan) (set : List SentRoute) (stays : SentRoute → Bool) (chosen : SentRoute) →
+    choice (standing_of plan) set ≡ Some chosen → IsTrue (stays chosen) →
+    ((one other : SentRoute) → Contains (reaching_med plan set) one → IsTrue (stays one) →
+    Contains (reaching_med plan set) other → IsTrue (beats steps.Med (standing_of plan other) (standing_of plan one)) →
+    (third : SentRoute) × Contains (reaching_med plan set) third × IsTrue (stays third) × IsTrue (beats steps.Med (standing_of plan third) (standing_of plan one))) →
+    choice (standing_of plan) (filter stays set) ≡ Some chosen
 
 -- a fault is that of a test that is true, and all tests before it are false; without one all tests are false
 abbrev pub FaultIsFirst : Type 0

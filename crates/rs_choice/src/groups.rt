@@ -1,18 +1,18 @@
-//! The decision process in one pass over at most 256 candidates (RFC 4271, sections 9.1.1 and 9.1.2.2).
+//! The decision process in one pass over at most 256 entrants (RFC 4271, sections 9.1.1 and 9.1.2.2).
 //!
-//! MED is compared within one neighbour AS alone. So of the candidates that the first three steps leave, the pass keeps for each
+//! MED is compared within one neighbour AS alone. So of the entrants that the first three steps leave, the pass keeps for each
 //! neighbour AS the one of least MED, and among equals the one that goes before by identifier, address and place. The choice is the
 //! one of these that goes before all others.
 
-ghost use Rattle.std.specs.Prelude.{◌≡◌, ◌<◌, ◌≤◌, ◌+◌, ◌↔◌, IsTrue, length, map};
+ghost use Rattle.std.specs.Prelude.{◌≡◌, ◌<◌, ◌≤◌, ◌+◌, ◌↔◌, IsTrue, Some, length, map};
 ghost use Rattle.std.specs.List.{All};
 ghost use Rattle.rs_choice.specs.Decision.{choice, member_at, place_of_choice, sent_route_of, standing_of};
-ghost use Rattle.rs_choice.specs.Grouping.{AreWithin, BeatsInGroup, GoesBeforeSome, IsFirstOf, IsGrouping, IsLevelWithSome, IsNeighboursGroup};
-ghost use Rattle.rs_choice.specs.Grouping as spec;
+ghost use Rattle.rs_choice.specs.Grouping.{places_of, standing_in, AreGroups, BeatsInGroup, GoesBeforeSome, IsFirstOf, IsJoined, IsLevelWithSome, IsNeighboursGroup, LeadsAll};
 
 use crate::candidate::{Candidate, Placed, Standing};
+use crate::entrants::{Entrants, Listed};
 use crate::exchange::Exchange;
-use crate::neighbour_groups::NeighbourGroups;
+use crate::neighbour_groups::{Group, NeighbourGroups};
 use crate::plan::MAX_PEERS;
 
 impl Exchange {
@@ -23,118 +23,128 @@ impl Exchange {
         ensures place { result ≡ place_of_choice (standing_of self.now) (map sent_route_of candidates.now) }
         ensures member { member_at (map sent_route_of candidates.now) result ≡ choice (standing_of self.now) (map sent_route_of candidates.now) }
     {
-        let mut groups = NeighbourGroups::new();
-        for place in 0..candidates.len() {
-            self.take_in(&mut groups, candidates, place);
-        }
-        self.first_of(&groups, candidates).map(|best| best.place)
-    }
-
-    // The standing of the candidate at a place.
-    fn standing_at(&self, candidates: &[Candidate], place: usize) -> Standing
-        requires known { All (λ candidate. candidate.peer < length self.now.peers) candidates.now }
-        requires within { place < length candidates.now }
-        ensures { result ≡ spec.standing_at self.now candidates.now place }
-    {
-        self.standing(&candidates[place])
-    }
-
-    // Takes one more candidate into the groups: it begins them anew, joins them or is left out.
-    fn take_in(&self, groups: &mut NeighbourGroups, candidates: &[Candidate], place: usize)
-        requires known { All (λ candidate. candidate.peer < length self.now.peers) candidates.now }
-        requires bound { length candidates.now ≤ MAX_PEERS }
-        requires within { place < length candidates.now }
-        requires grouped { IsGrouping (spec.standing_at self.now candidates.now) place groups.old }
-        ensures { IsGrouping (spec.standing_at self.now candidates.now) (place + 1) groups.new }
-    {
-        let standing = self.standing_at(candidates, place);
-        if groups.is_empty() {
-            groups.restart(place);
-            return;
-        }
-        let leader = self.standing_at(candidates, groups.place(0));
-        if standing.is_ahead_of(&leader) {
-            groups.restart(place);
-        } else if standing.is_level_with(&leader) {
-            self.join(groups, candidates, place, &standing);
-        }
-    }
-
-    // Takes in a candidate that the first three steps leave beside those of the groups.
-    fn join(
-        &self,
-        groups: &mut NeighbourGroups,
-        candidates: &[Candidate],
-        place: usize,
-        standing: &Standing,
-    )
-        requires known { All (λ candidate. candidate.peer < length self.now.peers) candidates.now }
-        requires bound { length candidates.now ≤ MAX_PEERS }
-        requires within { place < length candidates.now }
-        requires grouped { IsGrouping (spec.standing_at self.now candidates.now) place groups.old }
-        requires is_standing { standing.now ≡ spec.standing_at self.now candidates.now place }
-        requires level { IsLevelWithSome (spec.standing_at self.now candidates.now) place groups.old }
-        ensures { IsGrouping (spec.standing_at self.now candidates.now) (place + 1) groups.new }
-    {
-        match self.group_of(groups, candidates, standing.neighbour) {
-            None => groups.push(place),
-            Some(group) => {
-                let held = self.standing_at(candidates, groups.place(group));
-                if beats_in_group(standing, &held) {
-                    groups.replace(group, place);
-                }
-            }
-        }
-    }
-
-    // The number of the group of a neighbour AS, if there is one.
-    fn group_of(
-        &self,
-        groups: &NeighbourGroups,
-        candidates: &[Candidate],
-        neighbour: u32,
-    ) -> Option<usize>
-        requires known { All (λ candidate. candidate.peer < length self.now.peers) candidates.now }
-        requires within { AreWithin (length candidates.now) groups.now }
-        ensures { IsNeighboursGroup (spec.standing_at self.now candidates.now) groups.now neighbour result }
-    {
-        for group in 0..groups.len() {
-            if self.standing_at(candidates, groups.place(group)).neighbour == neighbour {
-                return Some(group);
-            }
-        }
-        None
-    }
-
-    // Of the candidates of the groups, the one that goes before all others.
-    fn first_of(&self, groups: &NeighbourGroups, candidates: &[Candidate]) -> Option<Placed>
-        requires known { All (λ candidate. candidate.peer < length self.now.peers) candidates.now }
-        requires within { AreWithin (length candidates.now) groups.now }
-        ensures { IsFirstOf (spec.standing_at self.now candidates.now) groups.now (length groups.now) result }
-    {
-        let mut first: Option<Placed> = None;
-        for group in 0..groups.len() {
-            let place = groups.place(group);
-            let placed = Placed {
-                place,
-                standing: self.standing_at(candidates, place),
-            };
-            if goes_before(&placed, &first) {
-                first = Some(placed);
-            }
-        }
-        first
+        let entrants = Listed {
+            plan: self,
+            candidates,
+        };
+        let groups = groups_of(&entrants);
+        first_of(&entrants, &groups).map(|first| first.place)
     }
 }
 
-// Whether one of two candidates from the same neighbour AS goes before by MED, identifier and address.
+// The groups of all entrants.
+pub(crate) fn groups_of<E: Entrants>(entrants: &E) -> NeighbourGroups
+    requires bound { length (E.standings entrants.now) ≤ MAX_PEERS }
+    ensures { AreGroups (standing_in (E.standings entrants.now)) (length (E.standings entrants.now)) result }
+{
+    let mut groups = NeighbourGroups::new();
+    let mut leader = None;
+    for place in 0..entrants.count() {
+        leader = Some(take_in(entrants, &mut groups, leader, place));
+    }
+    groups
+}
+
+// Takes one more entrant into the groups: it begins them anew, joins them or is left out. The leader is one that is level with all
+// that stand for groups, and none where there is no group; so is the answer, of the groups that come out.
+fn take_in<E: Entrants>(
+    entrants: &E,
+    groups: &mut NeighbourGroups,
+    leader: Option<Standing>,
+    place: usize,
+) -> Standing
+    requires bound { length (E.standings entrants.now) ≤ MAX_PEERS }
+    requires within { place < length (E.standings entrants.now) }
+    requires grouped { AreGroups (standing_in (E.standings entrants.now)) place groups.old }
+    requires leads { LeadsAll (standing_in (E.standings entrants.now)) groups.old leader }
+    ensures grouped { AreGroups (standing_in (E.standings entrants.now)) (place + 1) groups.new }
+    ensures leads { LeadsAll (standing_in (E.standings entrants.now)) groups.new (Some result) }
+{
+    let standing = entrants.standing(place);
+    let Some(leader) = leader else {
+        groups.restart(Group::of(place, &standing));
+        return standing;
+    };
+    if standing.is_ahead_of(&leader) {
+        groups.restart(Group::of(place, &standing));
+        return standing;
+    }
+    if standing.is_level_with(&leader) {
+        join(entrants, groups, place, &standing);
+    }
+    leader
+}
+
+// Takes in an entrant that the first three steps leave beside those of the groups.
+fn join<E: Entrants>(entrants: &E, groups: &mut NeighbourGroups, place: usize, standing: &Standing)
+    requires bound { length (E.standings entrants.now) ≤ MAX_PEERS }
+    requires within { place < length (E.standings entrants.now) }
+    requires grouped { AreGroups (standing_in (E.standings entrants.now)) place groups.old }
+    requires is_standing { standing.now ≡ standing_in (E.standings entrants.now) place }
+    requires level { IsLevelWithSome (standing_in (E.standings entrants.now)) place (places_of groups.old) }
+    ensures { AreGroups (standing_in (E.standings entrants.now)) (place + 1) groups.new }
+{
+    let Some(number) = group_of(groups, standing.neighbour) else {
+        groups.push(Group::of(place, standing));
+        return;
+    };
+    let group = groups.group(number);
+    let held = entrants.standing(usize::from(group.place));
+    groups.replace(number, joined(&group, &held, place, standing));
+}
+
+// A group with one more entrant of its neighbour AS: the one that stands for both.
+fn joined(group: &Group, held: &Standing, place: usize, standing: &Standing) -> Group
+    requires { place < MAX_PEERS }
+    ensures { IsJoined group.now held.now place standing.now result }
+{
+    let beats = beats_in_group(standing, held);
+    Group {
+        place: if beats { place as u8 } else { group.place },
+        keeps_out: group.keeps_out || standing.med != held.med,
+        neighbour: group.neighbour,
+    }
+}
+
+// The number of the group of a neighbour AS, if there is one.
+fn group_of(groups: &NeighbourGroups, neighbour: u32) -> Option<usize>
+    ensures { IsNeighboursGroup groups.now neighbour result }
+{
+    for number in 0..groups.len() {
+        if groups.group(number).neighbour == neighbour {
+            return Some(number);
+        }
+    }
+    None
+}
+
+// Of the entrants that stand for groups, the one that goes before all others.
+pub(crate) fn first_of<E: Entrants>(entrants: &E, groups: &NeighbourGroups) -> Option<Placed>
+    requires grouped { AreGroups (standing_in (E.standings entrants.now)) (length (E.standings entrants.now)) groups.now }
+    ensures { IsFirstOf (standing_in (E.standings entrants.now)) (places_of groups.now) (length (places_of groups.now)) result }
+{
+    let mut first: Option<Placed> = None;
+    for number in 0..groups.len() {
+        let place = usize::from(groups.group(number).place);
+        let placed = Placed {
+            place,
+            standing: entrants.standing(place),
+        };
+        if goes_before(&placed, &first) {
+            first = Some(placed);
+        }
+    }
+    first
+}
+
+// Whether one of two entrants from the same neighbour AS goes before by MED, identifier and address.
 fn beats_in_group(one: &Standing, held: &Standing) -> bool
     ensures { IsTrue result ↔ BeatsInGroup one.now held.now }
 {
     one.med < held.med || (one.med == held.med && one.precedes(held))
 }
 
-// Whether a candidate goes before the first, where there is one, by identifier, address and place.
+// Whether an entrant goes before the first, where there is one, by identifier, address and place.
 fn goes_before(one: &Placed, first: &Option<Placed>) -> bool
     ensures { IsTrue result ↔ GoesBeforeSome one.now first.now }
 {

@@ -1,6 +1,6 @@
 //! What holds of the definitions that the contracts cite: each law is the contract of a function that does nothing.
 
-ghost use Rattle.rs_choice.specs.Laws.{ChoiceIgnoresOrder, ChoiceIsMember, ChoiceIsUnbeaten, FaultIsFirst, MedDecidesWithinNeighbour, OpenPolicySharesChoice, PeersHaveOwnAddresses};
+ghost use Rattle.rs_choice.specs.Laws.{ChoiceIgnoresOrder, ChoiceIsMember, ChoiceIsUnbeaten, ChoiceStays, FaultIsFirst, MedDecidesWithinNeighbour, OpenPolicySharesChoice, PeersHaveOwnAddresses};
 
 /// The choice among candidates is one of them, and there is one unless there is no candidate; at each step of the decision process
 /// it is in the set that reached the step, and no member of that set beats it (RFC 4271, section 9.1.2.2).
@@ -22,6 +22,12 @@ pub fn med_decides_within_a_neighbour_as()
 /// A client to which export policy permits all routes of a set gets the choice among all of them (RFC 7947, section 2.3.2.1).
 pub fn an_open_policy_shares_the_choice()
     ensures { OpenPolicySharesChoice }
+{}
+
+/// Members that go without the choice leave it as it is, unless they kept out one that stays: as long as each one that stays and that
+/// the step by MED removes is still removed by one that stays (RFC 4271, section 9.1.2.2, c). So clients that lack nothing else share a choice.
+pub fn the_choice_stays_without_those_of_no_weight()
+    ensures { ChoiceStays }
 {}
 
 /// The fault of a plan is that of the first test that finds one, in the order of the tests.

@@ -4,18 +4,23 @@
 //! that client's export policy).
 //!
 //! Reading order: `plan` (the server and its peers), `fault` and `checks` (which plans are refused), `exchange` (a plan that is
-//! not), `eligibility`, `policy`, `candidate`, `step`, `decision`, `neighbour_groups` and `groups` (the same decision in one pass), `laws`.
+//! not), `eligibility`, `policy`, `candidate`, `step`, `decision`, `entrants` and `groups` (the
+//! same decision in one pass), `held_route` and `clients` (the decisions of all clients), `laws`.
 #![tactic(auto)]
 
 mod candidate;
 mod checks;
+mod clients;
 mod decision;
 mod eligibility;
+mod entrants;
 mod exchange;
 mod fault;
 mod groups;
+mod held_route;
 mod laws;
 mod neighbour_groups;
+mod places;
 mod plan;
 mod policy;
 mod step;
@@ -25,9 +30,10 @@ mod tests;
 pub use candidate::Candidate;
 pub use exchange::Exchange;
 pub use fault::PlanFault;
+pub use held_route::HeldRoute;
 pub use laws::{
     a_plan_is_refused_by_its_first_fault, an_open_policy_shares_the_choice,
     med_decides_within_a_neighbour_as, peers_have_addresses_of_their_own, the_choice_ignores_order,
-    the_choice_is_unbeaten,
+    the_choice_is_unbeaten, the_choice_stays_without_those_of_no_weight,
 };
 pub use plan::{Local, MAX_NAME_LEN, MAX_PEERS, PeerSpec};

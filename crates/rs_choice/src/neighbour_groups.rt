@@ -1,26 +1,64 @@
-//! The places of the candidates that represent a neighbour AS each, in an array: it takes no memory.
+//! The entrants that stand for a neighbour AS each, in an array: it takes no memory.
 
-ghost use Rattle.std.specs.Prelude.{◌≡◌, ◌<◌, ◌≤◌, ◌↔◌, [], ◌∷◌, ◌++◌, IsTrue, length, slice_get, slice_set, Some};
+ghost use Rattle.std.specs.Prelude.{◌≡◌, ◌<◌, ◌≤◌, [], ◌∷◌, ◌++◌, false, length, slice_get, slice_set, Some};
+ghost use Rattle.rs_choice.specs.GroupsView.{mark_of};
 
+use crate::candidate::Standing;
 use crate::plan::MAX_PEERS;
 use std::marker::Model;
 
-/// Places below 256, of at most 256 groups.
+/// The entrant that stands for those of its neighbour AS.
+#[derive(Clone, Copy)]
+pub(crate) struct Group {
+    // Its place.
+    pub(crate) place: u8,
+    // Whether it keeps out another one, which has a higher MED.
+    pub(crate) keeps_out: bool,
+    // The neighbour AS.
+    pub(crate) neighbour: u32,
+}
+
+impl Group {
+    // A group of one entrant.
+    pub(crate) fn of(place: usize, standing: &Standing) -> Group
+        requires { place < MAX_PEERS }
+        ensures { result ≡ record { place = place; keeps_out = false; neighbour = standing.now.neighbour } }
+    {
+        Group {
+            place: place as u8,
+            keeps_out: false,
+            neighbour: standing.neighbour,
+        }
+    }
+}
+
+// A group without its neighbour AS.
+#[derive(Clone, Copy)]
+pub(crate) struct Mark {
+    place: u8,
+    keeps_out: bool,
+}
+
+/// At most 256 groups, in order. The neighbour ASes have an array of their own: they alone are looked through, and two small arrays are
+/// filled more quickly than one of padded groups.
 #[derive(Drop)]
 pub(crate) struct NeighbourGroups {
-    places: [u8; MAX_PEERS],
+    marks: [Mark; MAX_PEERS],
+    neighbours: [u32; MAX_PEERS],
     len: usize,
 }
 
 impl Model for NeighbourGroups {
-    ghost use Rattle.std.specs.Prelude.{◌≤◌, List, ℕ, take};
-    ghost use Rattle.rs_choice.specs.declared.plan.TheConstants.{MAX_PEERS};
+    ghost use Rattle.std.specs.Prelude.{List};
+    ghost use Rattle.rs_choice.specs.declared.neighbour_groups.Group.{Group};
 
-    ghost Value = { List ℕ };
+    ghost Value = { List Group };
 
-    ghost view = { λ groups. take groups.len groups.places };
+    ghost use Rattle.rs_choice.specs.GroupsView.{groups_view, AreFull};
 
-    ghost invariant = { λ groups. groups.len ≤ MAX_PEERS };
+    ghost view = { groups_view };
+
+    ghost invariant = { AreFull };
 }
 
 impl NeighbourGroups {
@@ -28,8 +66,13 @@ impl NeighbourGroups {
     pub(crate) fn new() -> NeighbourGroups
         ensures { result ≡ [] }
     {
+        let unseen = Mark {
+            place: 0,
+            keeps_out: false,
+        };
         NeighbourGroups {
-            places: [0; MAX_PEERS],
+            marks: [unseen; MAX_PEERS],
+            neighbours: [0; MAX_PEERS],
             len: 0,
         }
     }
@@ -42,47 +85,61 @@ impl NeighbourGroups {
         self.len
     }
 
-    // Whether there is no group.
-    pub(crate) fn is_empty(&self) -> bool
-        ensures { IsTrue result ↔ (length self.now ≡ 0) }
+    // The group of a number.
+    pub(crate) fn group(&self, number: usize) -> Group
+        requires { number < length self.now }
+        ensures { slice_get self.now number ≡ Some result }
     {
-        self.len == 0
+        let marks = &self.marks;
+        let neighbours = &self.neighbours;
+        let mark = marks[number];
+        Group {
+            place: mark.place,
+            keeps_out: mark.keeps_out,
+            neighbour: neighbours[number],
+        }
     }
 
-    // The place that represents a group.
-    pub(crate) fn place(&self, group: usize) -> usize
-        requires { group < length self.now }
-        ensures value { slice_get self.now group ≡ Some result }
-        ensures bound { result < MAX_PEERS }
+    // Drops all groups but this one.
+    pub(crate) fn restart(&mut self, group: Group)
+        ensures { self.new ≡ group ∷ [] }
     {
-        usize::from(self.places[group])
-    }
-
-    // Drops all groups but one of this place.
-    pub(crate) fn restart(&mut self, place: usize)
-        requires { place < MAX_PEERS }
-        ensures { self.new ≡ place ∷ [] }
-    {
-        self.places[0] = place as u8;
+        write(&mut self.marks, &mut self.neighbours, 0, group);
         self.len = 1;
     }
 
-    // Adds a group of this place.
-    pub(crate) fn push(&mut self, place: usize)
-        requires room { length self.old < MAX_PEERS }
-        requires small { place < MAX_PEERS }
-        ensures { self.new ≡ self.old ++ place ∷ [] }
+    // Adds a group.
+    pub(crate) fn push(&mut self, group: Group)
+        requires { length self.old < MAX_PEERS }
+        ensures { self.new ≡ self.old ++ group ∷ [] }
     {
-        self.places[self.len] = place as u8;
+        write(&mut self.marks, &mut self.neighbours, self.len, group);
         self.len += 1;
     }
 
-    // Lets this place represent a group.
-    pub(crate) fn replace(&mut self, group: usize, place: usize)
-        requires known { group < length self.old }
-        requires small { place < MAX_PEERS }
-        ensures { self.new ≡ slice_set self.old group place }
+    // Puts a group in the place of another.
+    pub(crate) fn replace(&mut self, number: usize, group: Group)
+        requires { number < length self.old }
+        ensures { self.new ≡ slice_set self.old number group }
     {
-        self.places[group] = place as u8;
+        write(&mut self.marks, &mut self.neighbours, number, group);
     }
+}
+
+// Writes the parts of a group at a place.
+fn write(
+    marks: &mut [Mark; MAX_PEERS],
+    neighbours: &mut [u32; MAX_PEERS],
+    place: usize,
+    group: Group,
+)
+    requires { place < MAX_PEERS }
+    ensures marks { marks.new ≡ slice_set marks.old place (mark_of group) }
+    ensures neighbours { neighbours.new ≡ slice_set neighbours.old place group.neighbour }
+{
+    marks[place] = Mark {
+        place: group.place,
+        keeps_out: group.keeps_out,
+    };
+    neighbours[place] = group.neighbour;
 }

@@ -1,6 +1,8 @@
 //! Export policy: which routes a client may get (RFC 7947, section 2.3). The five cases are our choice.
 
-ghost use Rattle.std.specs.Prelude.{◌≡◌, ◌<◌, length};
+ghost use Rattle.std.specs.Prelude.{◌≡◌, ◌≢◌, ◌<◌, ◌↔◌, IsTrue, length};
+ghost use Rattle.rs_update.specs.Community.{has_community_of_in};
+ghost use Rattle.rs_choice.specs.Held.{IsOpen};
 ghost use Rattle.rs_choice.specs.Policy.{is_permitted, permits_by_communities};
 
 use crate::exchange::Exchange;
@@ -18,6 +20,42 @@ impl Exchange {
         client != peer
             && !self.refuses(client, peer)
             && permitted_by_communities(self.local().asn, self.peer(client).asn, attributes)
+    }
+
+    // Whether every client but the peer of number `peer` may get a route of that peer. Only a community (0, AS) refuses, and most
+    // routes have none: so the communities are looked through once, and for each client only where there is one.
+    pub(crate) fn is_open(&self, peer: usize, attributes: &Attributes) -> bool
+        requires { peer < length self.now.peers }
+        ensures { IsTrue result ↔ IsOpen self.now peer attributes.now }
+    {
+        let refuses = attributes.has_community_of(0);
+        for client in 0..self.count() {
+            if client != peer && !self.permits_other(client, peer, attributes, refuses) {
+                return false;
+            }
+        }
+        true
+    }
+
+    // Whether a client may get a route of another peer, where it is known whether the route has a community (0, AS).
+    fn permits_other(
+        &self,
+        client: usize,
+        peer: usize,
+        attributes: &Attributes,
+        refuses: bool,
+    ) -> bool
+        requires client_known { client < length self.now.peers }
+        requires peer_known { peer < length self.now.peers }
+        requires other { client ≢ peer }
+        requires refuses { refuses ≡ has_community_of_in attributes.now.communities 0 }
+        ensures { result ≡ is_permitted self.now client peer attributes.now }
+    {
+        if refuses {
+            self.permits(client, peer, attributes)
+        } else {
+            !self.refuses(client, peer)
+        }
     }
 }
 

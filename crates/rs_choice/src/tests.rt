@@ -3,7 +3,9 @@
 
 ghost use Rattle.std.specs.Prelude.{◌<◌, ◌↔◌, IsTrue, length};
 ghost use Rattle.std.specs.List.{All};
+ghost use Rattle.rs_choice.specs.Held.{IsJudged};
 
+mod clients;
 mod crowds;
 mod decisions;
 mod eligible_routes;
@@ -14,6 +16,7 @@ use super::*;
 use rs_update::{Attributes, Message, Prefix, read_message};
 use std::alloc::{AllocError, Global};
 use std::process::Abort;
+use std::sync::Arc;
 use std::test::Fail;
 
 const SERVER: u32 = 0xC000_0201;
@@ -202,4 +205,36 @@ fn is_permitted(
     assert!(rt; client < count);
     assert!(rt; peer < count);
     exchange.permits(client, peer, attributes)
+}
+
+// Whether what is held of a route is true of it.
+fn is_judged(exchange: &Exchange, held: &HeldRoute) -> bool
+    ensures { IsTrue result → IsJudged exchange.now held.now }
+{
+    let peer = usize::from(held.peer);
+    peer < exchange.count()
+        && held.eligible == exchange.eligible(peer, &held.attributes)
+        && held.unrestricted == exchange.is_open(peer, &held.attributes)
+}
+
+// Whether what is held of all routes is true of them.
+fn are_judged(exchange: &Exchange, held: &[HeldRoute]) -> bool
+    ensures { IsTrue result → All (IsJudged exchange.now) held.now }
+{
+    held.iter().all(|held| is_judged(exchange, held))
+}
+
+// For each client the number of the peer whose route it gets, or its own number where it gets none.
+fn bests(
+    rt: &impl Abort,
+    alloc: Global,
+    exchange: &Exchange,
+    held: &[HeldRoute],
+) -> Result<Vec<u8>, Fail> {
+    let mut bests = vec![in alloc; 0u8; exchange.count()]?;
+    assert!(rt; are_judged(exchange, held));
+    assert!(rt; held.len() <= MAX_PEERS);
+    assert_eq!(rt; bests.len(), exchange.count());
+    exchange.choose_for_all(held, &mut bests);
+    Ok(bests)
 }

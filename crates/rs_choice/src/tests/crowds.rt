@@ -1,4 +1,5 @@
-//! Both bodies of the decision process on the same sets of up to 256 candidates, with few distinct values, so that ties are common.
+//! Both bodies of the decision process on the same sets of up to 256 candidates, and what all clients of a crowd get beside the choice of
+//! each, with few distinct values, so that ties are common.
 
 ghost use Rattle.std.specs.Prelude.{◌<◌};
 
@@ -111,6 +112,130 @@ fn both_bodies_choose_alike(rt: HostRuntime) -> Result<(), Fail> {
         let candidates = some_candidates(alloc, &mut random, &routes, count)?;
         let place = choice(&rt, &exchange, &candidates);
         assert_eq!(rt; place.is_some(), count != 0, "in round {round}");
+    }
+    Ok(())
+}
+
+// Names of some of the peers of a crowd, mostly none.
+fn some_names(alloc: Global, count: u32, random: &mut Random) -> Result<Vec<String>, Fail>
+    requires { 0 < count }
+{
+    let mut names = Vec::new(alloc);
+    let most = random.below(8).saturating_sub(4);
+    for _ in 0..most {
+        let number = random.below(count);
+        names.push(format!(in alloc; "peer-{number}")?)?;
+    }
+    Ok(names)
+}
+
+// An exchange of so many peers, some of which refuse some others.
+fn refusing_crowd(alloc: Global, count: u32, random: &mut Random) -> Result<Exchange, Fail>
+    requires { 0 < count }
+{
+    let mut peers = Vec::new(alloc);
+    for number in 0..count {
+        let refuse_from = some_names(alloc, count, random)?;
+        peers.push(PeerSpec {
+            refuse_from,
+            ..crowd_member(alloc, number, random)?
+        })?;
+    }
+    Ok(Exchange::new(alloc, server(false), peers)?)
+}
+
+const CROWD_PATHS: &[&str] = &[
+    PATH_64501_65010,
+    PATH_64502_65010,
+    PATH_64502_65010,
+    PATH_64503_65010,
+    // {65010 65011} 65013, without a neighbour AS of its own
+    "400210 0102 0000FDF2 0000FDF3 0201 0000FDF5",
+    // The server's AS.
+    "400206 0201 0000FBF4",
+];
+
+// To AS 64501, to 64502, to all, and to all but these.
+const CROWD_COMMUNITIES: &[&str] = &[
+    "",
+    "",
+    "",
+    "C00804 0000FBF5",
+    "C00804 0000FBF6",
+    "C00804 0000FBF4",
+    "C00808 0000FBF4 FBF4FBF5",
+    "C00808 FBF4FBF7 0000FBF4",
+];
+
+// Routes of some of the peers of a crowd, as they are held.
+fn some_held(
+    rt: &impl Abort,
+    alloc: Global,
+    exchange: &Exchange,
+    random: &mut Random,
+) -> Result<Vec<HeldRoute>, Fail> {
+    let mut held = Vec::new(alloc);
+    for peer in 0..exchange.count() {
+        let texts = [
+            IGP,
+            one_of(random, CROWD_PATHS),
+            NEXT_HOP_A,
+            one_of(random, MEDS),
+            one_of(random, CROWD_COMMUNITIES),
+        ];
+        let attributes = Arc::new(alloc, attributes(alloc, &texts)?)?;
+        if random.below(4) != 0 {
+            assert!(rt; peer < exchange.count());
+            held.push(exchange.hold(peer, 0, attributes))?;
+        }
+    }
+    Ok(held)
+}
+
+// The number of the peer whose route is the choice among those that a client may get, or its own number where there is none.
+fn best_of_one(
+    rt: &impl Abort,
+    alloc: Global,
+    exchange: &Exchange,
+    held: &[HeldRoute],
+    client: usize,
+) -> Result<usize, Fail> {
+    let mut candidates = Vec::new(alloc);
+    for route in held {
+        let peer = usize::from(route.peer);
+        if is_eligible(rt, exchange, peer, &route.attributes)
+            && is_permitted(rt, exchange, client, peer, &route.attributes)
+        {
+            candidates.push(Candidate {
+                peer,
+                attributes: &route.attributes,
+            })?;
+        }
+    }
+    let Some(place) = choice(rt, exchange, &candidates) else {
+        return Ok(client);
+    };
+    let chosen = candidates.get(place).ok_or("the choice is a candidate")?;
+    Ok(chosen.peer)
+}
+
+#[test]
+fn all_clients_get_their_own_choice(rt: HostRuntime) -> Result<(), Fail> {
+    let alloc = rt.alloc();
+    let mut random = Random { state: 11 };
+    for round in 0..60u32 {
+        let count = 1 + random.below(40);
+        let exchange = refusing_crowd(alloc, count, &mut random)?;
+        let held = some_held(&rt, alloc, &exchange, &mut random)?;
+        let bests = bests(&rt, alloc, &exchange, &held)?;
+        for (client, best) in bests.iter().enumerate() {
+            let want = best_of_one(&rt, alloc, &exchange, &held, client)?;
+            assert_eq!(rt;
+                usize::from(*best),
+                want,
+                "client {client} in round {round}"
+            );
+        }
     }
     Ok(())
 }

@@ -1,10 +1,8 @@
-use Rattle.std.proofs.Common.{◌≡◌, ◌<◌, refl, arith, ℕ, List, [], ◌∷◌, length, take}
-use Rattle.std.specs.Prelude.{slice_set}
+use Rattle.std.proofs.Common.{◌∙◌, sym, arith}
+use Rattle.rs_choice.proofs.GroupParts.{written_first}
 use Rattle.rs_choice.proofs.neighbour_groups.NeighbourGroups.restart.Goals as goal
 
-front_of_set : (xs : List ℕ) (x : ℕ) → 0 < length xs → take 1 (slice_set xs 0 x) ≡ x ∷ []
-front_of_set [] x within = absurd (omega arith)
-front_of_set (y ∷ ys) x within = refl
-
 pub returns : goal.returns
-returns c = front_of_set c.self.inside.places c.args.place (omega (arith, c.self.told))
+returns c =
+    rw (c.write.ensures.marks, c.write.ensures.neighbours)
+    (written_first c.self.inside.marks c.self.inside.neighbours c.args.group (c.self.invariant.marks ∙ sym c.self.invariant.neighbours) (omega (arith, c.self.invariant.marks)))

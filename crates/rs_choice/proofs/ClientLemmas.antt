@@ -1,0 +1,119 @@
+-- What is shared of the decisions of all clients, from the groups of the eligible routes.
+use Rattle.std.proofs.Common.{◌≡◌, ◌∙◌, sym, ap, refl, ℕ, ◌<◌, arith, Bool, true, cond, List, [], ◌∷◌, length, map, get_or, Option, Some, None}
+use Rattle.std.specs.Prelude.{slice_get, filter, IfSome}
+use Rattle.std.specs.List.{All, Contains}
+use Rattle.std.specs.Option.{option_map}
+use Rattle.std.proofs.lemmas.List.{length-map}
+use Rattle.std.proofs.lemmas.Option.{slice_get-get_or, slice_get_within}
+use Rattle.rs_choice.specs.declared.candidate.Standing.{Standing}
+use Rattle.rs_choice.specs.declared.candidate.Placed.{Placed}
+use Rattle.rs_choice.specs.declared.held_route.HeldRoute.{HeldRoute}
+use Rattle.rs_choice.specs.declared.neighbour_groups.Group.{Group}
+use Rattle.rs_choice.specs.Clients.{eligible_among}
+use Rattle.rs_choice.specs.Decision.{SentRoute, choice, member_at, standing_of}
+use Rattle.rs_choice.specs.Eligibility.{is_eligible}
+use Rattle.rs_choice.specs.Entrants.{chosen_of, standing_of_held}
+use Rattle.rs_choice.specs.Grouping.{places_of, standing_in, AreGroups, IsFirstOf}
+use Rattle.rs_choice.specs.Held.{sent_of_held, IsJudged}
+use Rattle.rs_choice.specs.Naturality.{choice-map, filter-map}
+use Rattle.rs_choice.specs.Plan.{Plan}
+use Rattle.rs_choice.specs.Sharing.{sents_at, ArePlaces, AreWeighing, RestsOn, Weighs}
+use Rattle.rs_choice.proofs.ChosenLemmas.{all_later, chosen_at, chosen_length, mem_chosen, mem_map, place_by_groups, peer_of_choice}
+use Rattle.rs_choice.proofs.GroupMarks.{place_within}
+use Rattle.rs_choice.proofs.LawLemmas.{contains-mem, mem-contains}
+use Rattle.rs_choice.proofs.GroupSettling.{group_at, groups_settle}
+
+pub view_length : (plan : Plan) (held : List HeldRoute) (places : List ℕ) → ArePlaces held places →
+    length (map (standing_of_held plan) (chosen_of held places)) ≡ length places
+view_length plan held places all = length-map (chosen_of held places) (standing_of_held plan) ∙ chosen_length held places all
+
+pub first_within : (S : ℕ → Standing) (n m : ℕ) (groups : List Group) (first : Option Placed) → AreGroups S n groups → IsFirstOf S (places_of groups) m first →
+    IfSome first (λ first. first.place < n)
+first_within S n m groups None are is = tt
+first_within S n m groups (Some first) are is = are.grouping.within is.0.0 first.place is.0.1
+
+pub groups_within : (S : ℕ → Standing) (n : ℕ) (groups : List Group) → AreGroups S n groups → All (λ group. group.place < n) groups
+groups_within S n groups are k d within = place_within S n groups are k (get_or groups k d) (slice_get-get_or groups k d within)
+
+-- the eligible routes, by what is held of each one
+eligible_alike : (plan : Plan) (held : List HeldRoute) → All (IsJudged plan) held →
+    filter (λ (one : HeldRoute). one.eligible) held ≡ filter (λ (one : HeldRoute). is_eligible plan one.peer one.attributes.value) held
+eligible_alike plan [] all = refl
+eligible_alike plan (one ∷ later) all =
+    let judged = all 0 one (omega arith) in
+    let rest = eligible_alike plan later (all_later (IsJudged plan) one later all) in
+    ap (λ b. cond b (one ∷ filter (λ (one : HeldRoute). one.eligible) later) (filter (λ (one : HeldRoute). one.eligible) later)) judged.eligible
+    ∙ ap (λ list. cond (is_eligible plan one.peer one.attributes.value) (one ∷ list) list) rest
+
+pub eligible_sents : (plan : Plan) (held : List HeldRoute) (places : List ℕ) → All (IsJudged plan) held →
+    chosen_of held places ≡ filter (λ (one : HeldRoute). one.eligible) held → sents_at held places ≡ eligible_among plan (map sent_of_held held)
+eligible_sents plan held places all is =
+    ap (map sent_of_held) (is ∙ eligible_alike plan held all)
+    ∙ sym (filter-map sent_of_held (λ (sent : SentRoute). is_eligible plan sent.peer sent.attributes) held)
+
+pub weighing_places : (held : List HeldRoute) (eligible weighing : List ℕ) → ArePlaces held eligible → All (λ place. Contains eligible place) weighing → ArePlaces held weighing
+weighing_places held eligible weighing all among k d within =
+    let found = among k d within in
+    let below = all found.0 (get_or weighing k d) found.1 in
+    omega (arith, below, found.2)
+
+module _ (plan : Plan) (held : List HeldRoute) (places : List ℕ) (groups : List Group) where
+  abbrev chosen : List HeldRoute
+  chosen = chosen_of held places
+
+  abbrev view : List Standing
+  view = map (standing_of_held plan) chosen
+
+  -- the peer of the first of the groups is the choice's
+  pub chosen_is : (first : Option Placed) → AreGroups (standing_in view) (length view) groups → IsFirstOf (standing_in view) (places_of groups) (length (places_of groups)) first →
+      option_map (λ (one : HeldRoute). one.peer) (member_at chosen (option_map (λ (first : Placed). first.place) first))
+      ≡ option_map (λ (sent : SentRoute). sent.peer) (choice (standing_of plan) (sents_at held places))
+  chosen_is first are is = peer_of_choice plan chosen (option_map (λ first. first.place) first) (place_by_groups (standing_of_held plan) chosen groups first are is)
+
+  -- without a group there is no entrant
+  no_entrant : AreGroups (standing_in view) (length view) groups → length (places_of groups) ≡ 0 → chosen ≡ []
+  no_entrant are none = go chosen (λ k below.
+      let found = are.grouping.all k (let n = length-map chosen (standing_of_held plan) in omega (arith, below, n)) in
+      let within = slice_get_within (places_of groups) found.0 found.1 found.2 in
+      absurd (omega (arith, within, none)))
+    where
+      go : (xs : List HeldRoute) → ((k : ℕ) → k < length xs → ⊥) → xs ≡ []
+      go [] empty = refl
+      go (x ∷ xs) empty = absurd (empty 0 (omega arith))
+
+  -- the choice among the chosen stays while those that have a weight stay
+  settled : (first : Option Placed) → AreGroups (standing_in view) (length view) groups → IsFirstOf (standing_in view) (places_of groups) (length (places_of groups)) first →
+      (kept : HeldRoute → Bool) →
+      ((i : ℕ) (group : Group) (one : HeldRoute) → slice_get groups i ≡ Some group → Weighs group first → slice_get chosen group.place ≡ Some one → kept one ≡ true) →
+      choice (standing_of_held plan) (filter kept chosen) ≡ choice (standing_of_held plan) chosen
+  settled None are none kept keeps =
+      let empty = no_entrant are none in
+      ap (λ list. choice (standing_of_held plan) (filter kept list)) empty ∙ sym (ap (choice (standing_of_held plan)) empty)
+  settled (Some first) are is kept keeps =
+      let n = length-map chosen (standing_of_held plan) in
+      groups_settle (standing_of_held plan) chosen groups first (rw n at are)
+      (place_by_groups (standing_of_held plan) chosen groups (Some first) are is)
+      (let found = group_at groups is.0.0 first.place is.0.1 in (is.0.0, found.0, found.1, found.2))
+      kept keeps
+
+  rests_by : (kept : SentRoute → Bool) → choice (standing_of_held plan) (filter (λ one. kept (sent_of_held one)) chosen) ≡ choice (standing_of_held plan) chosen →
+      choice (standing_of plan) (filter kept (sents_at held places)) ≡ choice (standing_of plan) (sents_at held places)
+  rests_by kept same =
+      ap (choice (standing_of plan)) (filter-map sent_of_held kept chosen)
+      ∙ choice-map sent_of_held (standing_of plan) (filter (λ one. kept (sent_of_held one)) chosen)
+      ∙ ap (option_map sent_of_held) same
+      ∙ sym (choice-map sent_of_held (standing_of plan) chosen)
+
+  pub rests : (first : Option Placed) (weighing : List ℕ) → ArePlaces held places → ArePlaces held weighing →
+      AreGroups (standing_in view) (length view) groups → IsFirstOf (standing_in view) (places_of groups) (length (places_of groups)) first →
+      AreWeighing places groups first weighing → RestsOn plan (sents_at held places) (sents_at held weighing)
+  rests first weighing all all_weighing are is weigh kept keeps =
+      rests_by kept (settled first are is (λ one. kept (sent_of_held one)) (λ i group one at weighs at_one.
+      let within = place_within (standing_in view) (length view) groups are i group at in
+      let n = view_length plan held places all in
+      let place = get_or places group.place 0 in
+      let at_place : slice_get places group.place ≡ Some place = slice_get-get_or places group.place 0 (omega (arith, within, n)) in
+      let at_held : slice_get held place ≡ Some one = sym (chosen_at held places all group.place place at_place) ∙ at_one in
+      let weighed = contains-mem weighing place (weigh.all i group at weighs place at_place) in
+      keeps (sent_of_held one)
+      (mem-contains (sents_at held weighing) (sent_of_held one) (mem_map sent_of_held (chosen_of held weighing) one (mem_chosen held weighing all_weighing place one weighed at_held)))))

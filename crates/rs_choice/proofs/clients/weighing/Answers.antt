@@ -1,0 +1,72 @@
+use Rattle.std.proofs.Common.{◌≡◌, ◌∙◌, ap, arith, inl, inr, ℕ, suc, zero, List, length, ◌++◌, ◌∷◌, [], Some, below_more}
+use Rattle.std.specs.List.{All, Contains}
+use Rattle.std.specs.Prelude.{slice_get}
+use Rattle.std.proofs.lemmas.List.Elements.{All-append}
+use Rattle.std.proofs.lemmas.Option.{get_or_from_slice_get, slice_get_within}
+use Rattle.rs_choice.specs.declared.neighbour_groups.Group.{Group}
+use Rattle.rs_choice.specs.Sharing.{IsFirst, Weighs}
+use Rattle.rs_choice.proofs.ChosenLemmas.{length_push, mem_left, mem_last}
+use Rattle.rs_choice.proofs.LawLemmas.{contains-mem, mem-contains}
+use Rattle.rs_choice.proofs.ScanLemmas.{when_false}
+use Rattle.rs_choice.proofs.clients.weighing.Goals as goal
+use Rattle.rs_choice.proofs.clients.weighing.Goals.{then-group, then-group-via-then-group, then-group-via-else-group+then-is_first, else-group+else-is_first}
+
+all_of_one : {X : Type 0} (P : X → Type 0) (x : X) → P x → All P (x ∷ [])
+all_of_one P x holds zero d below = holds
+all_of_one P x holds (suc k) d below = absurd (omega (arith, below))
+
+contains_left : (xs : List ℕ) (last x : ℕ) → Contains xs x → Contains (xs ++ last ∷ []) x
+contains_left xs last x h = mem-contains (xs ++ last ∷ []) x (mem_left xs (last ∷ []) x (contains-mem xs x h))
+
+contains_last : (xs : List ℕ) (last x : ℕ) → last ≡ x → Contains (xs ++ last ∷ []) x
+contains_last xs last x same = mem-contains (xs ++ last ∷ []) x (rw same (mem_last xs x))
+
+contains_at : (xs : List ℕ) (i x : ℕ) → slice_get xs i ≡ Some x → Contains xs x
+contains_at xs i x at = (i, slice_get_within xs i x at, get_or_from_slice_get xs i x x at)
+
+pub loop-number-preserved : goal.loop-number-preserved
+loop-number-preserved c =
+    let eligible = c.args.eligible.now in
+    let groups = c.args.groups.now in
+    let first = c.args.first.now in
+    let n = c.loop-number.number in
+    let so_far = c.loop-number.weighing in
+    let one = c.group-group.result in
+    elim c.if-group.branch [
+      | then-group w ↦
+          let place = w.place.result in
+          let at : slice_get eligible one.place ≡ Some place = rw w.from.ensures at w.place.ensures.value in
+          rw (w.weighing-is, w.push.ensures) (record {
+            few = omega (arith, length_push so_far place, c.loop-number.invariant.few);
+            among = All-append (λ place. Contains eligible place) so_far (place ∷ []) c.loop-number.invariant.among
+                (all_of_one (λ place. Contains eligible place) place (contains_at eligible one.place place at));
+            all = below_more (λ i. (group : Group) → slice_get groups i ≡ Some group → Weighs group first → (p : ℕ) → slice_get eligible group.place ≡ Some p → Contains (so_far ++ place ∷ []) p) n
+                (λ i below group at_group weighs p at_p. contains_left so_far place p (c.loop-number.invariant.all i below group at_group weighs p at_p))
+                (λ group at_group weighs p at_p.
+                let same : one ≡ group = cc (c.group-group.ensures, at_group) in
+                let at_one : slice_get eligible one.place ≡ Some p = ap (λ (group : Group). slice_get eligible group.place) same ∙ at_p in
+                contains_last so_far place p (cc (at, at_one)));
+          })
+      | else-group+else-is_first w ↦
+          rw w.weighing-is (record {
+            few = omega (arith, c.loop-number.invariant.few);
+            among = c.loop-number.invariant.among;
+            all = below_more (λ i. (group : Group) → slice_get groups i ≡ Some group → Weighs group first → (p : ℕ) → slice_get eligible group.place ≡ Some p → Contains so_far p) n
+                (λ i below group at_group weighs p at_p. c.loop-number.invariant.all i below group at_group weighs p at_p)
+                (λ group at_group weighs p at_p.
+                let same : one ≡ group = cc (c.group-group.ensures, at_group) in
+                let weighs_one : Weighs one first = rw (← same) at weighs in
+                absurd (elim weighs_one [
+                  | inl keeps ↦ cc (keeps, w.if-group.false)
+                  | inr is ↦ when_false w.is_first.result (IsFirst one first) w.is_first.ensures w.if-is_first.false is
+                ]));
+          })
+    ]
+
+pub returns : goal.returns
+returns c =
+    let end : c.loop-number.number ≡ length c.args.groups.now = omega (arith, c.loop-number.auto.number-end, c.loop-number-test.false, c.len-number-end.ensures.value) in
+    record {
+      among = c.loop-number.invariant.among;
+      all = λ i group at. c.loop-number.invariant.all i (let within = slice_get_within c.args.groups.now i group at in omega (arith, within, end)) group at;
+    }

@@ -1,0 +1,37 @@
+use Rattle.std.proofs.Common.{◌∙◌, arith, length, map}
+use Rattle.rs_choice.specs.Entrants.{chosen_of, standing_of_held}
+use Rattle.rs_choice.specs.Grouping.{places_of, standing_in}
+use Rattle.rs_choice.proofs.ClientLemmas.{chosen_is, eligible_sents, first_within, groups_within, rests, view_length, weighing_places}
+use Rattle.rs_choice.proofs.exchange.Exchange.share.Goals as goal
+
+pub groups_of-groups-requires : goal.groups_of-groups-requires
+groups_of-groups-requires c =
+    let n = view_length c.args.self.now c.args.held.now c.eligible-eligible.result c.eligible-eligible.ensures.places in
+    record { bound = omega (arith, n, c.len-count.ensures.value, c.len-count.ensures.bound) }
+
+pub weighing-weighing-requires : goal.weighing-weighing-requires
+weighing-weighing-requires c =
+    let view = map (standing_of_held c.args.self.now) (chosen_of c.args.held.now c.eligible-eligible.result) in
+    let n = view_length c.args.self.now c.args.held.now c.eligible-eligible.result c.eligible-eligible.ensures.places in
+    rw n at (groups_within (standing_in view) (length view) c.groups_of-groups.result c.groups_of-groups.ensures)
+
+pub first_peer-peer-requires-clause-first : goal.first_peer-peer-requires-clause-first
+first_peer-peer-requires-clause-first c =
+    let view = map (standing_of_held c.args.self.now) (chosen_of c.args.held.now c.eligible-eligible.result) in
+    let n = view_length c.args.self.now c.args.held.now c.eligible-eligible.result c.eligible-eligible.ensures.places in
+    rw n at (first_within (standing_in view) (length view) (length (places_of c.groups_of-groups.result)) c.groups_of-groups.result c.first_of-first.result c.groups_of-groups.ensures c.first_of-first.ensures)
+
+pub returns : goal.returns
+returns c =
+    let plan = c.args.self.now in
+    let held = c.args.held.now in
+    let eligible = c.eligible-eligible.result in
+    let weighing = weighing_places held eligible c.weighing-weighing.result c.eligible-eligible.ensures.places c.weighing-weighing.ensures.among in
+    record {
+      places = c.eligible-eligible.ensures.places;
+      eligible = eligible_sents plan held eligible c.requires.judged c.eligible-eligible.ensures.eligible;
+      peer = c.first_peer-peer.ensures ∙ chosen_is plan held eligible c.groups_of-groups.result c.first_of-first.result c.groups_of-groups.ensures c.first_of-first.ensures;
+      weighing = weighing;
+      rests = rests plan held eligible c.groups_of-groups.result c.first_of-first.result c.weighing-weighing.result c.eligible-eligible.ensures.places weighing
+          c.groups_of-groups.ensures c.first_of-first.ensures c.weighing-weighing.ensures;
+    }

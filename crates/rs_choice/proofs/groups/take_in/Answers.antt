@@ -1,0 +1,60 @@
+use Rattle.std.proofs.Common.{ℕ, None, Some}
+use Rattle.rs_choice.specs.declared.candidate.Standing.{Standing}
+use Rattle.rs_choice.specs.Comparison.{IsAhead, IsLevel}
+use Rattle.rs_choice.specs.Grouping.{standing_in, LeadsAll}
+use Rattle.rs_choice.proofs.GroupLists.{behind}
+use Rattle.rs_choice.proofs.GroupMarks.{ahead_of_leader, ahead_of_no_leader, alone_marked, behind_leader, leads_alone, leads_joined, level_with_leader}
+use Rattle.rs_choice.proofs.ScanLemmas.{when_false}
+use Rattle.rs_choice.proofs.groups.take_in.Goals as goal
+
+pub join-requires-clause-level : goal.join-requires-clause-level
+join-requires-clause-level g c =
+    let S : ℕ → Standing = standing_in (g.E.Entrants.standings c.args.entrants.now) in
+    let leader = c.in-Some.leader in
+    let leads : LeadsAll S c.args.groups.now (Some leader) = rw c.in-Some.is at c.requires.leads in
+    let level : IsLevel (S c.args.place) leader = rw c.standing-standing.ensures at (c.is_level_with.ensures.0 c.if-is_level_with.true) in
+    level_with_leader S c.args.place c.args.groups.now leader leads level
+
+pub returns-then-is_level_with-clause-leads : goal.returns-then-is_level_with-clause-leads
+returns-then-is_level_with-clause-leads g c =
+    let S : ℕ → Standing = standing_in (g.E.Entrants.standings c.args.entrants.now) in
+    let leader = c.in-Some.leader in
+    let leads : LeadsAll S c.args.groups.now (Some leader) = rw c.in-Some.is at c.requires.leads in
+    let level : IsLevel (S c.args.place) leader = rw c.standing-standing.ensures at (c.is_level_with.ensures.0 c.if-is_level_with.true) in
+    leads_joined S c.args.place c.args.groups.now c.join.new.groups leader c.requires.grouped leads level c.join.ensures
+
+pub returns-else-is_level_with-clause-grouped : goal.returns-else-is_level_with-clause-grouped
+returns-else-is_level_with-clause-grouped g c =
+    let S : ℕ → Standing = standing_in (g.E.Entrants.standings c.args.entrants.now) in
+    let leader = c.in-Some.leader in
+    let leads : LeadsAll S c.args.groups.now (Some leader) = rw c.in-Some.is at c.requires.leads in
+    let ahead_not : IsAhead (S c.args.place) leader → ⊥ =
+    rw c.standing-standing.ensures at (when_false c.is_ahead_of.result (IsAhead c.standing-standing.result leader) c.is_ahead_of.ensures c.if-is_ahead_of.false) in
+    let level_not : IsLevel (S c.args.place) leader → ⊥ =
+    rw c.standing-standing.ensures at (when_false c.is_level_with.result (IsLevel c.standing-standing.result leader) c.is_level_with.ensures c.if-is_level_with.false) in
+    behind_leader S c.args.place c.args.groups.now leader c.requires.grouped leads (behind (S c.args.place) leader ahead_not level_not)
+
+pub returns-in_default-clause-grouped : goal.returns-in_default-clause-grouped
+returns-in_default-clause-grouped g c =
+    let S : ℕ → Standing = standing_in (g.E.Entrants.standings c.args.entrants.now) in
+    let leads : LeadsAll S c.args.groups.now None = rw c.in_default.is at c.requires.leads in
+    rw (c.restart.ensures, c.of.ensures, c.standing-standing.ensures) (alone_marked S c.args.place (ahead_of_no_leader S c.args.place c.args.groups.now c.requires.grouped leads))
+
+pub returns-in_default-clause-leads : goal.returns-in_default-clause-leads
+returns-in_default-clause-leads g c =
+    let S : ℕ → Standing = standing_in (g.E.Entrants.standings c.args.entrants.now) in
+    rw (c.restart.ensures, c.of.ensures, c.standing-standing.ensures) (leads_alone S c.args.place)
+
+pub returns-then-is_ahead_of-clause-grouped : goal.returns-then-is_ahead_of-clause-grouped
+returns-then-is_ahead_of-clause-grouped g c =
+    let S : ℕ → Standing = standing_in (g.E.Entrants.standings c.args.entrants.now) in
+    let leader = c.in-Some.leader in
+    let leads : LeadsAll S c.args.groups.now (Some leader) = rw c.in-Some.is at c.requires.leads in
+    let ahead : IsAhead (S c.args.place) leader = rw c.standing-standing.ensures at (c.is_ahead_of.ensures.0 c.if-is_ahead_of.true) in
+    rw (c.restart-then-is_ahead_of.ensures, c.of-then-is_ahead_of.ensures, c.standing-standing.ensures)
+    (alone_marked S c.args.place (ahead_of_leader S c.args.place c.args.groups.now leader c.requires.grouped leads ahead))
+
+pub returns-then-is_ahead_of-clause-leads : goal.returns-then-is_ahead_of-clause-leads
+returns-then-is_ahead_of-clause-leads g c =
+    let S : ℕ → Standing = standing_in (g.E.Entrants.standings c.args.entrants.now) in
+    rw (c.restart-then-is_ahead_of.ensures, c.of-then-is_ahead_of.ensures, c.standing-standing.ensures) (leads_alone S c.args.place)

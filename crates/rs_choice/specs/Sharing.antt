@@ -1,0 +1,48 @@
+-- What is shared of the decisions of all clients (RFC 7947, section 2.3.2.1).
+use Rattle.std.specs.Prelude.{◌≡◌, ◌<◌, ◌⊎◌, ℕ, Bool, IsTrue, List, length, map, filter, Option, None, Some, slice_get}
+use Rattle.std.specs.List.{All, Contains}
+use Rattle.std.specs.Option.{option_map}
+use Rattle.rs_choice.specs.declared.candidate.Placed.{Placed}
+use Rattle.rs_choice.specs.declared.clients.Shared.{Shared}
+use Rattle.rs_choice.specs.declared.neighbour_groups.Group.{Group}
+use Rattle.rs_choice.specs.declared.held_route.HeldRoute.{HeldRoute}
+use Rattle.rs_choice.specs.Clients.{eligible_among}
+use Rattle.rs_choice.specs.Decision.{SentRoute, standing_of, choice}
+use Rattle.rs_choice.specs.Entrants.{chosen_of}
+use Rattle.rs_choice.specs.Held.{sent_of_held}
+use Rattle.rs_choice.specs.Plan.{Plan}
+
+-- all are places of a list of routes
+abbrev pub ArePlaces : List HeldRoute → List ℕ → Type 0
+ArePlaces held places = All (λ place. place < length held) places
+
+-- the routes at some places
+abbrev pub sents_at : List HeldRoute → List ℕ → List SentRoute
+sents_at held places = map sent_of_held (chosen_of held places)
+
+-- a group has a weight in the choice where what stands for it is chosen, or keeps out another one of its neighbour AS
+abbrev pub IsFirst : Group → Option Placed → Type 0
+IsFirst group None = ⊥
+IsFirst group (Some first) = group.place ≡ first.place
+
+abbrev pub Weighs : Group → Option Placed → Type 0
+Weighs group first = IsTrue group.keeps_out ⊎ IsFirst group first
+
+-- of the places of the eligible routes, those of all groups that have a weight are there
+pub record AreWeighing (eligible : List ℕ) (groups : List Group) (first : Option Placed) (weighing : List ℕ) : Type 0 where
+  pub among : All (λ place. Contains eligible place) weighing
+  pub all : (i : ℕ) (group : Group) → slice_get groups i ≡ Some group → Weighs group first → (place : ℕ) → slice_get eligible group.place ≡ Some place → Contains weighing place
+
+-- a choice among routes rests on some of them: while these stay it stays, whatever others go
+abbrev pub RestsOn : Plan → List SentRoute → List SentRoute → Type 0
+RestsOn plan set weighing =
+    (kept : SentRoute → Bool) → ((route : SentRoute) → Contains weighing route → IsTrue (kept route)) →
+    choice (standing_of plan) (filter kept set) ≡ choice (standing_of plan) set
+
+-- what is decided among all eligible routes
+pub record IsShared (plan : Plan) (held : List HeldRoute) (shared : Shared) : Type 0 where
+  pub places : ArePlaces held shared.eligible
+  pub eligible : sents_at held shared.eligible ≡ eligible_among plan (map sent_of_held held)
+  pub peer : shared.peer ≡ option_map (λ sent. sent.peer) (choice (standing_of plan) (sents_at held shared.eligible))
+  pub weighing : ArePlaces held shared.weighing
+  pub rests : RestsOn plan (sents_at held shared.eligible) (sents_at held shared.weighing)

@@ -1,0 +1,205 @@
+//! Who gets which of the routes on one prefix: a decision for each client, after that client's export policy (RFC 4271, section 9.1;
+//! RFC 7947, section 2.3.2.1).
+//!
+//! What is chosen among all eligible routes is shared. It rests on few of them: on the one that is chosen, and on those that keep
+//! out another one of their neighbour AS by its higher MED. A client that may get all of these gets the shared choice, whatever
+//! other routes are its own or refused to it; for each other client there is a decision of its own.
+
+ghost use Rattle.std.specs.Prelude.{◌≡◌, ◌<◌, ◌≤◌, ◌↔◌, IfSome, IsTrue, filter, length, map};
+ghost use Rattle.std.specs.List.{All};
+ghost use Rattle.std.specs.Option.{option_map};
+ghost use Rattle.rs_choice.specs.Clients.{best_peer_for, is_sent_to, peer_or_own, AreBest};
+ghost use Rattle.rs_choice.specs.Decision.{choice, member_at, standing_of};
+ghost use Rattle.rs_choice.specs.Entrants.{chosen_of};
+ghost use Rattle.rs_choice.specs.Held.{sent_of_held, IsJudged};
+ghost use Rattle.rs_choice.specs.Sharing.{sents_at, ArePlaces, AreWeighing, IsFirst, IsShared};
+
+use crate::candidate::Placed;
+use crate::entrants::Chosen;
+use crate::exchange::Exchange;
+use crate::groups::{first_of, groups_of};
+use crate::held_route::HeldRoute;
+use crate::neighbour_groups::{Group, NeighbourGroups};
+use crate::places::Places;
+use crate::plan::MAX_PEERS;
+
+// What is decided among all eligible routes.
+#[derive(Drop)]
+pub(crate) struct Shared {
+    // The places of the eligible routes.
+    eligible: Places,
+    // The number of the peer whose route is chosen.
+    peer: Option<u8>,
+    // The places of the routes on which the choice rests.
+    weighing: Places,
+}
+
+impl Exchange {
+    /// Writes for each client the number of the peer whose route it gets of those held on one prefix, or its own number where it gets
+    /// none: the choice among those that are eligible and that export policy permits to it. No client gets a route of its own.
+    /// It takes no memory.
+    pub fn choose_for_all(&self, held: &[HeldRoute], bests: &mut Vec<u8>)
+        requires judged { All (IsJudged self.now) held.now }
+        requires bound { length held.now ≤ MAX_PEERS }
+        requires count { length bests.old.items ≡ length self.now.peers }
+        ensures count { length bests.new.items ≡ length self.now.peers }
+        ensures best { AreBest self.now (map sent_of_held held.now) bests.new.items }
+    {
+        let shared = self.share(held);
+        for client in 0..self.count() {
+            bests[client] = self.choose_for(held, &shared, client);
+        }
+    }
+
+    // What is decided among all eligible routes.
+    fn share(&self, held: &[HeldRoute]) -> Shared
+        requires judged { All (IsJudged self.now) held.now }
+        requires bound { length held.now ≤ MAX_PEERS }
+        ensures { IsShared self.now held.now result }
+    {
+        let eligible = eligible(held);
+        let _count = eligible.len();
+        let entrants = Chosen {
+            plan: self,
+            held,
+            places: &eligible,
+        };
+        let groups = groups_of(&entrants);
+        let first = first_of(&entrants, &groups);
+        let weighing = weighing(&eligible, &groups, &first);
+        let peer = first_peer(held, &eligible, &first);
+        Shared {
+            eligible,
+            peer,
+            weighing,
+        }
+    }
+
+    // The number of the peer whose route a client gets, or its own number where it gets none.
+    fn choose_for(&self, held: &[HeldRoute], shared: &Shared, client: usize) -> u8
+        requires judged { All (IsJudged self.now) held.now }
+        requires shared { IsShared self.now held.now shared.now }
+        requires client_known { client < length self.now.peers }
+        ensures { result ≡ best_peer_for self.now client (map sent_of_held held.now) }
+    {
+        let _peers = self.count();
+        if self.are_permitted(held, &shared.weighing, client) {
+            return number(shared.peer, client);
+        }
+        let permitted = self.permitted(held, &shared.eligible, client);
+        number(self.chosen_peer(held, &permitted), client)
+    }
+
+    // The peer whose route is chosen among those at some places.
+    fn chosen_peer(&self, held: &[HeldRoute], places: &Places) -> Option<u8>
+        requires judged { All (IsJudged self.now) held.now }
+        requires places { ArePlaces held.now places.now }
+        ensures { result ≡ option_map (λ sent. sent.peer) (choice (standing_of self.now) (sents_at held.now places.now)) }
+    {
+        let _count = places.len();
+        let entrants = Chosen {
+            plan: self,
+            held,
+            places,
+        };
+        let groups = groups_of(&entrants);
+        let first = first_of(&entrants, &groups);
+        first_peer(held, places, &first)
+    }
+
+    // Whether all routes at some places are permitted to a client.
+    fn are_permitted(&self, held: &[HeldRoute], places: &Places, client: usize) -> bool
+        requires judged { All (IsJudged self.now) held.now }
+        requires places { ArePlaces held.now places.now }
+        requires client_known { client < length self.now.peers }
+        ensures { IsTrue result → All (λ sent. IsTrue (is_sent_to self.now client sent)) (sents_at held.now places.now) }
+    {
+        for number in 0..places.len() {
+            if !self.permits_held(client, &held[places.place(number)]) {
+                return false;
+            }
+        }
+        true
+    }
+
+    // The places of the routes that are permitted to a client, of those at some places.
+    fn permitted(&self, held: &[HeldRoute], places: &Places, client: usize) -> Places
+        requires judged { All (IsJudged self.now) held.now }
+        requires places { ArePlaces held.now places.now }
+        requires client_known { client < length self.now.peers }
+        ensures places { ArePlaces held.now result }
+        ensures permitted { sents_at held.now result ≡ filter (is_sent_to self.now client) (sents_at held.now places.now) }
+    {
+        let mut permitted = Places::new();
+        for number in 0..places.len() {
+            let place = places.place(number);
+            if self.permits_held(client, &held[place]) {
+                permitted.push(place);
+            }
+        }
+        permitted
+    }
+}
+
+// The peer of the first of the routes at some places.
+fn first_peer(held: &[HeldRoute], places: &Places, first: &Option<Placed>) -> Option<u8>
+    requires places { ArePlaces held.now places.now }
+    requires first { IfSome first.now (λ first. first.place < length places.now) }
+    ensures { result ≡ option_map (λ held. held.peer) (member_at (chosen_of held.now places.now) (option_map (λ first. first.place) first.now)) }
+{
+    match first {
+        None => None,
+        Some(first) => Some(held[places.place(first.place)].peer),
+    }
+}
+
+// The places of the eligible routes.
+fn eligible(held: &[HeldRoute]) -> Places
+    requires { length held.now ≤ MAX_PEERS }
+    ensures places { ArePlaces held.now result }
+    ensures eligible { chosen_of held.now result ≡ filter (λ held. held.eligible) held.now }
+{
+    let mut eligible = Places::new();
+    for place in 0..held.len() {
+        if held[place].eligible {
+            eligible.push(place);
+        }
+    }
+    eligible
+}
+
+// The places of the routes on which a choice rests: the chosen one, and those that keep out another one of their neighbour AS.
+fn weighing(eligible: &Places, groups: &NeighbourGroups, first: &Option<Placed>) -> Places
+    requires { All (λ group. group.place < length eligible.now) groups.now }
+    ensures { AreWeighing eligible.now groups.now first.now result }
+{
+    let mut weighing = Places::new();
+    for number in 0..groups.len() {
+        let group = groups.group(number);
+        if group.keeps_out || is_first(&group, first) {
+            weighing.push(eligible.place(usize::from(group.place)));
+        }
+    }
+    weighing
+}
+
+// Whether the entrant that stands for a group is the first of all.
+fn is_first(group: &Group, first: &Option<Placed>) -> bool
+    ensures { IsTrue result ↔ IsFirst group.now first.now }
+{
+    match first {
+        None => false,
+        Some(first) => usize::from(group.place) == first.place,
+    }
+}
+
+// A peer's number, or the client's where there is none.
+fn number(peer: Option<u8>, client: usize) -> u8
+    requires { client < MAX_PEERS }
+    ensures { result ≡ peer_or_own peer client }
+{
+    match peer {
+        None => client as u8,
+        Some(peer) => peer,
+    }
+}

@@ -1,0 +1,291 @@
+//! Who gets which of the routes held on one prefix, worked by hand: for each client the number of the peer whose route it gets, or its
+//! own number where it gets none.
+
+use super::*;
+
+// A route by its peer's number, and its attributes, spelled.
+type Sent = (usize, &'static [&'static str]);
+
+// The routes as they are held.
+fn hold_all(
+    rt: &impl Abort,
+    alloc: Global,
+    exchange: &Exchange,
+    sent: &[Sent],
+) -> Result<Vec<HeldRoute>, Fail> {
+    let mut held = Vec::new(alloc);
+    for (peer, texts) in sent {
+        let attributes = Arc::new(alloc, attributes(alloc, texts)?)?;
+        assert!(rt; *peer < exchange.count());
+        held.push(exchange.hold(*peer, 1_700_000_000, attributes))?;
+    }
+    Ok(held)
+}
+
+// What an exchange of these peers gives of these routes, and why.
+struct Worked {
+    rows: &'static [Row],
+    sent: &'static [Sent],
+    bests: &'static [u8],
+    what: &'static str,
+}
+
+// Identifiers are in the order of the peers, so that of routes alike in all else the first is chosen.
+const FOUR: &[Row] = &[A, B, C, D];
+
+// Of AS 64501 and 64501, with a lower identifier and a higher one than that of AS 64502 (c); d is another client.
+const TWO_OF_ONE_AS: &[Row] = &[
+    Row { id: 1, ..A },
+    Row {
+        asn: 64501,
+        id: 9,
+        ..B
+    },
+    Row {
+        asn: 64502,
+        id: 5,
+        ..C
+    },
+    D,
+];
+
+// Three of AS 64501, and d of AS 64502, whose identifier is the second.
+const THREE_OF_ONE_AS: &[Row] = &[
+    Row { id: 1, ..A },
+    Row {
+        asn: 64501,
+        id: 9,
+        ..B
+    },
+    Row {
+        asn: 64501,
+        id: 8,
+        ..C
+    },
+    Row {
+        asn: 64502,
+        id: 5,
+        ..D
+    },
+];
+
+const REFUSING: &[Row] = &[
+    A,
+    Row {
+        refuse_from: &["a"],
+        ..B
+    },
+    C,
+    D,
+];
+
+// COMMUNITIES.
+const NOT_TO_B: &str = "C00804 0000FBF6";
+
+const NOT_TO_D: &str = "C00804 0000FBF8";
+
+const TO_NONE: &str = "C00804 0000FBF4";
+
+const TO_B_ALONE: &str = "C00808 0000FBF4 FBF4FBF6";
+
+const TO_ALL_BY_NAME: &str = "C00810 0000FBF4 FBF4FBF6 FBF4FBF7 FBF4FBF8";
+
+const NOT_TO_A: &str = "C00804 0000FBF5";
+
+const NOT_TO_A_STRANGER: &str = "C00804 0000FDE7";
+
+// The path of the server's own AS.
+const PATH_64500: &str = "400206 0201 0000FBF4";
+
+const MED_5: &str = "800404 00000005";
+
+const MED_10: &str = "800404 0000000A";
+
+const OF_A: Sent = (0, &[IGP, PATH_64501_65010, NEXT_HOP_A]);
+
+const OF_B: Sent = (1, &[IGP, PATH_64502_65010, NEXT_HOP_A]);
+
+const OF_C: Sent = (2, &[IGP, PATH_64503_65010, NEXT_HOP_A]);
+
+const MED_10_OF_A: Sent = (0, &[IGP, PATH_64501_65010, NEXT_HOP_A, MED_10]);
+
+const MED_5_OF_B: Sent = (1, &[IGP, PATH_64501_65010, NEXT_HOP_A, MED_5]);
+
+const MED_5_OF_C: Sent = (2, &[IGP, PATH_64501_65010, NEXT_HOP_A, MED_5]);
+
+const OTHER_AS_OF_C: Sent = (2, &[IGP, PATH_64502_65010, NEXT_HOP_A]);
+
+const OTHER_AS_OF_D: Sent = (3, &[IGP, PATH_64502_65010, NEXT_HOP_A]);
+
+const WORKED: &[Worked] = &[
+    Worked {
+        rows: FOUR,
+        sent: &[OF_A, OF_B, OF_C],
+        bests: &[1, 0, 0, 0],
+        what: "one choice for all, and the second for its sender",
+    },
+    Worked {
+        rows: FOUR,
+        sent: &[OF_C],
+        bests: &[2, 2, 2, 2],
+        what: "the sender of the one route gets none",
+    },
+    Worked {
+        rows: FOUR,
+        sent: &[],
+        bests: &[0, 1, 2, 3],
+        what: "no route",
+    },
+    Worked {
+        rows: FOUR,
+        sent: &[(0, &[IGP, PATH_64500, NEXT_HOP_A]), OF_B],
+        bests: &[1, 1, 1, 1],
+        what: "the server's AS in a's path, which is shorter",
+    },
+    Worked {
+        rows: FOUR,
+        sent: &[(0, &[IGP, PATH_64500, NEXT_HOP_A])],
+        bests: &[0, 1, 2, 3],
+        what: "no eligible route",
+    },
+    Worked {
+        rows: FOUR,
+        sent: &[(0, &[IGP, PATH_64501_65010, NEXT_HOP_A, NOT_TO_B]), OF_C],
+        bests: &[2, 2, 0, 0],
+        what: "a's isn't for b",
+    },
+    Worked {
+        rows: FOUR,
+        sent: &[(0, &[IGP, PATH_64501_65010, NEXT_HOP_A, TO_NONE]), OF_C],
+        bests: &[2, 2, 2, 2],
+        what: "a's is for none, and hides c's from none",
+    },
+    Worked {
+        rows: FOUR,
+        sent: &[(0, &[IGP, PATH_64501_65010, NEXT_HOP_A, TO_B_ALONE]), OF_C],
+        bests: &[2, 0, 2, 2],
+        what: "a's is for b alone",
+    },
+    Worked {
+        rows: REFUSING,
+        sent: &[OF_A, OF_C],
+        bests: &[2, 2, 0, 0],
+        what: "b refuses a",
+    },
+    Worked {
+        rows: REFUSING,
+        sent: &[OF_A],
+        bests: &[0, 1, 0, 0],
+        what: "b refuses the one route",
+    },
+    Worked {
+        rows: FOUR,
+        sent: &[
+            OF_A,
+            (1, &[IGP, PATH_64502_65010, NEXT_HOP_A, NOT_TO_D]),
+            OF_C,
+        ],
+        bests: &[1, 0, 0, 0],
+        what: "b's isn't for d, to which it is nothing",
+    },
+    Worked {
+        rows: TWO_OF_ONE_AS,
+        sent: &[MED_10_OF_A, MED_5_OF_B, OTHER_AS_OF_C],
+        bests: &[2, 0, 1, 2],
+        what: "at b a's comes back, which b's keeps out by its MED, and c's doesn't win",
+    },
+    Worked {
+        rows: TWO_OF_ONE_AS,
+        sent: &[
+            MED_10_OF_A,
+            (1, &[IGP, PATH_64501_65010, NEXT_HOP_A, MED_5, NOT_TO_D]),
+            OTHER_AS_OF_C,
+        ],
+        bests: &[2, 0, 1, 0],
+        what: "so it does at d, to which b's is refused",
+    },
+    Worked {
+        rows: THREE_OF_ONE_AS,
+        sent: &[MED_10_OF_A, MED_5_OF_B, MED_5_OF_C, OTHER_AS_OF_D],
+        bests: &[3, 3, 3, 2],
+        what: "either of two of the least MED keeps a's out without the other",
+    },
+    Worked {
+        rows: TWO_OF_ONE_AS,
+        sent: &[
+            (0, &[IGP, PATH_64501_65010, NEXT_HOP_A, MED_5]),
+            MED_5_OF_B,
+            OTHER_AS_OF_C,
+        ],
+        bests: &[2, 0, 0, 0],
+        what: "a's and b's of equal MED: c's goes before b's",
+    },
+];
+
+#[test]
+fn each_client_gets_its_own_best(rt: HostRuntime) -> Result<(), Fail> {
+    let alloc = rt.alloc();
+    for worked in WORKED {
+        let exchange = exchange(alloc, true, worked.rows)?;
+        let held = hold_all(&rt, alloc, &exchange, worked.sent)?;
+        let bests = bests(&rt, alloc, &exchange, &held)?;
+        assert_eq!(rt; bests.as_slice(), worked.bests, "{}", worked.what);
+    }
+    Ok(())
+}
+
+// Attributes of a route of a, whether it is eligible, and whether every other client may get it.
+const HELD: &[(&[&str], bool, bool)] = &[
+    (&[IGP, PATH_64501_65010, NEXT_HOP_A], true, true),
+    (&[IGP, PATH_64500, NEXT_HOP_A], false, true),
+    (&[IGP, PATH_64501_65010, NEXT_HOP_A, NOT_TO_B], true, false),
+    (&[IGP, PATH_64501_65010, NEXT_HOP_A, TO_NONE], true, false),
+    (
+        &[IGP, PATH_64501_65010, NEXT_HOP_A, TO_B_ALONE],
+        true,
+        false,
+    ),
+    (&[IGP, PATH_64500, NEXT_HOP_A, TO_NONE], false, false),
+    // A community that refuses to nobody but its sender, or to nobody.
+    (&[IGP, PATH_64501_65010, NEXT_HOP_A, NOT_TO_A], true, true),
+    (
+        &[IGP, PATH_64501_65010, NEXT_HOP_A, NOT_TO_A_STRANGER],
+        true,
+        true,
+    ),
+    (
+        &[IGP, PATH_64501_65010, NEXT_HOP_A, TO_ALL_BY_NAME],
+        true,
+        true,
+    ),
+    // (64500, 64502), which refuses nothing.
+    (
+        &[IGP, PATH_64501_65010, NEXT_HOP_A, "C00804 FBF4FBF6"],
+        true,
+        true,
+    ),
+];
+
+#[test]
+fn what_decisions_ask_is_held_with_a_route(rt: HostRuntime) -> Result<(), Fail> {
+    let alloc = rt.alloc();
+    let exchange = exchange(alloc, true, FOUR)?;
+    for (texts, eligible, unrestricted) in HELD {
+        let attributes = Arc::new(alloc, attributes(alloc, texts)?)?;
+        let held = exchange.hold(0, 1_700_000_000, attributes);
+        assert_eq!(rt; (held.peer, held.time), (0, 1_700_000_000));
+        assert_eq!(rt; held.eligible, *eligible);
+        assert_eq!(rt; held.unrestricted, *unrestricted);
+    }
+    Ok(())
+}
+
+#[test]
+fn a_client_that_refuses_a_peer_restricts_its_routes(rt: HostRuntime) -> Result<(), Fail> {
+    let alloc = rt.alloc();
+    let exchange = exchange(alloc, true, REFUSING)?;
+    let held = hold_all(&rt, alloc, &exchange, &[OF_A, OF_B, OF_C])?;
+    let unrestricted: Vec<bool> = held.iter().map(|held| held.unrestricted).collect(alloc)?;
+    assert_eq!(rt; unrestricted.as_slice(), [false, true, true].as_slice());
+    Ok(())
+}
