@@ -9,7 +9,7 @@ use Rattle.rs_update.specs.IpPrefix.{IpPrefix}
 use Rattle.rs_update.specs.PrefixOrder.{prefix_cmp}
 use Rattle.rs_choice.specs.Plan.{Plan}
 use Rattle.rs_table.specs.Left.{same_prefix}
-use Rattle.rs_table.specs.Cell.{CellContent, IsCell, without_route}
+use Rattle.rs_table.specs.Cell.{CellContent, IsCell, routes_in, without_route}
 use Rattle.rs_table.specs.Cells.{Entries, AreCells, cell_at, routes_at, routes_of}
 use Rattle.rs_table.proofs.PrefixLemmas.{same_prefix-true}
 
@@ -22,7 +22,7 @@ none_below q (e ∷ es) below = rw below.0 (none_below q es below.1)
 
 -- what one call of the closure does
 abbrev pub Withdraws : Plan → ℕ → CellContent → Bool → CellContent → Type 0
-Withdraws plan peer old left new = (new.routes ≡ without_route old.routes peer) × (left ≡ true → IsCell plan new) × (left ≡ false → new.routes ≡ [])
+Withdraws plan peer old left new = (routes_in new ≡ without_route (routes_in old) peer) × (left ≡ true → IsCell plan new) × (left ≡ false → routes_in new ≡ [])
 
 pub member-IsCell : (plan : Plan) (before after : Entries) (prefix : IpPrefix) (cell : CellContent) → AreCells plan (before ++ (prefix, cell) ∷ after) → IsCell plan cell
 member-IsCell plan [] after prefix cell all = all.0
@@ -60,7 +60,7 @@ module _ {F : Type 0} (T : F → IpPrefix → CellContent → Bool → CellConte
         | inr there ↦ rw there (past_one b others there)
       ]
     where
-      at_one : (b : Bool) → Withdraws plan peer e.1 b w → routes_at rest q ≡ [] → same_prefix q e.0 ≡ true → routes_at (cond b ((e.0, w) ∷ rest) rest) q ≡ without_route e.1.routes peer
+      at_one : (b : Bool) → Withdraws plan peer e.1 b w → routes_at rest q ≡ [] → same_prefix q e.0 ≡ true → routes_at (cond b ((e.0, w) ∷ rest) rest) q ≡ without_route (routes_in e.1) peer
       at_one true call none here = rw here call.0
       at_one false call none here = none ∙ sym (call.2 refl) ∙ call.0
 

@@ -2,13 +2,15 @@ pub mod CellsLemmas
 pub mod CloseLemmas
 pub mod DecisionLemmas
 pub mod ExampleLemmas
+pub mod HeldLemmas
 pub mod KnownLemmas
 pub mod LeftLemmas
 pub mod ListingLemmas
+pub mod MemberLemmas
 pub mod PrefixLemmas
+pub mod PutLemmas
 pub mod RibLemmas
 pub mod RowLemmas
 pub mod SelectionLemmas
-pub mod SlotLemmas
 pub mod TableLemmas
 pub mod TablesLemmas

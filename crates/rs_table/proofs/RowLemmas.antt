@@ -1,18 +1,16 @@
 -- The routes on one prefix, in ascending order of their peers.
-use Rattle.std.proofs.Common.{◌≡◌, ℕ, ◌+◌, ◌<◌, ◌≤◌, Bool, true, false, cond, not, List, [], ◌∷◌, length, get_or, set, Some, None, refl, ap, ◌∙◌, arith, inl, inr, ◌⊎◌}
-use Rattle.std.specs.List.{insert}
+use Rattle.std.proofs.Common.{◌≡◌, ℕ, ◌+◌, ◌<◌, ◌≤◌, Bool, true, false, cond, not, List, [], ◌∷◌, length, Some, None, refl, ap, ◌∙◌, arith, inl, inr}
 use Rattle.std.specs.Prelude.{◌==◌, nat_lt}
-use Rattle.std.proofs.lemmas.List.Edits.{length-insert}
-use Rattle.std.proofs.lemmas.Bool.{cases_Bool, eq-eqb}
+use Rattle.std.proofs.lemmas.Bool.{cases_Bool}
 use Rattle.std.proofs.lemmas.Bool.Decides.{eqb_tells, nat_tests}
 use Rattle.rs_table.specs.Left.{RouteLeft}
 use Rattle.rs_table.specs.Table.{PeerRoute}
-use Rattle.rs_table.specs.Cell.{IsRow, route_at, with_route, without_route, place_of}
+use Rattle.rs_table.specs.Cell.{IsRow, route_at, with_route, without_route}
 
 below : (a b : ℕ) → nat_lt a b ≡ true → a < b
 below a b e = grind (arith, nat_tests)
 
-not_below : (a b : ℕ) → nat_lt a b ≡ false → b ≤ a
+pub not_below : (a b : ℕ) → nat_lt a b ≡ false → b ≤ a
 not_below a b e = grind (arith, nat_tests)
 
 pub IsRow-from : (from more to : ℕ) (routes : List PeerRoute) → from ≤ more → IsRow more to routes → IsRow from to routes
@@ -112,64 +110,4 @@ route_at-without (route ∷ later) gone peer =
         ])
         | inr there ↦ rw there.0 (route_at-without later gone peer)
       ])
-    ]
-
--- nothing goes where the length stays
-pub without_none : (routes : List PeerRoute) (peer : ℕ) → length routes ≤ length (without_route routes peer) → without_route routes peer ≡ routes
-without_none routes peer long = elim (longer routes) [ inl short ↦ absurd (omega (arith, short, long)) | inr same ↦ same ]
-  where
-    longer : (routes : List PeerRoute) → (length (without_route routes peer) < length routes) ⊎ (without_route routes peer ≡ routes)
-    longer [] = inr refl
-    longer (route ∷ later) =
-        elim (cases_Bool (route.peer == peer)) [
-          | inl here ↦ rw here (inl (elim (longer later) [ inl short ↦ omega (arith, short) | inr same ↦ rw same (omega arith) ]))
-          | inr there ↦ rw there (elim (longer later) [ inl short ↦ inl (omega (arith, short)) | inr same ↦ inr (ap (λ rest. route ∷ rest) same) ])
-        ]
-
--- ---- places
-
-pub place-within : (routes : List PeerRoute) (peer : ℕ) → place_of routes peer ≤ length routes
-place-within [] peer = omega arith
-place-within (route ∷ later) peer =
-    elim (cases_Bool (nat_lt route.peer peer)) [
-      | inl less ↦ rw less (omega (arith, place-within later peer))
-      | inr more ↦ rw more (omega arith)
-    ]
-
-pub with-set : (routes : List PeerRoute) (route : PeerRoute) → place_of routes route.peer < length routes → ((d : PeerRoute) → (get_or routes (place_of routes route.peer) d).peer ≡ route.peer) → with_route routes route ≡ set routes (place_of routes route.peer) route
-with-set [] route within same = absurd (omega (arith, within))
-with-set (first ∷ later) route within same =
-    elim (cases_Bool (nat_lt first.peer route.peer)) [
-      | inl less ↦ rw less (
-          let inside : place_of later route.peer < length later = omega (arith, rw less at within) in
-          let here : (d : PeerRoute) → (get_or later (place_of later route.peer) d).peer ≡ route.peer = λ d. rw less at (same d) in
-          ap (λ rest. first ∷ rest) (with-set later route inside here))
-      | inr more ↦
-          let here : first.peer ≡ route.peer = rw more at (same first) in
-          rw (more, eq-eqb first.peer route.peer here) refl
-    ]
-
-pub with-insert : (routes : List PeerRoute) (route : PeerRoute) → (place_of routes route.peer < length routes → (d : PeerRoute) → (get_or routes (place_of routes route.peer) d).peer ≡ route.peer → ⊥) → with_route routes route ≡ insert routes (place_of routes route.peer) route
-with-insert [] route none = refl
-with-insert (first ∷ later) route none =
-    elim (cases_Bool (nat_lt first.peer route.peer)) [
-      | inl less ↦ rw less (ap (λ rest. first ∷ rest) (with-insert later route (λ within d same. (rw less at none) (omega (arith, within)) d same)))
-      | inr more ↦ elim (eqb_tells first.peer route.peer) [
-        | inl same ↦ absurd ((rw more at none) (omega arith) first same.1)
-        | inr apart ↦ rw (more, apart.0) refl
-      ]
-    ]
-
-pub length-with : (routes : List PeerRoute) (route : PeerRoute) → (place_of routes route.peer < length routes → (d : PeerRoute) → (get_or routes (place_of routes route.peer) d).peer ≡ route.peer → ⊥) → length (with_route routes route) ≡ length routes + 1
-length-with routes route none = ap length (with-insert routes route none) ∙ length-insert routes (place_of routes route.peer) route (place-within routes route.peer)
-
-pub with-some : (routes : List PeerRoute) (route : PeerRoute) → 0 < length (with_route routes route)
-with-some [] route = omega arith
-with-some (first ∷ later) route =
-    elim (cases_Bool (nat_lt first.peer route.peer)) [
-      | inl less ↦ rw less (omega arith)
-      | inr more ↦ elim (eqb_tells first.peer route.peer) [
-        | inl same ↦ rw (more, same.0) (omega arith)
-        | inr apart ↦ rw (more, apart.0) (omega arith)
-      ]
     ]

@@ -21,11 +21,12 @@ use Rattle.rs_table.specs.Listing as listing
 use Rattle.rs_table.specs.Cells as cells
 use Rattle.rs_table.specs.Selection.{route_from}
 use Rattle.rs_table.specs.Table.{PeerRoute, peer_route, sent_route, best_of}
-use Rattle.rs_table.specs.Cell.{CellContent, IsCell, IsRow, route_at, candidates_among, best_among, best_peer, stored_best, route_unless_own}
+use Rattle.rs_table.specs.Cell.{CellContent, IsCell, IsRow, route_at, routes_in, candidates_among, best_among, best_peer, stored_best, route_unless_own}
 use Rattle.rs_table.specs.Cells.{Entries, AreCells, cell_at, routes_at, routes_of, routes_from, changed_routes, changed_routes_body, ChangeTo}
 use Rattle.rs_table.specs.TablesView.{ribs_from}
 use Rattle.rs_table.proofs.PrefixLemmas.{prefix_total, prefix_cmp-IsAntisymmetric}
 use Rattle.rs_table.proofs.LeftLemmas.{get-after}
+use Rattle.rs_table.proofs.DecisionLemmas.{best-held}
 use Rattle.rs_table.proofs.RowLemmas.{route_at-with, route_at-without}
 use Rattle.rs_table.proofs.CellsLemmas.{get-routes_from, rib-at, rib-past, routes_on-cells, cell-IsCell}
 use Rattle.rs_table.proofs.SelectionLemmas.{all_places, filter_none}
@@ -111,16 +112,16 @@ best-past plan client routes past =
     λ route. rw (slice_get_past plan.peers client past) (and_right (not (client == route.peer)) false refl) in
     rw (filter_none (λ route. is_permitted plan client route.peer route.attributes) refused (filter (λ route. is_eligible plan route.peer route.attributes) routes)) (choice-nil plan sent_route)
 
-pub stored : (plan : Plan) (cell : CellContent) (client : ℕ) → IsCell plan cell → stored_best cell client ≡ best_among plan client cell.routes
+pub stored : (plan : Plan) (cell : CellContent) (client : ℕ) → IsCell plan cell → stored_best cell client ≡ best_among plan client (routes_in cell)
 stored plan cell client is =
     elim (cases_lt client (length plan.peers)) [
       | inl known ↦
-          ap (option_and_then (route_unless_own cell.routes client)) (slice_get-get_or cell.bests client 0 (omega (arith, known, is.count)))
-          ∙ ap (route_unless_own cell.routes client) (is.decided client known)
-          ∙ unless_own-best plan client cell.routes is.row
+          ap (option_and_then (route_unless_own (routes_in cell) client)) (slice_get-get_or cell.bests client 0 (omega (arith, known, is.count)))
+          ∙ ap (route_unless_own (routes_in cell) client) (is.best client known ∙ best-held plan client cell.held)
+          ∙ unless_own-best plan client (routes_in cell) is.held.row
       | inr past ↦
-          ap (option_and_then (route_unless_own cell.routes client)) (slice_get_past cell.bests client (omega (arith, past, is.count)))
-          ∙ sym (best-past plan client cell.routes past)
+          ap (option_and_then (route_unless_own (routes_in cell) client)) (slice_get_past cell.bests client (omega (arith, past, is.count)))
+          ∙ sym (best-past plan client (routes_in cell) past)
     ]
 
 -- ---- the tables of cells
@@ -151,7 +152,7 @@ module _ (plan : Plan) (entries : Entries) (closed : List Bool) where
         where
           by_cell : (o : Option CellContent) → cell_at entries prefix ≡ o → IsRow 0 (length plan.peers) (routes_of o)
           by_cell None e = tt
-          by_cell (Some cell) e = (cell-IsCell plan entries prefix cell cells e).row
+          by_cell (Some cell) e = (cell-IsCell plan entries prefix cell cells e).held.row
 
       pub best-of : (client : ℕ) (prefix : IpPrefix) → best_of tables client prefix ≡ best_among plan client (routes_at entries prefix)
       best-of client prefix = ap (best_among plan client) (routes_on-cells entries prefix closed (subst (λ n. IsRow 0 n (routes_at entries prefix)) (sym peers) (row-at prefix)))

@@ -11,7 +11,7 @@ use Rattle.rs_session.specs.Change.{Change, ChangeBody, Announced, Withdrawn, Cl
 use Rattle.rs_choice.specs.Plan.{Plan}
 use Rattle.rs_table.specs.Left.{same_prefix, reason_drops, Routes}
 use Rattle.rs_table.specs.Table.{PeerRoute}
-use Rattle.rs_table.specs.Cell.{CellContent, IsCell, route_at, with_route, without_route}
+use Rattle.rs_table.specs.Cell.{CellContent, IsCell, route_at, routes_in, with_route, without_route}
 
 abbrev pub Entries : Type 0
 Entries = List (IpPrefix × CellContent)
@@ -23,7 +23,7 @@ cell_at entries prefix = lookup (is_at (prefix_cmp prefix)) entries
 -- the routes on a prefix
 abbrev pub routes_of : Option CellContent → List PeerRoute
 routes_of None = []
-routes_of (Some cell) = cell.routes
+routes_of (Some cell) = routes_in cell
 
 abbrev pub routes_at : Entries → IpPrefix → List PeerRoute
 routes_at entries prefix = routes_of (cell_at entries prefix)

@@ -2,8 +2,10 @@ pub use Rattle.rs_update.specs.IpPrefix
 pub use Rattle.rs_update.specs.PathAttributes
 pub use Rattle.rs_session.specs.Change
 pub use Rattle.rs_update.specs.PrefixOrder
+pub use Rattle.rs_choice.specs.Clients
 pub use Rattle.rs_choice.specs.Decision
 pub use Rattle.rs_choice.specs.Eligibility
+pub use Rattle.rs_choice.specs.Held
 pub use Rattle.rs_choice.specs.Plan
 pub use Rattle.rs_choice.specs.Policy
 pub mod Cell

@@ -2,34 +2,23 @@
 //!
 //! A cell is made whole, with room for a route of every peer, so that no later change of it takes memory.
 
-ghost use Rattle.std.specs.Prelude.{◌≡◌, ◌<◌, ◌≤◌, ◌∷◌, [], IfOk, IsTrue, IsFalse, length, map, vec_capacity};
+ghost use Rattle.std.specs.Prelude.{◌≡◌, ◌<◌, ◌≤◌, ◌∷◌, [], IfOk, IsTrue, IsFalse, length, vec_capacity};
 ghost use Rattle.std.specs.Option.{option_map};
-ghost use Rattle.rs_table.specs.Cell.{place_of, route_at, stored_best, with_route, without_route, IsCell};
-ghost use Rattle.rs_table.specs.CellView.{route_of_slot};
+ghost use Rattle.rs_choice.specs.Held.{IsJudged};
+ghost use Rattle.rs_table.specs.Cell.{place_of, route_at, route_of_held, routes_in, stored_best, with_one, with_route, without_one, without_route, AreHeld, IsCell};
 ghost use Rattle.rs_table.specs.RouteView.{peer_route_of};
 ghost use Rattle.rs_table.specs.Table.{peer_route};
 
-use crate::decision::decide;
 use crate::route::Route;
-use rs_choice::Exchange;
-use rs_update::Attributes;
+use rs_choice::{Exchange, HeldRoute};
 use std::alloc::{AllocError, Global};
 use std::marker::Model;
-use std::sync::Arc;
-
-// A route that is held, in 16 octets: the number of its peer, when it was announced, in seconds since 1970, and its attributes.
-#[derive(Drop)]
-pub(crate) struct Slot {
-    pub(crate) peer: u8,
-    pub(crate) time: u32,
-    pub(crate) attributes: Arc<Attributes>,
-}
 
 // The routes on a prefix, in ascending order of their peers, and for each client the number of the peer whose route it gets: its own
 // number where it gets none, since no client gets a route of its own.
 #[derive(Drop)]
 pub(crate) struct Cell {
-    slots: Vec<Slot>,
+    held: Vec<HeldRoute>,
     bests: Vec<u8>,
 }
 
@@ -49,59 +38,71 @@ impl Model for Cell {
 
 impl Cell {
     // A cell of one route. Refused memory, there is none.
-    pub(crate) fn new(alloc: Global, plan: &Exchange, slot: Slot) -> Result<Cell, AllocError>
-        requires known { slot.peer < length plan.now.peers }
-        ensures routes { IfOk result (λ cell. cell.routes ≡ route_of_slot slot ∷ []) }
+    pub(crate) fn new(alloc: Global, plan: &Exchange, route: HeldRoute) -> Result<Cell, AllocError>
+        requires { IsJudged plan.now route }
+        ensures routes { IfOk result (λ cell. routes_in cell ≡ route_of_held route ∷ []) }
         ensures cell { IfOk result (λ cell. IsCell plan.now cell) }
     {
         let count = plan.count();
         let mut bests = Vec::with_capacity(alloc, count)?;
         bests.resize(count, 0)?;
-        let mut slots = Vec::with_capacity(alloc, count)?;
-        slots.push(slot)?;
-        decide(plan, &slots, &mut bests);
-        Ok(Cell { slots, bests })
+        let mut held = Vec::with_capacity(alloc, count)?;
+        held.push(route)?;
+        let mut cell = Cell { held, bests };
+        cell.decide(plan);
+        Ok(cell)
     }
 
     // Puts a route in the place of any that its peer has. It takes no memory.
-    pub(crate) fn announce(&mut self, plan: &Exchange, slot: Slot)
-        requires known { slot.peer < length plan.now.peers }
+    pub(crate) fn announce(&mut self, plan: &Exchange, route: HeldRoute)
+        requires judged { IsJudged plan.now route }
         requires cell { IsCell plan.now self.old }
-        ensures routes { self.new.routes ≡ with_route self.old.routes (route_of_slot slot) }
+        ensures routes { routes_in self.new ≡ with_route (routes_in self.old) (route_of_held route) }
         ensures cell { IsCell plan.now self.new }
     {
-        put(&mut self.slots, slot);
-        decide(plan, &self.slots, &mut self.bests);
+        put(&mut self.held, route);
+        self.decide(plan);
     }
 
     // Removes a peer's route, if it has one; answers whether a route is left.
     pub(crate) fn withdraw(&mut self, plan: &Exchange, peer: usize) -> bool
         requires { IsCell plan.now self.old }
-        ensures routes { self.new.routes ≡ without_route self.old.routes peer }
+        ensures routes { routes_in self.new ≡ without_route (routes_in self.old) peer }
         ensures some { IsTrue result → IsCell plan.now self.new }
-        ensures none { IsFalse result → self.new.routes ≡ [] }
+        ensures none { IsFalse result → routes_in self.new ≡ [] }
     {
-        let held = self.slots.len();
-        take_out(&mut self.slots, peer);
-        if self.slots.is_empty() {
+        let is_gone = take_out(&mut self.held, peer);
+        if self.held.is_empty() {
             return false;
         }
-        if self.slots.len() < held {
-            decide(plan, &self.slots, &mut self.bests);
+        if is_gone {
+            self.decide(plan);
         }
         true
     }
 
+    // Decides anew, for every client, whose route it gets.
+    fn decide(&mut self, plan: &Exchange)
+        requires held { AreHeld plan.now self.old.held }
+        requires some { 0 < length self.old.held }
+        requires count { length self.old.bests ≡ length plan.now.peers }
+        ensures held { self.new.held ≡ self.old.held }
+        ensures cell { IsCell plan.now self.new }
+    {
+        let _peers = plan.count();
+        plan.choose_for_all(&self.held, &mut self.bests);
+    }
+
     // The route of a peer.
     pub(crate) fn route(&self, peer: usize) -> Option<Route<'_>>
-        ensures { option_map peer_route_of result ≡ option_map (peer_route peer) (route_at self.now.routes peer) }
+        ensures { option_map peer_route_of result ≡ option_map (peer_route peer) (route_at (routes_in self.now) peer) }
     {
-        for slot in &self.slots {
-            if usize::from(slot.peer) == peer {
+        for route in &self.held {
+            if usize::from(route.peer) == peer {
                 return Some(Route {
                     peer,
-                    time: slot.time,
-                    attributes: &slot.attributes,
+                    time: route.time,
+                    attributes: &route.attributes,
                 });
             }
         }
@@ -122,36 +123,39 @@ impl Cell {
 }
 
 // Puts a route in the place of any that its peer has, where there is room for all routes.
-fn put(slots: &mut Vec<Slot>, slot: Slot)
-    requires { length (with_route (map route_of_slot slots.old.items) (route_of_slot slot)) ≤ vec_capacity slots.old }
-    ensures routes { map route_of_slot slots.new.items ≡ with_route (map route_of_slot slots.old.items) (route_of_slot slot) }
-    ensures capacity { vec_capacity slots.old ≤ vec_capacity slots.new }
+fn put(held: &mut Vec<HeldRoute>, route: HeldRoute)
+    requires { length (with_one (λ one. one.peer) held.old.items route) ≤ vec_capacity held.old }
+    ensures held { held.new.items ≡ with_one (λ one. one.peer) held.old.items route }
+    ensures capacity { vec_capacity held.old ≤ vec_capacity held.new }
 {
-    let place = place(slots, slot.peer);
-    if place < slots.len() && slots[place].peer == slot.peer {
-        slots[place] = slot;
+    let place = place(held, route.peer);
+    if place < held.len() && held[place].peer == route.peer {
+        held[place] = route;
     } else {
-        let _inserted = slots.insert(place, slot);
+        let _inserted = held.insert(place, route);
     }
 }
 
-// Removes a peer's route, if it has one.
-fn take_out(slots: &mut Vec<Slot>, peer: usize)
-    ensures routes { map route_of_slot slots.new.items ≡ without_route (map route_of_slot slots.old.items) peer }
-    ensures capacity { vec_capacity slots.new ≡ vec_capacity slots.old }
+// Removes a peer's route, if it has one; answers whether it had.
+fn take_out(held: &mut Vec<HeldRoute>, peer: usize) -> bool
+    ensures held { held.new.items ≡ without_one (λ one. one.peer) held.old.items peer }
+    ensures same { IsFalse result → held.new.items ≡ held.old.items }
+    ensures capacity { vec_capacity held.new ≡ vec_capacity held.old }
 {
-    slots.retain(|slot| usize::from(slot.peer) != peer);
+    let before = held.len();
+    held.retain(|route| usize::from(route.peer) != peer);
+    held.len() < before
 }
 
 // How many routes stand before that of a peer, or before the place where it would stand.
-fn place(slots: &[Slot], peer: u8) -> usize
-    ensures place { result ≡ place_of (map route_of_slot slots.now) peer }
-    ensures within { result ≤ length slots.now }
+fn place(held: &[HeldRoute], peer: u8) -> usize
+    ensures place { result ≡ place_of (λ one. one.peer) held.now peer }
+    ensures within { result ≤ length held.now }
 {
-    for place in 0..slots.len() {
-        if slots[place].peer >= peer {
+    for place in 0..held.len() {
+        if held[place].peer >= peer {
             return place;
         }
     }
-    slots.len()
+    held.len()
 }

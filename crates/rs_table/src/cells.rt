@@ -3,13 +3,13 @@
 ghost use Rattle.std.specs.Prelude.{◌≡◌, ◌<◌, if◌then◌else◌, None, OnOk, OnErr, length};
 ghost use Rattle.rs_session.specs.Change.{change_of};
 ghost use Rattle.rs_update.specs.IpPrefix.{IpPrefix};
-ghost use Rattle.rs_table.specs.Cell.{with_route, without_route};
+ghost use Rattle.rs_choice.specs.Held.{IsJudged};
+ghost use Rattle.rs_table.specs.Cell.{route_of_held, with_route, without_route};
 ghost use Rattle.rs_table.specs.Cells.{cell_at, routes_at, AreCells, ChangeTo, IsFirstOn};
-ghost use Rattle.rs_table.specs.CellView.{route_of_slot};
 ghost use Rattle.rs_table.specs.Left.{same_prefix};
 
-use crate::cell::{Cell, Slot};
-use rs_choice::Exchange;
+use crate::cell::Cell;
+use rs_choice::{Exchange, HeldRoute};
 use rs_session::{Body, Reason, Word};
 use rs_update::Prefix;
 use std::alloc::{AllocError, Global};
@@ -30,16 +30,11 @@ pub(crate) fn change(
     ensures first { OnErr result (IsFirstOn cells.old.entries (change_of word).body) }
     ensures cells { AreCells plan.now cells.new.entries }
 {
-    let _peers = plan.count();
     let Word { time, body } = word;
     match body {
         Body::Announce(prefix, attributes) => {
-            let slot = Slot {
-                peer: peer as u8,
-                time,
-                attributes,
-            };
-            announce(alloc, cells, plan, prefix, slot)
+            let route = plan.hold(peer, time, attributes);
+            announce(alloc, cells, plan, prefix, route)
         }
         Body::Withdraw(prefix) => {
             withdraw(cells, plan, peer, prefix);
@@ -60,20 +55,20 @@ fn announce(
     cells: &mut BTreeMap<Prefix, Cell>,
     plan: &Exchange,
     prefix: Prefix,
-    slot: Slot,
+    route: HeldRoute,
 ) -> Result<(), AllocError>
-    requires known { slot.peer < length plan.now.peers }
+    requires judged { IsJudged plan.now route }
     requires cells { AreCells plan.now cells.old.entries }
-    ensures routes { OnOk result ((q : IpPrefix) → routes_at cells.new.entries q ≡ (if same_prefix q prefix then with_route (routes_at cells.old.entries q) (route_of_slot slot) else routes_at cells.old.entries q)) }
+    ensures routes { OnOk result ((q : IpPrefix) → routes_at cells.new.entries q ≡ (if same_prefix q prefix then with_route (routes_at cells.old.entries q) (route_of_held route) else routes_at cells.old.entries q)) }
     ensures err { OnErr result (cells.new.entries ≡ cells.old.entries) }
     ensures first { OnErr result (cell_at cells.old.entries prefix ≡ None) }
     ensures cells { AreCells plan.now cells.new.entries }
 {
     if let Some(cell) = cells.get_mut(&prefix) {
-        cell.announce(plan, slot);
+        cell.announce(plan, route);
         return Ok(());
     }
-    let cell = Cell::new(alloc, plan, slot)?;
+    let cell = Cell::new(alloc, plan, route)?;
     cells.insert(prefix, cell)?;
     Ok(())
 }

@@ -4,15 +4,14 @@
 //! export policy before its decision).
 //!
 //! Reading order: `tables` (what each peer has left, and what a client gets on a prefix), `route` (what is answered), `listing` (a
-//! client's whole table), `why` (and why not), `laws` (of the definitions). Below them `cells` (of all prefixes), `cell` (of one) and
-//! `decision` (who gets which route on it). The plain program that keeps the same contract by a list of routes for each peer:
-//! `plain_tables`, `adj_rib_in`, `plain_selection`, `plain_listing`.
+//! client's whole table), `why` (and why not), `laws` (of the definitions). Below them `cells` (of all prefixes) and `cell` (of one;
+//! who gets which route on it is decided in `rs_choice`). The plain program that keeps the same contract by a list of routes for each
+//! peer: `plain_tables`, `adj_rib_in`, `plain_selection`, `plain_listing`.
 #![tactic(auto)]
 
 mod adj_rib_in;
 mod cell;
 mod cells;
-mod decision;
 mod laws;
 mod listing;
 mod plain_listing;

@@ -1,40 +1,27 @@
-use Rattle.std.proofs.Common.{◌<◌, ◌∙◌, ap, sym, subst, arith, length, map}
-use Rattle.std.proofs.lemmas.List.{length-map}
-use Rattle.rs_table.specs.Cell.{IsRow, AreDecided, with_route}
-use Rattle.rs_table.specs.CellView.{route_of_slot}
-use Rattle.rs_table.proofs.RowLemmas.{IsRow-with, length-row, with-some}
+use Rattle.std.proofs.Common.{◌<◌, ◌∙◌, ap, sym, refl, subst, arith, length, map}
+use Rattle.rs_table.specs.Cell.{IsCell, route_of_held, with_route}
+use Rattle.rs_table.specs.CellView.{cell_view}
+use Rattle.rs_table.proofs.HeldLemmas.{few-held, held-with, routes-with}
+use Rattle.rs_table.proofs.MemberLemmas.{with-some}
 use Rattle.rs_table.proofs.cell.Cell.announce.Goals as goal
 
 pub put-requires : goal.put-requires
 put-requires c =
-    let routes = map route_of_slot c.self.inside.slots.items in
-    let peers = length c.args.plan.now.peers in
-    let row : IsRow 0 peers routes = subst (λ cell. IsRow 0 peers cell.routes) (sym c.self.view_is) c.requires.cell.row in
-    let more : IsRow 0 peers (with_route routes (route_of_slot c.args.slot)) = IsRow-with 0 peers routes (route_of_slot c.args.slot) (omega arith) c.requires.known row in
-    omega (arith, length-row 0 peers (with_route routes (route_of_slot c.args.slot)) (omega arith) more, c.self.invariant, ap (λ cell. length cell.bests) c.self.view_is, c.requires.cell.count)
+    let plan = c.args.plan.now in
+    let cell : IsCell plan (cell_view c.self.inside) = subst (IsCell plan) (sym c.self.view_is) c.requires.cell in
+    omega (arith, few-held plan _ (held-with plan c.self.inside.held.items _ c.args.route cell.held c.requires.judged refl), c.self.invariant, cell.count)
 
-pub decide-requires-clause-row : goal.decide-requires-clause-row
-decide-requires-clause-row c =
-    let routes = map route_of_slot c.self.inside.slots.items in
-    let peers = length c.args.plan.now.peers in
-    let row : IsRow 0 peers routes = subst (λ cell. IsRow 0 peers cell.routes) (sym c.self.view_is) c.requires.cell.row in
-    subst (λ some. IsRow 0 peers some) (sym (ap (map route_of_slot) c.deref.ensures.value ∙ c.put.ensures.routes))
-    (IsRow-with 0 peers routes (route_of_slot c.args.slot) (omega arith) c.requires.known row)
+pub decide-requires-clause-held : goal.decide-requires-clause-held
+decide-requires-clause-held c =
+    let plan = c.args.plan.now in
+    let cell : IsCell plan (cell_view c.self.inside) = subst (IsCell plan) (sym c.self.view_is) c.requires.cell in
+    held-with plan c.self.inside.held.items c.put.new.held.items c.args.route cell.held c.requires.judged c.put.ensures.held
 
 pub decide-requires-clause-some : goal.decide-requires-clause-some
-decide-requires-clause-some c =
-    let routes = map route_of_slot c.self.inside.slots.items in
-    omega (arith, with-some routes (route_of_slot c.args.slot), ap length (ap (map route_of_slot) c.deref.ensures.value ∙ c.put.ensures.routes), length-map c.deref.result.now route_of_slot)
+decide-requires-clause-some c = subst (λ held. 0 < length held) (sym c.put.ensures.held) (with-some (λ one. one.peer) c.self.inside.held.items c.args.route)
 
-pub returns-clause-cell : goal.returns-clause-cell
-returns-clause-cell c =
-    let routes = map route_of_slot c.self.inside.slots.items in
-    let peers = length c.args.plan.now.peers in
-    let row : IsRow 0 peers routes = subst (λ cell. IsRow 0 peers cell.routes) (sym c.self.view_is) c.requires.cell.row in
-    let put = sym c.put.ensures.routes in
-    record {
-      row = subst (λ some. IsRow 0 peers some) put (IsRow-with 0 peers routes (route_of_slot c.args.slot) (omega arith) c.requires.known row);
-      some = subst (λ some. 0 < length some) put (with-some routes (route_of_slot c.args.slot));
-      count = c.decide.ensures.count;
-      decided = subst (λ some. AreDecided c.args.plan.now some c.decide.new.bests.items) (ap (map route_of_slot) c.deref.ensures.value) c.decide.ensures.decided;
-    }
+pub returns-clause-routes : goal.returns-clause-routes
+returns-clause-routes c =
+    ap (map route_of_held) c.decide.ensures.held
+    ∙ routes-with c.self.inside.held.items c.put.new.held.items c.args.route c.put.ensures.held
+    ∙ ap (λ cell. with_route (map route_of_held cell.held) (route_of_held c.args.route)) c.self.view_is
