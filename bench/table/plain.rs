@@ -1,17 +1,21 @@
-//! Plain tables with the same structures as `rs_table`: an ordered map from prefix to a cell, slots of 16 octets sorted by peer, one octet for each client, and the
-//! decision in one pass by neighbour groups, shared by the clients to which every eligible route is permitted. It is the baseline of the ratio.
+//! Plain tables with the same structures as `rs_table`: an ordered map from prefix to a cell, held routes of 16 octets sorted by peer, one octet for each client. It
+//! decides as `rs_choice` does. What decisions ask of a route by itself, whether it is eligible and whether every other client may get it, is found when it comes. One
+//! pass by neighbour groups chooses among all eligible routes, and that choice is shared by the clients to which the few routes on which it rests are permitted; each
+//! other client has a pass of its own. It is the baseline of the ratio.
 //!
 //! usage: plain FILE PEERS PREFIXES SENDERS
 #[path = "../update/plain.rs"]
 #[allow(dead_code)]
 mod update;
 
+use std::cmp::Reverse;
 use std::collections::BTreeMap;
 use std::sync::Arc;
 use std::time::Instant;
 use update::{Attributes, Message, Segment, read_message};
 
 const STRIDE: usize = 611953;
+const MAX_PEERS: usize = 256;
 
 struct Peer {
     asn: u32,
@@ -27,24 +31,19 @@ struct Plan {
     refusals: Vec<Vec<bool>>,
 }
 
-struct Slot {
+struct Held {
     peer: u8,
+    eligible: bool,
+    unrestricted: bool,
     time: u32,
     attributes: Arc<Attributes>,
 }
 
 struct Cell {
-    slots: Vec<Slot>,
+    held: Vec<Held>,
     bests: Vec<u8>,
 }
 
-#[derive(Clone, Copy)]
-struct Candidate<'a> {
-    peer: usize,
-    attributes: &'a Attributes,
-}
-
-#[derive(Clone, Copy)]
 struct Standing {
     preference: u32,
     path_length: u32,
@@ -56,12 +55,30 @@ struct Standing {
 }
 
 impl Standing {
-    fn front(&self) -> (std::cmp::Reverse<u32>, u32, u8) {
-        (std::cmp::Reverse(self.preference), self.path_length, self.origin)
+    // What the first three steps compare, and the last two.
+    fn front(&self) -> (Reverse<u32>, u32, u8) {
+        (Reverse(self.preference), self.path_length, self.origin)
     }
 
     fn last(&self) -> (u32, u32) {
         (self.id, self.address)
+    }
+}
+
+// Of each neighbour AS the place of the route that stands for it, and whether that route keeps out another one by its MED.
+struct Groups {
+    neighbours: [u32; MAX_PEERS],
+    places: [u8; MAX_PEERS],
+    keep_out: [bool; MAX_PEERS],
+    len: usize,
+}
+
+impl Groups {
+    fn push(&mut self, place: usize, neighbour: u32) {
+        self.neighbours[self.len] = neighbour;
+        self.places[self.len] = place as u8;
+        self.keep_out[self.len] = false;
+        self.len += 1;
     }
 }
 
@@ -70,6 +87,11 @@ fn has_community(attributes: &Attributes, high: u32, low: u32) -> bool {
         Some((_, values)) if high < 65536 && low < 65536 => values.contains(&(high << 16 | low)),
         _ => false,
     }
+}
+
+// Whether a community could keep a route from some client: those that do are of AS 0.
+fn may_be_restricted(attributes: &Attributes) -> bool {
+    attributes.communities.as_ref().is_some_and(|(_, values)| values.iter().any(|value| *value < 65536))
 }
 
 impl Plan {
@@ -87,79 +109,99 @@ impl Plan {
             && (has_community(attributes, self.asn, asn) || !has_community(attributes, 0, self.asn))
     }
 
-    fn standing(&self, candidate: &Candidate) -> Standing {
-        let sender = &self.peers[candidate.peer];
+    fn hold(&self, peer: usize, time: u32, attributes: Arc<Attributes>) -> Held {
+        let eligible = self.eligible(&attributes);
+        let restricted = may_be_restricted(&attributes);
+        let unrestricted = (0..self.peers.len()).all(|client| {
+            client == peer || if restricted { self.permits(client, peer, &attributes) } else { !self.refusals[client][peer] }
+        });
+        Held { peer: peer as u8, eligible, unrestricted, time, attributes }
+    }
+
+    fn permits_held(&self, client: usize, held: &Held) -> bool {
+        let peer = usize::from(held.peer);
+        client != peer && (held.unrestricted || self.permits(client, peer, &held.attributes))
+    }
+
+    fn standing(&self, held: &Held) -> Standing {
+        let sender = &self.peers[usize::from(held.peer)];
         Standing {
             preference: sender.preference,
-            path_length: candidate.attributes.path_length,
-            origin: candidate.attributes.origin,
-            neighbour: candidate.attributes.neighbour.unwrap_or(sender.asn),
-            med: candidate.attributes.med.unwrap_or(0),
+            path_length: held.attributes.path_length,
+            origin: held.attributes.origin,
+            neighbour: held.attributes.neighbour.unwrap_or(sender.asn),
+            med: held.attributes.med.unwrap_or(0),
             id: sender.id,
             address: sender.address,
         }
     }
 
-    fn choose(&self, candidates: &[Candidate]) -> Option<usize> {
-        let mut groups = [0u8; 256];
-        let mut len = 0;
-        for place in 0..candidates.len() {
-            let one = self.standing(&candidates[place]);
-            if len == 0 {
-                groups[0] = place as u8;
-                len = 1;
+    // The groups of the eligible routes that take part.
+    fn groups(&self, held: &[Held], takes_part: impl Fn(&Held) -> bool) -> Groups {
+        let mut groups = Groups { neighbours: [0; MAX_PEERS], places: [0; MAX_PEERS], keep_out: [false; MAX_PEERS], len: 0 };
+        let mut leader: Option<Standing> = None;
+        for (place, route) in held.iter().enumerate() {
+            if !route.eligible || !takes_part(route) {
                 continue;
             }
-            let leader = self.standing(&candidates[usize::from(groups[0])]);
-            if one.front() < leader.front() {
-                groups[0] = place as u8;
-                len = 1;
-            } else if one.front() == leader.front() {
-                let group = (0..len).find(|group| self.standing(&candidates[usize::from(groups[*group])]).neighbour == one.neighbour);
-                match group {
-                    None => {
-                        groups[len] = place as u8;
-                        len += 1;
-                    }
-                    Some(group) => {
-                        let held = self.standing(&candidates[usize::from(groups[group])]);
-                        if (one.med, one.last()) < (held.med, held.last()) {
-                            groups[group] = place as u8;
-                        }
-                    }
+            let one = self.standing(route);
+            match &leader {
+                Some(leader) if one.front() > leader.front() => {}
+                Some(leader) if one.front() == leader.front() => self.join(held, &mut groups, place, &one),
+                _ => {
+                    groups.len = 0;
+                    groups.push(place, one.neighbour);
+                    leader = Some(one);
                 }
             }
         }
-        groups[..len].iter().map(|place| usize::from(*place)).min_by_key(|place| (self.standing(&candidates[*place]).last(), *place))
+        groups
     }
 
-    fn decide(&self, slots: &[Slot], bests: &mut [u8]) {
-        let first = Candidate { peer: usize::from(slots[0].peer), attributes: &slots[0].attributes };
-        let mut eligible = [first; 256];
-        let mut count = 0;
-        for slot in slots {
-            if self.eligible(&slot.attributes) {
-                eligible[count] = Candidate { peer: usize::from(slot.peer), attributes: &slot.attributes };
-                count += 1;
+    // Takes a route into the group of its neighbour AS, which is made where there is none.
+    #[inline(always)]
+    fn join(&self, held: &[Held], groups: &mut Groups, place: usize, one: &Standing) {
+        let Some(group) = groups.neighbours[..groups.len].iter().position(|neighbour| *neighbour == one.neighbour) else {
+            groups.push(place, one.neighbour);
+            return;
+        };
+        let other = self.standing(&held[usize::from(groups.places[group])]);
+        groups.keep_out[group] |= one.med != other.med;
+        if (one.med, one.last()) < (other.med, other.last()) {
+            groups.places[group] = place as u8;
+        }
+    }
+
+    // The place of the choice.
+    fn first(&self, held: &[Held], groups: &Groups) -> Option<u8> {
+        groups.places[..groups.len].iter().copied().min_by_key(|place| {
+            let peer = &self.peers[usize::from(held[usize::from(*place)].peer)];
+            (peer.id, peer.address)
+        })
+    }
+
+    fn decide(&self, held: &[Held], bests: &mut [u8]) {
+        let mut groups = self.groups(held, |_| true);
+        let first = self.first(held, &groups);
+        // The choice rests on the chosen route, and on those that keep out another one of their neighbour AS.
+        let mut len = 0;
+        for group in 0..groups.len {
+            let place = groups.places[group];
+            if groups.keep_out[group] || Some(place) == first {
+                groups.places[len] = place;
+                len += 1;
             }
         }
-        let eligible = &eligible[..count];
-        let shared = self.choose(eligible).map(|place| eligible[place].peer);
-        let mut candidates = [first; 256];
+        let weighing = &groups.places[..len];
+        let shared = first.map(|place| held[usize::from(place)].peer);
         for client in 0..self.peers.len() {
-            let peer = if eligible.iter().all(|one| self.permits(client, one.peer, one.attributes)) {
+            let peer = if weighing.iter().all(|place| self.permits_held(client, &held[usize::from(*place)])) {
                 shared
             } else {
-                let mut count = 0;
-                for one in eligible {
-                    if self.permits(client, one.peer, one.attributes) {
-                        candidates[count] = *one;
-                        count += 1;
-                    }
-                }
-                self.choose(&candidates[..count]).map(|place| candidates[place].peer)
+                let own = self.groups(held, |route| self.permits_held(client, route));
+                self.first(held, &own).map(|place| held[usize::from(place)].peer)
             };
-            bests[client] = peer.unwrap_or(client) as u8;
+            bests[client] = peer.unwrap_or(client as u8);
         }
     }
 }
@@ -172,25 +214,25 @@ struct Tables {
 impl Tables {
     fn announce(&mut self, peer: usize, prefix: (u32, u8), time: u32, attributes: Arc<Attributes>) {
         let peers = self.plan.peers.len();
-        let cell = self.cells.entry(prefix).or_insert_with(|| Cell { slots: Vec::with_capacity(peers), bests: vec![0; peers] });
-        let slot = Slot { peer: peer as u8, time, attributes };
-        let place = cell.slots.iter().position(|held| held.peer >= slot.peer).unwrap_or(cell.slots.len());
-        if place < cell.slots.len() && cell.slots[place].peer == slot.peer {
-            cell.slots[place] = slot;
+        let route = self.plan.hold(peer, time, attributes);
+        let cell = self.cells.entry(prefix).or_insert_with(|| Cell { held: Vec::with_capacity(peers), bests: vec![0; peers] });
+        let place = cell.held.iter().position(|held| held.peer >= route.peer).unwrap_or(cell.held.len());
+        if place < cell.held.len() && cell.held[place].peer == route.peer {
+            cell.held[place] = route;
         } else {
-            cell.slots.insert(place, slot);
+            cell.held.insert(place, route);
         }
-        self.plan.decide(&cell.slots, &mut cell.bests);
+        self.plan.decide(&cell.held, &mut cell.bests);
     }
 
     fn withdraw(&mut self, peer: usize, prefix: (u32, u8)) {
         let Some(cell) = self.cells.get_mut(&prefix) else { return };
-        let held = cell.slots.len();
-        cell.slots.retain(|slot| usize::from(slot.peer) != peer);
-        if cell.slots.is_empty() {
+        let before = cell.held.len();
+        cell.held.retain(|route| usize::from(route.peer) != peer);
+        if cell.held.is_empty() {
             self.cells.remove(&prefix);
-        } else if cell.slots.len() < held {
-            self.plan.decide(&cell.slots, &mut cell.bests);
+        } else if cell.held.len() < before {
+            self.plan.decide(&cell.held, &mut cell.bests);
         }
     }
 
@@ -200,7 +242,7 @@ impl Tables {
         for client in 0..self.plan.peers.len() {
             for cell in self.cells.values() {
                 let best = usize::from(cell.bests[client]);
-                if best != client && cell.slots.iter().any(|slot| usize::from(slot.peer) == best && slot.time == 1) {
+                if best != client && cell.held.iter().any(|route| usize::from(route.peer) == best && route.time == 1) {
                     rows += 1;
                 }
             }
