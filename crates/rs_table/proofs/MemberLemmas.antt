@@ -10,7 +10,7 @@ use Rattle.rs_choice.specs.Naturality.{filter-map}
 use Rattle.rs_table.specs.Cell.{place_of, with_one, without_one}
 
 module _ {M : Type 0} (peer_of : M → ℕ) where
-  -- the members of other kinds of which these are made
+  -- members that are made of those of another kind
   module _ {N : Type 0} (f : N → M) where
     pub map-with : (members : List N) (one : N) → map f (with_one (λ n. peer_of (f n)) members one) ≡ with_one peer_of (map f members) (f one)
     map-with [] one = refl
