@@ -12,5 +12,6 @@ pub mod PutLemmas
 pub mod RibLemmas
 pub mod RowLemmas
 pub mod SelectionLemmas
+pub mod StoredLemmas
 pub mod TableLemmas
 pub mod TablesLemmas
