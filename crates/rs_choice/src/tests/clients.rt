@@ -211,6 +211,17 @@ const WORKED: &[Worked] = &[
         what: "either of two of the least MED keeps a's out without the other",
     },
     Worked {
+        rows: THREE_OF_ONE_AS,
+        sent: &[
+            MED_10_OF_A,
+            MED_5_OF_B,
+            (2, &[IGP, PATH_64501_65010, NEXT_HOP_A, MED_5, NOT_TO_A]),
+            OTHER_AS_OF_D,
+        ],
+        bests: &[3, 0, 3, 2],
+        what: "at b a's comes back, where c's is refused too",
+    },
+    Worked {
         rows: TWO_OF_ONE_AS,
         sent: &[
             (0, &[IGP, PATH_64501_65010, NEXT_HOP_A, MED_5]),
