@@ -57,13 +57,17 @@ pub chosen_push : (held : List HeldRoute) (places : List ℕ) (place : ℕ) (one
     chosen_of held (places ++ place ∷ []) ≡ chosen_of held places ++ one ∷ []
 chosen_push held places place one at = filter_map-append (slice_get held) places (place ∷ []) ∙ ap (λ list. chosen_of held places ++ list) (chosen_first held place [] one at)
 
+-- what holds of all and of one more
+pub all_push : {X : Type 0} (P : X → Type 0) (xs : List X) (x : X) → All P xs → P x → All P (xs ++ x ∷ [])
+all_push P xs x all holds = All-append P xs (x ∷ []) all (alone holds)
+  where
+    alone : P x → All P (x ∷ [])
+    alone holds zero d below = holds
+    alone holds (suc k) d below = absurd (omega (arith, below))
+
 pub places_push : (held : List HeldRoute) (places : List ℕ) (place : ℕ) → ArePlaces held places → place < length held → ArePlaces held (places ++ place ∷ [])
 places_push held places place all within =
-    All-append (λ place. place < length held) places (place ∷ []) all (one_place place within)
-  where
-    one_place : (place : ℕ) → place < length held → All (λ place. place < length held) (place ∷ [])
-    one_place place within zero d below = within
-    one_place place within (suc k) d below = absurd (omega (arith, below))
+    all_push (λ place. place < length held) places place all within
 
 pub within_at : (held : List HeldRoute) (places : List ℕ) → ArePlaces held places → (i place : ℕ) → slice_get places i ≡ Some place → place < length held
 within_at held places all i place at =
@@ -97,15 +101,6 @@ filter_skip p xs x fails = filter-append p xs (x ∷ []) ∙ ap (λ b. filter p 
 
 pub length_push : {X : Type 0} (xs : List X) (x : X) → length (xs ++ x ∷ []) ≡ length xs + 1
 length_push xs x = length-append xs (x ∷ [])
-
-pub mem_left : {X : Type 0} (xs ys : List X) (x : X) → Mem xs x → Mem (xs ++ ys) x
-mem_left [] ys x h = absurd h
-mem_left (y ∷ xs) ys x (inl same) = inl same
-mem_left (y ∷ xs) ys x (inr h) = inr (mem_left xs ys x h)
-
-pub mem_last : {X : Type 0} (xs : List X) (x : X) → Mem (xs ++ x ∷ []) x
-mem_last [] x = inl refl
-mem_last (y ∷ xs) x = inr (mem_last xs x)
 
 pub mem_map : {X Y : Type 0} (f : X → Y) (xs : List X) (x : X) → Mem xs x → Mem (map f xs) (f x)
 mem_map f [] x h = absurd h

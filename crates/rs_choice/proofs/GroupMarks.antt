@@ -17,8 +17,7 @@ pub place_at : (groups : List Group) (i : ℕ) (group : Group) → slice_get gro
 place_at groups i group at = slice_get-map (λ (group : Group). group.place) groups i ∙ ap (option_map (λ (group : Group). group.place)) at
 
 pub places_none : (groups : List Group) → length groups ≡ 0 → length (places_of groups) ≡ 0
-places_none [] none = refl
-places_none (group ∷ later) none = absurd (omega (arith, none))
+places_none groups none = length-map groups (λ (group : Group). group.place) ∙ none
 
 set_itself : (places : List ℕ) (g place : ℕ) → slice_get places g ≡ Some place → slice_set places g place ≡ places
 set_itself [] g place at = refl

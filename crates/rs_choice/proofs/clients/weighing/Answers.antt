@@ -1,25 +1,17 @@
-use Rattle.std.proofs.Common.{◌≡◌, ◌∙◌, ap, arith, inl, inr, ℕ, suc, zero, List, length, ◌++◌, ◌∷◌, [], Some, below_more}
-use Rattle.std.specs.List.{All, Contains}
+use Rattle.std.proofs.Common.{◌≡◌, ◌∙◌, ap, arith, inl, inr, ℕ, List, length, ◌++◌, ◌∷◌, [], Some, below_more}
+use Rattle.std.specs.List.{Contains}
 use Rattle.std.specs.Prelude.{slice_get}
-use Rattle.std.proofs.lemmas.List.Elements.{All-append}
+use Rattle.std.proofs.lemmas.List.Elements.{Contains-append_left, Contains-append_right}
 use Rattle.std.proofs.lemmas.Option.{get_or_from_slice_get, slice_get_within}
 use Rattle.rs_choice.specs.declared.neighbour_groups.Group.{Group}
 use Rattle.rs_choice.specs.Sharing.{IsFirst, Weighs}
-use Rattle.rs_choice.proofs.ChosenLemmas.{length_push, mem_left, mem_last}
-use Rattle.rs_choice.proofs.LawLemmas.{contains-mem, mem-contains}
+use Rattle.rs_choice.proofs.ChosenLemmas.{all_push, length_push}
 use Rattle.rs_choice.proofs.ScanLemmas.{when_false}
 use Rattle.rs_choice.proofs.clients.weighing.Goals as goal
 use Rattle.rs_choice.proofs.clients.weighing.Goals.{then-group, then-group-via-then-group, then-group-via-else-group+then-is_first, else-group+else-is_first}
 
-all_of_one : {X : Type 0} (P : X → Type 0) (x : X) → P x → All P (x ∷ [])
-all_of_one P x holds zero d below = holds
-all_of_one P x holds (suc k) d below = absurd (omega (arith, below))
-
-contains_left : (xs : List ℕ) (last x : ℕ) → Contains xs x → Contains (xs ++ last ∷ []) x
-contains_left xs last x h = mem-contains (xs ++ last ∷ []) x (mem_left xs (last ∷ []) x (contains-mem xs x h))
-
 contains_last : (xs : List ℕ) (last x : ℕ) → last ≡ x → Contains (xs ++ last ∷ []) x
-contains_last xs last x same = mem-contains (xs ++ last ∷ []) x (rw same (mem_last xs x))
+contains_last xs last x same = Contains-append_right xs (last ∷ []) x (0, omega arith, same)
 
 contains_at : (xs : List ℕ) (i x : ℕ) → slice_get xs i ≡ Some x → Contains xs x
 contains_at xs i x at = (i, slice_get_within xs i x at, get_or_from_slice_get xs i x x at)
@@ -38,10 +30,9 @@ loop-number-preserved c =
           let at : slice_get eligible one.place ≡ Some place = rw w.from.ensures at w.place.ensures.value in
           rw (w.weighing-is, w.push.ensures) (record {
             few = omega (arith, length_push so_far place, c.loop-number.invariant.few);
-            among = All-append (λ place. Contains eligible place) so_far (place ∷ []) c.loop-number.invariant.among
-                (all_of_one (λ place. Contains eligible place) place (contains_at eligible one.place place at));
+            among = all_push (λ place. Contains eligible place) so_far place c.loop-number.invariant.among (contains_at eligible one.place place at);
             all = below_more (λ i. (group : Group) → slice_get groups i ≡ Some group → Weighs group first → (p : ℕ) → slice_get eligible group.place ≡ Some p → Contains (so_far ++ place ∷ []) p) n
-                (λ i below group at_group weighs p at_p. contains_left so_far place p (c.loop-number.invariant.all i below group at_group weighs p at_p))
+                (λ i below group at_group weighs p at_p. Contains-append_left so_far (place ∷ []) p (c.loop-number.invariant.all i below group at_group weighs p at_p))
                 (λ group at_group weighs p at_p.
                 let same : one ≡ group = cc (c.group-group.ensures, at_group) in
                 let at_one : slice_get eligible one.place ≡ Some p = ap (λ (group : Group). slice_get eligible group.place) same ∙ at_p in
