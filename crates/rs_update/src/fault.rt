@@ -5,47 +5,59 @@ ghost use Rattle.rs_update.specs.declared.fault.MessageFault.TheVariants.{Memory
 ghost use Rattle.rs_update.specs.Fault.{header_subcode, update_subcode, of_header, of_update};
 
 use std::alloc::{AllocError, AllocFailed};
-use std::error::Error;
-use std::fmt;
+use thiserror::Error;
 
 /// What is wrong with the header of a message: error code 1, Message Header Error (RFC 4271, section 6.1).
-#[derive(Clone, Copy, Debug, PartialEq, Eq)]
+#[derive(Clone, Copy, Debug, PartialEq, Eq, Error)]
 pub enum HeaderFault {
     /// Connection Not Synchronized: an octet of the Marker isn't all ones. Subcode 1.
+    #[error("Connection Not Synchronized")]
     NotSynchronized,
     /// Bad Message Length. Subcode 2.
+    #[error("Bad Message Length")]
     BadLength,
     /// Bad Message Type. Subcode 3.
+    #[error("Bad Message Type")]
     BadType,
 }
 
 /// What is wrong with an UPDATE: error code 3, UPDATE Message Error (RFC 4271, section 6.3).
-#[derive(Clone, Copy, Debug, PartialEq, Eq)]
+#[derive(Clone, Copy, Debug, PartialEq, Eq, Error)]
 pub enum UpdateFault {
     /// Malformed Attribute List: lengths that pass the message, an attribute that passes the section, or a type that stands again. Subcode 1.
+    #[error("Malformed Attribute List")]
     MalformedAttributeList,
     /// Unrecognized Well-known Attribute. Subcode 2.
+    #[error("Unrecognized Well-known Attribute")]
     UnrecognizedWellKnown,
     /// Missing Well-known Attribute: ORIGIN, AS_PATH or NEXT_HOP. Subcode 3.
+    #[error("Missing Well-known Attribute")]
     MissingWellKnown,
     /// Attribute Flags Error: the Optional or the Transitive bit isn't the type's. Subcode 4.
+    #[error("Attribute Flags Error")]
     AttributeFlags,
     /// Attribute Length Error. Subcode 5.
+    #[error("Attribute Length Error")]
     AttributeLength,
     /// Invalid ORIGIN Attribute. Subcode 6.
+    #[error("Invalid ORIGIN Attribute")]
     InvalidOrigin,
     /// Invalid NEXT_HOP Attribute. Subcode 8.
+    #[error("Invalid NEXT_HOP Attribute")]
     InvalidNextHop,
     /// Invalid Network Field: withdrawn routes or NLRI that aren't prefixes. Subcode 10.
+    #[error("Invalid Network Field")]
     InvalidNetworkField,
     /// Malformed AS_PATH. Subcode 11.
+    #[error("Malformed AS_PATH")]
     MalformedAsPath,
 }
 
 /// Why a message could not be read.
-#[derive(Clone, Copy, Debug, PartialEq, Eq)]
+#[derive(Clone, Copy, Debug, PartialEq, Eq, Error)]
 pub enum MessageFault {
     /// The first fault of the message, as the code and subcode of a NOTIFICATION (RFC 4271, section 4.5).
+    #[error("BGP error {code}/{subcode}")]
     Bgp {
         /// The error code: 1 for the header, 3 for an UPDATE.
         code: u8,
@@ -53,6 +65,7 @@ pub enum MessageFault {
         subcode: u8,
     },
     /// Memory was refused. It says nothing of the message.
+    #[error("out of memory")]
     Memory,
 }
 
@@ -131,14 +144,3 @@ impl<T: Drop> From<AllocFailed<T>> for MessageFault {
         MessageFault::Memory
     }
 }
-
-impl fmt::Display for MessageFault {
-    fn fmt<W: fmt::Write>(&self, f: &mut fmt::Formatter<W>) -> fmt::Result {
-        match self {
-            MessageFault::Bgp { code, subcode } => write!(f, "BGP error {code}/{subcode}"),
-            MessageFault::Memory => write!(f, "out of memory"),
-        }
-    }
-}
-
-impl Error for MessageFault {}

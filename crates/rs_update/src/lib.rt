@@ -22,8 +22,6 @@ mod prefix;
 mod readers;
 mod section;
 mod spelling;
-#[cfg(test)]
-mod tests;
 mod update;
 mod values;
 

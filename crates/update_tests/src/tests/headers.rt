@@ -81,3 +81,26 @@ fn a_marker_is_sixteen_octets_of_ones(rt: HostRuntime) -> Result<(), Fail> {
     assert_eq!(rt; says(alloc, &[0; 18])?.as_str(), "BGP error 1/2");
     Ok(())
 }
+
+#[test]
+fn each_fault_has_a_text_of_the_standard(rt: HostRuntime) -> Result<(), Fail> {
+    let alloc = rt.alloc();
+    let texts = [
+        format!(in alloc; "{}", HeaderFault::NotSynchronized)?,
+        format!(in alloc; "{}", HeaderFault::BadLength)?,
+        format!(in alloc; "{}", UpdateFault::MalformedAttributeList)?,
+        format!(in alloc; "{}", UpdateFault::MalformedAsPath)?,
+        format!(in alloc; "{}", MessageFault::Memory)?,
+    ];
+    let wanted = [
+        "Connection Not Synchronized",
+        "Bad Message Length",
+        "Malformed Attribute List",
+        "Malformed AS_PATH",
+        "out of memory",
+    ];
+    for (text, wanted) in texts.iter().zip(wanted) {
+        assert_eq!(rt; text.as_str(), wanted);
+    }
+    Ok(())
+}

@@ -7,7 +7,10 @@ mod routes;
 mod updates;
 mod written_forms;
 
-use super::*;
+use rs_update::{
+    Aggregator, Attributes, HeaderFault, Message, MessageFault, Origin, Prefix, Update,
+    UpdateFault, read_message, write_attributes,
+};
 use std::alloc::{AllocError, Global};
 use std::test::Fail;
 

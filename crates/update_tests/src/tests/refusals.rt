@@ -1,0 +1,54 @@
+//! A refused allocation is answered as want of memory, and the same call again answers as if none had been refused.
+//!
+//! These tests pass whether or not one allocation of the process is refused: the answer is want of memory or the plain one, never a third.
+
+use super::*;
+
+// An UPDATE with attributes of every kind that is kept, one prefix withdrawn and two announced.
+const RECEIVED: &str =
+    "0067 02 0002 080A 0046 40010100 400210 0102 0000FBF7 0000FBF8 0201 0000FDF2 400304C000020B 80040400000007 400600
+    E00708 0000FBF5 C0000201 C00808 FBF4FBF6 FDE80001 C0200107 C0210108 18CB0071 18C63364";
+
+// Its attributes as they are written.
+const WRITTEN: &str =
+    "40010100 400210 0102 0000FBF7 0000FBF8 0201 0000FDF2 400304C000020B 80040400000007 400600
+    E00708 0000FBF5 C0000201 C00808 FBF4FBF6 FDE80001 E0200107 E0210108";
+
+// The octets that texts spell, spelled once more where memory was refused.
+fn octets_again(alloc: Global, texts: &[&str]) -> Result<Vec<u8>, Fail> {
+    match octets(alloc, texts) {
+        Ok(octets) => Ok(octets),
+        Err(_) => Ok(octets(alloc, texts)?),
+    }
+}
+
+// The UPDATE, read once more where memory was refused: no other fault may come.
+fn read_again(alloc: Global, received: &[u8]) -> Result<Update, Fail> {
+    match read_message(alloc, received) {
+        Ok(Message::Update(update)) => Ok(update),
+        Err(MessageFault::Memory) => update_of(alloc, received),
+        Ok(_) => Err(Fail::from("another type")),
+        Err(_) => Err(Fail::from("a fault in place of want of memory")),
+    }
+}
+
+#[test]
+fn refused_memory_is_no_fault_of_a_message(rt: HostRuntime) -> Result<(), Fail> {
+    let alloc = rt.alloc();
+    let received = octets_again(alloc, &[MARKER, RECEIVED])?;
+    let wanted = octets_again(alloc, &[WRITTEN])?;
+    let read = read_again(alloc, &received)?;
+    assert_eq!(rt; (read.withdrawn.len(), read.nlri.len()), (1, 2));
+    let attributes = read.attributes.ok_or("no attributes")?;
+    assert_eq!(rt;
+        (attributes.path().len(), attributes.others().len()),
+        (2, 2)
+    );
+    let mut out = Vec::new(alloc);
+    if write_attributes(&attributes, &mut out).is_err() {
+        assert!(rt; out.is_empty(), "as before");
+        write_attributes(&attributes, &mut out)?;
+    }
+    assert_eq!(rt; out.as_slice(), wanted.as_slice());
+    Ok(())
+}
