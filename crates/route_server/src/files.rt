@@ -1,9 +1,9 @@
 //! Reads files whole.
 
 ghost use Rattle.std.specs.Prelude.{◌≡◌, ◌<◌, None, IfErr, IfOk, length, vec_len};
-ghost use Rattle.route_server.specs.Texts.{CanTell};
+ghost use Rattle.rs_ended.specs.Texts.{CanTell};
 
-use crate::ended::Ended;
+use rs_ended::Ended;
 use std::fs;
 use std::fs::Files;
 use std::io::ErrorKind;

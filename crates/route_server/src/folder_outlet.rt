@@ -1,11 +1,11 @@
 //! An outlet over a folder: each dump becomes a file in it. It doesn't tell what it has kept.
 
-ghost use Rattle.std.specs.Prelude.{◌≡◌, None, IfOk, string_bytes};
-ghost use Rattle.route_server.specs.Outlet.{path_in as the_path};
+ghost use Rattle.std.specs.Prelude.{◌≡◌, None};
 
-use crate::outlet::{Outlet, Unopened};
+use rs_ended::path_in;
 use rs_mrt::IoWriter;
-use std::alloc::{AllocError, Global};
+use rs_run::{Outlet, Unopened};
+use std::alloc::Global;
 use std::fs::{File, Files};
 use std::io::Write;
 use std::marker::Model;
@@ -38,17 +38,6 @@ impl<'a, R: Files> FolderOutlet<'a, R> {
             folder,
             failures: 0,
         }
-    }
-}
-
-/// The path of a file in a folder: a folder that ends in `/` gets no second one. Fails where memory is refused.
-pub fn path_in(alloc: Global, folder: &str, name: &str) -> Result<String, AllocError>
-    ensures { IfOk result (λ path. string_bytes path ≡ the_path folder.now name.now) }
-{
-    if folder.as_bytes().ends_with(b"/") {
-        format!(in alloc; "{folder}{name}")
-    } else {
-        format!(in alloc; "{folder}/{name}")
     }
 }
 

@@ -6,36 +6,24 @@
 #![tactic(auto)]
 
 ghost use Rattle.std.specs.Prelude.{◌≡◌, None, Some, IfErr, IfOk, length};
-ghost use Rattle.route_server.specs.Texts.{CanTell};
+ghost use Rattle.rs_ended.specs.Texts.{CanTell};
 
-mod ended;
 mod files;
 mod folder_outlet;
-mod memory_outlet;
-mod options;
-mod outlet;
-mod peer_end;
-mod report;
-mod run_fault;
-mod runner;
-mod sessions;
-mod texts;
-mod words;
 
-use ended::{Ended, FAILED, OUT_OF_MEMORY, status};
 use files::{read_file, read_files};
 use folder_outlet::FolderOutlet;
-use options::{Options, WordsFault};
+use rs_ended::{Ended, FAILED, MEMORY_LINE, NOT_UTF_8, OUT_OF_MEMORY, OUTPUT_LINE, line, status};
 use rs_mrt::IoWriter;
-use rs_setup::{Setup, read_setup};
-use runner::run;
+use rs_options::{Options, WordsFault};
+use rs_run::run;
+use rs_setup::{Setup, a_configuration_has_a_file_for_each_peer, read_setup};
+use rs_words::read_words;
 use std::env::Env;
 use std::fs::Files;
 use std::io::ErrorKind;
 use std::process::ExitCode;
 use std::{env, io};
-use texts::{MEMORY_LINE, NOT_UTF_8, OUTPUT_LINE, line};
-use words::read_words;
 
 fn main(rt: HostRuntime) -> ExitCode {
     let options = match command_line(&rt) {
@@ -67,6 +55,7 @@ fn configuration<R: AllocGlobal + Files>(rt: &R, options: &Options) -> Result<Se
     ensures one_for_each { IfOk result (λ setup. length setup.files.items ≡ length setup.plan.value.peers) }
     ensures refused { IfErr result (λ ended. CanTell ended None None) }
 {
+    a_configuration_has_a_file_for_each_peer();
     let text = read_file(rt, &options.config)?;
     match read_setup(rt.alloc(), &text) {
         Ok(setup) => Ok(setup),
@@ -120,6 +109,3 @@ fn end<R: AllocGlobal + Print + Eprint>(
         _ => ExitCode::from(status(ended)),
     }
 }
-
-#[cfg(test)]
-mod tests;

@@ -1,8 +1,13 @@
-//! What holds of the setup of a configuration: the law is the contract of a function that does nothing.
+//! What holds of the setup of a configuration: each law is the contract of a function that does nothing.
 
-ghost use Rattle.rs_setup.specs.Laws.{SetsUpOnce};
+ghost use Rattle.rs_setup.specs.Laws.{HasFileForEachPeer, SetsUpOnce};
 
 /// A configuration sets up no more than one plan, and no more than one file for each peer.
 pub fn a_configuration_sets_up_one_exchange()
     ensures { SetsUpOnce }
+{}
+
+/// A configuration sets up as many recorded files as peers.
+pub fn a_configuration_has_a_file_for_each_peer()
+    ensures { HasFileForEachPeer }
 {}

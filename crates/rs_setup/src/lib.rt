@@ -11,8 +11,5 @@ mod peers;
 mod setup;
 mod values;
 
-pub use laws::a_configuration_sets_up_one_exchange;
+pub use laws::{a_configuration_has_a_file_for_each_peer, a_configuration_sets_up_one_exchange};
 pub use setup::{Setup, SetupFault, read_setup};
-
-#[cfg(test)]
-mod tests;

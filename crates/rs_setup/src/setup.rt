@@ -14,6 +14,7 @@ use crate::peers::{read_peers, read_server};
 use rs_choice::{Exchange, PlanFault};
 use std::alloc::{AllocError, AllocFailed, Global};
 use std::sync::Arc;
+use thiserror::Error;
 use toml::Table;
 
 /// What a configuration sets up.
@@ -26,19 +27,25 @@ pub struct Setup {
 }
 
 /// Why a configuration is refused. A key is written with the way to it, as `peer[0].as`.
-#[derive(Debug, Drop)]
+#[derive(Debug, Drop, Error)]
 pub enum SetupFault {
     /// The text isn't UTF-8, or isn't TOML.
+    #[error("the text is neither UTF-8 nor TOML")]
     NotToml,
     /// A key that no configuration has.
+    #[error("no configuration has the key {0}")]
     Unknown(String),
     /// A key that must be there isn't.
+    #[error("the configuration lacks the key {0}")]
     Missing(String),
     /// A key's value is of another type, or out of its range.
+    #[error("the key {0} has a value of another type or out of its range")]
     NotValid(String),
     /// The plan has a fault.
+    #[error(transparent)]
     Plan(PlanFault),
     /// Memory was refused.
+    #[error("memory was refused while the configuration was read")]
     Memory,
 }
 

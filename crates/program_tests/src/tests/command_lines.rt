@@ -1,0 +1,94 @@
+//! Command lines, and what is read of them.
+
+use rs_options::{Options, WordsFault};
+use rs_words::read_words;
+use std::alloc::{AllocError, Global};
+use std::test::Fail;
+
+// What a command line comes to.
+enum Answer {
+    // The configuration, the folder and the time.
+    Given(&'static str, &'static str, u32),
+    Helped,
+    Refused,
+}
+
+// A command line without the program's name, and its answer.
+const LINES: [(&str, Answer); 16] = [
+    ("--config c --out d", Answer::Given("c", "d", 0)),
+    ("--out d --config c", Answer::Given("c", "d", 0)),
+    ("--config=c --out=d/ --time=7", Answer::Given("c", "d/", 7)),
+    (
+        "--config c --out d --time 4294967295",
+        Answer::Given("c", "d", 4294967295),
+    ),
+    ("--config c --out d --time 0", Answer::Given("c", "d", 0)),
+    ("--help", Answer::Helped),
+    ("-h", Answer::Helped),
+    ("--config c --out d --help", Answer::Helped),
+    ("--config c --out d --time 4294967296", Answer::Refused),
+    ("--config c --out d --time -1", Answer::Refused),
+    ("--config c --out d --time soon", Answer::Refused),
+    ("--config c --out d --ring 0", Answer::Refused),
+    ("--config c --out d more", Answer::Refused),
+    ("--config c --config c --out d", Answer::Refused),
+    ("--config c", Answer::Refused),
+    ("", Answer::Refused),
+];
+
+// The words of a command line, behind the program's name.
+fn words(alloc: Global, line: &str) -> Result<Vec<String>, AllocError> {
+    let mut words = Vec::new(alloc);
+    words.push(String::from_str(alloc, "route_server")?)?;
+    for word in line.split_whitespace() {
+        words.push(String::from_str(alloc, word)?)?;
+    }
+    Ok(words)
+}
+
+fn is_answer(read: &Result<Options, WordsFault>, answer: &Answer) -> bool {
+    match (read, answer) {
+        (Ok(options), Answer::Given(config, out, time)) => {
+            options.config.as_str() == *config
+                && options.out.as_str() == *out
+                && options.time == *time
+        }
+        (Err(WordsFault::Help(_)), Answer::Helped) => true,
+        (Err(WordsFault::Refused(_)), Answer::Refused) => true,
+        _ => false,
+    }
+}
+
+#[test]
+fn command_lines_are_read_or_refused(rt: HostRuntime) -> Result<(), Fail> {
+    let alloc = rt.alloc();
+    for (line, answer) in &LINES {
+        let result = read_words(alloc, words(alloc, line)?);
+        assert!(rt; is_answer(&result, answer), "route_server {line}");
+    }
+    Ok(())
+}
+
+#[test]
+fn help_names_each_option_with_its_range_and_default_and_each_status(
+    rt: HostRuntime,
+) -> Result<(), Fail> {
+    let alloc = rt.alloc();
+    let Err(WordsFault::Help(text)) = read_words(alloc, words(alloc, "--help")?) else {
+        return Err(Fail::from("help is answered"));
+    };
+    for part in [
+        "--config <FILE>",
+        "--out <DIR>",
+        "--time <N>",
+        "seconds since 1970, from 0 to 4294967295 [default: 0]",
+        "route_server --config exchange.toml --out tables",
+        "0  all dumps and the report are written, or help was asked for",
+        "1  the command line or the configuration is refused",
+        "2  a file, a folder or a device failed",
+        "3  memory was refused",
+    ] {
+        assert!(rt; text.contains(part), "{part}");
+    }
+    Ok(())
+}

@@ -1,0 +1,189 @@
+//! Runs over a collector's file: whole, and with each call of the outlet, of a dump's writer and of the report's refused in turn.
+
+ghost use Rattle.std.specs.Prelude.{◌<◌};
+
+use rs_mrt::{Limits, MemoryWriter};
+use rs_options::Options;
+use rs_run::{Kept, MemoryOutlet, OutletLimits, RunFault, run};
+use rs_setup::read_setup;
+use std::alloc::Global;
+use std::process::Abort;
+use std::test::Fail;
+
+// Four peers, of which the first has the file of a collector.
+const EXCHANGE: &str = r#"
+server = { as = 64500, address = "192.0.2.1", subnet = "192.0.2.0/24" }
+peer = [
+    { name = "a", as = 64501, address = "192.0.2.11", file = "" },
+    { name = "b", as = 64502, address = "192.0.2.12", file = "" },
+    { name = "c", as = 64503, address = "192.0.2.13", file = "" },
+    { name = "d", as = 64504, address = "192.0.2.14", file = "" },
+]
+"#;
+
+// How many peers there are, each a client.
+const CLIENTS: usize = 4;
+
+// An UPDATE of a with 203.0.113.0/24; records of others, or of another kind; at time 101 an UPDATE of a with 198.51.100.0/24. In hexadecimal, as the dumps.
+const COLLECTED: &str =
+    "0000006400100004000000430000FBF50000FBF400000001C000020BC0000201FFFFFFFFFFFFFFFFFFFFFFFFFFFFFFFF002F02000000144001010040\
+    020602010000FBF5400304C000020B18CB00710000006400100004000000430000FBF60000FBF400000001C000020CC0000201FFFFFFFFFFFFFFFFFF\
+    FFFFFFFFFFFFFF002F02000000144001010040020602010000FBF6400304C000020C18CB007100000064001000040000005B0000FBF50000FBF40000\
+    00020000000000000000000000000000000000000000000000000000000000000000FFFFFFFFFFFFFFFFFFFFFFFFFFFFFFFF002F0200000014400101\
+    0040020602010000FBF5400304C000020B18CB007100000064001000010000003FFBF5FBF400000001C000020BC0000201FFFFFFFFFFFFFFFFFFFFFF\
+    FFFFFFFFFF002F02000000144001010040020602010000FBF5400304C000020B18CB00710000006400100005000000180000FBF70000FBF400000001\
+    C000020DC0000201000600010000006400100004000000270000FBF80000FBF400000001C000020EC0000201FFFFFFFFFFFFFFFFFFFFFFFFFFFFFFFF\
+    001304000000650011000400000047000000000000FBF50000FBF400000001C000020BC0000201FFFFFFFFFFFFFFFFFFFFFFFFFFFFFFFF002F020000\
+    00144001010040020602010000FBF5400304C000020B18C63364";
+
+// The report over that file for a, and empty ones for the others.
+const REPORT: &str = "peer a changes 3 passed 5 close end\n\
+    peer b changes 1 passed 0 close end\n\
+    peer c changes 1 passed 0 close end\n\
+    peer d changes 1 passed 0 close end\n\
+    table a rows 0\n\
+    table b rows 2\n\
+    table c rows 2\n\
+    table d rows 2\n";
+
+// The dumps, in order, each with the name that it is kept under.
+const DUMPS: [(&str, &str); CLIENTS] = [
+    (
+        "a.mrt",
+        "00000000000D00010000003DC0000201000161000402C000020BC000020B0000FBF502C000020CC000020C0000FBF602C000020DC000020D0000FBF7\
+        02C000020EC000020E0000FBF8",
+    ),
+    (
+        "b.mrt",
+        "00000000000D00010000003DC0000201000162000402C000020BC000020B0000FBF502C000020CC000020C0000FBF602C000020DC000020D0000FBF7\
+        02C000020EC000020E0000FBF800000000000D0002000000260000000018C63364000100000000006500144001010040020602010000FBF5400304C0\
+        00020B00000000000D0002000000260000000118CB0071000100000000006400144001010040020602010000FBF5400304C000020B",
+    ),
+    (
+        "c.mrt",
+        "00000000000D00010000003DC0000201000163000402C000020BC000020B0000FBF502C000020CC000020C0000FBF602C000020DC000020D0000FBF7\
+        02C000020EC000020E0000FBF800000000000D0002000000260000000018C63364000100000000006500144001010040020602010000FBF5400304C0\
+        00020B00000000000D0002000000260000000118CB0071000100000000006400144001010040020602010000FBF5400304C000020B",
+    ),
+    (
+        "d.mrt",
+        "00000000000D00010000003DC0000201000164000402C000020BC000020B0000FBF502C000020CC000020C0000FBF602C000020DC000020D0000FBF7\
+        02C000020EC000020E0000FBF800000000000D0002000000260000000018C63364000100000000006500144001010040020602010000FBF5400304C0\
+        00020B00000000000D0002000000260000000118CB0071000100000000006400144001010040020602010000FBF5400304C000020B",
+    ),
+];
+
+// What a run answered, what it kept, and what its report has taken.
+#[derive(Drop)]
+struct Ran {
+    answer: Result<(), RunFault>,
+    outlet: MemoryOutlet,
+    report: MemoryWriter,
+}
+
+// Runs over that file, with an outlet and a report that fail so.
+fn run_with(
+    rt: &(impl AllocGlobal + Abort),
+    time: u32,
+    outlet: OutletLimits,
+    report: Limits,
+) -> Result<Ran, Fail> {
+    let alloc = rt.alloc();
+    let setup = read_setup(alloc, EXCHANGE.as_bytes())?;
+    let options = Options {
+        config: String::new(alloc),
+        out: String::new(alloc),
+        time,
+    };
+    let collected = hex::decode(alloc, COLLECTED.as_bytes())?;
+    let files: [&[u8]; CLIENTS] = [&collected, &[], &[], &[]];
+    assert_eq!(rt; setup.plan.count(), CLIENTS);
+    let mut outlet = MemoryOutlet::new(alloc, outlet);
+    let mut report = MemoryWriter::new(alloc, report);
+    let answer = run(alloc, &setup, &files, &options, &mut outlet, &mut report);
+    Ok(Ran {
+        answer,
+        outlet,
+        report,
+    })
+}
+
+// The first dumps are kept, so many of them, each under its client's name.
+fn check_kept(rt: &(impl AllocGlobal + Abort), kept: &[Kept], count: usize) -> Result<(), Fail> {
+    assert_eq!(rt; kept.len(), count);
+    for (dump, (name, expected)) in kept.iter().zip(DUMPS) {
+        assert_eq!(rt; dump.name.as_str(), name);
+        assert_eq!(rt;
+            dump.octets,
+            hex::decode(rt.alloc(), expected.as_bytes())?,
+            "of {name}"
+        );
+    }
+    Ok(())
+}
+
+#[test]
+fn a_run_keeps_a_dump_for_each_client_and_reports(rt: HostRuntime) -> Result<(), Fail> {
+    let ran = run_with(&rt, 0, OutletLimits::none(), Limits::none())?;
+    assert_eq!(rt; ran.answer, Ok(()));
+    check_kept(&rt, ran.outlet.kept(), CLIENTS)?;
+    assert_eq!(rt; ran.report.octets(), REPORT.as_bytes());
+    Ok(())
+}
+
+// A run stopped at the dump of a client: those before it are kept, and nothing is reported.
+fn check_stopped(rt: &(impl AllocGlobal + Abort), ran: &Ran, client: usize) -> Result<(), Fail> {
+    assert_eq!(rt; ran.answer, Err(RunFault::Dump(client)));
+    assert!(rt; ran.report.octets().is_empty());
+    check_kept(rt, ran.outlet.kept(), client)
+}
+
+// Each dump is started and kept, so that there are two calls for each client.
+#[test]
+fn a_refused_start_or_keep_ends_the_run(rt: HostRuntime) -> Result<(), Fail> {
+    for client in 0..CLIENTS {
+        for call in 0..2 {
+            let limits = OutletLimits {
+                calls_before_refusal: Some(2 * client as u64 + call),
+                ..OutletLimits::none()
+            };
+            check_stopped(&rt, &run_with(&rt, 0, limits, Limits::none())?, client)?;
+        }
+    }
+    Ok(())
+}
+
+#[test]
+fn a_failed_write_of_a_dump_ends_the_run(rt: HostRuntime) -> Result<(), Fail> {
+    for client in 0..CLIENTS {
+        let limits = OutletLimits {
+            dumps_before_limits: client,
+            writer: Limits {
+                room: 30,
+                ..Limits::none()
+            },
+            ..OutletLimits::none()
+        };
+        check_stopped(&rt, &run_with(&rt, 0, limits, Limits::none())?, client)?;
+    }
+    Ok(())
+}
+
+// 204 octets, 7 a call: each of the 30 calls fails in turn.
+#[test]
+fn a_failed_write_of_the_report_leaves_a_beginning_of_it(rt: HostRuntime) -> Result<(), Fail> {
+    assert_eq!(rt; REPORT.len(), 204);
+    for calls in 0..30 {
+        let limits = Limits {
+            calls_before_failure: Some(calls),
+            room: usize::MAX,
+            piece: 7,
+        };
+        let ran = run_with(&rt, 0, OutletLimits::none(), limits)?;
+        assert_eq!(rt; ran.answer, Err(RunFault::Report));
+        check_kept(&rt, ran.outlet.kept(), CLIENTS)?;
+        assert_eq!(rt; ran.report.octets().len() as u64, 7 * calls);
+        assert!(rt; REPORT.as_bytes().starts_with(ran.report.octets()));
+    }
+    Ok(())
+}

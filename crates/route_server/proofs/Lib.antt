@@ -1,6 +1,0 @@
-pub mod FilesLemmas
-pub mod ListingLemmas
-pub mod RibLemmas
-pub mod RunLemmas
-pub mod SessionLemmas
-pub mod WordLemmas

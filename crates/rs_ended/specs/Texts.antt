@@ -1,0 +1,94 @@
+-- The line that says why the program stops short (docs/FORMATS.md, "Texts on standard error").
+use Rattle.std.specs.Prelude.{◌<◌, ◌==◌, ℕ, ⊤, List, [], ◌++◌, Option, None, Some, codes, encode_utf8, if◌then◌else◌, length, option_map, slice_get, string_bytes, unwrap_or}
+use Rattle.std.specs.Borrow.{Bor}
+use Rattle.std.specs.Fmt.{decimal}
+use Rattle.std.specs.List.{flat_map}
+use Rattle.std.specs.Str.{chars}
+use Rattle.rs_choice.specs.FaultNumber.{number_of_fault, peer_of_fault}
+use Rattle.rs_choice.specs.Plan.{Peer}
+use Rattle.rs_choice.specs.declared.fault.PlanFault.{PlanFault}
+use Rattle.rs_choice.specs.declared.fault.PlanFault.TheVariants as plan
+use Rattle.rs_ended.specs.Paths.{path_in}
+use Rattle.rs_ended.specs.declared.ended.Ended.{Ended}
+use Rattle.rs_ended.specs.declared.ended.Ended.TheVariants.{Words, Setup, Unread, Memory, Run}
+use Rattle.rs_options.specs.declared.options.Options.{Options}
+use Rattle.rs_options.specs.declared.options.WordsFault.TheVariants as words
+use Rattle.rs_run.specs.declared.run_fault.RunFault.{RunFault}
+use Rattle.rs_run.specs.declared.run_fault.RunFault.TheVariants as run
+use Rattle.rs_setup.specs.declared.setup.Setup.{Setup as SetUp}
+use Rattle.rs_setup.specs.declared.setup.SetupFault.{SetupFault}
+use Rattle.rs_setup.specs.declared.setup.SetupFault.TheVariants as setup
+
+abbrev pub Text : Type 0
+Text = List ℕ
+
+-- a character as it is shown: a line break as two characters, any other as it is
+abbrev pub shown : ℕ → Text
+shown character = if character == 10 then codes "\\n" else (if character == 13 then codes "\\r" else encode_utf8 character)
+
+-- a text whose line breaks are escaped, so that it stays on one line
+abbrev pub one_line : Text → Text
+one_line text = flat_map shown (chars text)
+
+-- a line begins with the program's name
+abbrev pub named : Text → Text
+named text = codes "route_server: " ++ text
+
+abbrev pub out_of_memory_line : Text
+out_of_memory_line = named (codes "out of memory")
+
+-- the number of a fault, and of the peer at fault where there is one
+abbrev pub numbers : ℕ → Option ℕ → Text
+numbers fault None = decimal fault
+numbers fault (Some peer) = decimal fault ++ (codes " at peer " ++ decimal peer)
+
+abbrev pub plan_line : PlanFault → Text
+plan_line plan.Memory = out_of_memory_line
+plan_line fault = named (codes "plan fault P" ++ numbers (number_of_fault fault) (peer_of_fault fault))
+
+-- what is said of a key of the configuration
+abbrev pub key_line : Text → Text → Text
+key_line key what = named (codes "configuration: " ++ (one_line key ++ (codes " is " ++ what)))
+
+abbrev pub setup_line : SetupFault → Text
+setup_line setup.NotToml = named (codes "configuration is not TOML")
+setup_line (setup.Unknown key) = key_line (string_bytes key) (codes "unknown")
+setup_line (setup.Missing key) = key_line (string_bytes key) (codes "missing")
+setup_line (setup.NotValid key) = key_line (string_bytes key) (codes "not valid")
+setup_line (setup.Plan fault) = plan_line fault
+setup_line setup.Memory = out_of_memory_line
+
+-- the name of a client, which is a peer
+abbrev pub name_of : List Peer → ℕ → Text
+name_of peers client = unwrap_or (option_map (λ peer. peer.name) (slice_get peers client)) []
+
+-- the path of a client's dump
+abbrev pub dump_path : SetUp → Options → ℕ → Text
+dump_path set_up options client = path_in (string_bytes options.out) (name_of set_up.plan.value.peers client ++ codes ".mrt")
+
+abbrev pub run_line : RunFault → SetUp → Options → Text
+run_line run.Memory set_up options = out_of_memory_line
+run_line (run.Dump client) set_up options = named (codes "cannot write " ++ one_line (dump_path set_up options client))
+run_line run.Report set_up options = named (codes "cannot write standard output")
+
+-- the line of each way to stop short; help and the refusal of a command line are texts of `clap`
+abbrev pub line_of : Ended → Option (Bor SetUp) → Option (Bor Options) → Text
+line_of (Words (words.Help text)) set_up options = string_bytes text
+line_of (Words (words.Refused text)) set_up options = string_bytes text
+line_of (Words words.Memory) set_up options = out_of_memory_line
+line_of (Setup fault) set_up options = setup_line fault
+line_of (Unread path) set_up options = named (codes "cannot read " ++ one_line (string_bytes path))
+line_of Memory set_up options = out_of_memory_line
+line_of (Run fault) (Some set_up) (Some options) = run_line fault set_up.now options.now
+line_of (Run fault) set_up options = []
+
+-- the client that a run names is one of the plan
+abbrev pub NamesClient : RunFault → SetUp → Type 0
+NamesClient (run.Dump client) set_up = client < length set_up.plan.value.peers
+NamesClient fault set_up = ⊤
+
+-- of a run that stopped short, the setup and the options are there
+abbrev pub CanTell : Ended → Option (Bor SetUp) → Option (Bor Options) → Type 0
+CanTell (Run fault) (Some set_up) (Some options) = NamesClient fault set_up.now
+CanTell (Run fault) set_up options = ⊥
+CanTell ended set_up options = ⊤

@@ -1,0 +1,40 @@
+//! What the command line asks for.
+
+ghost use Rattle.std.specs.Prelude.{◌≡◌};
+ghost use Rattle.rs_options.specs.declared.options.WordsFault.TheVariants.{Memory};
+
+use std::alloc::AllocError;
+use thiserror::Error;
+
+/// What the words of the command line ask for.
+#[derive(Drop)]
+pub struct Options {
+    /// The path of the configuration.
+    pub config: String,
+    /// The folder that takes the dumps.
+    pub out: String,
+    /// The Timestamp of every record written, in seconds since 1970 (RFC 6396, section 2).
+    pub time: u32,
+}
+
+/// Why the words of the command line give no options.
+#[derive(Debug, Drop, Error)]
+pub enum WordsFault {
+    /// Help was asked for: its text.
+    #[error("{0}")]
+    Help(String),
+    /// The words are refused: the text that says why.
+    #[error("{0}")]
+    Refused(String),
+    /// Memory was refused.
+    #[error("memory was refused while the command line was read")]
+    Memory,
+}
+
+impl From<AllocError> for WordsFault {
+    ghost from_gives = { λ _ fault. fault ≡ Memory };
+
+    fn from(_refused: AllocError) -> WordsFault {
+        WordsFault::Memory
+    }
+}

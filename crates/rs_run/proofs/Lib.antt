@@ -1,0 +1,4 @@
+pub mod ListingLemmas
+pub mod RibLemmas
+pub mod RunLemmas
+pub mod SessionLemmas

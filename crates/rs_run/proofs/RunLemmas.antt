@@ -1,0 +1,97 @@
+-- A run, client by client: what is kept, and what the report says.
+use Rattle.std.proofs.Common.{◌≡◌, ℕ, ◌+◌, ◌≤◌, List, [], ◌∷◌, ◌++◌, Option, Some, None, length, take, refl, sym, ap, subst, ◌∙◌, append_assoc, arith, Result, Ok, Err}
+use Rattle.std.specs.Prelude.{slice_get, ◌<◌, IfErr}
+use Rattle.std.specs.Result.{IsErrAnd}
+use Rattle.std.specs.List.{flat_map, enumerate_from, zip}
+use Rattle.std.specs.Option.{option_map}
+use Rattle.std.proofs.lemmas.List.{append-nil, length-map, take_all}
+use Rattle.std.proofs.lemmas.List.FromFn.{length-enumerate_from}
+use Rattle.std.proofs.lemmas.Option.{slice_get-map}
+use Rattle.rs_choice.specs.Plan.{Peer, Plan}
+use Rattle.rs_table.specs.Table.{table_of}
+use Rattle.rs_run.specs.Outlet.{KeptDump, Grows}
+use Rattle.rs_run.specs.Recorded.{dump_of_files, id_of, tables_of_files}
+use Rattle.rs_run.specs.Report.{peer_lines, table_line, table_line_of, report_of_files}
+use Rattle.rs_run.specs.declared.run_fault.RunFault.{RunFault}
+use Rattle.rs_run.specs.declared.run_fault.RunFault.TheVariants.{Memory, Dump, Report}
+use Rattle.rs_run.specs.Run.{dump_name, kept_dump_of, dumps_of_files, GrowsByBeginning, IsFaultAt, IsStop}
+use Rattle.rs_run.specs.SessionEnd.{end_in, ends_of_files}
+use Rattle.rs_run.proofs.ListingLemmas.{flat_map-one_more, lines-one_more, slice_get-enumerated, take-one_more}
+
+-- a told list grows twice
+Grows-then : (old mid new : Option (List KeptDump)) (first second : List KeptDump) → Grows old mid first → Grows mid new second → Grows old new (first ++ second)
+Grows-then None mid new first second before after = tt
+Grows-then (Some kept) None new first second before after = absurd before
+Grows-then (Some kept) (Some more) None first second before after = absurd after
+Grows-then (Some kept) (Some more) (Some most) first second before after =
+    after ∙ ap (λ dumps. dumps ++ second) before ∙ append_assoc kept first second
+
+-- the dump of one client more was kept
+pub kept-one_more : (plan : Plan) (files : List (List ℕ)) (time client : ℕ) (peer : Peer) (old mid new : Option (List KeptDump)) (name octets : List ℕ) → slice_get plan.peers client ≡ Some peer → name ≡ dump_name peer.name → octets ≡ dump_of_files plan files client time
+    → Grows old mid (take client (dumps_of_files plan files time)) → Grows mid new (record { name = name; octets = octets } ∷ []) → Grows old new (take (client + 1) (dumps_of_files plan files time))
+kept-one_more plan files time client peer old mid new name octets here name_is octets_are before one =
+    let of = kept_dump_of plan files time in
+    let dumps = dumps_of_files plan files time in
+    let dump : KeptDump = record { name = name; octets = octets } in
+    let same : dump ≡ of (client, peer) = cc in
+    let at_client : slice_get dumps client ≡ Some (of (client, peer)) = slice_get-map of (enumerate_from 0 plan.peers) client ∙ ap (option_map of) (slice_get-enumerated plan.peers client peer here) in
+    let P : List KeptDump → Type 0 = λ all. Grows old new all in
+    let all : take client dumps ++ dump ∷ [] ≡ take (client + 1) dumps = ap (λ last. take client dumps ++ last ∷ []) same ∙ sym (take-one_more dumps client (of (client, peer)) at_client) in
+    subst P all (Grows-then old mid new (take client dumps) (dump ∷ []) before one)
+
+-- the dumps of all clients
+pub kept-all : (plan : Plan) (files : List (List ℕ)) (time client : ℕ) → length plan.peers ≤ client → take client (dumps_of_files plan files time) ≡ dumps_of_files plan files time
+kept-all plan files time client past =
+    take_all client (dumps_of_files plan files time) (omega (arith, length-map (enumerate_from 0 plan.peers) (kept_dump_of plan files time), length-enumerate_from 0 plan.peers))
+
+-- the report has the line of one table more
+pub reported-one_more : (plan : Plan) (files : List (List ℕ)) (client rows : ℕ) (peer : Peer) (before after name : List ℕ) → slice_get plan.peers client ≡ Some peer → name ≡ peer.name → rows ≡ length (table_of (tables_of_files plan files) client)
+    → before ≡ peer_lines plan.peers (ends_of_files plan files) ++ flat_map (table_line_of plan files) (take client (enumerate_from 0 plan.peers)) → after ≡ before ++ table_line name rows
+    → after ≡ peer_lines plan.peers (ends_of_files plan files) ++ flat_map (table_line_of plan files) (take (client + 1) (enumerate_from 0 plan.peers))
+reported-one_more plan files client rows peer before after name here name_is rows_are so_far added =
+    let of = table_line_of plan files in
+    let same : table_line name rows ≡ of (client, peer) = ap (λ told. table_line told rows) name_is ∙ ap (table_line peer.name) rows_are in
+    lines-one_more (peer_lines plan.peers (ends_of_files plan files)) before after (of (client, peer)) (flat_map of (take client (enumerate_from 0 plan.peers))) (flat_map of (take (client + 1) (enumerate_from 0 plan.peers))) so_far
+    (added ∙ ap (λ line. before ++ line) same)
+    (flat_map-one_more of (enumerate_from 0 plan.peers) client (client, peer) (slice_get-enumerated plan.peers client peer here))
+
+-- it is whole
+pub reported-all : (plan : Plan) (files : List (List ℕ)) (client : ℕ) (text : List ℕ) → length plan.peers ≤ client → text ≡ peer_lines plan.peers (ends_of_files plan files) ++ flat_map (table_line_of plan files) (take client (enumerate_from 0 plan.peers)) → text ≡ report_of_files plan files
+reported-all plan files client text past so_far =
+    let all = take_all client (enumerate_from 0 plan.peers) (omega (arith, length-enumerate_from 0 plan.peers)) in
+    so_far ∙ ap (λ told. peer_lines plan.peers (ends_of_files plan files) ++ flat_map (table_line_of plan files) told) all
+
+-- one end of a session for each peer
+length-zip_same : {X Y : Type 0} (xs : List X) (ys : List Y) → length ys ≡ length xs → length (zip xs ys) ≡ length xs
+length-zip_same [] ys same = refl
+length-zip_same (x ∷ xs) [] same = absurd (omega (arith, same))
+length-zip_same (x ∷ xs) (y ∷ ys) same = omega (arith, length-zip_same xs ys (omega (arith, same)))
+
+pub length-ends : (plan : Plan) (files : List (List ℕ)) → length files ≡ length plan.peers → length (ends_of_files plan files) ≡ length plan.peers
+length-ends plan files same = length-map (zip plan.peers files) (λ (peer, file). end_in (id_of peer) file) ∙ length-zip_same plan.peers files same
+
+-- nothing was kept
+pub Grows-none : (kept : Option (List KeptDump)) → Grows kept kept []
+Grows-none None = tt
+Grows-none (Some kept) = sym (append-nil kept)
+
+-- memory was refused once a beginning of the dumps was kept
+pub stop-memory : (plan : Plan) (files : List (List ℕ)) (time : ℕ) (old new : Option (List KeptDump)) (before after : ℕ) {T : Type 0} (result : Result T RunFault) → IsErrAnd result (λ fault. fault ≡ Memory)
+    → GrowsByBeginning old new (dumps_of_files plan files time) → after ≡ before → IfErr result (IsStop plan files time old new before after)
+stop-memory plan files time old new before after (Ok value) is grown same = tt
+stop-memory plan files time old new before after (Err fault) is grown same = subst (IsStop plan files time old new before after) (sym is) (grown, same)
+
+-- the dumps of the clients before one were kept, and its own was not
+stop-at : (plan : Plan) (files : List (List ℕ)) (time client before after : ℕ) (old new : Option (List KeptDump)) (fault : RunFault) → client < length plan.peers → Grows old new (take client (dumps_of_files plan files time))
+    → IsFaultAt client (length (table_of (tables_of_files plan files) client)) before after fault → IsStop plan files time old new before after fault
+stop-at plan files time client before after old new Memory known grown is = ((client, grown), is)
+stop-at plan files time client before after old new (Dump at) known grown is =
+    subst (λ (number : ℕ). IsStop plan files time old new before after (Dump number)) (sym is.0) (known, grown, is.1)
+stop-at plan files time client before after old new Report known grown is = absurd is
+
+pub stop-client : (plan : Plan) (files : List (List ℕ)) (time client before after : ℕ) (old new : Option (List KeptDump)) (fault : RunFault) {T : Type 0} (result : Result T RunFault) → IsErrAnd result (λ found. found ≡ fault)
+    → client < length plan.peers → Grows old new (take client (dumps_of_files plan files time)) → IsFaultAt client (length (table_of (tables_of_files plan files) client)) before after fault
+    → IfErr result (IsStop plan files time old new before after)
+stop-client plan files time client before after old new fault (Ok value) same known grown is = tt
+stop-client plan files time client before after old new fault (Err found) same known grown is =
+    subst (IsStop plan files time old new before after) (sym same) (stop-at plan files time client before after old new fault known grown is)

@@ -1,0 +1,5 @@
+pub mod Outlet
+pub mod Recorded
+pub mod Report
+pub mod Run
+pub mod SessionEnd

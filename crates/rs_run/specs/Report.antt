@@ -1,0 +1,47 @@
+-- The report of a run, line by line. Nothing here is of a standard: all of it is our choice.
+use Rattle.std.specs.Prelude.{ℕ, List, ◌++◌, codes, length}
+use Rattle.std.specs.Fmt.{decimal}
+use Rattle.std.specs.List.{zip, flat_map, enumerate_from}
+use Rattle.rs_choice.specs.Plan.{Peer, Plan}
+use Rattle.rs_session.specs.declared.word.Reason.{Reason}
+use Rattle.rs_session.specs.declared.word.Reason.TheVariants.{EndOfFile, State, Notification, Bgp, Mrt, Memory, Read}
+use Rattle.rs_table.specs.Table.{table_of}
+use Rattle.rs_run.specs.Recorded.{tables_of_files}
+use Rattle.rs_run.specs.SessionEnd.{ends_of_files}
+use Rattle.rs_run.specs.declared.peer_end.PeerEnd.{PeerEnd}
+
+-- the text of a reason
+abbrev pub reason_text : Reason → List ℕ
+reason_text EndOfFile = codes "end"
+reason_text State = codes "state"
+reason_text Notification = codes "notification"
+reason_text (Bgp code subcode) = codes "bgp " ++ (decimal code ++ (codes "/" ++ decimal subcode))
+reason_text (Mrt number) = codes "mrt M" ++ decimal number
+reason_text Memory = codes "memory"
+reason_text Read = codes "read"
+
+-- what the report says of a peer's session
+abbrev pub peer_line : List ℕ → PeerEnd → List ℕ
+peer_line name end =
+    codes "peer " ++ (name ++ (codes " changes " ++ (decimal end.changes ++ (codes " passed " ++ (decimal end.passed ++ (codes " close " ++ (reason_text end.reason ++ codes "\n")))))))
+
+-- what it says of a client's table
+abbrev pub table_line : List ℕ → ℕ → List ℕ
+table_line name rows = codes "table " ++ (name ++ (codes " rows " ++ (decimal rows ++ codes "\n")))
+
+-- a line for each peer, in their order
+abbrev pub peer_line_of : Peer × PeerEnd → List ℕ
+peer_line_of (peer, end) = peer_line peer.name end
+
+abbrev pub peer_lines : List Peer → List PeerEnd → List ℕ
+peer_lines peers ends = flat_map peer_line_of (zip peers ends)
+
+-- and then one for each client's table
+abbrev pub table_line_of : Plan → List (List ℕ) → ℕ × Peer → List ℕ
+table_line_of plan files (client, peer) = table_line peer.name (length (table_of (tables_of_files plan files) client))
+
+-- the report over what the files say and leave
+abbrev pub report_of_files : Plan → List (List ℕ) → List ℕ
+report_of_files plan files =
+    peer_lines plan.peers (ends_of_files plan files)
+    ++ flat_map (table_line_of plan files) (enumerate_from 0 plan.peers)

@@ -1,0 +1,32 @@
+-- How the session of a recorded file ended.
+use Rattle.std.specs.Prelude.{ℕ, List, [], ◌∷◌, length, map}
+use Rattle.std.specs.List.{zip}
+use Rattle.rs_choice.specs.Plan.{Plan}
+use Rattle.rs_session.specs.Change.{Change, ChangeBody, Announced, Withdrawn, Closed}
+use Rattle.rs_session.specs.FileChanges.{changes_in, passed_in}
+use Rattle.rs_session.specs.declared.peer.PeerId.{PeerId}
+use Rattle.rs_session.specs.declared.word.Reason.{Reason}
+use Rattle.rs_session.specs.declared.word.Reason.TheVariants.{EndOfFile}
+use Rattle.rs_run.specs.Recorded.{id_of}
+use Rattle.rs_run.specs.declared.peer_end.PeerEnd.{PeerEnd}
+
+-- the reason of a close, or else that of what follows it
+abbrev pub reason_or : Reason → ChangeBody → Reason
+reason_or later (Closed reason) = reason
+reason_or later (Announced prefix attributes) = later
+reason_or later (Withdrawn prefix) = later
+
+-- the reason of the first close; changes that a file says have just one, the last
+abbrev pub reason_in : List Change → Reason
+reason_in [] = EndOfFile
+reason_in (change ∷ later) = reason_or (reason_in later) change.body
+
+-- how a peer's session ended: how many changes its file says, the close counted, how many records it passes over, and why it closed
+abbrev pub end_in : PeerId → List ℕ → PeerEnd
+end_in peer file =
+    let changes = changes_in peer file in
+    record { changes = length changes; passed = passed_in peer file; reason = reason_in changes }
+
+-- the same of all files, one for each peer, in the order of the peers
+abbrev pub ends_of_files : Plan → List (List ℕ) → List PeerEnd
+ends_of_files plan files = map (λ (peer, file). end_in (id_of peer) file) (zip plan.peers files)

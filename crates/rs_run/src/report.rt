@@ -1,0 +1,70 @@
+//! The lines of the report: a line for each peer's session, and one for each client's table.
+
+ghost use Rattle.std.specs.Prelude.{◌≡◌, ◌++◌, OnOk, Some, length, map, string_bytes};
+ghost use Rattle.rs_choice.specs.Plan.{Peer};
+ghost use Rattle.rs_run.specs.Report.{peer_line, peer_lines, reason_text, table_line};
+
+use crate::peer_end::PeerEnd;
+use rs_choice::Exchange;
+use rs_session::Reason;
+use std::alloc::AllocError;
+use std::fmt;
+use std::fmt::{Display, Formatter};
+
+// The text of the reason for which a session closed.
+#[derive(Clone, Copy)]
+struct ReasonText(Reason);
+
+impl Display for ReasonText {
+    ghost output = { λ text. Some (reason_text text.0) };
+
+    fn fmt<W: fmt::Write>(&self, f: &mut Formatter<W>) -> fmt::Result {
+        match self.0 {
+            Reason::EndOfFile => f.write_str("end"),
+            Reason::State => f.write_str("state"),
+            Reason::Notification => f.write_str("notification"),
+            Reason::Bgp { code, subcode } => write!(f, "bgp {code}/{subcode}"),
+            Reason::Mrt(number) => write!(f, "mrt M{number}"),
+            Reason::Memory => f.write_str("memory"),
+            Reason::Read => f.write_str("read"),
+        }
+    }
+}
+
+/// Adds a line for each peer, in the order of the plan: how its session ended. Refused memory, some of them are added.
+pub fn add_peer_lines(
+    report: &mut String,
+    plan: &Exchange,
+    ends: &[PeerEnd],
+) -> Result<(), AllocError>
+    requires { length ends.now ≡ length plan.now.peers }
+    ensures { OnOk result (string_bytes report.new ≡ string_bytes report.old ++ peer_lines plan.now.peers ends.now) }
+{
+    for (number, end) in ends.iter().enumerate() {
+        add_peer_line(report, &plan.peer(number).name, end)?;
+    }
+    Ok(())
+}
+
+// Adds the line of a peer.
+fn add_peer_line(report: &mut String, name: &str, end: &PeerEnd) -> Result<(), AllocError>
+    ensures { OnOk result (string_bytes report.new ≡ string_bytes report.old ++ peer_line name.now end.now) }
+{
+    let PeerEnd {
+        changes,
+        passed,
+        reason,
+    } = *end;
+    let reason = ReasonText(reason);
+    writeln!(
+        report,
+        "peer {name} changes {changes} passed {passed} close {reason}"
+    )
+}
+
+/// Adds the line of a client: how many rows its table has.
+pub fn add_table_line(report: &mut String, name: &str, rows: u32) -> Result<(), AllocError>
+    ensures { OnOk result (string_bytes report.new ≡ string_bytes report.old ++ table_line name.now rows) }
+{
+    writeln!(report, "table {name} rows {rows}")
+}

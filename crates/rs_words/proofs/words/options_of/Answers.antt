@@ -1,0 +1,17 @@
+-- What the getters of `clap` give is what its rows hold.
+use Rattle.std.proofs.Common.{rules, ◌∙◌, sym, codes}
+use Rattle.std.specs.Str.Parse.{ExplainsUnsignedError, HasUnsignedDigitsIfOk, ParsesUnsigned}
+use Rattle.clap.specs.Words.{found_of}
+use Rattle.clap.proofs.WalkLemmas.{first_value-rows, one_text-rows}
+use Rattle.rs_words.proofs.WordLemmas.{number_read}
+use Rattle.rs_words.proofs.words.options_of.Goals as goal
+
+pub returns-clause-options : goal.returns-clause-options
+returns-clause-options c =
+    let found = found_of c.args.matches.now in
+    record {
+      config = sym (first_value-rows found (codes "config")) ∙ (sym c.get_str.ensures ∙ search rules);
+      out = sym (first_value-rows found (codes "out")) ∙ (sym c.get_str-2.ensures ∙ search rules);
+      time = number_read _ (λ bs r. ParsesUnsigned 32 10 bs r × ExplainsUnsignedError 10 bs r × HasUnsignedDigitsIfOk bs r) (λ u x g. g.0) _ _ _
+          (λ none. c.get_one.ensures.none (one_text-rows found (codes "time") ∙ none)) (λ t is. c.get_one.ensures.value t (one_text-rows found (codes "time") ∙ is)) c.in-Some-Some-Some.is-2;
+    }

@@ -1,0 +1,67 @@
+-- The command line: the program's command as `clap` knows it, and the options that its words ask for.
+use Rattle.std.specs.Prelude.{◌≡◌, ◌≢◌, ℕ, ⊤, pos, true, List, [], ◌∷◌, Some, codes, option_map, string_bytes}
+use Rattle.std.specs.Str.Parse.{digits_value, without_leading_plus}
+use Rattle.clap.specs.Words.{App, IsAmong, Kinds, Row, Rule, Text, fault_of, first_of, matches_of, new_app, new_rule, one_of, with_rule}
+use Rattle.clap.specs.declared.builder.ArgAction.TheVariants.{Set}
+use Rattle.clap.specs.declared.builder.value_parser.ValueParser.TheVariants.{Signed}
+use Rattle.clap.specs.declared.error.kind.ErrorKind.{ErrorKind}
+use Rattle.clap.specs.declared.error.kind.ErrorKind.TheVariants.{DisplayHelp, OutOfMemory}
+use Rattle.rs_options.specs.declared.options.Options.{Options}
+use Rattle.rs_options.specs.declared.options.WordsFault.{WordsFault}
+use Rattle.rs_options.specs.declared.options.WordsFault.TheVariants.{Help, Refused, Memory}
+
+-- an option of one value that must be there
+abbrev pub required_option : Text → Rule
+required_option name = record (new_rule name) { long = Some name; action = Some Set; value_names = 1; required = true }
+
+-- the configuration, a path
+abbrev pub config_rule : Rule
+config_rule = required_option (codes "config")
+
+-- the folder that takes the dumps, a path
+abbrev pub out_rule : Rule
+out_rule = required_option (codes "out")
+
+-- the Timestamp of the records written: of 32 bits, 0 where the words don't give it (RFC 6396, section 2)
+abbrev pub time_rule : Rule
+time_rule = record (new_rule (codes "time")) {
+  long = Some (codes "time");
+  action = Some Set;
+  value_names = 1;
+  defaults = codes "0" ∷ [];
+  parser = Some (Signed (pos 0) (pos 4294967295));
+}
+
+-- the program's command, with its three options
+abbrev pub program : App
+program = with_rule (with_rule (with_rule (new_app (codes "route_server")) config_rule) out_rule) time_rule
+
+-- the number that a text of decimal digits stands for
+abbrev pub number_of : Text → ℕ
+number_of text = digits_value 10 (without_leading_plus text)
+
+-- what was found for each argument holds these options, the time as a number
+pub record HoldOptions (rows : List Row) (options : Options) : Type 0 where
+  pub config : first_of (codes "config") rows ≡ Some (string_bytes options.config)
+  pub out : first_of (codes "out") rows ≡ Some (string_bytes options.out)
+  pub time : option_map number_of (one_of (codes "time") rows) ≡ Some options.time
+
+-- the options are the values that the command's matches of the words hold, the default included
+abbrev pub AreOptionsOf : List Text → Options → Type 0
+AreOptionsOf words options = HoldOptions (matches_of program words) options
+
+-- what `clap` finds in the words, a request for help included: its error is of one of these kinds; none where it takes them
+abbrev pub faults_in : List Text → Kinds
+faults_in words = fault_of program words
+
+-- a kind of error, and what it is told as
+abbrev pub IsToldAs : ErrorKind → WordsFault → Type 0
+IsToldAs kind (Help text) = kind ≡ DisplayHelp
+IsToldAs kind (Refused text) = (kind ≢ DisplayHelp) × (kind ≢ OutOfMemory)
+IsToldAs kind Memory = ⊤
+
+-- words are answered with help only where asking for it is among what is found in them, and aren't refused where it is all that is found
+abbrev pub SaysWhy : Kinds → WordsFault → Type 0
+SaysWhy kinds (Help text) = IsAmong DisplayHelp kinds
+SaysWhy kinds (Refused text) = kinds ≢ DisplayHelp ∷ []
+SaysWhy kinds Memory = ⊤
