@@ -5,31 +5,21 @@ ghost use Rattle.rs_dump.specs.declared.fault.DumpFault.TheVariants.{Write, Memo
 
 use rs_mrt::Failed;
 use std::alloc::AllocError;
-use std::error::Error;
-use std::fmt;
+use thiserror::Error;
 
 /// Why a dump wasn't written whole.
-#[derive(Clone, Copy, Debug, PartialEq, Eq, Drop)]
+#[derive(Clone, Copy, Debug, PartialEq, Eq, Drop, Error)]
 pub enum DumpFault {
     /// A write failed: it answered an error, or took nothing. What was written is a beginning of the dump.
+    #[error("the dump could not be written")]
     Write,
     /// There are more rows than Sequence Numbers, 4,294,967,295. Nothing was written.
+    #[error("the table has more rows than a dump can number")]
     TooManyRows,
     /// Memory was refused. Nothing was written.
+    #[error("out of memory")]
     Memory,
 }
-
-impl fmt::Display for DumpFault {
-    fn fmt<W: fmt::Write>(&self, f: &mut fmt::Formatter<W>) -> fmt::Result {
-        f.write_str(match self {
-            Self::Write => "the dump could not be written",
-            Self::TooManyRows => "the table has more rows than a dump can number",
-            Self::Memory => "out of memory",
-        })
-    }
-}
-
-impl Error for DumpFault {}
 
 impl From<Failed> for DumpFault {
     ghost from_gives = { λ _ e. e ≡ Write };

@@ -15,5 +15,3 @@ pub use dump::write_dump;
 pub use fault::DumpFault;
 pub use laws::{dump_is_its_records, prefix_in_a_dump_is_spelled};
 
-#[cfg(test)]
-mod tests;

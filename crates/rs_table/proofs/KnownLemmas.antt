@@ -15,7 +15,7 @@ module _ (tables : TablesContent) (client : ℕ) where
 
   row_known : (prefix : IpPrefix) (later : List TableRow) (best : Option PeerRoute) → best_of tables client prefix ≡ best → AreKnown later → AreKnown (cons_option (option_map (λ route. record { prefix = prefix; route = route }) best) later)
   row_known prefix later None e h = h
-  row_known prefix later (Some route) e h = (best-known tables client prefix route.peer (sym (ap (option_map (λ (r : PeerRoute). r.peer)) e)), h)
+  row_known prefix later (Some route) e h = (best-known tables client prefix route e, h)
 
   rows_known : (prefixes : List IpPrefix) → AreKnown (filter_map (row_on (best_of tables client)) prefixes)
   rows_known [] = tt

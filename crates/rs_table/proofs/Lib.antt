@@ -9,7 +9,6 @@ pub mod ListingLemmas
 pub mod MemberLemmas
 pub mod PrefixLemmas
 pub mod PutLemmas
-pub mod RibLemmas
 pub mod RowLemmas
 pub mod SelectionLemmas
 pub mod StoredLemmas

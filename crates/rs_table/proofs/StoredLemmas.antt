@@ -14,7 +14,7 @@ use Rattle.rs_table.specs.Left.{RouteLeft}
 use Rattle.rs_table.specs.Table.{PeerRoute, peer_route, sent_route}
 use Rattle.rs_table.specs.Cell.{CellContent, IsCell, IsRow, route_at, routes_in, candidates_among, best_among, best_peer, stored_best, route_unless_own}
 use Rattle.rs_table.proofs.DecisionLemmas.{best-held}
-use Rattle.rs_table.proofs.SelectionLemmas.{all_places, filter_none}
+use Rattle.rs_table.proofs.SelectionLemmas.{all_places, filter_keeps, filter_none}
 use Rattle.rs_table.proofs.TableLemmas.{choice-nil}
 
 abbrev left_of : PeerRoute → RouteLeft
@@ -26,14 +26,6 @@ filter_passes test (x ∷ xs) =
     elim (cases_Bool (test x)) [
       | inl passes ↦ rw passes (passes, filter_passes test xs)
       | inr fails ↦ rw fails (filter_passes test xs)
-    ]
-
-filter_keeps : {X : Type 0} (P : X → Type 0) (test : X → Bool) (xs : List X) → AllByRecursion P xs → AllByRecursion P (filter test xs)
-filter_keeps P test [] all = tt
-filter_keeps P test (x ∷ xs) all =
-    elim (test x) as (λ b. AllByRecursion P (cond b (x ∷ filter test xs) (filter test xs))) [
-      | true ↦ (all.0, filter_keeps P test xs all.1)
-      | false ↦ filter_keeps P test xs all.1
     ]
 
 both : {X : Type 0} (P Q R : X → Type 0) (xs : List X) → ((x : X) → P x → Q x → R x) → AllByRecursion P xs → AllByRecursion Q xs → AllByRecursion R xs

@@ -14,8 +14,7 @@ use Rattle.rs_table.specs.Content.{TablesContent, nothing_held, rib_of}
 use Rattle.rs_table.specs.Listing.{is_held}
 use Rattle.rs_table.specs.Listing as listing
 use Rattle.rs_table.specs.Cells as cells
-use Rattle.rs_table.specs.Selection.{route_from}
-use Rattle.rs_table.specs.Table.{PeerRoute, peer_route, sent_route, best_of}
+use Rattle.rs_table.specs.Table.{PeerRoute, peer_route, route_from, sent_route, best_of}
 use Rattle.rs_table.specs.Cell.{CellContent, IsRow, route_at, best_among, stored_best}
 use Rattle.rs_table.specs.Cells.{Entries, AreCells, cell_at, routes_at, routes_of, routes_from, changed_routes, changed_routes_body, ChangeTo}
 use Rattle.rs_table.specs.TablesView.{ribs_from}

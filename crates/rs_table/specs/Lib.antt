@@ -17,9 +17,6 @@ pub mod Examples
 pub mod Laws
 pub mod Left
 pub mod Listing
-pub mod PlainTablesView
-pub mod RibView
 pub mod RouteView
-pub mod Selection
 pub mod Table
 pub mod TablesView

@@ -31,6 +31,10 @@ peer_route peer route = record { peer = peer; time = route.time; attributes = ro
 abbrev pub sent_route : PeerRoute → SentRoute
 sent_route route = record { peer = route.peer; attributes = route.attributes }
 
+-- the route that a peer has left on a prefix
+abbrev pub route_from : TablesContent → IpPrefix → ℕ → Option PeerRoute
+route_from tables prefix peer = option_map (peer_route peer) (get (rib_of tables peer).routes prefix)
+
 -- the routes that peers have left on a prefix, in the order of the peers
 abbrev pub routes_on : IpPrefix → List RibContent → List PeerRoute
 routes_on prefix ribs = filter_map (λ (peer, rib). option_map (peer_route peer) (get rib.routes prefix)) (enumerate_from 0 ribs)

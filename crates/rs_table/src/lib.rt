@@ -5,26 +5,18 @@
 //!
 //! Reading order: `tables` (what each peer has left, and what a client gets on a prefix), `route` (what is answered), `listing` (a
 //! client's whole table), `why` (and why not), `laws` (of the definitions). Below them `cells` (of all prefixes) and `cell` (of one;
-//! who gets which route on it is decided in `rs_choice`). The plain program that keeps the same contract by a list of routes for each
-//! peer: `plain_tables`, `adj_rib_in`, `plain_selection`, `plain_listing`.
+//! who gets which route on it is decided in `rs_choice`).
 #![tactic(auto)]
 
-mod adj_rib_in;
 mod cell;
 mod cells;
 mod laws;
 mod listing;
-mod plain_listing;
-mod plain_selection;
-mod plain_tables;
 mod route;
 mod tables;
-#[cfg(test)]
-mod tests;
 mod why;
 
 pub use laws::{examples_hold, left_after_one_more, left_by_last_changes, table_is_computed};
-pub use plain_tables::PlainTables;
 pub use route::{Route, Row};
 pub use tables::Tables;
 pub use why::Why;

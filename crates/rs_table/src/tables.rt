@@ -13,8 +13,7 @@ ghost use Rattle.rs_table.specs.Content.{nothing_held, rib_of};
 ghost use Rattle.rs_table.specs.Left.{is_close, BecomeBy, IsNewAnnouncement};
 ghost use Rattle.rs_table.specs.Listing.{is_held, IsFirstAnnouncement};
 ghost use Rattle.rs_table.specs.RouteView.{peer_route_of};
-ghost use Rattle.rs_table.specs.Selection.{route_from};
-ghost use Rattle.rs_table.specs.Table.{best_of};
+ghost use Rattle.rs_table.specs.Table.{best_of, route_from};
 
 use crate::cell::Cell;
 use crate::cells::change;

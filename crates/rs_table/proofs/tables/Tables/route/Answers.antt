@@ -3,8 +3,7 @@ use Rattle.std.specs.Option.{option_map, option_copied}
 use Rattle.rs_table.specs.Cell.{route_at}
 use Rattle.rs_table.specs.Cells.{cell_at, routes_of}
 use Rattle.rs_table.specs.RouteView.{peer_route_of}
-use Rattle.rs_table.specs.Selection.{route_from}
-use Rattle.rs_table.specs.Table.{peer_route}
+use Rattle.rs_table.specs.Table.{peer_route, route_from}
 use Rattle.rs_table.proofs.TablesLemmas.{route-from}
 use Rattle.rs_table.proofs.tables.Tables.route.Goals as goal
 

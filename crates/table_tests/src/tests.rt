@@ -1,0 +1,214 @@
+//! Exchanges whose routes are read from octets, in hexadecimal: which route each client gets, why, and how its table is dumped.
+
+mod closed_sessions;
+mod decisions;
+mod dumps;
+mod eligible_routes;
+mod listings;
+mod random_changes;
+mod refusals;
+mod slow_reading;
+mod writers;
+
+use rs_choice::{Exchange, Local, PeerSpec};
+use rs_session::{Body, Reason, Word};
+use rs_table::{Tables, Why};
+use rs_update::{Attributes, Message, Origin, Prefix, read_message};
+use std::alloc::Global;
+use std::process::Abort;
+use std::sync::Arc;
+
+// The peers by their numbers.
+const A: usize = 0;
+
+const B: usize = 1;
+
+const C: usize = 2;
+
+const D: usize = 3;
+
+// The attributes of routes: ORIGIN IGP, AS_PATH, NEXT_HOP (RFC 4271, section 4.3). The paths are 64501, ..
+const VIA_64501: &str = "40010100 4002060201 0000FBF5 400304C000020B";
+
+// .. 64501 64500, which holds the server's AS, ..
+const VIA_THE_SERVER: &str = "40010100 40020A0202 0000FBF5 0000FBF4 400304C000020B";
+
+// .. 64502 65010 and 64503 65010.
+const VIA_64502: &str = "40010100 40020A0202 0000FBF6 0000FDF2 400304C000020B";
+
+const VIA_64503: &str = "40010100 40020A0202 0000FBF7 0000FDF2 400304C000020B";
+
+// The path 64501 65010 with a MED of 10 and of 5.
+const MED_10: &str = "40010100 40020A0202 0000FBF5 0000FDF2 400304C000020B 800404 0000000A";
+
+const MED_5: &str = "40010100 40020A0202 0000FBF5 0000FDF2 400304C000020B 800404 00000005";
+
+// The path 64501 with a community (RFC 1997): not to AS 64502, and to nobody.
+const NOT_TO_64502: &str = "40010100 4002060201 0000FBF5 400304C000020B C00804 0000FBF6";
+
+const TO_NOBODY: &str = "40010100 4002060201 0000FBF5 400304C000020B C00804 0000FBF4";
+
+// The path 64501 with other next hops: the server, an address in the subnet of no peer, and one outside it.
+const BY_THE_SERVER: &str = "40010100 4002060201 0000FBF5 400304C0000201";
+
+const BY_ANOTHER: &str = "40010100 4002060201 0000FBF5 400304C0000214";
+
+const BY_AN_OUTSIDER: &str = "40010100 4002060201 0000FBF5 400304C6336401";
+
+// The peers of an exchange, each by its name, AS number, address, identifier, and a peer whose routes it refuses or none.
+type Peers<'a> = &'a [(&'a str, u32, u32, u32, &'a str)];
+
+// Four peers of AS 64501 and on, at 192.0.2.11 and on.
+const FOUR_PEERS: Peers<'static> = &[
+    ("a", 64501, 0xC000_020B, 0xC000_020B, ""),
+    ("b", 64502, 0xC000_020C, 0xC000_020C, ""),
+    ("c", 64503, 0xC000_020D, 0xC000_020D, ""),
+    ("d", 64504, 0xC000_020E, 0xC000_020E, ""),
+];
+
+// The first of them.
+fn first_peers(count: usize) -> Peers<'static> {
+    FOUR_PEERS.get(..count).unwrap_or(&[])
+}
+
+// The octets that hexadecimal digits spell; what stands between them is for reading.
+fn octets(alloc: Global, text: &str) -> Option<Vec<u8>> {
+    let mut octets = Vec::new(alloc);
+    let mut high = None;
+    for digit in text.chars().filter_map(|letter| letter.to_digit(16)) {
+        let digit = u8::try_from(digit).unwrap_or(0);
+        match high {
+            None => high = Some(digit),
+            Some(first) => {
+                octets.push((first & 15) << 4 | digit).ok()?;
+                high = None;
+            }
+        }
+    }
+    Some(octets)
+}
+
+// An UPDATE that announces 203.0.113.0/24 with these attributes.
+fn update(alloc: Global, attributes: &str) -> Option<Vec<u8>> {
+    let section = octets(alloc, attributes)?;
+    let section_len = u16::try_from(section.len()).ok()?;
+    let mut message = octets(alloc, "FFFFFFFF FFFFFFFF FFFFFFFF FFFFFFFF")?;
+    let fields: [&[u8]; 5] = [
+        &section_len.checked_add(27)?.to_be_bytes(),
+        &[2, 0, 0],
+        &section_len.to_be_bytes(),
+        &section,
+        &[24, 203, 0, 113],
+    ];
+    for field in fields {
+        message.extend_from_slice(field).ok()?;
+    }
+    Some(message)
+}
+
+// The attributes of that UPDATE.
+fn attributes(alloc: Global, text: &str) -> Option<Arc<Attributes>> {
+    let message = update(alloc, text)?;
+    match read_message(alloc, &message) {
+        Ok(Message::Update(update)) => Arc::new(alloc, update.attributes?).ok(),
+        _ => None,
+    }
+}
+
+// 203.0.113.0/24.
+fn documentation() -> Option<Prefix> {
+    Prefix::new(0xCB00_7100, 24)
+}
+
+// 10.0.0.0/8.
+fn ten() -> Option<Prefix> {
+    Prefix::new(0x0A00_0000, 8)
+}
+
+// 192.0.2.0/24, in which the peers are.
+fn subnet() -> Option<Prefix> {
+    Prefix::new(0xC000_0200, 24)
+}
+
+// The exchange of AS 64500 at 192.0.2.1 with these peers.
+fn exchange(alloc: Global, subnet: Option<Prefix>, rows: Peers) -> Option<Arc<Exchange>> {
+    let mut peers = Vec::new(alloc);
+    for (name, asn, address, id, refused) in rows {
+        let mut refuse_from = Vec::new(alloc);
+        if !refused.is_empty() {
+            refuse_from
+                .push(String::from_str(alloc, refused).ok()?)
+                .ok()?;
+        }
+        let peer = PeerSpec {
+            name: String::from_str(alloc, name).ok()?,
+            asn: *asn,
+            address: *address,
+            id: *id,
+            preference: 100,
+            refuse_from,
+        };
+        peers.push(peer).ok()?;
+    }
+    let local = Local {
+        asn: 64500,
+        address: 0xC000_0201,
+        id: 0xC000_0201,
+        subnet,
+    };
+    Arc::new(alloc, Exchange::new(alloc, local, peers).ok()?).ok()
+}
+
+// The tables of an exchange with these peers, before any change.
+fn tables(alloc: Global, subnet: Option<Prefix>, rows: Peers) -> Option<Tables> {
+    Tables::new(alloc, exchange(alloc, subnet, rows)?).ok()
+}
+
+// Takes the next change of a peer.
+fn take(rt: &impl Abort, tables: &mut Tables, peer: usize, time: u32, body: Body) {
+    assert!(rt; peer < tables.count());
+    assert!(rt; !tables.is_closed(peer));
+    assert!(rt; tables.apply(peer, Word { time, body }).is_ok());
+}
+
+// Takes the announcement of a prefix with these attributes.
+fn announce(
+    rt: &impl Abort,
+    tables: &mut Tables,
+    (peer, time): (usize, u32),
+    prefix: Option<Prefix>,
+    attributes: Option<Arc<Attributes>>,
+) {
+    let prefix = prefix.expect(rt, "a prefix");
+    let attributes = attributes.expect(rt, "attributes");
+    take(rt, tables, peer, time, Body::Announce(prefix, attributes));
+}
+
+// Whose route a client gets on 203.0.113.0/24, the only prefix there is: `best` and `rows` say the same.
+fn winner(rt: &impl Abort, tables: &Tables, client: usize) -> Option<usize> {
+    let best = tables
+        .best(client, documentation()?)
+        .map(|route| route.peer);
+    let rows = tables.rows(client).expect(rt, "rows");
+    assert_eq!(rt; rows.first().map(|row| row.route.peer), best);
+    best
+}
+
+// Why a client has a peer's route on 203.0.113.0/24, or not.
+fn reason(rt: &impl Abort, tables: &Tables, client: usize, peer: usize) -> Why {
+    assert!(rt; client < tables.count());
+    assert!(rt; peer < tables.count());
+    tables.why(client, peer, documentation().expect(rt, "a prefix"))
+}
+
+// A row as the tests compare it: the prefix, the peer that sent the route, and when.
+type Shown = (Prefix, usize, u32);
+
+// The rows of a client's table.
+fn shown(alloc: Global, tables: &Tables, client: usize) -> Option<Vec<Shown>> {
+    let rows = tables.rows(client).ok()?;
+    rows.iter()
+        .map(|row| (row.prefix, row.route.peer, row.route.time))
+        .collect(alloc)
+        .ok()
+}

@@ -1,0 +1,28 @@
+//! Which routes a client can get at all: an ineligible one takes the place of an eligible one of its peer, and without a subnet any
+//! next hop but the server's own will do.
+
+use super::*;
+
+#[test]
+fn an_ineligible_route_replaces_an_eligible_one(rt: HostRuntime) {
+    let alloc = rt.alloc();
+    for later in [VIA_THE_SERVER, BY_THE_SERVER, BY_AN_OUTSIDER] {
+        let mut tables = tables(alloc, subnet(), FOUR_PEERS).expect(&rt, "tables");
+        let route = attributes(alloc, VIA_64501);
+        announce(&rt, &mut tables, (A, 100), documentation(), route);
+        assert_eq!(rt; winner(&rt, &tables, B), Some(A), "{later}");
+        let route = attributes(alloc, later);
+        announce(&rt, &mut tables, (A, 101), documentation(), route);
+        assert_eq!(rt; winner(&rt, &tables, B), None, "{later}");
+        assert_eq!(rt; reason(&rt, &tables, B, A), Why::Ineligible, "{later}");
+    }
+}
+
+#[test]
+fn without_a_subnet_any_other_next_hop_is_eligible(rt: HostRuntime) {
+    let alloc = rt.alloc();
+    let mut tables = tables(alloc, None, FOUR_PEERS).expect(&rt, "tables");
+    let route = attributes(alloc, BY_AN_OUTSIDER);
+    announce(&rt, &mut tables, (A, 100), documentation(), route);
+    assert_eq!(rt; winner(&rt, &tables, B), Some(A));
+}

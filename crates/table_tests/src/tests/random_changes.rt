@@ -1,0 +1,138 @@
+//! Random changes: after each one every client gets what the rules, read slowly, say.
+
+use super::*;
+use slow_reading::{History, again};
+
+// How many changes are taken, and how many before all begins again.
+const CHANGES: u32 = 500;
+
+const ROUND: u32 = 100;
+
+// Six peers: three of AS 64501, so that MED decides between them, and one that refuses all routes of another.
+const SIX_PEERS: Peers<'static> = &[
+    ("a", 64501, 0xC000_020B, 9, ""),
+    ("b", 64501, 0xC000_020C, 4, ""),
+    ("c", 64502, 0xC000_020D, 5, ""),
+    ("d", 64503, 0xC000_020E, 6, ""),
+    ("e", 64501, 0xC000_020F, 1, ""),
+    ("f", 64504, 0xC000_0210, 7, "a"),
+];
+
+// Path lengths 1 and 2, three neighbour ASes, with and without MED, one refused to AS 64502, one to all, and one not eligible.
+const ROUTES: [&str; 8] = [
+    VIA_64501,
+    MED_10,
+    MED_5,
+    VIA_64502,
+    VIA_64503,
+    NOT_TO_64502,
+    TO_NOBODY,
+    VIA_THE_SERVER,
+];
+
+// A generator of numbers that look random (multiplicative, modulo 2^32).
+#[derive(Clone, Copy)]
+struct Random {
+    state: u32,
+}
+
+impl Random {
+    // A number below 2^16.
+    fn next(&mut self) -> usize {
+        self.state = self
+            .state
+            .wrapping_mul(1_664_525)
+            .wrapping_add(1_013_904_223);
+        (self.state >> 16) as usize
+    }
+}
+
+// Four prefixes in ascending order, of which two are inside a third.
+fn four_prefixes() -> Option<[Prefix; 4]> {
+    let ten_long = Prefix::new(0x0A00_0000, 16)?;
+    Some([Prefix::new(0, 0)?, ten()?, ten_long, documentation()?])
+}
+
+// Most changes announce, some withdraw, and now and then a session closes, every other one at the end of its file.
+fn some_body(
+    random: &mut Random,
+    prefixes: &[Prefix; 4],
+    routes: &[Arc<Attributes>],
+) -> Option<Body> {
+    let prefix = prefixes[random.next() % 4];
+    Some(match random.next() % 64 {
+        0 => Body::Close(Reason::EndOfFile),
+        1 => Body::Close(Reason::Notification),
+        2..=15 => Body::Withdraw(prefix),
+        _ => Body::Announce(prefix, routes.get(random.next() % 8)?.clone().ok()?),
+    })
+}
+
+// The routes of the table above.
+fn eight_routes(alloc: Global) -> Option<Vec<Arc<Attributes>>> {
+    let mut routes = Vec::new(alloc);
+    for text in ROUTES {
+        routes.push(attributes(alloc, text)?).ok()?;
+    }
+    Some(routes)
+}
+
+// Tables, and the slow reading of the same changes.
+#[derive(Drop)]
+struct Both {
+    tables: Tables,
+    history: History,
+}
+
+impl Both {
+    fn new(alloc: Global) -> Option<Both> {
+        let plan = exchange(alloc, subnet(), SIX_PEERS)?;
+        Some(Both {
+            tables: Tables::new(alloc, plan.clone().ok()?).ok()?,
+            history: History::new(alloc, plan),
+        })
+    }
+
+    // Takes a change, where the peer is open.
+    fn take(&mut self, peer: usize, word: Word) -> Option<()> {
+        if peer < self.tables.count() && !self.tables.is_closed(peer) {
+            self.history.add(peer, again(&word)?)?;
+            self.tables.apply(peer, word).ok()?;
+        }
+        Some(())
+    }
+
+    // Whether a client gets what the slow reading says, by `rows` and by `best`.
+    fn agree(&self, alloc: Global, client: usize, prefixes: &[Prefix]) -> Option<bool> {
+        for prefix in prefixes {
+            let best = self.tables.best(client, *prefix);
+            let wanted = self.history.best(alloc, client, *prefix)?;
+            if best.map(|route| (route.peer, route.time)) != wanted {
+                return Some(false);
+            }
+        }
+        let wanted = self.history.rows(alloc, client, prefixes)?;
+        Some(shown(alloc, &self.tables, client)? == wanted)
+    }
+}
+
+#[test]
+fn random_changes_leave_what_the_rules_say(rt: HostRuntime) {
+    let alloc = rt.alloc();
+    let prefixes = four_prefixes().expect(&rt, "prefixes");
+    let routes = eight_routes(alloc).expect(&rt, "routes");
+    let mut random = Random { state: 1 };
+    let mut both = Both::new(alloc).expect(&rt, "tables");
+    for time in 0..CHANGES {
+        if time % ROUND == 0 {
+            both = Both::new(alloc).expect(&rt, "tables");
+        }
+        let peer = random.next() % 6;
+        let body = some_body(&mut random, &prefixes, &routes).expect(&rt, "a change");
+        both.take(peer, Word { time, body }).expect(&rt, "memory");
+        for client in 0..6 {
+            let agree = both.agree(alloc, client, &prefixes);
+            assert_eq!(rt; agree, Some(true), "change {time}, client {client}");
+        }
+    }
+}

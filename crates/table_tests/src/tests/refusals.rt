@@ -1,0 +1,185 @@
+//! Memory that is refused, whichever allocation of the process it is: nothing is changed, and the same call again answers as if none
+//! had been refused. One allocation is refused in a run at most, so what is asked a second time comes.
+
+ghost use Rattle.std.specs.Prelude.{None};
+
+use super::*;
+use dumps::{PLAIN_DUMP, are_known, row};
+use rs_dump::{DumpFault, write_dump};
+use rs_mrt::{Failed, Write};
+use slow_reading::{History, again};
+
+// What a peer says.
+#[derive(Clone, Copy)]
+enum Says {
+    Announce(&'static str),
+    Withdraw,
+    Close(Reason),
+}
+
+// What peers say of which prefix, and whether memory may be refused then: a route on a prefix is taken with no memory where there is one.
+const CHANGES: [(usize, u32, Says, bool); 9] = [
+    (A, 203, Says::Announce(NOT_TO_64502), true),
+    (C, 203, Says::Announce(VIA_64503), false),
+    (A, 198, Says::Announce(VIA_64501), true),
+    (B, 10, Says::Announce(VIA_THE_SERVER), true),
+    (C, 10, Says::Announce(VIA_64503), false),
+    (A, 203, Says::Withdraw, false),
+    (C, 203, Says::Withdraw, false),
+    (B, 10, Says::Close(Reason::EndOfFile), false),
+    (A, 198, Says::Close(Reason::Notification), false),
+];
+
+// Every client's rows, in the order of the clients.
+type All = Vec<Vec<Shown>>;
+
+// The prefix of 8 bits that begins with this octet.
+fn within(octet: u32) -> Option<Prefix> {
+    Prefix::new(octet.wrapping_mul(1 << 24), 8)
+}
+
+// The change of a row of the table above.
+fn change(alloc: Global, octet: u32, says: Says) -> Option<Word> {
+    let prefix = within(octet)?;
+    let body = match says {
+        Says::Announce(route) => Body::Announce(prefix, attributes(alloc, route)?),
+        Says::Withdraw => Body::Withdraw(prefix),
+        Says::Close(reason) => Body::Close(reason),
+    };
+    Some(Word { time: octet, body })
+}
+
+// All changes of the table above.
+fn changes(alloc: Global) -> Option<Vec<(usize, Word)>> {
+    let mut words = Vec::new(alloc);
+    for (peer, octet, says, _) in CHANGES {
+        words.push((peer, change(alloc, octet, says)?)).ok()?;
+    }
+    Some(words)
+}
+
+// What the rules, read slowly, say after each change.
+fn wanted(alloc: Global, words: &[(usize, Word)]) -> Option<Vec<All>> {
+    let mut history = History::new(alloc, exchange(alloc, subnet(), FOUR_PEERS)?);
+    let prefixes = [within(10)?, within(198)?, within(203)?];
+    let mut wanted = Vec::new(alloc);
+    for (peer, word) in words {
+        history.add(*peer, again(word)?)?;
+        let mut all = Vec::new(alloc);
+        for client in 0..4 {
+            all.push(history.rows(alloc, client, &prefixes)?).ok()?;
+        }
+        wanted.push(all).ok()?;
+    }
+    Some(wanted)
+}
+
+// What the tables give every client.
+fn given(alloc: Global, tables: &Tables) -> Option<All> {
+    let mut all = Vec::new(alloc);
+    for client in 0..4 {
+        all.push(shown(alloc, tables, client)?).ok()?;
+    }
+    Some(all)
+}
+
+// Takes a change, and once more where memory is refused: then nothing had changed.
+fn take_once_more(
+    rt: &impl Abort,
+    alloc: Global,
+    tables: &mut Tables,
+    peer: usize,
+    word: &Word,
+    may_be_refused: bool,
+) {
+    let before = given(alloc, tables)
+        .or_else(|| given(alloc, tables))
+        .expect(rt, "all rows");
+    assert!(rt; peer < tables.count());
+    assert!(rt; !tables.is_closed(peer));
+    if tables
+        .apply(peer, again(word).expect(rt, "the change"))
+        .is_err()
+    {
+        assert!(rt; may_be_refused);
+        assert!(rt; given(alloc, tables) == Some(before));
+        assert!(rt; !tables.is_closed(peer));
+        assert!(rt;
+            tables
+                .apply(peer, again(word).expect(rt, "the change"))
+                .is_ok()
+        );
+    }
+}
+
+#[test]
+fn a_refused_change_changes_nothing_and_comes_when_taken_again(rt: HostRuntime) {
+    let alloc = rt.alloc();
+    let words = changes(alloc)
+        .or_else(|| changes(alloc))
+        .expect(&rt, "changes");
+    let wanted = wanted(alloc, &words)
+        .or_else(|| wanted(alloc, &words))
+        .expect(&rt, "what the rules say");
+    let mut tables = tables(alloc, subnet(), FOUR_PEERS)
+        .or_else(|| tables(alloc, subnet(), FOUR_PEERS))
+        .expect(&rt, "tables");
+    for (((peer, word), all), row) in words.iter().zip(&wanted).zip(&CHANGES) {
+        take_once_more(&rt, alloc, &mut tables, *peer, word, row.3);
+        let given = given(alloc, &tables)
+            .or_else(|| given(alloc, &tables))
+            .expect(&rt, "all rows");
+        assert!(rt; given == *all, "prefix {}", row.1);
+    }
+}
+
+// A writer that takes no memory: the first octets, and how many were written.
+#[derive(Drop)]
+struct Fixed {
+    octets: [u8; 128],
+    len: usize,
+}
+
+impl Write for Fixed {
+    ghost taken = { λ _. None };
+
+    ghost failures = { λ _. 0 };
+
+    fn write(&mut self, piece: &[u8]) -> Result<usize, Failed> {
+        for octet in piece {
+            if let Some(place) = self.octets.get_mut(self.len) {
+                *place = *octet;
+            }
+            self.len = self.len.wrapping_add(1);
+        }
+        Ok(piece.len())
+    }
+}
+
+#[test]
+fn a_refused_dump_writes_nothing_and_comes_when_asked_again(rt: HostRuntime) {
+    let alloc = rt.alloc();
+    let plan = exchange(alloc, subnet(), first_peers(2))
+        .or_else(|| exchange(alloc, subnet(), first_peers(2)))
+        .expect(&rt, "an exchange");
+    let route = attributes(alloc, VIA_64501)
+        .or_else(|| attributes(alloc, VIA_64501))
+        .expect(&rt, "attributes");
+    let wanted = octets(alloc, PLAIN_DUMP)
+        .or_else(|| octets(alloc, PLAIN_DUMP))
+        .expect(&rt, "octets");
+    let rows = [row(documentation().expect(&rt, "a prefix"), &route)];
+    let mut out = Fixed {
+        octets: [0; 128],
+        len: 0,
+    };
+    assert!(rt; 1 < plan.count());
+    assert!(rt; are_known(&plan, &rows));
+    let mut answer = write_dump(alloc, &mut out, &plan, 1, &rows, 0);
+    if answer == Err(DumpFault::Memory) {
+        assert_eq!(rt; out.len, 0);
+        answer = write_dump(alloc, &mut out, &plan, 1, &rows, 0);
+    }
+    assert_eq!(rt; answer, Ok(1));
+    assert_eq!(rt; out.octets.get(..out.len), Some(wanted.as_slice()));
+}

@@ -1,0 +1,100 @@
+//! Writers that take little at a call, writers that fail, and the texts of faults.
+
+use super::*;
+use dumps::{PLAIN_DUMP, dump, row};
+use rs_dump::DumpFault;
+use rs_mrt::Limits;
+
+// A writer that takes so many octets at a call.
+fn in_pieces(piece: usize) -> Limits {
+    Limits {
+        calls_before_failure: None,
+        room: usize::MAX,
+        piece,
+    }
+}
+
+// A writer that fails after so many calls.
+fn failing_after(calls: u64, piece: usize) -> Limits {
+    Limits {
+        calls_before_failure: Some(calls),
+        room: usize::MAX,
+        piece,
+    }
+}
+
+#[test]
+fn a_writer_may_take_one_octet_a_call(rt: HostRuntime) {
+    let alloc = rt.alloc();
+    let plan = exchange(alloc, subnet(), first_peers(2)).expect(&rt, "an exchange");
+    let route = attributes(alloc, VIA_64501).expect(&rt, "attributes");
+    let rows = [row(documentation().expect(&rt, "a prefix"), &route)];
+    let whole = octets(alloc, PLAIN_DUMP).expect(&rt, "octets");
+    let (answer, written) = dump(&rt, alloc, in_pieces(1), (&plan, B, 0), &rows);
+    assert_eq!(rt; answer, Ok(1));
+    assert_eq!(rt; written, whole);
+    // 97 writes of one octet: each is refused in turn, and what is out then is all that was written before.
+    for calls in 0..97 {
+        let (answer, written) = dump(&rt, alloc, failing_after(calls, 1), (&plan, B, 0), &rows);
+        assert_eq!(rt; answer, Err(DumpFault::Write), "after {calls} writes");
+        assert_eq!(rt; written.len() as u64, calls);
+        assert!(rt; whole.starts_with(&written));
+    }
+}
+
+#[test]
+fn a_full_device_has_the_beginning_of_the_dump(rt: HostRuntime) {
+    let alloc = rt.alloc();
+    let plan = exchange(alloc, subnet(), first_peers(2)).expect(&rt, "an exchange");
+    let route = attributes(alloc, VIA_64501).expect(&rt, "attributes");
+    let rows = [row(documentation().expect(&rt, "a prefix"), &route)];
+    let small = Limits {
+        calls_before_failure: None,
+        room: 30,
+        piece: usize::MAX,
+    };
+    let (answer, written) = dump(&rt, alloc, small, (&plan, B, 0), &rows);
+    assert_eq!(rt; answer, Err(DumpFault::Write));
+    let front = "00000000 000D 0001 00000023 C0000201 0001 62 0002 02 C000020B C000020B";
+    assert_eq!(rt; Some(written), octets(alloc, front));
+}
+
+// 3,000 rows of 50 octets each make three pieces: each write is refused in turn.
+#[test]
+fn each_write_may_fail(rt: HostRuntime) {
+    let alloc = rt.alloc();
+    let plan = exchange(alloc, subnet(), first_peers(2)).expect(&rt, "an exchange");
+    let route = attributes(alloc, VIA_64501).expect(&rt, "attributes");
+    let row = row(documentation().expect(&rt, "a prefix"), &route);
+    let rows = vec![in alloc; row; 3000].expect(&rt, "rows");
+    let (answer, whole) = dump(&rt, alloc, Limits::none(), (&plan, B, 0), &rows);
+    assert_eq!(rt; answer, Ok(3000));
+    assert_eq!(rt; whole.len(), 47 + 3000 * 50);
+    for (calls, answer, taken) in [
+        (0, Err(DumpFault::Write), 0),
+        (1, Err(DumpFault::Write), 65547),
+        (2, Err(DumpFault::Write), 131097),
+        (3, Ok(3000), 150047),
+    ] {
+        let limits = failing_after(calls, usize::MAX);
+        let (given, written) = dump(&rt, alloc, limits, (&plan, B, 0), &rows);
+        assert_eq!(rt; given, answer, "after {calls} writes");
+        assert_eq!(rt; written.len(), taken);
+        assert!(rt; whole.starts_with(&written));
+    }
+}
+
+#[test]
+fn each_fault_has_a_text(rt: HostRuntime) {
+    for (fault, text) in [
+        (DumpFault::Write, "the dump could not be written"),
+        (
+            DumpFault::TooManyRows,
+            "the table has more rows than a dump can number",
+        ),
+        (DumpFault::Memory, "out of memory"),
+    ] {
+        let shown = fault.to_string(rt.alloc()).expect(&rt, "a text");
+        assert_eq!(rt; shown.as_str(), text);
+    }
+}
