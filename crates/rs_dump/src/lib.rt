@@ -14,4 +14,3 @@ mod rib;
 pub use dump::write_dump;
 pub use fault::DumpFault;
 pub use laws::{dump_is_its_records, prefix_in_a_dump_is_spelled};
-
