@@ -3,19 +3,22 @@
 ghost use Rattle.std.specs.Prelude.{◌≡◌};
 ghost use Rattle.rs_mrt.specs.Fault.{number_of};
 
-use std::error::Error;
-use std::fmt;
+use thiserror::Error;
 
 /// What is wrong with the octets of a file or of a record.
-#[derive(Clone, Copy, Debug, PartialEq, Eq, Drop)]
+#[derive(Clone, Copy, Debug, PartialEq, Eq, Drop, Error)]
 pub enum MrtFault {
     /// The file ends in the header of a record: 1 to 11 octets are left (RFC 6396, section 2).
+    #[error("the file ends in the header of a record")]
     HeaderCutShort,
     /// The file ends in the body of a record: fewer octets than its Length are left (RFC 6396, section 2).
+    #[error("the file ends in the body of a record")]
     BodyCutShort,
     /// The body of a BGP4MP record is shorter than its fields (RFC 6396, sections 4.4.3 and 4.4.4).
+    #[error("a BGP4MP record is shorter than its fields")]
     FieldsCutShort,
     /// The body of a BGP4MP_ET record is shorter than its Microsecond Timestamp (RFC 6396, section 3).
+    #[error("a BGP4MP_ET record is shorter than its Microsecond Timestamp")]
     MicrosecondsCutShort,
 }
 
@@ -33,35 +36,13 @@ impl MrtFault {
     }
 }
 
-impl fmt::Display for MrtFault {
-    fn fmt<W: fmt::Write>(&self, f: &mut fmt::Formatter<W>) -> fmt::Result {
-        f.write_str(match self {
-            MrtFault::HeaderCutShort => "the file ends in the header of a record",
-            MrtFault::BodyCutShort => "the file ends in the body of a record",
-            MrtFault::FieldsCutShort => "a BGP4MP record is shorter than its fields",
-            MrtFault::MicrosecondsCutShort => "a BGP4MP_ET record is shorter than its microseconds",
-        })
-    }
-}
-
-impl Error for MrtFault {}
-
 /// Why a source stopped before the end of its records.
-#[derive(Clone, Copy, Debug, PartialEq, Eq, Drop)]
+#[derive(Clone, Copy, Debug, PartialEq, Eq, Drop, Error)]
 pub enum SourceFault {
     /// The octets that it read are at fault.
+    #[error(transparent)]
     Mrt(MrtFault),
     /// A read failed, or the source takes no more octets.
+    #[error("records could not be read")]
     Read,
 }
-
-impl fmt::Display for SourceFault {
-    fn fmt<W: fmt::Write>(&self, f: &mut fmt::Formatter<W>) -> fmt::Result {
-        match self {
-            SourceFault::Mrt(fault) => write!(f, "{fault}"),
-            SourceFault::Read => f.write_str("records could not be read"),
-        }
-    }
-}
-
-impl Error for SourceFault {}

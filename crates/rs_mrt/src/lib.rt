@@ -24,6 +24,3 @@ pub use record::{HEADER_LEN, Record, Records};
 pub use source::Source;
 pub use spelling::write_header;
 pub use stream::{Failed, IoWriter, Write, write_all};
-
-#[cfg(test)]
-mod tests;

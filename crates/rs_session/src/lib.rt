@@ -9,8 +9,6 @@ mod laws;
 mod peer;
 mod pending;
 mod session;
-#[cfg(test)]
-mod tests;
 mod withdrawn;
 mod word;
 

@@ -1,4 +1,4 @@
-//! Records by hand and as recorders write them, and what no clause says: that calls succeed, and that announcements share attributes.
+//! What recorded sessions say, and that announcements share attributes.
 
 mod messages;
 mod recorders;
@@ -6,36 +6,20 @@ mod refusals;
 mod updates;
 mod whole_files;
 
-use super::*;
+use super::{A, B, C, D, KEEPALIVE, MARKER, UPDATE, octets};
 use rs_mrt::{BGP4MP, BGP4MP_ET, MESSAGE_AS4, STATE_CHANGE_AS4, write_header};
+use rs_session::*;
 use std::alloc::{AllocError, Global};
 use std::process::Abort;
 use std::test::*;
-
-// AS 64501 at 192.0.2.11, recorded by AS 64500 at 192.0.2.1, interface 0, IPv4; and the peers after it.
-const A: &str = "0000FBF5 0000FBF4 0000 0001 C000020B C0000201";
-
-const B: &str = "0000FBF6 0000FBF4 0000 0001 C000020C C0000201";
-
-const C: &str = "0000FBF7 0000FBF4 0000 0001 C000020D C0000201";
-
-const D: &str = "0000FBF8 0000FBF4 0000 0001 C000020E C0000201";
 
 const PEER: PeerId = PeerId {
     address: 0xC000_020B,
     asn: 64501,
 };
 
-// Sixteen octets of ones.
-const MARKER: &str = "FFFFFFFFFFFFFFFFFFFFFFFFFFFFFFFF";
-
 // ORIGIN IGP, AS_PATH 64501, NEXT_HOP 192.0.2.11.
 const ATTRIBUTES: &str = "40010100 40020602010000FBF5 400304C000020B";
-
-// An UPDATE that announces 203.0.113.0/24, and a KEEPALIVE.
-const UPDATE: &str = "002F 02 0000 0014 40010100 40020602010000FBF5 400304C000020B 18CB0071";
-
-const KEEPALIVE: &str = "0013 04";
 
 // A change without its attributes.
 #[derive(Clone, Copy, Debug, PartialEq, Eq, Drop)]
@@ -58,33 +42,6 @@ fn seen(word: &Word) -> Given {
         Body::Withdraw(prefix) => Given::Withdraw(word.time, prefix.address(), prefix.len()),
         Body::Close(reason) => Given::Close(word.time, *reason),
     }
-}
-
-// The digit that the letter is.
-fn digit(letter: u8) -> Option<u8> {
-    match letter {
-        b'0'..=b'9' => Some(letter - b'0'),
-        b'A'..=b'F' => Some(letter - b'A' + 10),
-        _ => None,
-    }
-}
-
-// The octets that the hexadecimal digits of the texts spell.
-fn octets(alloc: Global, texts: &[&str]) -> Result<Vec<u8>, AllocError> {
-    let mut octets = Vec::new(alloc);
-    let mut high = None;
-    for text in texts {
-        for digit in text.bytes().filter_map(digit) {
-            high = match high {
-                None => Some(digit),
-                Some(first) => {
-                    octets.push(digit.wrapping_add(16u8.wrapping_mul(first)))?;
-                    None
-                }
-            };
-        }
-    }
-    Ok(octets)
 }
 
 // A record: its time, Type and Subtype, and its body as hexadecimal digits.

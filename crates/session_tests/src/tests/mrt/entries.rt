@@ -46,11 +46,7 @@ const CUT_SHORT: &[(Recorded, MrtFault, &str)] = &[
         FIELDS,
         "19 octets",
     ),
-    (
-        (16, 5, &[SESSION, "0006 00"]),
-        FIELDS,
-        "new state cut short",
-    ),
+    ((16, 5, &[A, "0006 00"]), FIELDS, "new state cut short"),
 ];
 
 #[test]
@@ -67,17 +63,17 @@ fn records_that_are_too_short_are_at_fault(rt: HostRuntime) -> Result<(), Fail> 
 const IPV6: &str = "0000FBF5 0000FBF4 0000 0002";
 
 const OTHERS: &[(Recorded, &str)] = &[
-    ((13, 1, &[SESSION, UPDATE]), "TABLE_DUMP_V2"),
-    ((11, 0, &[SESSION, UPDATE]), "OSPFv2"),
+    ((13, 1, &[A, MARKER, UPDATE]), "TABLE_DUMP_V2"),
+    ((11, 0, &[A, MARKER, UPDATE]), "OSPFv2"),
     ((16, 0, &[]), "AS numbers of two octets, state change"),
     (
-        (16, 1, &[SESSION, UPDATE]),
+        (16, 1, &[A, MARKER, UPDATE]),
         "AS numbers of two octets, message",
     ),
     ((16, 6, &[]), "the recorder's own message, two octets"),
-    ((16, 7, &[SESSION, UPDATE]), "the recorder's own message"),
+    ((16, 7, &[A, MARKER, UPDATE]), "the recorder's own message"),
     (
-        (16, 9, &[SESSION, UPDATE]),
+        (16, 9, &[A, MARKER, UPDATE]),
         "a message with path identifiers",
     ),
     ((16, 4, &[IPV6]), "IPv6, a message"),
@@ -87,10 +83,7 @@ const OTHERS: &[(Recorded, &str)] = &[
         "12 octets, family 0",
     ),
     ((17, 1, &["00000000"]), "microseconds alone, subtype 1"),
-    (
-        (17, 5, &[SESSION, "0006 0001"]),
-        "microseconds aren't fields",
-    ),
+    ((17, 5, &[A, "0006 0001"]), "microseconds aren't fields"),
 ];
 
 #[test]
@@ -106,9 +99,9 @@ fn records_of_other_types_say_nothing(rt: HostRuntime) -> Result<(), Fail> {
 
 // The Type and body of a message, and the octets of the message.
 const MESSAGES: &[(u16, &[&str], &[&str])] = &[
-    (16, &[SESSION, UPDATE], &[UPDATE]),
-    (17, &["000F423F", SESSION, UPDATE], &[UPDATE]),
-    (16, &[SESSION], &[]),
+    (16, &[A, MARKER, UPDATE], &[MARKER, UPDATE]),
+    (17, &["000F423F", A, MARKER, UPDATE], &[MARKER, UPDATE]),
+    (16, &[A], &[]),
 ];
 
 #[test]
@@ -134,12 +127,12 @@ const SWAPPED: &str = "0000FBF5 0000FBF4 0000 0001 C0000201 C000020B";
 
 // The Type and body of a change of state, the peer's address, and the old and the new state.
 const STATES: &[(u16, &[&str], u32, u16, u16)] = &[
-    (16, &[SESSION, "0003 0006"], PEER, 3, 6),
+    (16, &[A, "0003 0006"], PEER, 3, 6),
     // An octet more.
-    (16, &[SESSION, "0006 0001 00"], PEER, 6, 1),
-    (17, &["00000000", SESSION, "0006 0001"], PEER, 6, 1),
+    (16, &[A, "0006 0001 00"], PEER, 6, 1),
+    (17, &["00000000", A, "0006 0001"], PEER, 6, 1),
     // Quagga: Clearing.
-    (16, &[SESSION, "0006 0007"], PEER, 6, 7),
+    (16, &[A, "0006 0007"], PEER, 6, 7),
     // BIRD: a dead connection.
     (16, &[NO_ADDRESS, "0006 0001"], 0, 6, 1),
     // OpenBGPD: the recorder's address first.

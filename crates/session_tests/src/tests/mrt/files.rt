@@ -4,10 +4,10 @@ use super::*;
 
 #[test]
 fn a_record_is_given_and_then_the_end(rt: HostRuntime) -> Result<(), Fail> {
-    let body = octets(rt.alloc(), &[SESSION, UPDATE])?;
+    let body = octets(rt.alloc(), &[A, MARKER, UPDATE])?;
     let file = octets(
         rt.alloc(),
-        &["00000064 0010 0004 00000043", SESSION, UPDATE],
+        &["00000064 0010 0004 00000043", A, MARKER, UPDATE],
     )?;
     assert_eq!(rt; file.len(), 79);
     let mut records = Records::new(&file);
@@ -40,7 +40,7 @@ const CUTS: &[(usize, MrtFault)] = &[
 fn a_file_ends_anywhere(rt: HostRuntime) -> Result<(), Fail> {
     let file = octets(
         rt.alloc(),
-        &["00000064 0010 0004 00000043", SESSION, UPDATE],
+        &["00000064 0010 0004 00000043", A, MARKER, UPDATE],
     )?;
     for (len, fault) in CUTS {
         let mut records = Records::new(file.get(..*len).ok_or("the file is longer")?);
@@ -124,7 +124,8 @@ fn peer_of(record: &Record<'_>) -> Result<(u32, u32), MrtFault> {
 
 const COLLECTED: &[&str] = &[
     "00000064 0010 0004 00000043",
-    SESSION,
+    A,
+    MARKER,
     UPDATE,
     "00000064 0010 0004 00000014 0000FBF6 0000FBF4 0000 0001 C000020C C0000201",
     "00000064 0010 0004 0000002C 0000FBF5 0000FBF4 0000 0002",
@@ -134,7 +135,8 @@ const COLLECTED: &[&str] = &[
     "00000064 0010 0004 00000027 0000FBF8 0000FBF4 0000 0001 C000020E C0000201",
     "FFFFFFFFFFFFFFFFFFFFFFFFFFFFFFFF 0013 04",
     "00000065 0011 0004 00000047 00000000",
-    SESSION,
+    A,
+    MARKER,
     UPDATE,
 ];
 

@@ -30,7 +30,7 @@ const FAULTS: &[(MrtFault, u8, &str)] = &[
     (
         MrtFault::MicrosecondsCutShort,
         4,
-        "a BGP4MP_ET record is shorter than its microseconds",
+        "a BGP4MP_ET record is shorter than its Microsecond Timestamp",
     ),
 ];
 
