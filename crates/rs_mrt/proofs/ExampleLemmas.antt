@@ -52,8 +52,11 @@ source_examples =
       comes = (refl, refl);
       comes_not_less = λ left. let e = left.0 in cc;
       comes_not_at_fault = λ left. let e = left.1 in cc;
+      comes_not_unread = λ left. let e = left.1 in cc;
+      comes_at_fault = (refl, refl);
       shows_one = λ later end left. (ap (λ (rs : List MrtRecord). change ∷ rs) left.0, left.1);
       ends_not_before = λ left. let e = left.1.0 in cc;
+      fails_not_before = λ left. let e = left.1.0 in cc;
       ends_after = (refl, (refl, refl));
       read_failed = inl refl;
       read_not_failed = λ counted. elim counted [ inl rose ↦ absurd (omega arith) | inr h ↦ elim h.1 [ inl full ↦ full | inr before ↦ cc ] ];

@@ -58,9 +58,12 @@ pub record EntryExamples : Type 0 where
 pub record SourceExamples : Type 0 where
   pub comes : IsLeft (reading_of None file) (change ∷ []) None
   pub comes_not_less : IsLeft (reading_of None file) [] None → ⊥
-  pub comes_not_at_fault : IsLeft (reading_of None file) (change ∷ []) (Some BodyCutShort) → ⊥
+  pub comes_not_at_fault : IsLeft (reading_of None file) (change ∷ []) (Some (Mrt BodyCutShort)) → ⊥
+  pub comes_not_unread : IsLeft (reading_of None file) (change ∷ []) (Some Read) → ⊥
+  pub comes_at_fault : IsLeft (reading_of None (take 35 file)) [] (Some (Mrt BodyCutShort))
   pub shows_one : Advances IsLeft (reading_of None file) (reading_of (Some change) []) (Some change) (Ok true)
   pub ends_not_before : Advances IsLeft (reading_of None file) (reading_of None []) None (Ok false) → ⊥
+  pub fails_not_before : Advances IsLeft (reading_of None file) (reading_of None []) None (Err Read) → ⊥
   pub ends_after : Advances IsLeft (reading_of (Some change) []) (reading_of None []) None (Ok false)
   pub read_failed : CountsFailure 0 1 ⊥ None (Err Read)
   pub read_not_failed : CountsFailure 0 0 ⊥ None (Err Read) → ⊥

@@ -4,7 +4,7 @@
 //! the file; else the header or the body of a record is cut short there.
 
 ghost use Rattle.std.specs.Prelude.{◌≡◌, ◌+◌, ◌≤◌, List, length, None, refl, ◌^◌, ◌<◌};
-ghost use Rattle.rs_mrt.specs.Source.{IsLeft, stopped_at};
+ghost use Rattle.rs_mrt.specs.Source.{IsLeft, source_end, stopped_at};
 ghost use Rattle.rs_mrt.specs.Record.{reading_of, next_of, after_next, record_of, octets_of, seen, taken_from};
 
 use crate::fault::{MrtFault, SourceFault};
@@ -118,7 +118,7 @@ impl<'a> Source for Records<'a> {
 
     ghost room = { λ s. s.octets };
 
-    ghost may_come = { λ s. (s.left, s.end, (refl, refl)) };
+    ghost may_come = { λ s. (s.left, source_end s.end, (refl, refl)) };
 
     fn advance(&mut self) -> Result<bool, SourceFault> {
         match self.next() {

@@ -2,7 +2,6 @@
 
 ghost use Rattle.std.specs.Prelude.{◌≡◌, ◌+◌, ◌^◌, ◌<◌, ◌≤◌, ℕ, Bool, List, Option, Result};
 ghost use Rattle.std.specs.Option.{option_map};
-ghost use Rattle.rs_mrt.specs.declared.fault.MrtFault.{MrtFault};
 ghost use Rattle.rs_mrt.specs.declared.fault.SourceFault.{SourceFault};
 ghost use Rattle.rs_mrt.specs.Record.{MrtRecord, record_of, octets_of};
 ghost use Rattle.rs_mrt.specs.Source.{Advances, CountsFailure, Stays, Stops, SomethingComes};
@@ -15,8 +14,8 @@ pub trait Source {
     // The record that is shown: none before the first one, at the end and after a fault.
     ghost shows: { Self → Option MrtRecord };
 
-    // These records may still come, and after them the end, or that fault.
-    ghost comes: { Self → List MrtRecord → Option MrtFault → Type 0 };
+    // These records may still come, and after them the end, or that fault: one of the octets, or a failed read.
+    ghost comes: { Self → List MrtRecord → Option SourceFault → Type 0 };
 
     // The answer that it gives from now on, where it has stopped.
     ghost stopped: { Self → Option (Result Bool SourceFault) };
@@ -31,7 +30,7 @@ pub trait Source {
     ghost room: { Self → ℕ };
 
     /// Goes to the next record and answers whether there is one. At the end it answers `false` from then on, after a
-    /// fault that fault.
+    /// fault that fault. All whole records that came before a failed read are gone to first.
     fn advance(&mut self) -> Result<bool, SourceFault>
         ensures records { Advances comes self.old self.new (shows self.new) result }
         ensures bound { room self.old < 2 ^ 64 }
