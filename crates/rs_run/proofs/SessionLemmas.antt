@@ -3,12 +3,11 @@ use Rattle.std.proofs.Common.{◌≡◌, ℕ, ◌+◌, ◌≤◌, Bool, true, fa
 use Rattle.std.specs.Prelude.{◌||◌, if◌then◌else◌}
 use Rattle.std.specs.List.{list_any}
 use Rattle.rs_mrt.specs.Record.{MrtRecord, Reading}
-use Rattle.rs_mrt.specs.Source.{IsLeft, CountsFailure, stopped_at}
-use Rattle.rs_mrt.specs.declared.fault.MrtFault.{MrtFault}
-use Rattle.rs_mrt.specs.declared.fault.SourceFault.TheVariants as faults
-use Rattle.rs_session.specs.Change.{Change, ChangeBody, Announced, Withdrawn, Closed, change_of, body_of, is_close, is_read_failure}
+use Rattle.rs_mrt.specs.Source.{IsLeft, source_end}
+use Rattle.rs_mrt.specs.declared.fault.SourceFault.{SourceFault}
+use Rattle.rs_session.specs.Change.{Change, ChangeBody, Announced, Withdrawn, Closed, change_of, body_of, is_close}
 use Rattle.rs_session.specs.Laws.{ClosesLast}
-use Rattle.rs_session.specs.Stage.{Stage, May, Says, SaysJust, to_read, changes_left, passed_in_the_end, answer_behind}
+use Rattle.rs_session.specs.Stage.{Stage, May, Says, SaysJust, to_read, changes_left, passed_in_the_end}
 use Rattle.rs_session.specs.declared.word.Body.{Body}
 use Rattle.rs_session.specs.declared.word.Body.TheVariants.{Announce, Withdraw, Close}
 use Rattle.rs_session.specs.declared.word.Word.{Word}
@@ -22,7 +21,7 @@ use Rattle.rs_run.specs.SessionEnd.{reason_or, reason_in}
 use Rattle.rs_run.specs.declared.peer_end.PeerEnd.{PeerEnd}
 
 -- what a file as a source may give, and shows
-abbrev pub comes : Reading → List MrtRecord → Option MrtFault → Type 0
+abbrev pub comes : Reading → List MrtRecord → Option SourceFault → Type 0
 comes reading later end = IsLeft reading later end
 
 abbrev pub shows : Reading → Option MrtRecord
@@ -33,13 +32,13 @@ records_to_come stage = to_read stage.held stage.source.shown stage.source.left
 
 -- the changes that are still to come
 abbrev pub to_come : Stage Reading → List Change
-to_come stage = changes_left stage (records_to_come stage) stage.source.end
+to_come stage = changes_left stage (records_to_come stage) (source_end stage.source.end)
 
 -- they may come
 pub to_come-may : (stage : Stage Reading) → May comes shows stage (to_come stage) (passed_in_the_end stage (records_to_come stage))
 to_come-may stage = record {
   records = records_to_come stage;
-  end = stage.source.end;
+  end = source_end stage.source.end;
   may_read = record { later = stage.source.left; come = (refl, refl); read = refl };
   left = refl;
   counted = refl;
@@ -49,20 +48,20 @@ to_come-may stage = record {
 pub to_come-only : (stage : Stage Reading) (changes : List Change) (passed : ℕ) → May comes shows stage changes passed → changes ≡ to_come stage
 to_come-only stage changes passed m =
     let records-are : m.records ≡ records_to_come stage = m.may_read.read ∙ ap (λ (later : List MrtRecord). to_read stage.held stage.source.shown later) m.may_read.come.0 in
-    m.left ∙ ap (λ (rs : List MrtRecord). changes_left stage rs m.end) records-are ∙ ap (λ (e : Option MrtFault). changes_left stage (records_to_come stage) e) m.may_read.come.1
+    m.left ∙ ap (λ (rs : List MrtRecord). changes_left stage rs m.end) records-are ∙ ap (λ (e : Option SourceFault). changes_left stage (records_to_come stage) e) m.may_read.come.1
 
 -- at first what the file says
 pub to_come-says : (stage : Stage Reading) (changes : List Change) (passed : ℕ) → SaysJust comes shows stage changes passed → to_come stage ≡ changes
 to_come-says stage changes passed h = ((h (to_come stage) (passed_in_the_end stage (records_to_come stage))).0 (to_come-may stage)).0
 
 -- a change that is given was the first to come
-pub to_come-given : (old new : Stage Reading) (word : Word) → Says comes shows old new (Ok (Some word)) → is_read_failure word.body ≡ false → to_come old ≡ change_of word ∷ to_come new
-to_come-given old new word says readable =
-    sym (to_come-only old (change_of word ∷ to_come new) (passed_in_the_end new (records_to_come new)) (says.0 readable (to_come new) (passed_in_the_end new (records_to_come new)) (to_come-may new)))
+pub to_come-given : (old new : Stage Reading) (word : Word) → Says comes shows old new (Ok (Some word)) → to_come old ≡ change_of word ∷ to_come new
+to_come-given old new word says =
+    sym (to_come-only old (change_of word ∷ to_come new) (passed_in_the_end new (records_to_come new)) (says.0 (to_come new) (passed_in_the_end new (records_to_come new)) (to_come-may new)))
 
 -- after a close nothing is to come
 pub to_come-closed : (old new : Stage Reading) (word : Word) → Says comes shows old new (Ok (Some word)) → is_close word.body ≡ true → to_come new ≡ []
-to_come-closed old new word says close = (says.2 close (to_come new) (passed_in_the_end new (records_to_come new)) (to_come-may new)).0
+to_come-closed old new word says close = (says.1 close (to_come new) (passed_in_the_end new (records_to_come new)) (to_come-may new)).0
 
 -- nothing is given where nothing is to come
 pub to_come-none : (old new : Stage Reading) → Says comes shows old new (Ok None) → to_come old ≡ []
@@ -84,26 +83,9 @@ pub passed_to_come-says : (stage : Stage Reading) (changes : List Change) (passe
 passed_to_come-says stage changes passed h = ((h (to_come stage) (passed_to_come stage)).0 (to_come-may stage)).1
 
 -- a change that is given changes nothing of this
-pub passed_to_come-given : (old new : Stage Reading) (word : Word) → Says comes shows old new (Ok (Some word)) → is_read_failure word.body ≡ false → passed_to_come old ≡ passed_to_come new
-passed_to_come-given old new word says readable =
-    sym (passed_to_come-only old (change_of word ∷ to_come new) (passed_to_come new) (says.0 readable (to_come new) (passed_to_come new) (to_come-may new)))
-
--- ---- a file in memory can always be read
-
-never_stopped : (shown : Option MrtRecord) (later : List MrtRecord) (end : Option MrtFault) → stopped_at shown later end ≡ Some (Err faults.Read) → ⊥
-never_stopped (Some r) later end e = cc
-never_stopped None (r ∷ later) end e = cc
-never_stopped None [] None e = cc
-never_stopped None [] (Some fault) e = cc
-
-no_failure : (reading : Reading) (failed : Bool) → CountsFailure 0 0 ⊥ (stopped_at reading.shown reading.left reading.end) (if failed then Err faults.Read else Ok true) → failed ≡ false
-no_failure reading false h = refl
-no_failure reading true (inl counted) = absurd (omega (arith, counted))
-no_failure reading true (inr (same, inl full)) = absurd full
-no_failure reading true (inr (same, inr stopped)) = absurd (never_stopped reading.shown reading.left reading.end stopped)
-
-pub always_readable : (reading : Reading) (word : Word) → CountsFailure 0 0 ⊥ (stopped_at reading.shown reading.left reading.end) (answer_behind (Ok (Some word))) → is_read_failure word.body ≡ false
-always_readable reading word h = no_failure reading (is_read_failure word.body) h
+pub passed_to_come-given : (old new : Stage Reading) (word : Word) → Says comes shows old new (Ok (Some word)) → passed_to_come old ≡ passed_to_come new
+passed_to_come-given old new word says =
+    sym (passed_to_come-only old (change_of word ∷ to_come new) (passed_to_come new) (says.0 (to_come new) (passed_to_come new) (to_come-may new)))
 
 -- ---- what a peer has left beside what is to come
 
@@ -202,10 +184,10 @@ reading-fresh says total stage rib just nothing = record {
 }
 
 -- one change more was given
-pub reading-given : (says : List Change) (total : ℕ) (old new : Stage Reading) (before after : RibContent) (end : EndSoFar) (word : Word) → IsReading says total old before end → Says comes shows old new (Ok (Some word)) → is_read_failure word.body ≡ false → BecomeBy before.routes (change_of word) after.routes → after.closed ≡ table.is_close (change_of word)
+pub reading-given : (says : List Change) (total : ℕ) (old new : Stage Reading) (before after : RibContent) (end : EndSoFar) (word : Word) → IsReading says total old before end → Says comes shows old new (Ok (Some word)) → BecomeBy before.routes (change_of word) after.routes → after.closed ≡ table.is_close (change_of word)
     → IsReading says total new after (record { changes = end.changes + 1; reason = reason_or end.reason (change_of word).body })
-reading-given says total old new before after end word r word-says readable become closed =
-    let first = to_come-given old new word word-says readable in
+reading-given says total old new before after end word r word-says become closed =
+    let first = to_come-given old new word word-says in
     let unclosed : before.closed ≡ false = open-before says total old before end (change_of word) (to_come new) r first in
     let none : list_any table.is_close r.given ≡ false = sym r.closed ∙ unclosed in
     let more : list_any table.is_close (r.given ++ change_of word ∷ []) ≡ table.is_close (change_of word) = any-one_more r.given (change_of word) none in
@@ -217,7 +199,7 @@ reading-given says total old new before after end word r word-says readable beco
       over = λ e. to_come-closed old new word word-says (sym (same_close word.body) ∙ sym more ∙ e);
       counted = omega (arith, r.counted, length-append r.given (change_of word ∷ []));
       why = ap (λ (reason : Reason). reason_or reason (change_of word).body) r.why ∙ sym (reason-one_more r.given (change_of word) none);
-      passed = sym (passed_to_come-given old new word word-says readable) ∙ r.passed;
+      passed = sym (passed_to_come-given old new word word-says) ∙ r.passed;
     }
 
 -- as many changes at most as the file says
@@ -237,8 +219,8 @@ append-nil (x ∷ xs) = ap (λ (ys : List Change). x ∷ ys) (append-nil xs)
 given-whole : (says : List Change) (total : ℕ) (stage : Stage Reading) (rib : RibContent) (end : EndSoFar) (r : IsReading says total stage rib end) → to_come stage ≡ [] → r.given ≡ says
 given-whole says total stage rib end r none = sym (append-nil r.given) ∙ ap (λ (cs : List Change). r.given ++ cs) (sym none) ∙ r.whole
 
-pub reading-whole : (says : List Change) (total : ℕ) (stage : Stage Reading) (rib : RibContent) (end : EndSoFar) → IsReading says total stage rib end → to_come stage ≡ [] → ClosesLast says → rib ≡ record { routes = left says; closed = true }
-reading-whole says total stage rib end r none last =
+pub reading-whole : (says : List Change) (total : ℕ) (stage : Stage Reading) (rib : RibContent) (end : EndSoFar) → IsReading says total stage rib end → to_come stage ≡ [] → (ended : Option SourceFault) → ClosesLast ended says → rib ≡ record { routes = left says; closed = true }
+reading-whole says total stage rib end r none ended last =
     let all : r.given ≡ says = given-whole says total stage rib end r none in
     let closes : list_any table.is_close says ≡ true = rw last.splits (any-last last.before _ refl) in
     let closed : rib.closed ≡ true = r.closed ∙ rw all closes in

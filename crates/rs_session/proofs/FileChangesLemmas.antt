@@ -3,7 +3,7 @@ use Rattle.std.proofs.Common.{◌≡◌, ℕ, ◌+◌, true, false, not, List, [
 use Rattle.std.specs.List.{flat_map}
 use Rattle.std.proofs.lemmas.List.Sums.{take_while-cons, sum_by-cons}
 use Rattle.rs_mrt.specs.Record.{MrtRecord}
-use Rattle.rs_mrt.specs.declared.fault.MrtFault.{MrtFault}
+use Rattle.rs_mrt.specs.declared.fault.SourceFault.{SourceFault}
 use Rattle.rs_session.specs.Change.{Change}
 use Rattle.rs_session.specs.Effect.{PassesOver, Gives, Ends, effect_of}
 use Rattle.rs_session.specs.FileChanges.{changes_of, passed_of, close_at, reason_at_end, open_records, ends, passes_over, changes_by, closing}
@@ -11,7 +11,7 @@ use Rattle.rs_session.specs.declared.peer.PeerId.{PeerId}
 use Rattle.rs_session.specs.declared.word.Reason.{Reason}
 
 -- no records
-pub changes_of-nil : (peer : PeerId) (end : Option MrtFault) → changes_of peer [] end ≡ close_at 0 (reason_at_end end) ∷ []
+pub changes_of-nil : (peer : PeerId) (end : Option SourceFault) → changes_of peer [] end ≡ close_at 0 (reason_at_end end) ∷ []
 unfolding changes_of
 changes_of-nil peer end = refl
 
@@ -27,14 +27,14 @@ open_records-end : (peer : PeerId) (r : MrtRecord) (later : List MrtRecord) → 
 open_records-end peer r later h = take_while-cons (λ x. not (ends (effect_of peer x))) r later ∙ ap (λ b. cond (not b) (r ∷ open_records peer later) []) h
 
 -- what the records that are read say, and then the close
-said_by : PeerId → List MrtRecord → Option MrtFault → List MrtRecord → List Change
+said_by : PeerId → List MrtRecord → Option SourceFault → List MrtRecord → List Change
 said_by peer read end records = flat_map (λ r. changes_by r.time (effect_of peer r)) read ++ closing peer end (find (λ r. ends (effect_of peer r)) records)
 
 count_passed : PeerId → List MrtRecord → ℕ
 count_passed peer read = count_by (λ r. passes_over (effect_of peer r)) read
 
 -- a record that is passed over
-pub changes_of-passes : (peer : PeerId) (r : MrtRecord) (later : List MrtRecord) (end : Option MrtFault) → effect_of peer r ≡ PassesOver → changes_of peer (r ∷ later) end ≡ changes_of peer later end
+pub changes_of-passes : (peer : PeerId) (r : MrtRecord) (later : List MrtRecord) (end : Option SourceFault) → effect_of peer r ≡ PassesOver → changes_of peer (r ∷ later) end ≡ changes_of peer later end
 unfolding changes_of said_by
 changes_of-passes peer r later end e = ap (λ read. said_by peer read end (r ∷ later)) (open_records-on peer r later (ap ends e)) ∙ rw e refl
 
@@ -46,7 +46,7 @@ passed_of-passes peer r later e =
     ∙ rw e refl
 
 -- a record that gives changes
-pub changes_of-gives : (peer : PeerId) (r : MrtRecord) (changes : List Change) (later : List MrtRecord) (end : Option MrtFault) → effect_of peer r ≡ Gives changes → changes_of peer (r ∷ later) end ≡ changes ++ changes_of peer later end
+pub changes_of-gives : (peer : PeerId) (r : MrtRecord) (changes : List Change) (later : List MrtRecord) (end : Option SourceFault) → effect_of peer r ≡ Gives changes → changes_of peer (r ∷ later) end ≡ changes ++ changes_of peer later end
 unfolding changes_of said_by
 changes_of-gives peer r changes later end e = ap (λ read. said_by peer read end (r ∷ later)) (open_records-on peer r later (ap ends e)) ∙ rw e (append_assoc changes _ _)
 
@@ -58,7 +58,7 @@ passed_of-gives peer r changes later e =
     ∙ rw e (omega arith)
 
 -- a record that ends the session
-pub changes_of-ends : (peer : PeerId) (r : MrtRecord) (reason : Reason) (later : List MrtRecord) (end : Option MrtFault) → effect_of peer r ≡ Ends reason → changes_of peer (r ∷ later) end ≡ close_at r.time reason ∷ []
+pub changes_of-ends : (peer : PeerId) (r : MrtRecord) (reason : Reason) (later : List MrtRecord) (end : Option SourceFault) → effect_of peer r ≡ Ends reason → changes_of peer (r ∷ later) end ≡ close_at r.time reason ∷ []
 unfolding changes_of said_by
 changes_of-ends peer r reason later end e = ap (λ read. said_by peer read end (r ∷ later)) (open_records-end peer r later (ap ends e)) ∙ rw (e, e) refl
 

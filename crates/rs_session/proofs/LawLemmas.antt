@@ -3,21 +3,38 @@ use Rattle.std.proofs.Common.{◌≡◌, ℕ, zero, suc, ◌+◌, ◌≤◌, Boo
 use Rattle.std.proofs.lemmas.List.Folds.{list_any-append}
 use Rattle.rs_mrt.specs.Record.{MrtRecord, records_of, records_within, end_of, has_record, front_record, after_record, length_field}
 use Rattle.rs_mrt.specs.declared.record.TheConstants.{HEADER_LEN}
-use Rattle.rs_mrt.specs.declared.fault.MrtFault.{MrtFault}
+use Rattle.rs_mrt.specs.Source.{source_end}
+use Rattle.rs_mrt.specs.declared.fault.SourceFault.{SourceFault}
+use Rattle.rs_mrt.specs.declared.fault.SourceFault.TheVariants as faults
 use Rattle.rs_session.specs.Effect.{RecordEffect, PassesOver, Gives, Ends, effect_of}
-use Rattle.rs_session.specs.Laws.{is_closing, is_recorded, ClosesLast}
+use Rattle.rs_session.specs.Laws.{is_closing, is_recorded, may_close, ClosesLast}
 use Rattle.rs_session.specs.FileChanges.{changes_of, close_at, reason_at_end, changes_in}
 use Rattle.rs_session.specs.declared.peer.PeerId.{PeerId}
+use Rattle.rs_session.specs.declared.word.Reason.{Reason}
+use Rattle.rs_session.specs.declared.word.Reason.TheVariants as reasons
 use Rattle.rs_session.proofs.EffectLemmas.{IsFine, fine-effect}
 use Rattle.rs_session.proofs.FileChangesLemmas.{changes_of-nil, changes_of-passes, changes_of-gives, changes_of-ends}
 
 -- ---- one close
 
-recorded_at_end : (end : Option MrtFault) → is_recorded (reason_at_end end) ≡ true
+recorded_at_end : (end : Option SourceFault) → may_close end (reason_at_end end) ≡ true
 recorded_at_end None = refl
-recorded_at_end (Some fault) = refl
+recorded_at_end (Some (faults.Mrt fault)) = refl
+recorded_at_end (Some faults.Read) = refl
 
-closes-record : (peer : PeerId) (r : MrtRecord) (later : List MrtRecord) (end : Option MrtFault) (effect : RecordEffect) → effect_of peer r ≡ effect → IsFine (length r.body) effect → ClosesLast (changes_of peer later end) → ClosesLast (changes_of peer (r ∷ later) end)
+-- what a record says is among the reasons for a close, however the records end
+recorded_before : (end : Option SourceFault) (reason : Reason) → is_recorded reason ≡ true → may_close end reason ≡ true
+recorded_before None reason h = h
+recorded_before (Some (faults.Mrt fault)) reason h = h
+recorded_before (Some faults.Read) reasons.EndOfFile h = refl
+recorded_before (Some faults.Read) reasons.State h = refl
+recorded_before (Some faults.Read) reasons.Notification h = refl
+recorded_before (Some faults.Read) (reasons.Bgp code subcode) h = refl
+recorded_before (Some faults.Read) (reasons.Mrt number) h = refl
+recorded_before (Some faults.Read) reasons.Memory h = h
+recorded_before (Some faults.Read) reasons.Read h = refl
+
+closes-record : (peer : PeerId) (r : MrtRecord) (later : List MrtRecord) (end : Option SourceFault) (effect : RecordEffect) → effect_of peer r ≡ effect → IsFine (length r.body) effect → ClosesLast end (changes_of peer later end) → ClosesLast end (changes_of peer (r ∷ later) end)
 closes-record peer r later end PassesOver is fine h = record {
   before = h.before;
   time = h.time;
@@ -40,10 +57,10 @@ closes-record peer r later end (Ends reason) is fine h = record {
   reason = reason;
   splits = changes_of-ends peer r reason later end is;
   none_before = refl;
-  recorded = fine;
+  recorded = recorded_before end reason fine;
 }
 
-pub closes_last : (peer : PeerId) (records : List MrtRecord) (end : Option MrtFault) → ClosesLast (changes_of peer records end)
+pub closes_last : (peer : PeerId) (records : List MrtRecord) (end : Option SourceFault) → ClosesLast end (changes_of peer records end)
 closes_last peer [] end = record {
   before = [];
   time = 0;
@@ -55,7 +72,7 @@ closes_last peer [] end = record {
 closes_last peer (r ∷ later) end = closes-record peer r later end (effect_of peer r) refl (fine-effect peer r) (closes_last peer later end)
 
 -- so it says at least one change
-pub changes_of-some : (peer : PeerId) (records : List MrtRecord) (end : Option MrtFault) → 1 ≤ length (changes_of peer records end)
+pub changes_of-some : (peer : PeerId) (records : List MrtRecord) (end : Option SourceFault) → 1 ≤ length (changes_of peer records end)
 changes_of-some peer records end =
     let h = closes_last peer records end in
     omega (arith, ap length h.splits, length-append h.before (close_at h.time h.reason ∷ []))
@@ -66,12 +83,12 @@ body_octets : List MrtRecord → ℕ
 body_octets [] = 0
 body_octets (r ∷ records) = length r.body + body_octets records
 
-length-record : (peer : PeerId) (r : MrtRecord) (later : List MrtRecord) (end : Option MrtFault) (effect : RecordEffect) → effect_of peer r ≡ effect → IsFine (length r.body) effect → length (changes_of peer later end) ≤ body_octets later + 1 → length (changes_of peer (r ∷ later) end) ≤ length r.body + body_octets later + 1
+length-record : (peer : PeerId) (r : MrtRecord) (later : List MrtRecord) (end : Option SourceFault) (effect : RecordEffect) → effect_of peer r ≡ effect → IsFine (length r.body) effect → length (changes_of peer later end) ≤ body_octets later + 1 → length (changes_of peer (r ∷ later) end) ≤ length r.body + body_octets later + 1
 length-record peer r later end PassesOver is fine h = rw (changes_of-passes peer r later end is) (omega arith)
 length-record peer r later end (Gives changes) is fine h = rw (changes_of-gives peer r changes later end is) (let few = fine.1 in omega (arith, length-append changes (changes_of peer later end)))
 length-record peer r later end (Ends reason) is fine h = rw (changes_of-ends peer r reason later end is) (omega arith)
 
-length-changes_of : (peer : PeerId) (records : List MrtRecord) (end : Option MrtFault) → length (changes_of peer records end) ≤ body_octets records + 1
+length-changes_of : (peer : PeerId) (records : List MrtRecord) (end : Option SourceFault) → length (changes_of peer records end) ≤ body_octets records + 1
 unfolding body_octets
 length-changes_of peer [] end = rw (changes_of-nil peer end) (omega arith)
 length-changes_of peer (r ∷ later) end = length-record peer r later end (effect_of peer r) refl (fine-effect peer r) (length-changes_of peer later end)
@@ -99,4 +116,4 @@ octets-records_within (suc fuel) octets =
 
 pub length-changes_in : (peer : PeerId) (file : List ℕ) → length (changes_in peer file) ≤ length file + 1
 unfolding records_of
-length-changes_in peer file = let few = length-changes_of peer (records_of file) (end_of file) in let fit = octets-records_within (length file) file in omega (arith, few, fit)
+length-changes_in peer file = let few = length-changes_of peer (records_of file) (source_end (end_of file)) in let fit = octets-records_within (length file) file in omega (arith, few, fit)

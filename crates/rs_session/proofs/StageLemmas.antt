@@ -3,40 +3,29 @@ use Rattle.std.proofs.Common.{◌≡◌, ℕ, Bool, true, false, List, [], ◌�
 use Rattle.std.specs.Option.{option_to_list}
 use Rattle.std.specs.declared.alloc.AllocError.{AllocError}
 use Rattle.rs_mrt.specs.Record.{MrtRecord, reading_of, records_of, end_of}
-use Rattle.rs_mrt.specs.Source.{Advances, IsLeft, SomethingComes}
-use Rattle.rs_mrt.specs.declared.fault.MrtFault.{MrtFault}
-use Rattle.rs_session.specs.Change.{Change, change_of, closing_word, is_read}
+use Rattle.rs_mrt.specs.Source.{Advances, IsLeft, SomethingComes, source_end}
+use Rattle.rs_mrt.specs.declared.fault.SourceFault.{SourceFault}
+use Rattle.rs_session.specs.Change.{Change, change_of}
 use Rattle.rs_session.specs.Effect.{RecordEffect, PassesOver, Gives, Ends, effect_of}
 use Rattle.rs_session.specs.FileChanges.{changes_in, passed_in, changes_of, close_at}
-use Rattle.rs_session.specs.Stage.{Stage, MayRead, May, Keeps, KeepsBehind, IsOver, SaysJust, fresh, to_read, changes_left, passed_in_the_end}
+use Rattle.rs_session.specs.Stage.{Comes, Stage, MayRead, May, Keeps, KeepsBehind, IsOver, SaysJust, fresh, to_read, changes_left, passed_in_the_end}
 use Rattle.rs_session.specs.Laws.{SomethingMayCome}
 use Rattle.rs_session.specs.declared.peer.PeerId.{PeerId}
 use Rattle.rs_session.specs.Steps.{closed_by, Fetches, Applies, ReadsShown, Steps}
 use Rattle.rs_session.specs.declared.word.Reason.{Reason}
-use Rattle.rs_session.specs.declared.word.Reason.TheVariants.{EndOfFile, State, Notification, Bgp, Mrt, Memory, Read}
 use Rattle.rs_session.specs.declared.word.Word.{Word}
 use Rattle.rs_session.proofs.LawLemmas.{changes_of-some}
 use Rattle.rs_session.proofs.FileChangesLemmas.{changes_of-nil, passed_of-nil, changes_of-passes, passed_of-passes, changes_of-gives, passed_of-gives, changes_of-ends, passed_of-ends}
 
--- only one reason says that records can't be read
-pub is_read_is : (reason : Reason) → is_read reason ≡ true → closing_word 0 reason ≡ closing_word 0 Read
-is_read_is Read h = refl
-is_read_is EndOfFile h = cc
-is_read_is State h = cc
-is_read_is Notification h = cc
-is_read_is (Bgp code subcode) h = cc
-is_read_is (Mrt number) h = cc
-is_read_is Memory h = cc
-
-module _ {S : Type 0} (comes : S → List MrtRecord → Option MrtFault → Type 0) (shows : S → Option MrtRecord) where
+module _ {S : Type 0} (comes : Comes S) (shows : S → Option MrtRecord) where
   -- ---- fetching
 
-  more_come : (old new : S) (shown : Option MrtRecord) (later : List MrtRecord) (end : Option MrtFault) → Advances comes old new shown (Ok true) → comes new later end → comes old (option_to_list shown ++ later) end
+  more_come : (old new : S) (shown : Option MrtRecord) (later : List MrtRecord) (end : Option SourceFault) → Advances comes old new shown (Ok true) → comes new later end → comes old (option_to_list shown ++ later) end
   more_come old new (Some r) later end h come = h later end come
   more_come old new None later end h come = absurd h
 
   -- after a record was fetched the same records may be read as before
-  pub may_read-fetched : (old new : Stage S) → old.held ≡ false → new.held ≡ true → Advances comes old.source new.source (shows new.source) (Ok true) → (records : List MrtRecord) (end : Option MrtFault) → MayRead comes shows new records end → MayRead comes shows old records end
+  pub may_read-fetched : (old new : Stage S) → old.held ≡ false → new.held ≡ true → Advances comes old.source new.source (shows new.source) (Ok true) → (records : List MrtRecord) (end : Option SourceFault) → MayRead comes shows new records end → MayRead comes shows old records end
   may_read-fetched old new empty full h records end m = record {
     later = option_to_list (shows new.source) ++ m.later;
     come = more_come old.source new.source (shows new.source) m.later end h m.come;
@@ -44,7 +33,7 @@ module _ {S : Type 0} (comes : S → List MrtRecord → Option MrtFault → Type
   }
 
   -- where no record is held and none comes, none may be read
-  pub may_read-none : (old : Stage S) (end : Option MrtFault) → old.held ≡ false → comes old.source [] end → MayRead comes shows old [] end
+  pub may_read-none : (old : Stage S) (end : Option SourceFault) → old.held ≡ false → comes old.source [] end → MayRead comes shows old [] end
   may_read-none old end empty come = record { later = []; come = come; read = rw empty refl }
 
   -- a stage with the same fields but for the source and what is held keeps what may come, where it keeps what may be read
@@ -64,9 +53,8 @@ module _ {S : Type 0} (comes : S → List MrtRecord → Option MrtFault → Type
   over-closed stage closed changes passed m = (rw closed at m.left, rw closed at m.counted)
 
   -- where no record may be read, the close for that reason comes
-  pub closes_at_end : (old fetched new : Stage S) (reason : Reason) → old.closed ≡ false → old.waiting ≡ [] → fetched ≡ record old { source = fetched.source; held = false } → Fetches comes shows old fetched (Some reason) → new ≡ closed_by fetched → is_read reason ≡ false → KeepsBehind comes shows (close_at 0 reason) old new
-  closes_at_end old fetched new reason unclosed idle same h closed own changes passed m =
-      let end = h own in
+  pub closes_at_end : (old fetched new : Stage S) (reason : Reason) → old.closed ≡ false → old.waiting ≡ [] → fetched ≡ record old { source = fetched.source; held = false } → Fetches comes shows old fetched (Some reason) → new ≡ closed_by fetched → KeepsBehind comes shows (close_at 0 reason) old new
+  closes_at_end old fetched new reason unclosed idle same end closed changes passed m =
       record {
         records = [];
         end = end.0;
@@ -78,7 +66,7 @@ module _ {S : Type 0} (comes : S → List MrtRecord → Option MrtFault → Type
   -- ---- reading
 
   -- the record that is held is one of those that may be read
-  may_read-held : (old new : Stage S) (r : MrtRecord) (records : List MrtRecord) (end : Option MrtFault) → old.held ≡ true → new.held ≡ false → new.source ≡ old.source → shows old.source ≡ Some r → MayRead comes shows new records end → MayRead comes shows old (r ∷ records) end
+  may_read-held : (old new : Stage S) (r : MrtRecord) (records : List MrtRecord) (end : Option SourceFault) → old.held ≡ true → new.held ≡ false → new.source ≡ old.source → shows old.source ≡ Some r → MayRead comes shows new records end → MayRead comes shows old (r ∷ records) end
   may_read-held old new r records end full empty same shown m = record {
     later = m.later;
     come = rw same at m.come;
@@ -109,16 +97,15 @@ module _ {S : Type 0} (comes : S → List MrtRecord → Option MrtFault → Type
     rw h refl,
   )
   steps-applied old new r (Ends reason) (Some word) full unclosed idle shown says h = (
-    (λ own changes passed m. record {
+    (λ changes passed m. record {
       records = r ∷ m.records;
       end = m.end;
       may_read = may_read-held old new r m.records m.end full (rw h.2 refl) (rw h.2 refl) shown m.may_read;
       left = rw (unclosed, idle, changes_of-ends old.peer r reason m.records m.end says, h.0) (ap (λ (cs : List Change). close_at r.time reason ∷ cs) (rw h.2 at m.left));
       counted = rw (unclosed, passed_of-ends old.peer r reason m.records says, add-zero) (rw h.2 at m.counted);
     }),
-    (λ failed. absurd (let own : is_read reason ≡ true = rw h.0 at failed in cc)),
     rw h.0 refl,
-    over-closed new (rw h.2 refl),
+    rw h.2 refl,
   )
   steps-applied old new r PassesOver (Some word) full unclosed idle shown says h = absurd h
   steps-applied old new r (Gives changes) (Some word) full unclosed idle shown says h = absurd h
@@ -143,7 +130,7 @@ module _ {S : Type 0} (comes : S → List MrtRecord → Option MrtFault → Type
 
   steps-after : (old between new : Stage S) (result : Result (Option Word) AllocError) → Keeps comes shows old between → between.passed ≡ old.passed → Steps comes shows between new result → Steps comes shows old new result
   steps-after old between new (Ok None) keeps same h = ((λ changes passed m. keeps changes passed (h.0 changes passed m)), h.1, h.2 ∙ same)
-  steps-after old between new (Ok (Some word)) keeps same h = ((λ own changes passed m. keeps (change_of word ∷ changes) passed (h.0 own changes passed m)), h.1, h.2, h.3)
+  steps-after old between new (Ok (Some word)) keeps same h = ((λ changes passed m. keeps (change_of word ∷ changes) passed (h.0 changes passed m)), h.1, h.2)
   steps-after old between new (Err refused) keeps same h = ((λ changes passed m. keeps changes passed (h.0 changes passed m)), h.1, h.2 ∙ same)
 
   steps-result : (old new : Stage S) (result : Result (Option Word) AllocError) → old.held ≡ true → old.closed ≡ false → old.waiting ≡ [] → IfOk result (λ given. ReadsShown (shows old.source) old given new) → OnErr result (new ≡ old) → Steps comes shows old new result
@@ -189,7 +176,7 @@ says_just-file peer file changes passed = (
       (m.left ∙ rw (same, m.may_read.come.1) refl, m.counted ∙ rw same (omega arith))),
   λ h. record {
     records = records_of file;
-    end = end_of file;
+    end = source_end (end_of file);
     may_read = record { later = records_of file; come = (refl, refl); read = refl };
     left = h.0;
     counted = h.1 ∙ omega arith;

@@ -3,12 +3,14 @@ use Rattle.std.specs.Prelude.{ℕ, Bool, true, false, not, List, [], ◌∷◌, 
 use Rattle.std.specs.List.{flat_map}
 use Rattle.rs_mrt.specs.Fault.{number_of}
 use Rattle.rs_mrt.specs.Record.{MrtRecord, records_of, end_of}
-use Rattle.rs_mrt.specs.declared.fault.MrtFault.{MrtFault}
+use Rattle.rs_mrt.specs.Source.{source_end}
+use Rattle.rs_mrt.specs.declared.fault.SourceFault.{SourceFault}
+use Rattle.rs_mrt.specs.declared.fault.SourceFault.TheVariants as faults
 use Rattle.rs_session.specs.Change.{Change, Closed}
 use Rattle.rs_session.specs.Effect.{RecordEffect, PassesOver, Gives, Ends, effect_of}
 use Rattle.rs_session.specs.declared.peer.PeerId.{PeerId}
 use Rattle.rs_session.specs.declared.word.Reason.{Reason}
-use Rattle.rs_session.specs.declared.word.Reason.TheVariants.{EndOfFile, Mrt}
+use Rattle.rs_session.specs.declared.word.Reason.TheVariants.{EndOfFile, Mrt, Read}
 
 -- ---- one record
 
@@ -38,17 +40,18 @@ abbrev pub open_records : PeerId → List MrtRecord → List MrtRecord
 open_records peer records = take_while (λ r. not (ends (effect_of peer r))) records
 
 -- how a session closes that no record ends; such a close has time 0 (our choice)
-abbrev pub reason_at_end : Option MrtFault → Reason
+abbrev pub reason_at_end : Option SourceFault → Reason
 reason_at_end None = EndOfFile
-reason_at_end (Some fault) = Mrt (number_of fault)
+reason_at_end (Some (faults.Mrt fault)) = Mrt (number_of fault)
+reason_at_end (Some faults.Read) = Read
 
 -- the close: by the first record that ends the session, else by how the records end
-abbrev pub closing : PeerId → Option MrtFault → Option MrtRecord → List Change
+abbrev pub closing : PeerId → Option SourceFault → Option MrtRecord → List Change
 closing peer end (Some r) = changes_by r.time (effect_of peer r)
 closing peer end None = close_at 0 (reason_at_end end) ∷ []
 
 -- the changes that records say, and then the close; later records say nothing
-unfoldable pub changes_of : PeerId → List MrtRecord → Option MrtFault → List Change
+unfoldable pub changes_of : PeerId → List MrtRecord → Option SourceFault → List Change
 changes_of peer records end =
     flat_map (λ r. changes_by r.time (effect_of peer r)) (open_records peer records)
     ++ closing peer end (find (λ r. ends (effect_of peer r)) records)
@@ -61,7 +64,7 @@ passed_of peer records = count_by (λ r. passes_over (effect_of peer r)) (open_r
 
 -- the changes that a file says of a peer
 abbrev pub changes_in : PeerId → List ℕ → List Change
-changes_in peer file = changes_of peer (records_of file) (end_of file)
+changes_in peer file = changes_of peer (records_of file) (source_end (end_of file))
 
 -- how many of its records are passed over
 abbrev pub passed_in : PeerId → List ℕ → ℕ

@@ -1,13 +1,14 @@
 -- What holds of the definitions: each is the contract of a function that does nothing.
-use Rattle.std.specs.Prelude.{◌≡◌, ℕ, ◌+◌, ◌≤◌, Bool, true, false, List, [], ◌∷◌, ◌++◌, length, Option}
+use Rattle.std.specs.Prelude.{◌≡◌, ℕ, ◌+◌, ◌≤◌, Bool, true, false, List, [], ◌∷◌, ◌++◌, length, Option, Some}
 use Rattle.std.specs.List.{list_any}
 use Rattle.rs_mrt.specs.Entry.{front_of}
 use Rattle.rs_mrt.specs.Record.{MrtRecord}
-use Rattle.rs_mrt.specs.declared.fault.MrtFault.{MrtFault}
+use Rattle.rs_mrt.specs.declared.fault.SourceFault.{SourceFault}
+use Rattle.rs_mrt.specs.declared.fault.SourceFault.TheVariants as faults
 use Rattle.rs_session.specs.Change.{Change, ChangeBody, Announced, Withdrawn, Closed}
 use Rattle.rs_session.specs.Effect.{effect_of}
 use Rattle.rs_session.specs.FileChanges.{changes_of, close_at, changes_in}
-use Rattle.rs_session.specs.Stage.{Stage, May}
+use Rattle.rs_session.specs.Stage.{Comes, Stage, May}
 use Rattle.rs_session.specs.declared.peer.PeerId.{PeerId}
 use Rattle.rs_session.specs.declared.word.Reason.{Reason}
 use Rattle.rs_session.specs.declared.word.Reason.TheVariants as reasons
@@ -20,24 +21,29 @@ is_closing (Withdrawn prefix) = false
 abbrev pub has_close : List Change → Bool
 has_close changes = list_any (λ change. is_closing change.body) changes
 
--- records say any reason but want of memory, and that they can't be read
+-- a record says any reason but want of memory, and that records can't be read
 abbrev pub is_recorded : Reason → Bool
 is_recorded reasons.Memory = false
 is_recorded reasons.Read = false
 is_recorded reason = true
 
--- the changes are some without a close, and a close by a reason that records say
-pub record ClosesLast (changes : List Change) : Type 0 where
+-- records that end so say besides that they can't be read, where a failed read is their end
+abbrev pub may_close : Option SourceFault → Reason → Bool
+may_close (Some faults.Read) reasons.Read = true
+may_close end reason = is_recorded reason
+
+-- the changes are some without a close, and a close by a reason that records with this end say
+pub record ClosesLast (end : Option SourceFault) (changes : List Change) : Type 0 where
   pub before : List Change
   pub time : ℕ
   pub reason : Reason
   pub splits : changes ≡ before ++ close_at time reason ∷ []
   pub none_before : has_close before ≡ false
-  pub recorded : is_recorded reason ≡ true
+  pub recorded : may_close end reason ≡ true
 
--- whatever the records, they say exactly one close, and it is the last change
+-- whatever the records and their end, they say exactly one close, and it is the last change
 abbrev pub ClosesOnce : Type 0
-ClosesOnce = (peer : PeerId) (records : List MrtRecord) (end : Option MrtFault) → ClosesLast (changes_of peer records end)
+ClosesOnce = (peer : PeerId) (records : List MrtRecord) (end : Option SourceFault) → ClosesLast end (changes_of peer records end)
 
 -- a file says at most one change more than it has octets
 abbrev pub SaysNoMoreThanOctets : Type 0
@@ -48,5 +54,5 @@ abbrev pub FrontSuffices : Type 0
 FrontSuffices = (peer : PeerId) (r : MrtRecord) → effect_of peer (front_of r) ≡ effect_of peer r
 
 -- there is always something that may come, if only no change
-abbrev pub SomethingMayCome : {S : Type 0} → (S → List MrtRecord → Option MrtFault → Type 0) → (S → Option MrtRecord) → Stage S → Type 0
+abbrev pub SomethingMayCome : {S : Type 0} → Comes S → (S → Option MrtRecord) → Stage S → Type 0
 SomethingMayCome comes shows stage = (changes : List Change) × (passed : ℕ) × May comes shows stage changes passed

@@ -3,14 +3,16 @@ use Rattle.std.specs.Prelude.{◌≡◌, ◌↔◌, ℕ, ◌+◌, Bool, true, fa
 use Rattle.std.specs.Option.{option_to_list}
 use Rattle.std.specs.declared.alloc.AllocError.{AllocError}
 use Rattle.rs_mrt.specs.Record.{MrtRecord}
-use Rattle.rs_mrt.specs.declared.fault.MrtFault.{MrtFault}
 use Rattle.rs_mrt.specs.declared.fault.SourceFault.{SourceFault}
 use Rattle.rs_mrt.specs.declared.fault.SourceFault.TheVariants as faults
-use Rattle.rs_session.specs.Change.{Change, change_of, closing_word, is_close, is_read_failure}
+use Rattle.rs_session.specs.Change.{Change, change_of, is_close, is_read_failure}
 use Rattle.rs_session.specs.FileChanges.{changes_of, passed_of}
 use Rattle.rs_session.specs.declared.peer.PeerId.{PeerId}
-use Rattle.rs_session.specs.declared.word.Reason.TheVariants.{Read}
 use Rattle.rs_session.specs.declared.word.Word.{Word}
+
+-- which records may still come from a source, and how they end
+abbrev pub Comes : Type 0 → Type 1
+Comes S = S → List MrtRecord → Option SourceFault → Type 0
 
 -- how far the reading of a session has come: the changes that its last record gave and that haven't been given yet, whether the record that
 -- the source shows is still to be read, whether the close was given, and how many records were passed over before the change given last, and
@@ -35,13 +37,13 @@ abbrev pub to_read : Bool → Option MrtRecord → List MrtRecord → List MrtRe
 to_read held shown later = (if held then option_to_list shown else []) ++ later
 
 -- these records may still be read, and then they end so
-pub record MayRead {S : Type 0} (comes : S → List MrtRecord → Option MrtFault → Type 0) (shows : S → Option MrtRecord) (stage : Stage S) (records : List MrtRecord) (end : Option MrtFault) : Type 0 where
+pub record MayRead {S : Type 0} (comes : Comes S) (shows : S → Option MrtRecord) (stage : Stage S) (records : List MrtRecord) (end : Option SourceFault) : Type 0 where
   pub later : List MrtRecord
   pub come : comes stage.source later end
   pub read : records ≡ to_read stage.held (shows stage.source) later
 
 -- the changes that are still to be given, where these records are read
-abbrev pub changes_left : {S : Type 0} → Stage S → List MrtRecord → Option MrtFault → List Change
+abbrev pub changes_left : {S : Type 0} → Stage S → List MrtRecord → Option SourceFault → List Change
 changes_left stage records end = if stage.closed then [] else stage.waiting ++ changes_of stage.peer records end
 
 -- how many records are passed over in the end, where these records are read
@@ -49,41 +51,43 @@ abbrev pub passed_in_the_end : {S : Type 0} → Stage S → List MrtRecord → �
 passed_in_the_end stage records = if stage.closed then stage.passed else stage.passed + stage.skipped + passed_of stage.peer records
 
 -- these changes may still come, and so many records are passed over in the end
-pub record May {S : Type 0} (comes : S → List MrtRecord → Option MrtFault → Type 0) (shows : S → Option MrtRecord) (stage : Stage S) (changes : List Change) (passed : ℕ) : Type 0 where
+pub record May {S : Type 0} (comes : Comes S) (shows : S → Option MrtRecord) (stage : Stage S) (changes : List Change) (passed : ℕ) : Type 0 where
   pub records : List MrtRecord
-  pub end : Option MrtFault
+  pub end : Option SourceFault
   pub may_read : MayRead comes shows stage records end
   pub left : changes ≡ changes_left stage records end
   pub counted : passed ≡ passed_in_the_end stage records
 
 -- whatever may come after may come before
-abbrev pub Keeps : {S : Type 0} → (S → List MrtRecord → Option MrtFault → Type 0) → (S → Option MrtRecord) → Stage S → Stage S → Type 0
+abbrev pub Keeps : {S : Type 0} → Comes S → (S → Option MrtRecord) → Stage S → Stage S → Type 0
 Keeps comes shows old new = (changes : List Change) (passed : ℕ) → May comes shows new changes passed → May comes shows old changes passed
 
 -- whatever may come after may come before, with this change in front
-abbrev pub KeepsBehind : {S : Type 0} → (S → List MrtRecord → Option MrtFault → Type 0) → (S → Option MrtRecord) → Change → Stage S → Stage S → Type 0
+abbrev pub KeepsBehind : {S : Type 0} → Comes S → (S → Option MrtRecord) → Change → Stage S → Stage S → Type 0
 KeepsBehind comes shows first old new = (changes : List Change) (passed : ℕ) → May comes shows new changes passed → May comes shows old (first ∷ changes) passed
 
 -- no change may come, and as many records are passed over as were
-abbrev pub IsOver : {S : Type 0} → (S → List MrtRecord → Option MrtFault → Type 0) → (S → Option MrtRecord) → Stage S → Type 0
+abbrev pub IsOver : {S : Type 0} → Comes S → (S → Option MrtRecord) → Stage S → Type 0
 IsOver comes shows stage = (changes : List Change) (passed : ℕ) → May comes shows stage changes passed → (changes ≡ []) × (passed ≡ stage.passed)
 
 -- just these changes may still come, and just so many records are passed over in the end
-abbrev pub SaysJust : {S : Type 0} → (S → List MrtRecord → Option MrtFault → Type 0) → (S → Option MrtRecord) → Stage S → List Change → ℕ → Type 0
+abbrev pub SaysJust : {S : Type 0} → Comes S → (S → Option MrtRecord) → Stage S → List Change → ℕ → Type 0
 SaysJust comes shows stage whole total = (changes : List Change) (passed : ℕ) → May comes shows stage changes passed ↔ ((changes ≡ whole) × (passed ≡ total))
 
 -- ---- what an answer to `next_word` says
 
--- A change was to come before those that may come after it. Only a close for want of readable records isn't one that records say: it has time 0
--- (our choice). After a close no change may come. None comes where no change may, and nothing changes. Memory refused changes nothing that may
--- come.
-abbrev pub Says : {S : Type 0} → (S → List MrtRecord → Option MrtFault → Type 0) → (S → Option MrtRecord) → Stage S → Stage S → Result (Option Word) AllocError → Type 0
-Says comes shows old new (Ok (Some word)) =
-    (is_read_failure word.body ≡ false → KeepsBehind comes shows (change_of word) old new)
-    × (is_read_failure word.body ≡ true → word ≡ closing_word 0 Read)
-    × (is_close word.body ≡ true → IsOver comes shows new)
+-- A change that is given was to come before those that may come after it; after a close no change may come. None comes where no change may,
+-- and nothing changes. Memory refused changes nothing that may come, and nothing is passed over.
+abbrev pub Says : {S : Type 0} → Comes S → (S → Option MrtRecord) → Stage S → Stage S → Result (Option Word) AllocError → Type 0
+Says comes shows old new (Ok (Some word)) = KeepsBehind comes shows (change_of word) old new × (is_close word.body ≡ true → IsOver comes shows new)
 Says comes shows old new (Ok None) = IsOver comes shows old × (new ≡ old)
 Says comes shows old new (Err refused) = Keeps comes shows old new × (new.passed ≡ old.passed)
+
+-- An open session gives a change or is refused memory, and just a close closes it. Any answer of a closed one is none, and it stays closed.
+abbrev pub Closes : Bool → Bool → Result (Option Word) AllocError → Type 0
+Closes before after (Ok (Some word)) = (before ≡ false) × (after ≡ is_close word.body)
+Closes before after (Ok None) = (before ≡ true) × (after ≡ true)
+Closes before after (Err refused) = (before ≡ false) × (after ≡ false)
 
 -- the answer of a source behind an answer of a session: a failed read behind the close that says so
 abbrev pub answer_behind : Result (Option Word) AllocError → Result Bool SourceFault

@@ -2,13 +2,12 @@
 use Rattle.std.specs.Prelude.{◌≡◌, ℕ, ◌+◌, Bool, true, false, List, [], ◌∷◌, Option, Some, None, Result, Ok, Err}
 use Rattle.std.specs.declared.alloc.AllocError.{AllocError}
 use Rattle.rs_mrt.specs.Record.{MrtRecord}
-use Rattle.rs_mrt.specs.declared.fault.MrtFault.{MrtFault}
 use Rattle.rs_mrt.specs.declared.fault.SourceFault.{SourceFault}
 use Rattle.rs_mrt.specs.declared.fault.SourceFault.TheVariants as faults
-use Rattle.rs_session.specs.Change.{change_of, closing_word, is_close, is_read, is_read_failure}
+use Rattle.rs_session.specs.Change.{change_of, closing_word, is_close, is_read}
 use Rattle.rs_session.specs.Effect.{RecordEffect, PassesOver, Gives, Ends, effect_of}
 use Rattle.rs_session.specs.FileChanges.{reason_at_end}
-use Rattle.rs_session.specs.Stage.{Stage, MayRead, Keeps, KeepsBehind, IsOver}
+use Rattle.rs_session.specs.Stage.{Comes, Stage, MayRead, Keeps, KeepsBehind}
 use Rattle.rs_session.specs.declared.word.Reason.{Reason}
 use Rattle.rs_session.specs.declared.word.Reason.TheVariants as reasons
 use Rattle.rs_session.specs.declared.word.Word.{Word}
@@ -26,9 +25,9 @@ GivesWaiting old None new = (old.waiting ≡ []) × (new ≡ old)
 -- ---- fetching
 
 -- a record is there to be read, and no other records may be read than before; or there is none, for this reason
-abbrev pub Fetches : {S : Type 0} → (S → List MrtRecord → Option MrtFault → Type 0) → (S → Option MrtRecord) → Stage S → Stage S → Option Reason → Type 0
-Fetches comes shows old new None = (records : List MrtRecord) (end : Option MrtFault) → MayRead comes shows new records end → MayRead comes shows old records end
-Fetches comes shows old new (Some reason) = is_read reason ≡ false → (end : Option MrtFault) × MayRead comes shows old [] end × (reason ≡ reason_at_end end)
+abbrev pub Fetches : {S : Type 0} → Comes S → (S → Option MrtRecord) → Stage S → Stage S → Option Reason → Type 0
+Fetches comes shows old new None = (records : List MrtRecord) (end : Option SourceFault) → MayRead comes shows new records end → MayRead comes shows old records end
+Fetches comes shows old new (Some reason) = (end : Option SourceFault) × MayRead comes shows old [] end × (reason ≡ reason_at_end end)
 
 -- the answer of a source behind what fetching gave
 abbrev pub answer_of_fetch : Option Reason → Result Bool SourceFault
@@ -58,11 +57,7 @@ ReadsShown (Some r) old given new = Applies r.time (effect_of old.peer r) old gi
 -- ---- a whole step
 
 -- the session goes on, and no more may come than before; or the close is given
-abbrev pub Steps : {S : Type 0} → (S → List MrtRecord → Option MrtFault → Type 0) → (S → Option MrtRecord) → Stage S → Stage S → Result (Option Word) AllocError → Type 0
+abbrev pub Steps : {S : Type 0} → Comes S → (S → Option MrtRecord) → Stage S → Stage S → Result (Option Word) AllocError → Type 0
 Steps comes shows old new (Ok None) = Keeps comes shows old new × (new.closed ≡ false) × (new.passed ≡ old.passed)
-Steps comes shows old new (Ok (Some word)) =
-    (is_read_failure word.body ≡ false → KeepsBehind comes shows (change_of word) old new)
-    × (is_read_failure word.body ≡ true → word ≡ closing_word 0 reasons.Read)
-    × (is_close word.body ≡ true)
-    × IsOver comes shows new
+Steps comes shows old new (Ok (Some word)) = KeepsBehind comes shows (change_of word) old new × (is_close word.body ≡ true) × (new.closed ≡ true)
 Steps comes shows old new (Err refused) = Keeps comes shows old new × (new.closed ≡ false) × (new.passed ≡ old.passed)

@@ -9,7 +9,7 @@ ghost use Rattle.rs_mrt.specs.Record.{reading_of};
 ghost use Rattle.rs_mrt.specs.Source.{CountsFailure};
 ghost use Rattle.rs_session.specs.FileChanges.{changes_in, passed_in};
 ghost use Rattle.rs_session.specs.Laws.{SomethingMayCome};
-ghost use Rattle.rs_session.specs.Stage.{fresh, May, Says, SaysJust, GoesOn, answer_behind};
+ghost use Rattle.rs_session.specs.Stage.{fresh, May, Says, SaysJust, Closes, GoesOn, answer_behind};
 ghost use Rattle.rs_session.specs.Change.{Change, closing_word};
 ghost use Rattle.rs_session.specs.Steps.{Fetches, GivesWaiting, ReadsShown, Steps, answer_of_fetch, closed_by};
 ghost use Rattle.rs_session.specs.Counts.{held_count};
@@ -89,10 +89,11 @@ impl<S: Source> Session<S> {
         }
     }
 
-    /// Gives the next change; after the close none. Refused, the session is as before: nothing is lost, and the same call gives the same
+    /// Gives the next change; after the close none. A close says the end of the records, or why the session ended before it. Refused, the session is as before: nothing is lost, and the same call gives the same
     /// change once there is memory.
     pub fn next_word(&mut self) -> Result<Option<Word>, AllocError>
         ensures says { Says S.comes S.shows self.old self.new result }
+        ensures closes { Closes self.old.closed self.new.closed result }
         // A close for want of readable records comes only where a read failed, or where the source takes no more octets.
         ensures failures { CountsFailure (S.failures self.old.source) (S.failures self.new.source)
             (S.full self.new.source) (S.stopped self.old.source) (answer_behind result) }

@@ -1,6 +1,6 @@
 //! What is refused: reads and memory.
 
-ghost use Rattle.std.specs.Prelude.{List, [], Option, Some, None, Result, Err};
+ghost use Rattle.std.specs.Prelude.{◌≡◌, List, [], Option, Some, None, Result, Err, refl};
 ghost use Rattle.rs_mrt.specs.declared.fault.SourceFault.TheVariants.{Read};
 
 use super::*;
@@ -13,7 +13,7 @@ struct Unreadable;
 impl Source for Unreadable {
     ghost shows = { λ _. None };
 
-    ghost comes = { λ _ records end. Unit {0} };
+    ghost comes = { λ _ records end. (records ≡ []) × (end ≡ Some Read) };
 
     ghost stopped = { λ _. Some (Err Read) };
 
@@ -23,7 +23,7 @@ impl Source for Unreadable {
 
     ghost room = { λ _. 0 };
 
-    ghost may_come = { λ _. ([], None, tt) };
+    ghost may_come = { λ _. ([], Some Read, (refl, refl)) };
 
     fn advance(&mut self) -> Result<bool, SourceFault> {
         Err(SourceFault::Read)

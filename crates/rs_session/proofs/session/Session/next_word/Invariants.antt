@@ -12,6 +12,7 @@ invariant-loop-self g l = record {
   failures : g.S.Source.failures l.self.source ≡ g.S.Source.failures l.initial.self.source;
   goes_on : (last : Result Bool SourceFault) → g.S.Source.stopped l.self.source ≡ Some last → g.S.Source.stopped l.initial.self.source ≡ Some last;
   unread : l.self.closed ≡ true → l.self ≡ l.initial.self;
+  closed : l.self.closed ≡ l.initial.self.closed;
 }
 
 abbrev pub decreases-loop-self : goal.decreases-loop-self

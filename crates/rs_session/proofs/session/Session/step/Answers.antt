@@ -1,14 +1,13 @@
 -- A step keeps what may come: the record that it fetches, and what that record says.
-use Rattle.std.proofs.Common.{refl, ◌∙◌}
-use Rattle.rs_session.proofs.StageLemmas.{closes_at_end, is_read_is, over-closed, steps-read}
+use Rattle.std.proofs.Common.{refl}
+use Rattle.rs_session.proofs.StageLemmas.{closes_at_end, steps-read}
 use Rattle.rs_session.proofs.session.Session.step.Goals as goal
 
 pub returns-in-Some-clause-says : goal.returns-in-Some-clause-says
 returns-in-Some-clause-says g c = (
-  (λ own. rw c.close.ensures.word (closes_at_end _ _ c.args.self.now c.fetch.new.self c.close.new.self c.in-Some.reason c.requires.closed c.requires.waiting c.in-Some.ensures.same c.in-Some.ensures.says c.close.ensures.closed (rw c.close.ensures.word at own))),
-  (λ failed. c.close.ensures.word ∙ is_read_is c.in-Some.reason (rw c.close.ensures.word at failed)),
+  rw c.close.ensures.word (closes_at_end _ _ c.args.self.now c.fetch.new.self c.close.new.self c.in-Some.reason c.requires.closed c.requires.waiting c.in-Some.ensures.same c.in-Some.ensures.says c.close.ensures.closed),
   rw c.close.ensures.word refl,
-  over-closed _ _ c.close.new.self (rw c.close.ensures.closed refl),
+  rw c.close.ensures.closed refl,
 )
 
 pub returns-clause-says : goal.returns-clause-says
