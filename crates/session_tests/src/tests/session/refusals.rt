@@ -91,7 +91,7 @@ fn a_recording_says_its_changes(rt: HostRuntime) -> Result<(), Fail> {
 }
 
 // It holds whichever allocation is refused: the recording takes none, so that all of them are the session's.
-// `tools/refuse_in_a_session` refuses each in turn.
+// `tools/refuse_in_tests` refuses each in turn.
 #[test]
 fn refused_memory_loses_nothing(rt: HostRuntime) {
     let mut session = Session::new(rt.alloc(), RECORDED, PEER);
