@@ -15,9 +15,9 @@ ghost use Rattle.rs_choice.specs.Held.{sent_of_held, IsJudged};
 ghost use Rattle.rs_choice.specs.Sharing.{sents_at, ArePlaces, AreWeighing, IsFirst, IsShared};
 
 use crate::candidate::Placed;
+use crate::decision::{first_of, groups_of};
 use crate::entrants::Chosen;
 use crate::exchange::Exchange;
-use crate::groups::{first_of, groups_of};
 use crate::held_route::HeldRoute;
 use crate::neighbour_groups::{Group, NeighbourGroups};
 use crate::places::Places;

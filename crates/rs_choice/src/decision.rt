@@ -1,88 +1,155 @@
-//! The decision process (RFC 4271, sections 9.1.1 and 9.1.2.2): the one candidate that a client gets.
+//! The decision process (RFC 4271, sections 9.1.1 and 9.1.2.2), in one pass over at most 256 entrants: those that the six steps leave.
+//!
+//! MED is compared within one neighbour AS alone. So of the entrants that the first three steps leave, the pass keeps for each
+//! neighbour AS the one of least MED, and among equals the one that goes before by identifier, address and place. The choice is the
+//! one of these that goes before all others.
 
-ghost use Rattle.std.specs.Prelude.{◌≡◌, ◌<◌, ◌↔◌, IsTrue, length, map};
+ghost use Rattle.std.specs.Prelude.{◌≡◌, ◌<◌, ◌≤◌, ◌+◌, ◌↔◌, IsTrue, Some, length, map};
 ghost use Rattle.std.specs.List.{All};
 ghost use Rattle.rs_choice.specs.Decision.{choice, member_at, place_of_choice, sent_route_of, standing_of};
-ghost use Rattle.rs_choice.specs.Scan.{GoesFirst, HasLeastMed, IsBest, IsLeader, Leads};
+ghost use Rattle.rs_choice.specs.Grouping.{places_of, standing_in, AreGroups, BeatsInGroup, GoesBeforeSome, IsFirstOf, IsJoined, IsLevelWithSome, IsNeighboursGroup, LeadsAll};
 
 use crate::candidate::{Candidate, Placed, Standing};
+use crate::entrants::{Entrants, Listed};
 use crate::exchange::Exchange;
-use crate::step::Step;
+use crate::neighbour_groups::{Group, NeighbourGroups};
+use crate::plan::MAX_PEERS;
 
 impl Exchange {
-    /// The place of the choice among the candidates: of the one that the six steps of the decision process leave, each step looking
-    /// at the whole set that the one before left. Where several candidates of one peer are left it is the least place; None for an
-    /// empty list. It takes no memory.
-    pub fn choose(&self, candidates: &[Candidate]) -> Option<usize>
-        requires { All (λ candidate. candidate.peer < length self.now.peers) candidates.now }
+    /// The same as `choose`, in one pass by neighbour groups, of at most 256 candidates. It takes no memory.
+    pub fn choose_by_groups(&self, candidates: &[Candidate]) -> Option<usize>
+        requires known { All (λ candidate. candidate.peer < length self.now.peers) candidates.now }
+        requires bound { length candidates.now ≤ MAX_PEERS }
         ensures place { result ≡ place_of_choice (standing_of self.now) (map sent_route_of candidates.now) }
         ensures member { member_at (map sent_route_of candidates.now) result ≡ choice (standing_of self.now) (map sent_route_of candidates.now) }
     {
-        self.best(candidates).map(|best| best.place)
-    }
-
-    // The first in order of those that the first four steps leave, by identifier, address and place; None of an empty list.
-    fn best(&self, candidates: &[Candidate]) -> Option<Placed>
-        requires { All (λ candidate. candidate.peer < length self.now.peers) candidates.now }
-        ensures { IsBest self.now candidates.now (length candidates.now) result }
-    {
-        let leader = self.leader(candidates)?;
-        let mut best: Option<Placed> = None;
-        for (place, candidate) in candidates.iter().enumerate() {
-            let standing = self.standing(candidate);
-            if standing.is_level_with(&leader)
-                && self.has_least_med(candidates, &standing)
-                && goes_first(&standing, &best)
-            {
-                best = Some(Placed { place, standing });
-            }
-        }
-        best
-    }
-
-    // The standing of a candidate that no other is ahead of; None of an empty list.
-    fn leader(&self, candidates: &[Candidate]) -> Option<Standing>
-        requires { All (λ candidate. candidate.peer < length self.now.peers) candidates.now }
-        ensures { IsLeader self.now candidates.now (length candidates.now) result }
-    {
-        let mut leader: Option<Standing> = None;
-        for candidate in candidates {
-            let standing = self.standing(candidate);
-            if leads(&standing, &leader) {
-                leader = Some(standing);
-            }
-        }
-        leader
-    }
-
-    // Whether no candidate that is level with one has a lower MED from the same neighbour AS.
-    fn has_least_med(&self, candidates: &[Candidate], one: &Standing) -> bool
-        requires { All (λ candidate. candidate.peer < length self.now.peers) candidates.now }
-        ensures { IsTrue result ↔ HasLeastMed self.now candidates.now one.now }
-    {
-        candidates.iter().all(|candidate| {
-            let other = self.standing(candidate);
-            !(other.is_level_with(one) && Step::Med.beats(&other, one))
-        })
+        let entrants = Listed {
+            plan: self,
+            candidates,
+        };
+        let groups = groups_of(&entrants);
+        first_of(&entrants, &groups).map(|first| first.place)
     }
 }
 
-// Whether a standing is ahead of the leader, where there is one.
-fn leads(standing: &Standing, leader: &Option<Standing>) -> bool
-    ensures { IsTrue result ↔ Leads standing.now leader.now }
+// The groups of all entrants.
+pub(crate) fn groups_of<E: Entrants>(entrants: &E) -> NeighbourGroups
+    requires bound { length (E.standings entrants.now) ≤ MAX_PEERS }
+    ensures { AreGroups (standing_in (E.standings entrants.now)) (length (E.standings entrants.now)) result }
 {
-    match leader {
-        None => true,
-        Some(leader) => standing.is_ahead_of(leader),
+    let mut groups = NeighbourGroups::new();
+    let mut leader = None;
+    for place in 0..entrants.count() {
+        leader = Some(take_in(entrants, &mut groups, leader, place));
+    }
+    groups
+}
+
+// Takes one more entrant into the groups: it begins them anew, joins them or is left out. The leader is one that is level with all
+// that stand for groups, and none where there is no group; so is the answer, of the groups that come out.
+fn take_in<E: Entrants>(
+    entrants: &E,
+    groups: &mut NeighbourGroups,
+    leader: Option<Standing>,
+    place: usize,
+) -> Standing
+    requires bound { length (E.standings entrants.now) ≤ MAX_PEERS }
+    requires within { place < length (E.standings entrants.now) }
+    requires grouped { AreGroups (standing_in (E.standings entrants.now)) place groups.old }
+    requires leads { LeadsAll (standing_in (E.standings entrants.now)) groups.old leader }
+    ensures grouped { AreGroups (standing_in (E.standings entrants.now)) (place + 1) groups.new }
+    ensures leads { LeadsAll (standing_in (E.standings entrants.now)) groups.new (Some result) }
+{
+    let standing = entrants.standing(place);
+    let Some(leader) = leader else {
+        groups.restart(Group::of(place, &standing));
+        return standing;
+    };
+    if standing.is_ahead_of(&leader) {
+        groups.restart(Group::of(place, &standing));
+        return standing;
+    }
+    if standing.is_level_with(&leader) {
+        join(entrants, groups, place, &standing);
+    }
+    leader
+}
+
+// Takes in an entrant that the first three steps leave beside those of the groups.
+fn join<E: Entrants>(entrants: &E, groups: &mut NeighbourGroups, place: usize, standing: &Standing)
+    requires bound { length (E.standings entrants.now) ≤ MAX_PEERS }
+    requires within { place < length (E.standings entrants.now) }
+    requires grouped { AreGroups (standing_in (E.standings entrants.now)) place groups.old }
+    requires is_standing { standing.now ≡ standing_in (E.standings entrants.now) place }
+    requires level { IsLevelWithSome (standing_in (E.standings entrants.now)) place (places_of groups.old) }
+    ensures { AreGroups (standing_in (E.standings entrants.now)) (place + 1) groups.new }
+{
+    let Some(number) = group_of(groups, standing.neighbour) else {
+        groups.push(Group::of(place, standing));
+        return;
+    };
+    let group = groups.group(number);
+    let held = entrants.standing(usize::from(group.place));
+    groups.replace(number, joined(&group, &held, place, standing));
+}
+
+// A group with one more entrant of its neighbour AS: the one that stands for both.
+fn joined(group: &Group, held: &Standing, place: usize, standing: &Standing) -> Group
+    requires { place < MAX_PEERS }
+    ensures { IsJoined group.now held.now place standing.now result }
+{
+    let beats = beats_in_group(standing, held);
+    Group {
+        place: if beats { place as u8 } else { group.place },
+        keeps_out: group.keeps_out || standing.med != held.med,
+        neighbour: group.neighbour,
     }
 }
 
-// Whether a standing goes before the best by the last two steps, where there is one.
-fn goes_first(standing: &Standing, best: &Option<Placed>) -> bool
-    ensures { IsTrue result ↔ GoesFirst standing.now best.now }
+// The number of the group of a neighbour AS, if there is one.
+fn group_of(groups: &NeighbourGroups, neighbour: u32) -> Option<usize>
+    ensures { IsNeighboursGroup groups.now neighbour result }
 {
-    match best {
+    for number in 0..groups.len() {
+        if groups.group(number).neighbour == neighbour {
+            return Some(number);
+        }
+    }
+    None
+}
+
+// Of the entrants that stand for groups, the one that goes before all others.
+pub(crate) fn first_of<E: Entrants>(entrants: &E, groups: &NeighbourGroups) -> Option<Placed>
+    requires grouped { AreGroups (standing_in (E.standings entrants.now)) (length (E.standings entrants.now)) groups.now }
+    ensures { IsFirstOf (standing_in (E.standings entrants.now)) (places_of groups.now) (length (places_of groups.now)) result }
+{
+    let mut first: Option<Placed> = None;
+    for number in 0..groups.len() {
+        let place = usize::from(groups.group(number).place);
+        let placed = Placed {
+            place,
+            standing: entrants.standing(place),
+        };
+        if goes_before(&placed, &first) {
+            first = Some(placed);
+        }
+    }
+    first
+}
+
+// Whether one of two entrants from the same neighbour AS goes before by MED, identifier and address.
+fn beats_in_group(one: &Standing, held: &Standing) -> bool
+    ensures { IsTrue result ↔ BeatsInGroup one.now held.now }
+{
+    one.med < held.med || (one.med == held.med && one.precedes(held))
+}
+
+// Whether an entrant goes before the first, where there is one, by identifier, address and place.
+fn goes_before(one: &Placed, first: &Option<Placed>) -> bool
+    ensures { IsTrue result ↔ GoesBeforeSome one.now first.now }
+{
+    match first {
         None => true,
-        Some(best) => standing.precedes(&best.standing),
+        Some(first) => one.goes_before(first),
     }
 }

@@ -4,28 +4,35 @@ ghost use Rattle.std.specs.Prelude.{◌≡◌};
 ghost use Rattle.rs_choice.specs.declared.fault.PlanFault.TheVariants.{Memory};
 
 use std::alloc::{AllocError, AllocFailed};
-use std::error::Error;
-use std::fmt;
+use thiserror::Error;
 
 /// The first fault of a plan, in the order of the variants: first those of the whole plan, with `ZeroAs` of the server as the last of
 /// them; then `InvalidName` to `ZeroAs` of one peer after another; then `UnknownName` of one peer after another.
-#[derive(Clone, Copy, Debug, PartialEq, Eq)]
+#[derive(Clone, Copy, Debug, PartialEq, Eq, Error)]
 pub enum PlanFault {
     /// There is no peer.
+    #[error("there is no peer")]
     NoPeer,
     /// There are more than 256 peers.
+    #[error("there are more than 256 peers")]
     TooManyPeers,
     /// The name of this peer is empty, has more than 64 octets, or has one that isn't an ASCII letter, a digit, `-` or `_`.
+    #[error("the name of peer {0} is empty, longer than 64 octets, or has other characters than letters, digits, hyphens and underscores")]
     InvalidName(usize),
     /// An earlier peer has the name of this one.
+    #[error("an earlier peer has the name of peer {0}")]
     RepeatedName(usize),
     /// An earlier peer has the address of this one.
+    #[error("an earlier peer has the address of peer {0}")]
     RepeatedAddress(usize),
     /// The AS number of this peer, or of the server (None), is 0.
+    #[error("an AS number is 0")]
     ZeroAs(Option<usize>),
     /// This peer refuses routes from a name that no peer has.
+    #[error("peer {0} refuses routes from a name that no peer has")]
     UnknownName(usize),
     /// Memory was refused. The plan itself has no fault.
+    #[error("out of memory")]
     Memory,
 }
 
@@ -80,15 +87,3 @@ impl<T: Drop> From<AllocFailed<T>> for PlanFault {
         PlanFault::Memory
     }
 }
-
-impl fmt::Display for PlanFault {
-    fn fmt<W: fmt::Write>(&self, f: &mut fmt::Formatter<W>) -> fmt::Result {
-        let number = self.number();
-        match self.peer() {
-            None => write!(f, "plan fault P{number}"),
-            Some(peer) => write!(f, "plan fault P{number} at peer {peer}"),
-        }
-    }
-}
-
-impl Error for PlanFault {}

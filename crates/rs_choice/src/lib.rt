@@ -4,8 +4,8 @@
 //! that client's export policy).
 //!
 //! Reading order: `plan` (the server and its peers), `fault` and `checks` (which plans are refused), `exchange` (a plan that is
-//! not), `eligibility`, `policy`, `candidate`, `step`, `decision`, `entrants` and `groups` (the
-//! same decision in one pass), `held_route` and `clients` (the decisions of all clients), `laws`.
+//! not), `eligibility`, `policy`, `candidate`, `step`, `decision` (the pass that decides), `entrants`, `held_route` and `clients` (the
+//! decisions of all clients), `scan` (the same decision for lists of any length), `laws`.
 #![tactic(auto)]
 
 mod candidate;
@@ -16,16 +16,14 @@ mod eligibility;
 mod entrants;
 mod exchange;
 mod fault;
-mod groups;
 mod held_route;
 mod laws;
 mod neighbour_groups;
 mod places;
 mod plan;
 mod policy;
+mod scan;
 mod step;
-#[cfg(test)]
-mod tests;
 
 pub use candidate::Candidate;
 pub use exchange::Exchange;

@@ -4,7 +4,7 @@ use Rattle.rs_choice.specs.declared.candidate.Standing.{Standing}
 use Rattle.rs_choice.specs.declared.neighbour_groups.Group.{Group}
 use Rattle.rs_choice.specs.Grouping.{standing_in, IsJoined, IsNeighboursGroup}
 use Rattle.rs_choice.proofs.GroupMarks.{joined_marked, one_more_marked, place_within}
-use Rattle.rs_choice.proofs.groups.join.Goals as goal
+use Rattle.rs_choice.proofs.decision.join.Goals as goal
 
 pub returns-in_default : goal.returns-in_default
 returns-in_default g c =

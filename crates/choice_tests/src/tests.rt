@@ -12,7 +12,7 @@ mod eligible_routes;
 mod export_policy;
 mod plans;
 
-use super::*;
+use rs_choice::{Candidate, Exchange, HeldRoute, Local, MAX_PEERS, PeerSpec, PlanFault};
 use rs_update::{Attributes, Message, Prefix, read_message};
 use std::alloc::{AllocError, Global};
 use std::process::Abort;
@@ -207,14 +207,19 @@ fn is_permitted(
     exchange.permits(client, peer, attributes)
 }
 
-// Whether what is held of a route is true of it.
+// Whether what is held of a route is what is held of its attributes.
 fn is_judged(exchange: &Exchange, held: &HeldRoute) -> bool
     ensures { IsTrue result → IsJudged exchange.now held.now }
 {
     let peer = usize::from(held.peer);
-    peer < exchange.count()
-        && held.eligible == exchange.eligible(peer, &held.attributes)
-        && held.unrestricted == exchange.is_open(peer, &held.attributes)
+    if peer >= exchange.count() {
+        return false;
+    }
+    let Ok(attributes) = Arc::clone(&held.attributes) else {
+        return false;
+    };
+    let again = exchange.hold(peer, held.time, attributes);
+    held.eligible == again.eligible && held.unrestricted == again.unrestricted
 }
 
 // Whether what is held of all routes is true of them.

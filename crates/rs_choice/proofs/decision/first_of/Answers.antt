@@ -4,8 +4,8 @@ use Rattle.rs_choice.specs.Grouping.{places_of, standing_in, GoesBeforeSome}
 use Rattle.rs_choice.proofs.GroupChoice.{first_changes, first_stays}
 use Rattle.rs_choice.proofs.GroupMarks.{place_at, place_within}
 use Rattle.rs_choice.proofs.ScanLemmas.{when_false}
-use Rattle.rs_choice.proofs.groups.first_of.Goals as goal
-use Rattle.rs_choice.proofs.groups.first_of.Goals.{then-goes_before, else-goes_before}
+use Rattle.rs_choice.proofs.decision.first_of.Goals as goal
+use Rattle.rs_choice.proofs.decision.first_of.Goals.{then-goes_before, else-goes_before}
 
 pub standing-requires : goal.standing-requires
 standing-requires g c =

@@ -123,7 +123,7 @@ const PLANS: &[(&[Row], Option<PlanFault>, &str)] = &[
 ];
 
 #[test]
-fn plans_are_refused_by_their_first_fault(rt: HostRuntime) -> Result<(), Fail> {
+fn a_plan_has_the_fault_that_comes_first(rt: HostRuntime) -> Result<(), Fail> {
     for (rows, want, what) in PLANS {
         assert_eq!(rt; fault_of(rt.alloc(), server(true), rows)?, *want, "{what}");
     }
@@ -131,7 +131,7 @@ fn plans_are_refused_by_their_first_fault(rt: HostRuntime) -> Result<(), Fail> {
 }
 
 #[test]
-fn a_plan_is_refused_as_a_whole_first(rt: HostRuntime) -> Result<(), Fail> {
+fn faults_of_the_whole_plan_come_first(rt: HostRuntime) -> Result<(), Fail> {
     let alloc = rt.alloc();
     let no_as = Local {
         asn: 0,
@@ -153,40 +153,40 @@ fn a_plan_is_refused_as_a_whole_first(rt: HostRuntime) -> Result<(), Fail> {
 }
 
 const FAULTS: &[(PlanFault, u8, Option<usize>, &str)] = &[
-    (PlanFault::NoPeer, 1, None, "plan fault P1"),
-    (PlanFault::TooManyPeers, 2, None, "plan fault P2"),
+    (PlanFault::NoPeer, 1, None, "there is no peer"),
+    (
+        PlanFault::TooManyPeers,
+        2,
+        None,
+        "there are more than 256 peers",
+    ),
     (
         PlanFault::InvalidName(0),
         3,
         Some(0),
-        "plan fault P3 at peer 0",
+        "the name of peer 0 is empty, longer than 64 octets, or has other characters than letters, digits, hyphens and underscores",
     ),
     (
         PlanFault::RepeatedName(1),
         4,
         Some(1),
-        "plan fault P4 at peer 1",
+        "an earlier peer has the name of peer 1",
     ),
     (
         PlanFault::RepeatedAddress(2),
         5,
         Some(2),
-        "plan fault P5 at peer 2",
+        "an earlier peer has the address of peer 2",
     ),
-    (
-        PlanFault::ZeroAs(Some(3)),
-        6,
-        Some(3),
-        "plan fault P6 at peer 3",
-    ),
-    (PlanFault::ZeroAs(None), 6, None, "plan fault P6"),
+    (PlanFault::ZeroAs(Some(3)), 6, Some(3), "an AS number is 0"),
+    (PlanFault::ZeroAs(None), 6, None, "an AS number is 0"),
     (
         PlanFault::UnknownName(4),
         7,
         Some(4),
-        "plan fault P7 at peer 4",
+        "peer 4 refuses routes from a name that no peer has",
     ),
-    (PlanFault::Memory, 8, None, "plan fault P8"),
+    (PlanFault::Memory, 8, None, "out of memory"),
 ];
 
 #[test]
@@ -195,6 +195,19 @@ fn faults_are_numbered(rt: HostRuntime) -> Result<(), Fail> {
         assert_eq!(rt; fault.number(), *number, "{text}");
         assert_eq!(rt; fault.peer(), *peer, "{text}");
         assert_eq!(rt; format!(in rt.alloc(); "{fault}")?.as_str(), *text);
+    }
+    Ok(())
+}
+
+#[test]
+fn refused_memory_is_no_fault_of_a_plan(rt: HostRuntime) -> Result<(), Fail> {
+    let alloc = rt.alloc();
+    let Ok(peers) = peers(alloc, &[A, B, C, D]) else {
+        return Ok(());
+    };
+    match Exchange::new(alloc, server(true), peers) {
+        Ok(exchange) => assert_eq!(rt; exchange.count(), 4),
+        Err(fault) => assert_eq!(rt; fault, PlanFault::Memory),
     }
     Ok(())
 }

@@ -5,7 +5,7 @@ use Rattle.rs_choice.specs.Grouping.{standing_in, LeadsAll}
 use Rattle.rs_choice.proofs.GroupLists.{behind}
 use Rattle.rs_choice.proofs.GroupMarks.{ahead_of_leader, ahead_of_no_leader, alone_marked, behind_leader, leads_alone, leads_joined, level_with_leader}
 use Rattle.rs_choice.proofs.ScanLemmas.{when_false}
-use Rattle.rs_choice.proofs.groups.take_in.Goals as goal
+use Rattle.rs_choice.proofs.decision.take_in.Goals as goal
 
 pub join-requires-clause-level : goal.join-requires-clause-level
 join-requires-clause-level g c =

@@ -1,0 +1,89 @@
+//! The decision process for lists of any length (RFC 4271, sections 9.1.1 and 9.1.2.2): the list is gone over once for a candidate that
+//! the first three steps leave, and once more for the choice, with a look at all others for a lower MED.
+
+ghost use Rattle.std.specs.Prelude.{◌≡◌, ◌<◌, ◌↔◌, IsTrue, length, map};
+ghost use Rattle.std.specs.List.{All};
+ghost use Rattle.rs_choice.specs.Decision.{choice, member_at, place_of_choice, sent_route_of, standing_of};
+ghost use Rattle.rs_choice.specs.Scan.{GoesFirst, HasLeastMed, IsBest, IsLeader, Leads};
+
+use crate::candidate::{Candidate, Placed, Standing};
+use crate::exchange::Exchange;
+use crate::step::Step;
+
+impl Exchange {
+    /// The place of the choice among the candidates: of the one that the six steps of the decision process leave, each step looking
+    /// at the whole set that the one before left. Where several candidates of one peer are left it is the least place; None for an
+    /// empty list. It takes no memory.
+    pub fn choose(&self, candidates: &[Candidate]) -> Option<usize>
+        requires { All (λ candidate. candidate.peer < length self.now.peers) candidates.now }
+        ensures place { result ≡ place_of_choice (standing_of self.now) (map sent_route_of candidates.now) }
+        ensures member { member_at (map sent_route_of candidates.now) result ≡ choice (standing_of self.now) (map sent_route_of candidates.now) }
+    {
+        self.best(candidates).map(|best| best.place)
+    }
+
+    // The first in order of those that the first four steps leave, by identifier, address and place; None of an empty list.
+    fn best(&self, candidates: &[Candidate]) -> Option<Placed>
+        requires { All (λ candidate. candidate.peer < length self.now.peers) candidates.now }
+        ensures { IsBest self.now candidates.now (length candidates.now) result }
+    {
+        let leader = self.leader(candidates)?;
+        let mut best: Option<Placed> = None;
+        for (place, candidate) in candidates.iter().enumerate() {
+            let standing = self.standing(candidate);
+            if standing.is_level_with(&leader)
+                && self.has_least_med(candidates, &standing)
+                && goes_first(&standing, &best)
+            {
+                best = Some(Placed { place, standing });
+            }
+        }
+        best
+    }
+
+    // The standing of a candidate that no other is ahead of; None of an empty list.
+    fn leader(&self, candidates: &[Candidate]) -> Option<Standing>
+        requires { All (λ candidate. candidate.peer < length self.now.peers) candidates.now }
+        ensures { IsLeader self.now candidates.now (length candidates.now) result }
+    {
+        let mut leader: Option<Standing> = None;
+        for candidate in candidates {
+            let standing = self.standing(candidate);
+            if leads(&standing, &leader) {
+                leader = Some(standing);
+            }
+        }
+        leader
+    }
+
+    // Whether no candidate that is level with one has a lower MED from the same neighbour AS.
+    fn has_least_med(&self, candidates: &[Candidate], one: &Standing) -> bool
+        requires { All (λ candidate. candidate.peer < length self.now.peers) candidates.now }
+        ensures { IsTrue result ↔ HasLeastMed self.now candidates.now one.now }
+    {
+        candidates.iter().all(|candidate| {
+            let other = self.standing(candidate);
+            !(other.is_level_with(one) && Step::Med.beats(&other, one))
+        })
+    }
+}
+
+// Whether a standing is ahead of the leader, where there is one.
+fn leads(standing: &Standing, leader: &Option<Standing>) -> bool
+    ensures { IsTrue result ↔ Leads standing.now leader.now }
+{
+    match leader {
+        None => true,
+        Some(leader) => standing.is_ahead_of(leader),
+    }
+}
+
+// Whether a standing goes before the best by the last two steps, where there is one.
+fn goes_first(standing: &Standing, best: &Option<Placed>) -> bool
+    ensures { IsTrue result ↔ GoesFirst standing.now best.now }
+{
+    match best {
+        None => true,
+        Some(best) => standing.precedes(&best.standing),
+    }
+}
