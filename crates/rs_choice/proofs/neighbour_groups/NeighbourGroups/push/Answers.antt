@@ -1,4 +1,4 @@
-use Rattle.std.proofs.Common.{◌≡◌, ◌∙◌, ap, sym, arith, length}
+use Rattle.std.proofs.Common.{◌∙◌, ap, sym, arith, length}
 use Rattle.std.proofs.lemmas.List.{length-set}
 use Rattle.rs_choice.specs.GroupsView.{mark_of}
 use Rattle.rs_choice.proofs.GroupParts.{view_length, written_next}

@@ -1,5 +1,4 @@
-use Rattle.std.proofs.Common.{◌∙◌, sym, ap, arith, take}
-use Rattle.rs_choice.specs.GroupsView.{joined_parts}
+use Rattle.std.proofs.Common.{◌∙◌, sym, arith}
 use Rattle.rs_choice.proofs.GroupParts.{written_at}
 use Rattle.rs_choice.proofs.neighbour_groups.NeighbourGroups.replace.Goals as goal
 
