@@ -107,7 +107,7 @@ choice_left standing set chosen e =
       | inr found ↦ let same : found.0 ≡ chosen = cc (found.1, e) in rw (← same) found.2
     ]
 
-choice_cases : {M : Type 0} (standing : M → Standing) (set : List M) →
+pub choice_cases : {M : Type 0} (standing : M → Standing) (set : List M) →
     ((choice standing set ≡ None) × (set ≡ [])) ⊎ ((chosen : M) × (choice standing set ≡ Some chosen) × Left standing (Mem set) chosen)
 unfolding choice
 choice_cases standing set =
@@ -222,7 +222,7 @@ any_of_two : {M : Type 0} (p : M → Bool) (y : M) (ys : List M) (b : Bool) → 
 any_of_two p y ys true e later h = (y, inl refl, e)
 any_of_two p y ys false e later h = let found = later h in (found.0, inr found.1, found.2)
 
-any_found : {M : Type 0} (p : M → Bool) (xs : List M) → list_any p xs ≡ true → (x : M) × Mem xs x × (p x ≡ true)
+pub any_found : {M : Type 0} (p : M → Bool) (xs : List M) → list_any p xs ≡ true → (x : M) × Mem xs x × (p x ≡ true)
 any_found p [] h = absurd (cc (h))
 any_found p (y ∷ ys) h = any_of_two p y ys (p y) refl (any_found p ys) h
 

@@ -1,3 +1,4 @@
+pub mod BehindLemmas
 pub mod ChosenLemmas
 pub mod ClientLemmas
 pub mod Eliminations

@@ -1,9 +1,12 @@
 -- Laws of the decision process, of export policy and of the faults of a plan.
-use Rattle.std.specs.Prelude.{◌≡◌, ◌<◌, ◌↔◌, ℕ, Bool, true, IsTrue, IsFalse, List, [], ◌∷◌, ◌++◌, filter, None, Some, MatchOption, slice_get}
+use Rattle.std.specs.Prelude.{◌≡◌, ◌<◌, ◌↔◌, ◌⊎◌, ℕ, Bool, true, IsTrue, IsFalse, List, [], ◌∷◌, ◌++◌, filter, None, Some, MatchOption, slice_get}
 use Rattle.std.specs.List.{Contains}
 use Rattle.rs_choice.specs.declared.plan.Local.{Local}
 use Rattle.rs_choice.specs.declared.step.Step.{Step}
 use Rattle.rs_choice.specs.declared.step.Step.TheVariants as steps
+use Rattle.rs_choice.specs.Clients.{best_peer_for, is_sent_to}
+use Rattle.rs_choice.specs.Comparison.{IsAhead}
+use Rattle.rs_choice.specs.Eligibility.{is_eligible}
 use Rattle.rs_choice.specs.Plan.{Peer, Plan, Test, first_fault, plan_fault}
 use Rattle.rs_choice.specs.Policy.{is_permitted}
 use Rattle.rs_choice.specs.Decision.{SentRoute, beats, choice, decision_steps, remaining, standing_of, unbeaten}
@@ -65,6 +68,34 @@ ChoiceStays =
     Contains (reaching_med plan set) other → IsTrue (beats steps.Med (standing_of plan other) (standing_of plan one)) →
     (third : SentRoute) × Contains (reaching_med plan set) third × IsTrue (stays third) × IsTrue (beats steps.Med (standing_of plan third) (standing_of plan one))) →
     choice (standing_of plan) (filter stays set) ≡ Some chosen
+
+-- a candidate that the first three steps remove goes, wherever it stands: the choice stays
+abbrev pub RemovedIsNoMatter : Type 0
+RemovedIsNoMatter =
+    (plan : Plan) (before after : List SentRoute) (one : SentRoute) →
+    (Contains (reaching_med plan (before ++ one ∷ after)) one → ⊥) →
+    choice (standing_of plan) (before ++ one ∷ after) ≡ choice (standing_of plan) (before ++ after)
+
+-- so it is for each one that another candidate is ahead of by preference, path length and origin
+abbrev pub BehindIsNoMatter : Type 0
+BehindIsNoMatter =
+    (plan : Plan) (before after : List SentRoute) (one other : SentRoute) →
+    Contains (before ++ after) other → IsAhead (standing_of plan other) (standing_of plan one) →
+    choice (standing_of plan) (before ++ one ∷ after) ≡ choice (standing_of plan) (before ++ after)
+
+-- a route that, beside others, isn't eligible, or isn't permitted to a client, or is behind one of the others that the client may get
+abbrev pub IsNoMatterTo : Plan → ℕ → List SentRoute → SentRoute → Type 0
+IsNoMatterTo plan client others one =
+    IsFalse (is_eligible plan one.peer one.attributes)
+    ⊎ IsFalse (is_sent_to plan client one)
+    ⊎ ((other : SentRoute) × Contains others other × IsTrue (is_eligible plan other.peer other.attributes) × IsTrue (is_sent_to plan client other)
+    × IsAhead (standing_of plan other) (standing_of plan one))
+
+-- a client gets the same with such a route and without it, wherever it stands
+abbrev pub OthersAreNoMatter : Type 0
+OthersAreNoMatter =
+    (plan : Plan) (client : ℕ) (before after : List SentRoute) (one : SentRoute) → IsNoMatterTo plan client (before ++ after) one →
+    best_peer_for plan client (before ++ one ∷ after) ≡ best_peer_for plan client (before ++ after)
 
 -- a fault is that of a test that is true, and all tests before it are false; without one all tests are false
 abbrev pub FaultIsFirst : Type 0

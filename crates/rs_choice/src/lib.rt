@@ -33,5 +33,6 @@ pub use laws::{
     a_plan_is_refused_by_its_first_fault, an_open_policy_shares_the_choice,
     med_decides_within_a_neighbour_as, peers_have_addresses_of_their_own, the_choice_ignores_order,
     the_choice_is_unbeaten, the_choice_stays_without_those_of_no_weight,
+    those_behind_are_no_matter,
 };
 pub use plan::{Local, MAX_NAME_LEN, MAX_PEERS, PeerSpec};
