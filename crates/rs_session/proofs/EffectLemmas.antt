@@ -20,7 +20,7 @@ use Rattle.rs_update.specs.declared.fault.UpdateFault.{UpdateFault}
 use Rattle.rs_update.specs.declared.fault.UpdateFault.TheVariants.{InvalidNetworkField}
 use Rattle.rs_update.specs.declared.header.MessageType.{MessageType}
 use Rattle.rs_update.specs.declared.header.MessageType.TheVariants as types
-use Rattle.rs_session.specs.Effect.{RecordEffect, PassesOver, Gives, Ends, effect_of, effect_of_entry, effect_of_message, effect_of_state}
+use Rattle.rs_session.specs.Effect.{RecordEffect, PassesOver, Gives, Ends, effect_of, effect_of_entry, effect_of_message, effect_of_state, loss}
 use Rattle.rs_session.specs.Laws.{is_closing, has_close, is_recorded}
 use Rattle.rs_session.specs.Peer.{is_of}
 use Rattle.std.specs.Prelude.{nat_lt}
@@ -148,20 +148,24 @@ IsFine-more few many PassesOver le fine = tt
 IsFine-more few many (Gives changes) le fine = let within = fine.1 in (fine.0, omega arith)
 IsFine-more few many (Ends reason) le fine = fine
 
-fine-typed : (time : ℕ) (octets : List ℕ) (kind : MessageType) → IsFine (length octets) (effect_of_message time (typed_message kind (drop 19 octets)))
-fine-typed time octets types.Open = (refl, omega arith)
-fine-typed time octets types.Update = IsFine-more (length (drop 19 octets)) (length octets) _ (omega (arith, length-drop 19 octets)) (fine-update time (drop 19 octets))
-fine-typed time octets types.Notification = refl
-fine-typed time octets types.KeepAlive = (refl, omega arith)
-fine-typed time octets types.Refresh = (refl, omega arith)
+fine-loss : (octets time : ℕ) → 1 ≤ octets → IsFine octets (loss time)
+fine-loss octets time some = (refl, omega arith)
 
-fine-headed : (time : ℕ) (octets : List ℕ) (header : Result MessageType HeaderFault) → IsFine (length octets) (effect_of_message time (elim header [ Ok kind ↦ typed_message kind (drop 19 octets) | Err fault ↦ Err (of_header fault) ]))
-fine-headed time octets (Ok kind) = fine-typed time octets kind
-fine-headed time octets (Err fault) = refl
+fine-typed : (time : ℕ) (octets : List ℕ) (kind : MessageType) → 1 ≤ length octets → IsFine (length octets) (effect_of_message time (typed_message kind (drop 19 octets)))
+fine-typed time octets types.Open some = (refl, omega arith)
+fine-typed time octets types.Update some = IsFine-more (length (drop 19 octets)) (length octets) _ (omega (arith, length-drop 19 octets)) (fine-update time (drop 19 octets))
+fine-typed time octets types.Notification some = fine-loss (length octets) time some
+fine-typed time octets types.KeepAlive some = (refl, omega arith)
+fine-typed time octets types.Refresh some = (refl, omega arith)
+
+fine-headed : (time : ℕ) (octets : List ℕ) (header : Result MessageType HeaderFault) → 1 ≤ length octets → IsFine (length octets) (effect_of_message time (elim header [ Ok kind ↦ typed_message kind (drop 19 octets) | Err fault ↦ Err (of_header fault) ]))
+fine-headed time octets (Ok kind) some = fine-typed time octets kind some
+fine-headed time octets (Err fault) some = refl
 
 fine-message : (time : ℕ) (octets : List ℕ) → IsFine (length octets) (effect_of_message time (message_of octets))
 unfolding message_of
-fine-message time octets = fine-headed time octets (header_of octets)
+fine-message time [] = refl
+fine-message time (octet ∷ octets) = fine-headed time (octet ∷ octets) (header_of (octet ∷ octets)) (omega arith)
 
 fine-message_entry : (peer : PeerId) (time : ℕ) (fields : List ℕ) → IsFine (length fields) (effect_of_entry peer time (message_entry fields))
 fine-message_entry peer time fields =
@@ -172,17 +176,19 @@ fine-message_entry peer time fields =
     (IsFine-more (length (drop 20 fields)) (length fields) (effect_of_message time (message_of (drop 20 fields))) (omega (arith, length-drop 20 fields)) (fine-message time (drop 20 fields)))
     tt)
 
-fine-state : (octets old new : ℕ) → IsFine octets (effect_of_state old new)
-fine-state octets old new = branch (IsFine octets) ((old == 6) && not (new == 6)) (Ends reasons.State) (Gives []) refl (refl, omega arith)
+fine-state : (octets time old new : ℕ) → 1 ≤ octets → IsFine octets (effect_of_state time old new)
+fine-state octets time old new some = branch (IsFine octets) ((old == 6) && not (new == 6)) (loss time) (Gives []) (fine-loss octets time some) (refl, omega arith)
 
 fine-state_entry : (peer : PeerId) (time : ℕ) (fields : List ℕ) → IsFine (length fields) (effect_of_entry peer time (state_entry fields))
-fine-state_entry peer time fields =
+fine-state_entry peer time [] = refl
+fine-state_entry peer time (octet ∷ octets) =
+    let fields : List ℕ = octet ∷ octets in
     let old = big_number 2 (drop 20 fields) in
     let new = big_number 2 (drop 22 fields) in
     branch (λ (meaning : Result Meaning MrtFault). IsFine (length fields) (effect_of_entry peer time meaning)) (nat_lt (length fields) 24) (Err FieldsCutShort)
     (Ok (State (big_number 4 fields) (big_number 4 (drop 12 fields)) old new))
     refl
-    (branch (IsFine (length fields)) (is_of peer (big_number 4 fields) (big_number 4 (drop 12 fields))) (effect_of_state old new) PassesOver (fine-state (length fields) old new) tt)
+    (branch (IsFine (length fields)) (is_of peer (big_number 4 fields) (big_number 4 (drop 12 fields))) (effect_of_state time old new) PassesOver (fine-state (length fields) time old new (omega arith)) tt)
 
 fine-fields : (peer : PeerId) (time subtype : ℕ) (fields : List ℕ) → IsFine (length fields) (effect_of_entry peer time (fields_entry subtype fields))
 unfolding fields_entry

@@ -27,8 +27,6 @@ recorded_before : (end : Option SourceFault) (reason : Reason) → is_recorded r
 recorded_before None reason h = h
 recorded_before (Some (faults.Mrt fault)) reason h = h
 recorded_before (Some faults.Read) reasons.EndOfFile h = refl
-recorded_before (Some faults.Read) reasons.State h = refl
-recorded_before (Some faults.Read) reasons.Notification h = refl
 recorded_before (Some faults.Read) (reasons.Bgp code subcode) h = refl
 recorded_before (Some faults.Read) (reasons.Mrt number) h = refl
 recorded_before (Some faults.Read) reasons.Memory h = h

@@ -3,15 +3,16 @@ use Rattle.std.specs.Prelude.{◌≡◌, ℕ, Bool, true, false, List, [], ◌�
 use Rattle.rs_update.specs.IpPrefix.{IpPrefix}
 use Rattle.rs_update.specs.PathAttributes.{PathAttributes}
 use Rattle.rs_session.specs.declared.word.Body.{Body}
-use Rattle.rs_session.specs.declared.word.Body.TheVariants.{Announce, Withdraw, Close}
+use Rattle.rs_session.specs.declared.word.Body.TheVariants.{Announce, Withdraw, Down, Close}
 use Rattle.rs_session.specs.declared.word.Reason.{Reason}
 use Rattle.rs_session.specs.declared.word.Reason.TheVariants as reasons
 use Rattle.rs_session.specs.declared.word.Word.{Word}
 
--- what changed: a prefix has these attributes, it has none, or the session ended
+-- what changed: a prefix has these attributes, it has none, all routes are lost with the session, or the session ended
 pub data ChangeBody : Type 0 where
   Announced : IpPrefix → PathAttributes → ChangeBody
   Withdrawn : IpPrefix → ChangeBody
+  Lost : ChangeBody
   Closed : Reason → ChangeBody
 
 -- a change and its time, in seconds since 1970
@@ -23,6 +24,7 @@ pub record Change : Type 0 where
 abbrev pub body_of : Body → ChangeBody
 body_of (Announce prefix attributes) = Announced prefix attributes.value
 body_of (Withdraw prefix) = Withdrawn prefix
+body_of Down = Lost
 body_of (Close reason) = Closed reason
 
 -- the change that a program's value is

@@ -5,7 +5,7 @@ use Rattle.rs_mrt.specs.Entry.{front_of}
 use Rattle.rs_mrt.specs.Record.{MrtRecord}
 use Rattle.rs_mrt.specs.declared.fault.SourceFault.{SourceFault}
 use Rattle.rs_mrt.specs.declared.fault.SourceFault.TheVariants as faults
-use Rattle.rs_session.specs.Change.{Change, ChangeBody, Announced, Withdrawn, Closed}
+use Rattle.rs_session.specs.Change.{Change, ChangeBody, Announced, Withdrawn, Lost, Closed}
 use Rattle.rs_session.specs.Effect.{effect_of}
 use Rattle.rs_session.specs.FileChanges.{changes_of, close_at, changes_in}
 use Rattle.rs_session.specs.Stage.{Comes, Stage, May}
@@ -17,6 +17,7 @@ abbrev pub is_closing : ChangeBody → Bool
 is_closing (Closed reason) = true
 is_closing (Announced prefix attributes) = false
 is_closing (Withdrawn prefix) = false
+is_closing Lost = false
 
 abbrev pub has_close : List Change → Bool
 has_close changes = list_any (λ change. is_closing change.body) changes

@@ -1,7 +1,8 @@
 //! What a record says to the session of one peer (RFC 6396, sections 4.4.3 and 4.4.4; RFC 4271, sections 4.2 to 4.5 and 6).
 //!
 //! Our choices: a record of another kind or of another peer is passed over; only the loss of Established counts among changes of
-//! state; a fault of the recording or of a message ends the session.
+//! state; after a loss and after a NOTIFICATION reading goes on, whatever the recorded state is; a fault of the recording or of a
+//! message ends the session.
 
 ghost use Rattle.std.specs.Prelude.{◌≡◌, IsTrue, IfOk};
 ghost use Rattle.rs_mrt.specs.Record.{record_of};
@@ -55,19 +56,19 @@ pub(crate) fn read_record(
                 old,
                 new,
             },
-        ) if peer.is(peer_as, address) => Ok(effect_of_state(alloc, old, new)),
+        ) if peer.is(peer_as, address) => Ok(effect_of_state(alloc, record.time, old, new)),
         Ok(_) => Ok(Effect::PassesOver),
         Err(fault) => Ok(Effect::Ends(Reason::Mrt(fault.number()))),
     }
 }
 
-// What a change of state says.
-fn effect_of_state(alloc: Global, old: u16, new: u16) -> Effect
-    ensures says { effect_value result ≡ effect_of_state old new }
+// What a change of state says, recorded at a time.
+fn effect_of_state(alloc: Global, time: u32, old: u16, new: u16) -> Effect
+    ensures says { effect_value result ≡ effect_of_state time old new }
     ensures recorded { IsRecorded result }
 {
     if old == ESTABLISHED && new != ESTABLISHED {
-        Effect::Ends(Reason::State)
+        Effect::Gives(Pending::of_loss(alloc, time))
     } else {
         Effect::Gives(Pending::none(alloc))
     }
@@ -81,7 +82,7 @@ fn read_recorded_message(alloc: Global, time: u32, octets: &[u8]) -> Result<Effe
     let effect = match read_message(alloc, octets) {
         Ok(Message::Open) => Effect::Gives(Pending::none(alloc)),
         Ok(Message::Update(update)) => Effect::Gives(Pending::of_update(alloc, time, update)?),
-        Ok(Message::Notification) => Effect::Ends(Reason::Notification),
+        Ok(Message::Notification) => Effect::Gives(Pending::of_loss(alloc, time)),
         Ok(Message::KeepAlive) => Effect::Gives(Pending::none(alloc)),
         Ok(Message::Refresh) => Effect::Gives(Pending::none(alloc)),
         Err(MessageFault::Bgp { code, subcode }) => Effect::Ends(Reason::Bgp { code, subcode }),

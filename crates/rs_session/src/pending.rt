@@ -1,11 +1,11 @@
-//! The changes of one UPDATE, given one after another (RFC 4271, sections 3.1 and 4.3).
+//! The changes of one record, given one after another (RFC 4271, sections 3.1, 4.3 and 8.2.2).
 //!
-//! Our choices: first what is withdrawn, then what is announced; a multicast prefix gives no change.
+//! Our choices: of an UPDATE first what is withdrawn, then what is announced; a multicast prefix gives no change.
 
-ghost use Rattle.std.specs.Prelude.{◌≡◌, false, [], IfOk, IfSome, OnErr};
+ghost use Rattle.std.specs.Prelude.{◌≡◌, false, [], ◌∷◌, IfOk, IfSome, OnErr};
 ghost use Rattle.std.specs.Option.{option_map};
 ghost use Rattle.rs_update.specs.Message.{update_content_of};
-ghost use Rattle.rs_session.specs.Change.{GivesFirst, is_close};
+ghost use Rattle.rs_session.specs.Change.{GivesFirst, Lost, is_close};
 ghost use Rattle.rs_session.specs.UpdateChanges.{changes_of_update};
 
 use crate::withdrawn::{keep_unicast, keep_withdrawn_only};
@@ -16,10 +16,12 @@ use std::marker::Model;
 use std::sync::Arc;
 use std::vec::IntoIter;
 
-// The changes of an UPDATE that haven't been given yet.
+// The changes of a record that haven't been given yet.
 #[derive(Drop)]
 pub(crate) struct Pending {
     time: u32,
+    // Whether the session goes down, before any other change.
+    lost: bool,
     withdrawn: IntoIter<Prefix>,
     announced: IntoIter<Prefix>,
     attributes: Option<Arc<Attributes>>,
@@ -43,6 +45,20 @@ impl Pending {
     {
         Pending {
             time: 0,
+            lost: false,
+            withdrawn: Vec::new(alloc).into_iter(),
+            announced: Vec::new(alloc).into_iter(),
+            attributes: None,
+        }
+    }
+
+    // The loss of the session, with the time of its record.
+    pub(crate) fn of_loss(alloc: Global, time: u32) -> Pending
+        ensures { result ≡ record { time = time; body = Lost } ∷ [] }
+    {
+        Pending {
+            time,
+            lost: true,
             withdrawn: Vec::new(alloc).into_iter(),
             announced: Vec::new(alloc).into_iter(),
             attributes: None,
@@ -60,6 +76,7 @@ impl Pending {
         keep_unicast(&mut announced);
         Ok(Pending {
             time,
+            lost: false,
             withdrawn: withdrawn.into_iter(),
             announced: announced.into_iter(),
             attributes,
@@ -72,6 +89,14 @@ impl Pending {
         ensures open { IfOk result (λ given. IfSome given (λ word. is_close word.body ≡ false)) }
         ensures err { OnErr result (self.new ≡ self.old) }
     {
+        if self.lost {
+            self.lost = false;
+            let time = self.time;
+            return Ok(Some(Word {
+                time,
+                body: Body::Down,
+            }));
+        }
         if let Some(prefix) = self.withdrawn.next() {
             return Ok(Some(Word {
                 time: self.time,

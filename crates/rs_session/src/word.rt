@@ -19,6 +19,9 @@ pub enum Body {
     Announce(Prefix, Arc<Attributes>),
     /// The peer withdraws the prefix.
     Withdraw(Prefix),
+    /// The session goes down and all its routes with it (RFC 4271, section 8.2.2): its state left Established, or the peer sent a
+    /// NOTIFICATION. It may come up again.
+    Down,
     /// The session ends, and nothing follows.
     Close(Reason),
 }
@@ -26,12 +29,8 @@ pub enum Body {
 /// Why a session ended.
 #[derive(Clone, Copy, Debug, PartialEq, Eq, Drop)]
 pub enum Reason {
-    /// The records ended, and the session was still open.
+    /// The records ended.
     EndOfFile,
-    /// The session was lost: its state left Established (RFC 6396, section 4.4.1).
-    State,
-    /// The peer sent a NOTIFICATION (RFC 4271, section 4.5).
-    Notification,
     /// The peer sent a message at fault, which a NOTIFICATION with these codes answers (RFC 4271, section 6).
     Bgp {
         /// The error code: 1 for the header, 3 for an UPDATE.

@@ -1,5 +1,6 @@
 //! What recorded sessions say, and that announcements share attributes.
 
+mod losses;
 mod messages;
 mod recorders;
 mod refusals;
@@ -18,6 +19,9 @@ const PEER: PeerId = PeerId {
     asn: 64501,
 };
 
+// A NOTIFICATION: Cease, Administrative Shutdown.
+const CEASE: &str = "0015 03 0602";
+
 // ORIGIN IGP, AS_PATH 64501, NEXT_HOP 192.0.2.11.
 const ATTRIBUTES: &str = "40010100 40020602010000FBF5 400304C000020B";
 
@@ -26,6 +30,7 @@ const ATTRIBUTES: &str = "40010100 40020602010000FBF5 400304C000020B";
 enum Given {
     Announce(u32, u32, u8),
     Withdraw(u32, u32, u8),
+    Down(u32),
     Close(u32, Reason),
 }
 
@@ -40,15 +45,16 @@ fn seen(word: &Word) -> Given {
     match &word.body {
         Body::Announce(prefix, _) => Given::Announce(word.time, prefix.address(), prefix.len()),
         Body::Withdraw(prefix) => Given::Withdraw(word.time, prefix.address(), prefix.len()),
+        Body::Down => Given::Down(word.time),
         Body::Close(reason) => Given::Close(word.time, *reason),
     }
 }
 
 // A record: its time, Type and Subtype, and its body as hexadecimal digits.
-type Recorded = (u32, u16, u16, &'static [&'static str]);
+type Recorded<'a> = (u32, u16, u16, &'a [&'a str]);
 
 // Appends a record, its Length counted.
-fn append(file: &mut Vec<u8>, alloc: Global, recorded: &Recorded) -> Result<(), AllocError> {
+fn append(file: &mut Vec<u8>, alloc: Global, recorded: &Recorded<'_>) -> Result<(), AllocError> {
     let (time, kind, subtype, texts) = *recorded;
     let body = octets(alloc, texts)?;
     let length = u32::try_from(body.len()).unwrap_or(0);
@@ -57,7 +63,7 @@ fn append(file: &mut Vec<u8>, alloc: Global, recorded: &Recorded) -> Result<(), 
 }
 
 // The file of these records.
-fn file_of(alloc: Global, records: &[Recorded]) -> Result<Vec<u8>, AllocError> {
+fn file_of(alloc: Global, records: &[Recorded<'_>]) -> Result<Vec<u8>, AllocError> {
     let mut file = Vec::new(alloc);
     for recorded in records {
         append(&mut file, alloc, recorded)?;
@@ -82,7 +88,7 @@ fn read(alloc: Global, file: &[u8]) -> Result<(Vec<Given>, u64), AllocError> {
 fn assert_says(
     rt: &impl Abort,
     alloc: Global,
-    records: &[Recorded],
+    records: &[Recorded<'_>],
     changes: &[Given],
     passed: u64,
 ) -> Result<(), AllocError> {
@@ -95,7 +101,7 @@ fn assert_says(
 }
 
 // The last digits of the last record.
-fn last_text(records: &[Recorded]) -> &'static str {
+fn last_text<'a>(records: &[Recorded<'a>]) -> &'a str {
     match records.last() {
         Some(recorded) => recorded.3.last().copied().unwrap_or("no body"),
         None => "no record",

@@ -2,56 +2,39 @@
 
 use super::*;
 
-const LOST: &[Recorded] = &[
-    (100, BGP4MP, STATE_CHANGE_AS4, &[A, "0003 0006"]),
-    (100, BGP4MP, MESSAGE_AS4, &[A, MARKER, UPDATE]),
-    (101, BGP4MP, STATE_CHANGE_AS4, &[A, "0006 0001"]),
-    (102, BGP4MP, MESSAGE_AS4, &[A, MARKER, UPDATE]),
+// Old and new state, and whether the session is lost between them: 7 is Quagga's Clearing.
+const CHANGES_OF_STATE: &[(&str, bool)] = &[
+    ("0006 0001", true),
+    ("0006 0007", true),
+    ("0006 0000", true),
+    ("0006 0001 00", true),
+    ("0006 0006", false),
+    ("0005 0001", false),
+    ("0007 0001", false),
+    ("0001 0006", false),
 ];
 
 #[test]
-fn the_loss_of_established_closes(rt: HostRuntime) -> Result<(), Fail> {
-    let changes = [
-        Given::Announce(100, 0xCB00_7100, 24),
-        Given::Close(101, Reason::State),
-    ];
-    assert_says(&rt, rt.alloc(), LOST, &changes, 0)?;
-    Ok(())
-}
-
-const LOSS: Given = Given::Close(100, Reason::State);
-
-// Old and new state, and what a change between them says: 7 is Quagga's Clearing.
-const CHANGES_OF_STATE: &[(Recorded, Given)] = &[
-    ((100, BGP4MP, STATE_CHANGE_AS4, &[A, "0006 0001"]), LOSS),
-    ((100, BGP4MP, STATE_CHANGE_AS4, &[A, "0006 0007"]), LOSS),
-    ((100, BGP4MP, STATE_CHANGE_AS4, &[A, "0006 0000"]), LOSS),
-    ((100, BGP4MP, STATE_CHANGE_AS4, &[A, "0006 0006"]), END),
-    ((100, BGP4MP, STATE_CHANGE_AS4, &[A, "0005 0001"]), END),
-    ((100, BGP4MP, STATE_CHANGE_AS4, &[A, "0007 0001"]), END),
-    ((100, BGP4MP, STATE_CHANGE_AS4, &[A, "0001 0006"]), END),
-    ((100, BGP4MP, STATE_CHANGE_AS4, &[A, "0006 0001 00"]), LOSS),
-    (
-        (
-            100,
-            BGP4MP_ET,
-            STATE_CHANGE_AS4,
-            &["000F423F", A, "0006 0001"],
-        ),
-        LOSS,
-    ),
-];
-
-#[test]
-fn only_the_loss_of_established_closes(rt: HostRuntime) -> Result<(), Fail> {
-    for (recorded, change) in CHANGES_OF_STATE {
-        assert_says(&rt, rt.alloc(), &[*recorded], &[*change], 0)?;
+fn the_session_is_lost_where_it_leaves_established(rt: HostRuntime) -> Result<(), Fail> {
+    for (states, lost) in CHANGES_OF_STATE {
+        let changes = [Given::Down(100), END];
+        let changes = if *lost {
+            changes.as_slice()
+        } else {
+            &changes[1..]
+        };
+        let body = [A, *states];
+        let recorded = (100, BGP4MP, STATE_CHANGE_AS4, body.as_slice());
+        assert_says(&rt, rt.alloc(), &[recorded], changes, 0)?;
+        let body = ["000F423F", A, *states];
+        let recorded = (100, BGP4MP_ET, STATE_CHANGE_AS4, body.as_slice());
+        assert_says(&rt, rt.alloc(), &[recorded], changes, 0)?;
     }
     Ok(())
 }
 
 // Records that are too short to show whose they are, or whose message is too short.
-const CUT_SHORT: &[(Recorded, Given)] = &[
+const CUT_SHORT: &[(Recorded<'static>, Given)] = &[
     (
         (100, BGP4MP_ET, MESSAGE_AS4, &["000000"]),
         Given::Close(100, Reason::Mrt(4)),
@@ -82,7 +65,7 @@ fn records_that_are_cut_short_close(rt: HostRuntime) -> Result<(), Fail> {
     Ok(())
 }
 
-const PASSED_OVER: &[Recorded] = &[
+const PASSED_OVER: &[Recorded<'static>] = &[
     (100, BGP4MP_ET, 1, &["00000000"]),
     (100, BGP4MP, MESSAGE_AS4, &["000000000000000000000000"]),
     // TABLE_DUMP_V2 isn't read.
@@ -142,7 +125,7 @@ fn other_records_are_passed_over(rt: HostRuntime) -> Result<(), Fail> {
 }
 
 // As BIRD writes a session that ends with a dead connection: the routes stay.
-const DEAD_CONNECTION: &[Recorded] = &[
+const DEAD_CONNECTION: &[Recorded<'static>] = &[
     (
         100,
         BGP4MP,

@@ -3,7 +3,7 @@
 use super::*;
 use std::sync::Arc;
 
-const BOTH: &[Recorded] = &[(
+const BOTH: &[Recorded<'static>] = &[(
     100,
     BGP4MP,
     MESSAGE_AS4,
@@ -23,7 +23,7 @@ fn a_prefix_that_an_update_announces_is_not_withdrawn(rt: HostRuntime) -> Result
     Ok(())
 }
 
-const LENGTHS: &[Recorded] = &[
+const LENGTHS: &[Recorded<'static>] = &[
     (
         100,
         BGP4MP,
@@ -71,7 +71,7 @@ fn lengths_tell_prefixes_apart_and_trailing_bits_do_not(rt: HostRuntime) -> Resu
 }
 
 // 224.0.0.0/4 and 224.0.0.1/32 announced, 224.0.0.0/3 announced, 224.0.0.0/4 withdrawn, 224.0.0.0/3 withdrawn.
-const MULTICAST: &[Recorded] = &[
+const MULTICAST: &[Recorded<'static>] = &[
     (
         100,
         BGP4MP,
@@ -117,7 +117,7 @@ fn multicast_prefixes_give_no_change(rt: HostRuntime) -> Result<(), Fail> {
 
 // Withdrawn: 1/8, 2/8, .. 12/8, and 5/8 again; announced: 20/8, 2/8, 4/8, 6/8, 8/8, 10/8, 12/8, 14/8, 3/8, 2/8, of which seven were
 // withdrawn.
-const LONG_LISTS: &[Recorded] = &[(
+const LONG_LISTS: &[Recorded<'static>] = &[(
     100,
     BGP4MP,
     MESSAGE_AS4,
@@ -156,7 +156,7 @@ fn long_lists_are_compared_as_short_ones(rt: HostRuntime) -> Result<(), Fail> {
     Ok(())
 }
 
-const THREE: &[Recorded] = &[(
+const THREE: &[Recorded<'static>] = &[(
     100,
     BGP4MP,
     MESSAGE_AS4,
