@@ -7,9 +7,9 @@ use Rattle.std.proofs.lemmas.Bool.{cases_Bool, cases_lt, eq-eqb}
 use Rattle.std.proofs.lemmas.Bool.Decides.{eqb_tells}
 use Rattle.std.proofs.lemmas.List.{get_or_past}
 use Rattle.rs_update.specs.IpPrefix.{IpPrefix}
-use Rattle.rs_session.specs.Change.{Change, ChangeBody, Announced, Withdrawn, Closed}
+use Rattle.rs_session.specs.Change.{Change, ChangeBody, Announced, Withdrawn, Lost, Closed}
 use Rattle.rs_choice.specs.Plan.{Plan}
-use Rattle.rs_table.specs.Left.{RouteLeft, after, same_prefix, is_on, drops_routes, reason_drops, body_route, body_drops, body_prefix, IsNewBody}
+use Rattle.rs_table.specs.Left.{RouteLeft, after, same_prefix, bears_on, drops_routes, reason_drops, body_route, body_drops, body_loses, body_prefix, IsNewBody}
 use Rattle.rs_table.specs.Content.{TablesContent, nothing_held, rib_of}
 use Rattle.rs_table.specs.Listing.{is_held}
 use Rattle.rs_table.specs.Listing as listing
@@ -73,14 +73,14 @@ either_way false x = refl
 
 -- what a peer's change makes of the routes on a prefix, peer by peer
 abbrev changed_at : Change → IpPrefix → Option RouteLeft → Option RouteLeft
-changed_at change q held = cond (drops_routes change) None (cond (is_on q change) (body_route change.time change.body) held)
+changed_at change q held = cond (drops_routes change) None (cond (bears_on q change) (body_route change.time change.body) held)
 
 route_at-changed : (peer p : ℕ) (change : Change) (q : IpPrefix) (routes : List PeerRoute) →
     route_at (changed_routes peer change q routes) p ≡ cond (peer == p) (changed_at change q (route_at routes p)) (route_at routes p)
 route_at-changed peer p change q routes = by_body change.body
   where
     by_body : (body : ChangeBody) → route_at (changed_routes_body peer change.time body q routes) p
-        ≡ cond (peer == p) (cond (body_drops body) None (cond (option_map_or (same_prefix q) (body_prefix body) false) (body_route change.time body) (route_at routes p))) (route_at routes p)
+        ≡ cond (peer == p) (cond (body_drops body) None (cond (body_loses body || option_map_or (same_prefix q) (body_prefix body) false) (body_route change.time body) (route_at routes p))) (route_at routes p)
     by_body (Announced prefix attributes) =
         elim (cases_Bool (same_prefix q prefix)) [
           | inl here ↦ rw here (route_at-with routes (record { peer = peer; time = change.time; attributes = attributes }) p)
@@ -91,6 +91,7 @@ route_at-changed peer p change q routes = by_body change.body
           | inl here ↦ rw here (route_at-without routes peer p)
           | inr there ↦ rw there (either_way (peer == p) (route_at routes p))
         ]
+    by_body Lost = route_at-without routes peer p
     by_body (Closed reason) =
         elim (cases_Bool (reason_drops reason)) [
           | inl drops ↦ rw drops (route_at-without routes peer p)
@@ -141,11 +142,13 @@ none_held entries prefix none first (c ∷ cs) =
 pub first-new : (entries : Entries) (peer : ℕ) (body : ChangeBody) → cells.IsFirstOn entries body → IsNewBody (routes_from entries peer) body
 first-new entries peer (Announced prefix attributes) none = get-routes_from entries peer prefix ∙ ap (λ cell. route_at (routes_of cell) peer) none
 first-new entries peer (Withdrawn prefix) none = none
+first-new entries peer Lost none = none
 first-new entries peer (Closed reason) none = none
 
 pub first-held : (entries : Entries) (closed : List Bool) (body : ChangeBody) → cells.IsFirstOn entries body → listing.IsFirstBody (ribs_from entries 0 closed) body
 first-held entries closed (Announced prefix attributes) none = none_held entries prefix none 0 closed
 first-held entries closed (Withdrawn prefix) none = none
+first-held entries closed Lost none = none
 first-held entries closed (Closed reason) none = none
 
 -- the peer's own routes after its change

@@ -7,7 +7,7 @@ use Rattle.std.specs.Map.{lookup}
 use Rattle.std.specs.Option.{option_map}
 use Rattle.rs_update.specs.IpPrefix.{IpPrefix}
 use Rattle.rs_update.specs.PrefixOrder.{prefix_cmp}
-use Rattle.rs_session.specs.Change.{Change, ChangeBody, Announced, Withdrawn, Closed}
+use Rattle.rs_session.specs.Change.{Change, ChangeBody, Announced, Withdrawn, Lost, Closed}
 use Rattle.rs_choice.specs.Plan.{Plan}
 use Rattle.rs_table.specs.Left.{same_prefix, reason_drops, Routes}
 use Rattle.rs_table.specs.Table.{PeerRoute}
@@ -42,6 +42,7 @@ abbrev pub changed_routes_body : ℕ → ℕ → ChangeBody → IpPrefix → Lis
 changed_routes_body peer time (Announced announced attributes) prefix routes =
     if same_prefix prefix announced then with_route routes (record { peer = peer; time = time; attributes = attributes }) else routes
 changed_routes_body peer time (Withdrawn withdrawn) prefix routes = if same_prefix prefix withdrawn then without_route routes peer else routes
+changed_routes_body peer time Lost prefix routes = without_route routes peer
 changed_routes_body peer time (Closed reason) prefix routes = if reason_drops reason then without_route routes peer else routes
 
 abbrev pub changed_routes : ℕ → Change → IpPrefix → List PeerRoute → List PeerRoute
@@ -55,4 +56,5 @@ ChangeTo peer change before others = (prefix : IpPrefix) → routes_at others pr
 abbrev pub IsFirstOn : Entries → ChangeBody → Type 0
 IsFirstOn entries (Announced prefix attributes) = cell_at entries prefix ≡ None
 IsFirstOn entries (Withdrawn prefix) = ⊥
+IsFirstOn entries Lost = ⊥
 IsFirstOn entries (Closed reason) = ⊥

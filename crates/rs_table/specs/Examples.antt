@@ -6,7 +6,7 @@ use Rattle.rs_update.specs.declared.values.Origin.TheVariants.{Igp}
 use Rattle.rs_update.specs.IpPrefix.{IpPrefix}
 use Rattle.rs_update.specs.PathAttributes.{PathAttributes, AsSequence, CommunityList}
 use Rattle.rs_session.specs.declared.word.Reason.TheVariants.{EndOfFile, Bgp}
-use Rattle.rs_session.specs.Change.{Change, Announced, Withdrawn, Closed}
+use Rattle.rs_session.specs.Change.{Change, Announced, Withdrawn, Lost, Closed}
 use Rattle.rs_choice.specs.Plan.{Peer, Plan}
 use Rattle.rs_table.specs.declared.why.Why.TheVariants.{Own, Absent, Ineligible, Refused, Best, Lost}
 use Rattle.rs_table.specs.Content.{RibContent, TablesContent}
@@ -29,6 +29,9 @@ announced time prefix attributes = record { time = time; body = Announced prefix
 abbrev pub withdrawn : ℕ → IpPrefix → Change
 withdrawn time prefix = record { time = time; body = Withdrawn prefix }
 
+abbrev pub lost : Change
+lost = record { time = 103; body = Lost }
+
 abbrev pub ended : Change
 ended = record { time = 0; body = Closed EndOfFile }
 
@@ -49,8 +52,12 @@ pub record LeftExamples : Type 0 where
   pub of_another_prefix : (a : PathAttributes) → left_on_ten (announced 100 documentation a ∷ []) ≡ None
   pub at_the_end : (a : PathAttributes) → left_on_ten (announced 100 ten a ∷ ended ∷ []) ≡ Some (record { time = 100; attributes = a })
   pub after_a_fault : (a : PathAttributes) → left_on_ten (announced 100 ten a ∷ at_fault ∷ []) ≡ None
+  pub after_a_loss : (a : PathAttributes) → left_on_ten (announced 100 ten a ∷ lost ∷ []) ≡ None
+  pub since_a_loss : (a b : PathAttributes) → left_on_ten (announced 100 ten a ∷ lost ∷ announced 104 ten b ∷ ended ∷ []) ≡ Some (record { time = 104; attributes = b })
+  pub not_where_another_came_back : (a b : PathAttributes) → left_on_ten (announced 100 ten a ∷ lost ∷ announced 104 documentation b ∷ []) ≡ None
   pub by_its_last_place : (a : PathAttributes) → Leaves (announced 100 ten a ∷ ended ∷ []) ten (record { time = 100; attributes = a })
   pub not_by_an_earlier_place : (a : PathAttributes) → Leaves (announced 100 ten a ∷ withdrawn 101 ten ∷ []) ten (record { time = 100; attributes = a }) → ⊥
+  pub not_before_a_loss : (a : PathAttributes) → Leaves (announced 100 ten a ∷ lost ∷ []) ten (record { time = 100; attributes = a }) → ⊥
   pub not_after_a_fault : (a : PathAttributes) → Leaves (announced 100 ten a ∷ at_fault ∷ []) ten (record { time = 100; attributes = a }) → ⊥
 
 -- the exchange of AS 64500 at 192.0.2.1 in 192.0.2.0/24, and of peers of AS 64501 and on, at 192.0.2.11 and on

@@ -1,9 +1,9 @@
 -- The routes that a peer's list of changes leaves: its Adj-RIB-In (RFC 4271, sections 3.2 and 9.1).
 --
 -- An announcement replaces the peer's earlier route on that prefix and a withdrawal removes it, so the last change on a prefix
--- decides. Our choice: a session that closes at the end of its file leaves its routes, and one that closes for any other reason
--- leaves none.
-use Rattle.std.specs.Prelude.{◌≡◌, ℕ, Bool, true, false, List, [], ◌∷◌, ◌++◌, reverse, Option, Some, None, if◌then◌else◌}
+-- decides. A session that is lost takes all routes with it that were announced before, and may announce others when it is up again.
+-- Our choice: a session that closes at the end of its file leaves its routes, and one that closes for any other reason leaves none.
+use Rattle.std.specs.Prelude.{◌≡◌, ℕ, Bool, true, false, ◌||◌, List, [], ◌∷◌, ◌++◌, reverse, Option, Some, None, if◌then◌else◌}
 use Rattle.std.specs.List.{find, filter_map, list_any}
 use Rattle.std.specs.Option.{option_map, option_and_then, option_map_or}
 use Rattle.std.specs.Ordering.{eq_by_cmp}
@@ -12,7 +12,7 @@ use Rattle.rs_update.specs.IpPrefix.{IpPrefix}
 use Rattle.rs_update.specs.PathAttributes.{PathAttributes}
 use Rattle.rs_session.specs.declared.word.Reason.{Reason}
 use Rattle.rs_session.specs.declared.word.Reason.TheVariants as reasons
-use Rattle.rs_session.specs.Change.{Change, ChangeBody, Announced, Withdrawn, Closed}
+use Rattle.rs_session.specs.Change.{Change, ChangeBody, Announced, Withdrawn, Lost, Closed}
 use Rattle.rs_update.specs.PrefixOrder.{prefix_cmp}
 
 -- whether two prefixes are one and the same
@@ -35,11 +35,13 @@ announcement prefix route = record { time = route.time; body = Announced prefix 
 abbrev pub body_prefix : ChangeBody → Option IpPrefix
 body_prefix (Announced prefix attributes) = Some prefix
 body_prefix (Withdrawn prefix) = Some prefix
+body_prefix Lost = None
 body_prefix (Closed reason) = None
 
 abbrev pub body_route : ℕ → ChangeBody → Option RouteLeft
 body_route time (Announced prefix attributes) = Some (record { time = time; attributes = attributes })
 body_route time (Withdrawn prefix) = None
+body_route time Lost = None
 body_route time (Closed reason) = None
 
 -- a close for any reason but the end of the file takes all routes with it
@@ -50,18 +52,30 @@ reason_drops reason = true
 abbrev pub body_drops : ChangeBody → Bool
 body_drops (Announced prefix attributes) = false
 body_drops (Withdrawn prefix) = false
+body_drops Lost = false
 body_drops (Closed reason) = reason_drops reason
 
 abbrev pub body_closes : ChangeBody → Bool
 body_closes (Announced prefix attributes) = false
 body_closes (Withdrawn prefix) = false
+body_closes Lost = false
 body_closes (Closed reason) = true
+
+abbrev pub body_loses : ChangeBody → Bool
+body_loses (Announced prefix attributes) = false
+body_loses (Withdrawn prefix) = false
+body_loses Lost = true
+body_loses (Closed reason) = false
 
 abbrev pub drops_routes : Change → Bool
 drops_routes change = body_drops change.body
 
 abbrev pub is_close : Change → Bool
 is_close change = body_closes change.body
+
+-- the session is lost, and may come up again
+abbrev pub is_loss : Change → Bool
+is_loss change = body_loses change.body
 
 abbrev pub is_on : IpPrefix → Change → Bool
 is_on prefix change = option_map_or (same_prefix prefix) (body_prefix change.body) false
@@ -70,17 +84,21 @@ abbrev pub HasNoClose : List Change → Type 0
 HasNoClose changes = list_any is_close changes ≡ false
 
 -- what it means: a list leaves a route on a prefix where the route is announced at some place of the list, no later place has a
--- change on that prefix, and nowhere does the session close but at the end of its file
+-- change on that prefix or a loss of the session, and nowhere does the session close but at the end of its file
 pub record Leaves (changes : List Change) (prefix : IpPrefix) (route : RouteLeft) : Type 0 where
   pub earlier : List Change
   pub later : List Change
   pub is_announced : changes ≡ earlier ++ announcement prefix route ∷ later
   pub is_last : list_any (is_on prefix) later ≡ false
+  pub stays_up : list_any is_loss later ≡ false
   pub keeps_routes : list_any drops_routes changes ≡ false
 
--- the same computed: the last change on a prefix, and the route that it leaves
+-- the same computed: the last change that bears on a prefix, and the route that it leaves
+abbrev pub bears_on : IpPrefix → Change → Bool
+bears_on prefix change = is_loss change || is_on prefix change
+
 abbrev pub last_change_on : IpPrefix → List Change → Option Change
-last_change_on prefix changes = find (is_on prefix) (reverse changes)
+last_change_on prefix changes = find (bears_on prefix) (reverse changes)
 
 abbrev pub route_left_on : IpPrefix → List Change → Option RouteLeft
 route_left_on prefix changes =
@@ -97,6 +115,7 @@ left changes =
 abbrev pub after_body : Routes → ℕ → ChangeBody → Routes
 after_body routes time (Announced prefix attributes) = insert routes prefix (record { time = time; attributes = attributes })
 after_body routes time (Withdrawn prefix) = remove routes prefix
+after_body routes time Lost = empty
 after_body routes time (Closed reason) = if reason_drops reason then empty else routes
 
 abbrev pub after : Routes → Change → Routes
@@ -106,6 +125,7 @@ after routes change = after_body routes change.time change.body
 abbrev pub IsNewBody : Routes → ChangeBody → Type 0
 IsNewBody routes (Announced prefix attributes) = get routes prefix ≡ None
 IsNewBody routes (Withdrawn prefix) = ⊥
+IsNewBody routes Lost = ⊥
 IsNewBody routes (Closed reason) = ⊥
 
 abbrev pub IsNewAnnouncement : Routes → Change → Type 0

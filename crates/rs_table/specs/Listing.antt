@@ -3,7 +3,7 @@ use Rattle.std.specs.Prelude.{◌≡◌, Bool, false, List}
 use Rattle.std.specs.List.{list_any}
 use Rattle.std.specs.FinMap.{contains_key}
 use Rattle.rs_update.specs.IpPrefix.{IpPrefix}
-use Rattle.rs_session.specs.Change.{Change, ChangeBody, Announced, Withdrawn, Closed}
+use Rattle.rs_session.specs.Change.{Change, ChangeBody, Announced, Withdrawn, Lost, Closed}
 use Rattle.rs_table.specs.Content.{RibContent}
 
 -- whether some peer has left a route on a prefix
@@ -14,6 +14,7 @@ is_held ribs prefix = list_any (λ rib. contains_key rib.routes prefix) ribs
 abbrev pub IsFirstBody : List RibContent → ChangeBody → Type 0
 IsFirstBody ribs (Announced prefix attributes) = is_held ribs prefix ≡ false
 IsFirstBody ribs (Withdrawn prefix) = ⊥
+IsFirstBody ribs Lost = ⊥
 IsFirstBody ribs (Closed reason) = ⊥
 
 abbrev pub IsFirstAnnouncement : List RibContent → Change → Type 0

@@ -40,6 +40,10 @@ pub(crate) fn change(
             withdraw(cells, plan, peer, prefix);
             Ok(())
         }
+        Body::Down => {
+            withdraw_all(cells, plan, peer);
+            Ok(())
+        }
         Body::Close(reason) => {
             if reason != Reason::EndOfFile {
                 withdraw_all(cells, plan, peer);

@@ -3,8 +3,8 @@
 ghost use Rattle.rs_table.specs.Examples.{LeftExamples, TableExamples};
 ghost use Rattle.rs_table.specs.Laws.{LeftByLastChanges, LeftAfterOneMore, TableIsComputed};
 
-/// The routes that a list of changes leaves are those announced last on their prefix (RFC 4271, section 9.1), none where the list
-/// closes but at the end of its file.
+/// The routes that a list of changes leaves are those announced last on their prefix and since the session was last lost (RFC 4271,
+/// section 9.1), none where the list closes but at the end of its file.
 pub fn left_by_last_changes()
     ensures { LeftByLastChanges }
 {}

@@ -82,7 +82,8 @@ impl Tables {
     }
 
     /// Takes the next change of the peer of number `peer`: an announcement replaces the peer's route on that prefix, a withdrawal
-    /// removes it, a close at the end of the file leaves the peer's routes, and any other close drops them (our choice).
+    /// removes it, a loss of the session removes all of the peer's routes and leaves it open, a close at the end of the file leaves the
+    /// peer's routes, and any other close drops them (our choice).
     ///
     /// Refused memory, which only an announcement of a prefix on which no peer has a route can be, nothing changed, and the change
     /// is dropped. An announcement of a prefix on which some peer has a route left, eligible or not, takes no memory and succeeds.

@@ -53,7 +53,7 @@ fn four_prefixes() -> Option<[Prefix; 4]> {
     Some([Prefix::new(0, 0)?, ten()?, ten_long, documentation()?])
 }
 
-// Most changes announce, some withdraw, and now and then a session closes, every other one at the end of its file.
+// Most changes announce, some withdraw, and now and then a session is lost or closes, at the end of its file or at a fault.
 fn some_body(
     random: &mut Random,
     prefixes: &[Prefix; 4],
@@ -62,8 +62,9 @@ fn some_body(
     let prefix = prefixes[random.next() % 4];
     Some(match random.next() % 64 {
         0 => Body::Close(Reason::EndOfFile),
-        1 => Body::Close(Reason::Notification),
-        2..=15 => Body::Withdraw(prefix),
+        1 => Body::Close(Reason::Mrt(2)),
+        2 | 3 => Body::Down,
+        4..=15 => Body::Withdraw(prefix),
         _ => Body::Announce(prefix, routes.get(random.next() % 8)?.clone().ok()?),
     })
 }

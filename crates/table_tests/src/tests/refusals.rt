@@ -14,11 +14,12 @@ use slow_reading::{History, again};
 enum Says {
     Announce(&'static str),
     Withdraw,
+    Down,
     Close(Reason),
 }
 
 // What peers say of which prefix, and whether memory may be refused then: a route on a prefix is taken with no memory where there is one.
-const CHANGES: [(usize, u32, Says, bool); 9] = [
+const CHANGES: [(usize, u32, Says, bool); 10] = [
     (A, 203, Says::Announce(NOT_TO_64502), true),
     (C, 203, Says::Announce(VIA_64503), false),
     (A, 198, Says::Announce(VIA_64501), true),
@@ -27,7 +28,8 @@ const CHANGES: [(usize, u32, Says, bool); 9] = [
     (A, 203, Says::Withdraw, false),
     (C, 203, Says::Withdraw, false),
     (B, 10, Says::Close(Reason::EndOfFile), false),
-    (A, 198, Says::Close(Reason::Notification), false),
+    (A, 198, Says::Down, false),
+    (C, 10, Says::Close(Reason::Mrt(2)), false),
 ];
 
 // Every client's rows, in the order of the clients.
@@ -44,6 +46,7 @@ fn change(alloc: Global, octet: u32, says: Says) -> Option<Word> {
     let body = match says {
         Says::Announce(route) => Body::Announce(prefix, attributes(alloc, route)?),
         Says::Withdraw => Body::Withdraw(prefix),
+        Says::Down => Body::Down,
         Says::Close(reason) => Body::Close(reason),
     };
     Some(Word { time: octet, body })

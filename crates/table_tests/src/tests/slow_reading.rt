@@ -101,15 +101,15 @@ impl History {
     }
 
     // Whether a peer's session closed but at the end of its file.
-    fn is_lost(&self, peer: usize) -> bool {
+    fn is_at_fault(&self, peer: usize) -> bool {
         self.changes.iter().any(|(of, word)| {
             *of == peer && matches!(word.body, Body::Close(reason) if reason != Reason::EndOfFile)
         })
     }
 
-    // The route that a peer has left on a prefix: that of its last change there.
+    // The route that a peer has left on a prefix: that of its last change there, if its session wasn't lost since.
     fn route(&self, peer: usize, prefix: Prefix) -> Option<(u32, &Attributes)> {
-        if self.is_lost(peer) {
+        if self.is_at_fault(peer) {
             return None;
         }
         for (of, word) in self.changes.iter().rev() {
@@ -118,6 +118,7 @@ impl History {
                     return Some((word.time, &**route));
                 }
                 Body::Withdraw(on) if *of == peer && *on == prefix => return None,
+                Body::Down if *of == peer => return None,
                 _ => {}
             }
         }
@@ -177,6 +178,7 @@ pub fn again(word: &Word) -> Option<Word> {
     let body = match &word.body {
         Body::Announce(prefix, route) => Body::Announce(*prefix, route.clone().ok()?),
         Body::Withdraw(prefix) => Body::Withdraw(*prefix),
+        Body::Down => Body::Down,
         Body::Close(reason) => Body::Close(*reason),
     };
     Some(Word {
