@@ -5,11 +5,11 @@ use Rattle.std.specs.List.{list_any}
 use Rattle.rs_mrt.specs.Record.{MrtRecord, Reading}
 use Rattle.rs_mrt.specs.Source.{IsLeft, source_end}
 use Rattle.rs_mrt.specs.declared.fault.SourceFault.{SourceFault}
-use Rattle.rs_session.specs.Change.{Change, ChangeBody, Announced, Withdrawn, Closed, change_of, body_of, is_close}
+use Rattle.rs_session.specs.Change.{Change, ChangeBody, Announced, Withdrawn, Lost, Closed, change_of, body_of, is_close}
 use Rattle.rs_session.specs.Laws.{ClosesLast}
 use Rattle.rs_session.specs.Stage.{Stage, May, Says, SaysJust, to_read, changes_left, passed_in_the_end}
 use Rattle.rs_session.specs.declared.word.Body.{Body}
-use Rattle.rs_session.specs.declared.word.Body.TheVariants.{Announce, Withdraw, Close}
+use Rattle.rs_session.specs.declared.word.Body.TheVariants.{Announce, Withdraw, Down, Close}
 use Rattle.rs_session.specs.declared.word.Word.{Word}
 use Rattle.rs_session.specs.declared.word.Reason.{Reason}
 use Rattle.rs_session.specs.declared.word.Reason.TheVariants as reasons
@@ -108,6 +108,7 @@ pub record IsReading (says : List Change) (total : ℕ) (stage : Stage Reading) 
 same_close : (body : Body) → table.body_closes (body_of body) ≡ is_close body
 same_close (Announce prefix attributes) = refl
 same_close (Withdraw prefix) = refl
+same_close Down = refl
 same_close (Close reason) = refl
 
 or-true : (b c : Bool) → c ≡ true → (b || c) ≡ true
@@ -140,6 +141,7 @@ open-before says total stage rib end first later r some = not_closed (list_any t
 reason_or-open : (later : Reason) (body : ChangeBody) → table.body_closes body ≡ false → reason_or later body ≡ later
 reason_or-open later (Announced prefix attributes) open_yet = refl
 reason_or-open later (Withdrawn prefix) open_yet = refl
+reason_or-open later Lost open_yet = refl
 reason_or-open later (Closed reason) open_yet = absurd cc
 
 or-first : (b c : Bool) → (b || c) ≡ false → b ≡ false

@@ -4,7 +4,7 @@ use Rattle.std.specs.Fmt.{decimal}
 use Rattle.std.specs.List.{zip, flat_map, enumerate_from}
 use Rattle.rs_choice.specs.Plan.{Peer, Plan}
 use Rattle.rs_session.specs.declared.word.Reason.{Reason}
-use Rattle.rs_session.specs.declared.word.Reason.TheVariants.{EndOfFile, State, Notification, Bgp, Mrt, Memory, Read}
+use Rattle.rs_session.specs.declared.word.Reason.TheVariants.{EndOfFile, Bgp, Mrt, Memory, Read}
 use Rattle.rs_table.specs.Table.{table_of}
 use Rattle.rs_run.specs.Recorded.{tables_of_files}
 use Rattle.rs_run.specs.SessionEnd.{ends_of_files}
@@ -13,8 +13,6 @@ use Rattle.rs_run.specs.declared.peer_end.PeerEnd.{PeerEnd}
 -- the text of a reason
 abbrev pub reason_text : Reason → List ℕ
 reason_text EndOfFile = codes "end"
-reason_text State = codes "state"
-reason_text Notification = codes "notification"
 reason_text (Bgp code subcode) = codes "bgp " ++ (decimal code ++ (codes "/" ++ decimal subcode))
 reason_text (Mrt number) = codes "mrt M" ++ decimal number
 reason_text Memory = codes "memory"

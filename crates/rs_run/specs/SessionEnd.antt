@@ -2,7 +2,7 @@
 use Rattle.std.specs.Prelude.{ℕ, List, [], ◌∷◌, length, map}
 use Rattle.std.specs.List.{zip}
 use Rattle.rs_choice.specs.Plan.{Plan}
-use Rattle.rs_session.specs.Change.{Change, ChangeBody, Announced, Withdrawn, Closed}
+use Rattle.rs_session.specs.Change.{Change, ChangeBody, Announced, Withdrawn, Lost, Closed}
 use Rattle.rs_session.specs.FileChanges.{changes_in, passed_in}
 use Rattle.rs_session.specs.declared.peer.PeerId.{PeerId}
 use Rattle.rs_session.specs.declared.word.Reason.{Reason}
@@ -15,6 +15,7 @@ abbrev pub reason_or : Reason → ChangeBody → Reason
 reason_or later (Closed reason) = reason
 reason_or later (Announced prefix attributes) = later
 reason_or later (Withdrawn prefix) = later
+reason_or later Lost = later
 
 -- the reason of the first close; changes that a file says have just one, the last
 abbrev pub reason_in : List Change → Reason

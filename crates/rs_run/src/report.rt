@@ -21,8 +21,6 @@ impl Display for ReasonText {
     fn fmt<W: fmt::Write>(&self, f: &mut Formatter<W>) -> fmt::Result {
         match self.0 {
             Reason::EndOfFile => f.write_str("end"),
-            Reason::State => f.write_str("state"),
-            Reason::Notification => f.write_str("notification"),
             Reason::Bgp { code, subcode } => write!(f, "bgp {code}/{subcode}"),
             Reason::Mrt(number) => write!(f, "mrt M{number}"),
             Reason::Memory => f.write_str("memory"),

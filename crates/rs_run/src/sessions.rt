@@ -93,5 +93,6 @@ fn reason_after(before: Reason, word: &Word) -> Reason
         Body::Close(reason) => reason,
         Body::Announce(..) => before,
         Body::Withdraw(_) => before,
+        Body::Down => before,
     }
 }
