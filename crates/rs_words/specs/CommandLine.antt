@@ -3,7 +3,7 @@ use Rattle.std.specs.Prelude.{◌≡◌, ◌≢◌, ℕ, ⊤, pos, true, List, [
 use Rattle.std.specs.Str.Parse.{digits_value, without_leading_plus}
 use Rattle.clap.specs.Words.{App, IsAmong, Kinds, Row, Rule, Text, fault_of, first_of, matches_of, new_app, new_rule, one_of, with_rule}
 use Rattle.clap.specs.declared.builder.ArgAction.TheVariants.{Set}
-use Rattle.clap.specs.declared.builder.value_parser.ValueParser.TheVariants.{Signed}
+use Rattle.clap.specs.declared.builder.value_parser.ValueParser.TheVariants.{NonEmptyString, Signed}
 use Rattle.clap.specs.declared.error.kind.ErrorKind.{ErrorKind}
 use Rattle.clap.specs.declared.error.kind.ErrorKind.TheVariants.{DisplayHelp, OutOfMemory}
 use Rattle.rs_options.specs.declared.options.Options.{Options}
@@ -18,9 +18,9 @@ required_option name = record (new_rule name) { long = Some name; action = Some 
 abbrev pub config_rule : Rule
 config_rule = required_option (codes "config")
 
--- the folder that takes the dumps, a path
+-- the folder that takes the dumps, a path that isn't empty: an empty one would name the root
 abbrev pub out_rule : Rule
-out_rule = required_option (codes "out")
+out_rule = record (required_option (codes "out")) { parser = Some NonEmptyString }
 
 -- the Timestamp of the records written: of 32 bits, 0 where the words don't give it (RFC 6396, section 2)
 abbrev pub time_rule : Rule

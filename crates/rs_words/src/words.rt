@@ -4,6 +4,7 @@ ghost use Rattle.std.specs.Prelude.{◌≡◌, [], IfErr, IfOk, OnOk, false, map
 ghost use Rattle.clap.specs.Words.{app_of, found_of, kind_of, rows_of, rule_of};
 ghost use Rattle.rs_words.specs.CommandLine.{AreOptionsOf, HoldOptions, IsToldAs, SaysWhy, config_rule, faults_in, out_rule, program, time_rule};
 
+use clap::builder::ValueParser;
 use clap::error::ErrorKind;
 use clap::{Arg, ArgAction, ArgMatches, Command, Error, value_parser};
 use rs_options::{Options, WordsFault};
@@ -36,7 +37,7 @@ Status:
 const INCOMPLETE: &str = "error: an option has no value\n";
 
 /// Reads the words of the command line, which begin with the program's own name: `--config FILE --out DIR [--time N]`, N from 0 to 4,294,967,295 and
-/// 0 where it isn't given.
+/// 0 where it isn't given, and DIR not empty.
 ///
 /// Answers `Help` where help is asked for and `Refused` where the words aren't such, each with the text of `clap`; `Memory` where memory is refused.
 pub fn read_words(alloc: Global, words: Vec<String>) -> Result<Options, WordsFault>
@@ -120,6 +121,7 @@ fn out_argument<'a>(alloc: Global) -> Arg<'a>
         .long("out")
         .value_name("DIR")
         .action(ArgAction::Set)
+        .value_parser(ValueParser::NonEmptyString)
         .required(true)
         .help("Folder that takes the dumps, one NAME.mrt for each client; it has to be there")
 }

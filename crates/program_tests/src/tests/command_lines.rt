@@ -14,7 +14,7 @@ enum Answer {
 }
 
 // A command line without the program's name, and its answer.
-const LINES: [(&str, Answer); 16] = [
+const LINES: [(&str, Answer); 17] = [
     ("--config c --out d", Answer::Given("c", "d", 0)),
     ("--out d --config c", Answer::Given("c", "d", 0)),
     ("--config=c --out=d/ --time=7", Answer::Given("c", "d/", 7)),
@@ -30,6 +30,7 @@ const LINES: [(&str, Answer); 16] = [
     ("--config c --out d --time -1", Answer::Refused),
     ("--config c --out d --time soon", Answer::Refused),
     ("--config c --out d --ring 0", Answer::Refused),
+    ("--config c --out=", Answer::Refused),
     ("--config c --out d more", Answer::Refused),
     ("--config c --config c --out d", Answer::Refused),
     ("--config c", Answer::Refused),
