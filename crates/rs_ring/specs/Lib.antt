@@ -1,0 +1,4 @@
+pub use Rattle.rtrb.specs.Shared
+pub mod Ends
+pub mod Items
+pub mod Views
