@@ -2,7 +2,7 @@
 use Rattle.std.proofs.Common.{◌≡◌, ℕ, zero, suc, List, [], ◌∷◌, lit<, lit≤, refl, ap, take, inl, inr, arith}
 use Rattle.rs_mrt.specs.Record.{MrtRecord, records_of, records_within, rest_of, rest_within, IsRecord}
 use Rattle.rs_mrt.specs.Entry.{entry_of, fields_entry}
-use Rattle.rs_mrt.specs.Examples.{change, RecordExamples, EntryExamples, SourceExamples, WriterExamples}
+use Rattle.rs_mrt.specs.Examples.{change, RecordExamples, EntryExamples, SourceExamples, WriterExamples, ReaderExamples}
 
 change_fits : IsRecord change
 change_fits = record { time = lit< tt; kind = lit< tt; subtype = lit< tt; body = lit< tt }
@@ -89,4 +89,29 @@ writer_examples =
       seven_a_call = refl;
       no_room = refl;
       failing_call = refl;
+    }
+
+less_than_left : ◌≡◌ {A = List ℕ} (1 ∷ []) (1 ∷ 2 ∷ []) → ⊥
+less_than_left e = cc
+
+pub reader_examples : ReaderExamples
+reader_examples =
+    record {
+      error = λ failed. refl;
+      no_octets = refl;
+      all_left = refl;
+      less_left = λ e. less_than_left e;
+      less_before_a_failure = (1, refl);
+      whole = (refl, refl);
+      failing = (refl, refl);
+      failing_at_the_end = (refl, refl);
+      failing_too_late = (refl, refl);
+      two_a_call = refl;
+      one_before_the_failure = refl;
+      failing_now = refl;
+      within = refl;
+      at_the_limit = refl;
+      rest_at_a_failure = refl;
+      rest_at_the_end = refl;
+      no_rest = refl;
     }

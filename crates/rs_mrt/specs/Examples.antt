@@ -1,5 +1,5 @@
 -- Examples of the definitions, which the checker computes: of each, values where it holds and values where it doesn't.
-use Rattle.std.specs.Prelude.{◌≡◌, ℕ, true, false, List, [], ◌∷◌, ◌++◌, take, Some, None, Ok, Err}
+use Rattle.std.specs.Prelude.{◌≡◌, ℕ, true, false, List, [], ◌∷◌, ◌++◌, take, Option, Some, None, Ok, Err}
 use Rattle.rs_mrt.specs.declared.fault.MrtFault.TheVariants.{HeaderCutShort, BodyCutShort, FieldsCutShort, MicrosecondsCutShort}
 use Rattle.rs_mrt.specs.declared.fault.SourceFault.TheVariants.{Mrt, Read}
 use Rattle.rs_mrt.specs.declared.stream.Failed.{Failed}
@@ -8,6 +8,9 @@ use Rattle.rs_mrt.specs.Entry.{Message, State, Other, entry_of, front_of}
 use Rattle.rs_mrt.specs.Source.{Advances, CountsFailure, IsLeft, stopped_at}
 use Rattle.rs_mrt.specs.Stream.{failed_calls, AppendsBeginning}
 use Rattle.rs_mrt.specs.Memory.{amount_within}
+use Rattle.rs_mrt.specs.Reader.{FileEnds, ReadFails, MayBeLeft, failed_reads}
+use Rattle.rs_mrt.specs.MemoryReading.{MemoryReading, Comes, amount_given}
+use Rattle.rs_mrt.specs.RecordReading.{end_within, fault_behind}
 
 -- of AS 64501 at 192.0.2.11, the recorder being AS 64500 at 192.0.2.1, over IPv4
 abbrev pub session : List ℕ
@@ -84,3 +87,26 @@ pub record WriterExamples : Type 0 where
   pub seven_a_call : amount_within (record { before_failure = Some 1; room = 30; piece = 7 }) 0 40 ≡ Some 7
   pub no_room : amount_within (record { before_failure = None; room = 30; piece = 7 }) 30 40 ≡ None
   pub failing_call : amount_within (record { before_failure = Some 0; room = 30; piece = 7 }) 0 40 ≡ None
+
+-- a reader over three octets, of which a call fails after so many
+abbrev pub three : Option ℕ → MemoryReading
+three before = record { left = 1 ∷ 2 ∷ 3 ∷ []; before_failure = before; most = 2; failures = 0 }
+
+pub record ReaderExamples : Type 0 where
+  pub error : (failed : Failed) → failed_reads (Err failed) ≡ 1
+  pub no_octets : failed_reads (Ok 0) ≡ 0
+  pub all_left : MayBeLeft (Some (1 ∷ 2 ∷ [])) (1 ∷ 2 ∷ []) FileEnds
+  pub less_left : MayBeLeft (Some (1 ∷ 2 ∷ [])) (1 ∷ []) FileEnds → ⊥
+  pub less_before_a_failure : MayBeLeft (Some (1 ∷ 2 ∷ [])) (1 ∷ []) ReadFails
+  pub whole : Comes (three None) (1 ∷ 2 ∷ 3 ∷ []) FileEnds
+  pub failing : Comes (three (Some 2)) (1 ∷ 2 ∷ []) ReadFails
+  pub failing_at_the_end : Comes (three (Some 3)) (1 ∷ 2 ∷ 3 ∷ []) ReadFails
+  pub failing_too_late : Comes (three (Some 4)) (1 ∷ 2 ∷ 3 ∷ []) FileEnds
+  pub two_a_call : amount_given (three (Some 3)) 9 ≡ Some 2
+  pub one_before_the_failure : amount_given (three (Some 1)) 9 ≡ Some 1
+  pub failing_now : amount_given (three (Some 0)) 9 ≡ None
+  pub within : end_within 3 (1 ∷ 2 ∷ []) FileEnds ≡ FileEnds
+  pub at_the_limit : end_within 2 (1 ∷ 2 ∷ []) FileEnds ≡ ReadFails
+  pub rest_at_a_failure : fault_behind ReadFails [] ≡ Some Read
+  pub rest_at_the_end : fault_behind FileEnds (take 35 file) ≡ Some (Mrt BodyCutShort)
+  pub no_rest : fault_behind FileEnds [] ≡ None

@@ -6,4 +6,8 @@ pub mod Source
 pub mod Stream
 pub mod Device
 pub mod Memory
+pub mod Reader
+pub mod MemoryReading
+pub mod RecordReading
+pub mod Inflow
 pub mod Examples

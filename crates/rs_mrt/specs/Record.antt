@@ -66,15 +66,13 @@ length_field octets = big_number 4 (drop 8 octets)
 abbrev pub has_record : List ℕ → Bool
 has_record octets = nat_le header_len (length octets) && nat_le (length_field octets) (length (drop header_len octets))
 
+-- the record whose header stands at the front, with this body
+abbrev pub headed : List ℕ → List ℕ → MrtRecord
+headed octets body = record { time = big_number 4 octets; kind = big_number 2 (drop 4 octets); subtype = big_number 2 (drop 6 octets); body = body }
+
 -- the record at the front
 abbrev pub front_record : List ℕ → MrtRecord
-front_record octets =
-    record {
-      time = big_number 4 octets;
-      kind = big_number 2 (drop 4 octets);
-      subtype = big_number 2 (drop 6 octets);
-      body = take (length_field octets) (drop header_len octets);
-    }
+front_record octets = headed octets (take (length_field octets) (drop header_len octets))
 
 -- the octets after the record at the front
 abbrev pub after_record : List ℕ → List ℕ

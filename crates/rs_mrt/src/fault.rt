@@ -2,7 +2,9 @@
 
 ghost use Rattle.std.specs.Prelude.{◌≡◌};
 ghost use Rattle.rs_mrt.specs.Fault.{number_of};
+ghost use Rattle.rs_mrt.specs.declared.fault.SourceFault.TheVariants.{Read};
 
+use crate::stream::Failed;
 use thiserror::Error;
 
 /// What is wrong with the octets of a file or of a record.
@@ -45,4 +47,12 @@ pub enum SourceFault {
     /// A read failed, or the source takes no more octets.
     #[error("records could not be read")]
     Read,
+}
+
+impl From<Failed> for SourceFault {
+    ghost from_gives = { λ _ fault. fault ≡ Read };
+
+    fn from(_failed: Failed) -> SourceFault {
+        SourceFault::Read
+    }
 }

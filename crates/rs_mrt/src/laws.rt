@@ -2,7 +2,7 @@
 
 ghost use Rattle.std.specs.Prelude.{◌≡◌};
 ghost use Rattle.rs_mrt.specs.Entry.{FrontSaysTheSame, front_len};
-ghost use Rattle.rs_mrt.specs.Examples.{RecordExamples, EntryExamples, SourceExamples, WriterExamples};
+ghost use Rattle.rs_mrt.specs.Examples.{RecordExamples, EntryExamples, SourceExamples, WriterExamples, ReaderExamples};
 ghost use Rattle.rs_mrt.specs.Record.{SplitIsFound, SplitIsTheOnlyOne};
 
 use crate::bgp4mp::FRONT_LEN;
@@ -26,4 +26,5 @@ pub fn examples_hold()
     ensures entries { EntryExamples }
     ensures sources { SourceExamples }
     ensures writers { WriterExamples }
+    ensures readers { ReaderExamples }
 {}

@@ -1,26 +1,36 @@
-//! MRT records of a recording of BGP (RFC 6396): those of a file, one after another, what a BGP4MP record says,
+//! MRT records of a recording of BGP (RFC 6396): those of a file, at hand or in pieces, what a BGP4MP record says,
 //! and the header of a record that is written.
 //!
-//! Reading order: `record`, `fault`, `meaning`, `bgp4mp`, `source`, `spelling`, `stream`, `memory`, `laws`.
+//! Reading order: `record`, `fault`, `meaning`, `bgp4mp`, `source`; `reader`, `inlet`, `window`, `record_reader` (files in pieces);
+//! `spelling`, `stream`; `memory`, `memory_reader`; `laws`.
 //! Standards: RFC 6396, sections 2 (header), 3 and 4.5 (BGP4MP_ET), 4.4.3 and 4.4.4 (BGP4MP with AS numbers of four octets).
 #![tactic(auto)]
 
 mod bgp4mp;
 mod fault;
+mod inlet;
 mod laws;
 mod meaning;
 mod memory;
+mod memory_reader;
+mod reader;
 mod record;
+mod record_reader;
 mod source;
 mod spelling;
 mod stream;
+mod window;
 
 pub use bgp4mp::{AFI_IPV4, BGP4MP, BGP4MP_ET, FRONT_LEN, MESSAGE_AS4, STATE_CHANGE_AS4, entry};
 pub use fault::{MrtFault, SourceFault};
+pub use inlet::READ_LIMIT;
 pub use laws::{examples_hold, file_splits_in_one_way, front_of_a_record_says_the_same};
 pub use meaning::Entry;
 pub use memory::{Limits, MemoryWriter};
+pub use memory_reader::{MemoryReader, ReadLimits};
+pub use reader::{IoReader, Read};
 pub use record::{HEADER_LEN, Record, Records};
+pub use record_reader::RecordReader;
 pub use source::Source;
 pub use spelling::write_header;
 pub use stream::{Failed, IoWriter, Write, write_all};

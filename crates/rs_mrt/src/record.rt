@@ -5,7 +5,7 @@
 
 ghost use Rattle.std.specs.Prelude.{◌≡◌, ◌+◌, ◌≤◌, List, length, None, refl, ◌^◌, ◌<◌};
 ghost use Rattle.rs_mrt.specs.Source.{IsLeft, source_end, stopped_at};
-ghost use Rattle.rs_mrt.specs.Record.{reading_of, next_of, after_next, record_of, octets_of, seen, taken_from};
+ghost use Rattle.rs_mrt.specs.Record.{header_len, headed, reading_of, next_of, after_next, record_of, octets_of, seen, taken_from};
 
 use crate::fault::{MrtFault, SourceFault};
 use crate::source::Source;
@@ -96,13 +96,20 @@ fn take_record(octets: &[u8]) -> Result<Option<(Record<'_>, &[u8])>, MrtFault>
         return Err(MrtFault::BodyCutShort);
     }
     let (body, after) = after_header.split_at(length);
-    let record = Record {
+    Ok(Some((headed(octets, body), after)))
+}
+
+// The record whose header stands at the front, with this body.
+pub(crate) fn headed<'a>(octets: &[u8], body: &'a [u8]) -> Record<'a>
+    requires { header_len ≤ length octets.now }
+    ensures { record_of result ≡ headed octets.now body.now }
+{
+    Record {
         time: BigEndian::read_u32(octets),
         kind: BigEndian::read_u16(&octets[KIND_AT..]),
         subtype: BigEndian::read_u16(&octets[SUBTYPE_AT..]),
         body,
-    };
-    Ok(Some((record, after)))
+    }
 }
 
 impl<'a> Source for Records<'a> {

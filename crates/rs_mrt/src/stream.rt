@@ -10,7 +10,7 @@ use std::error::Error;
 use std::marker::Model;
 use std::{fmt, io};
 
-/// A call that failed. The writer knows why, and its caller need not.
+/// A call that failed. The writer or the reader knows why, and its caller need not.
 #[derive(Clone, Copy, Debug, PartialEq, Eq, Drop)]
 pub struct Failed;
 

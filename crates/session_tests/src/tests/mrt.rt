@@ -1,7 +1,8 @@
-//! Records, what they say, writers, and the texts of faults.
+//! Records, what they say, readers, writers, and the texts of faults.
 
 mod entries;
 mod files;
+mod readers;
 mod texts;
 mod writers;
 

@@ -2,6 +2,7 @@
 
 mod losses;
 mod messages;
+mod pieces;
 mod recorders;
 mod refusals;
 mod updates;

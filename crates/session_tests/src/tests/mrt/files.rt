@@ -71,7 +71,7 @@ fn a_fault_comes_after_the_records_before_it(rt: HostRuntime) -> Result<(), Fail
 }
 
 // How many records a source shows, how many octets their bodies have, and how it stops.
-fn count_records<S: Source>(source: &mut S) -> (usize, usize, Option<SourceFault>) {
+pub fn count_records<S: Source>(source: &mut S) -> (usize, usize, Option<SourceFault>) {
     let mut octets: usize = 0;
     for records in 0..1_000_000 {
         match source.advance() {
@@ -86,7 +86,7 @@ fn count_records<S: Source>(source: &mut S) -> (usize, usize, Option<SourceFault
     (1_000_000, octets, None)
 }
 
-const TWO_RECORDS: &[&str] = &[
+pub const TWO_RECORDS: &[&str] = &[
     "00000001 000D 0001 00000003 010203",
     "00000002 000D 0002 00000000",
 ];

@@ -1,0 +1,17 @@
+use Rattle.std.proofs.Common.{◌≡◌, None, ap, subst, sym, ◌∙◌}
+use Rattle.rs_mrt.specs.Inflow.{GoesOn}
+use Rattle.rs_mrt.proofs.AdvanceLemmas.{goes-advances, goes-room}
+use Rattle.rs_mrt.proofs.record_reader.RecordReaderSource.advance.Goals as goal
+
+pub returns-clause-records : goal.returns-clause-records
+returns-clause-records g c =
+    let R = g.R.Read in
+    let asks : c.args.self.now.stopped ≡ None = sym (ap (λ r. r.stopped) c.self.view_is) ∙ c.in_default.is in
+    goes-advances R.gives R.failures c.args.self.now c.go_on.new.self c.go_on.result asks
+    (subst (λ r. GoesOn R.gives R.failures r c.go_on.new.self c.go_on.result) c.drop_shown.ensures c.go_on.ensures)
+
+pub returns-clause-room : goal.returns-clause-room
+returns-clause-room g c =
+    let R = g.R.Read in
+    goes-room R.gives R.failures (record c.args.self.now { shown = None }) c.go_on.new.self c.go_on.result
+    (subst (λ r. GoesOn R.gives R.failures r c.go_on.new.self c.go_on.result) c.drop_shown.ensures c.go_on.ensures)

@@ -1,0 +1,149 @@
+-- How a reader of records takes octets from its reader, step by step. Nothing here is of a standard but the header and
+-- the body of a record (RFC 6396, section 2).
+use Rattle.std.specs.Prelude.{◌≡◌, ◌≢◌, ◌⊎◌, ℕ, zero, suc, ◌+◌, ◌-◌, ◌^◌, ◌<◌, ◌≤◌, Bool, true, false, List, [], ◌++◌, length, take, drop, Option, Some, None, Result, Ok, Err, IfOk, OnErr}
+use Rattle.rs_mrt.specs.declared.fault.MrtFault.{MrtFault}
+use Rattle.rs_mrt.specs.declared.fault.SourceFault.{SourceFault}
+use Rattle.rs_mrt.specs.declared.fault.SourceFault.TheVariants.{Mrt, Read}
+use Rattle.rs_mrt.specs.declared.stream.Failed.{Failed}
+use Rattle.rs_mrt.specs.Reader.{ReadEnd, FileEnds, ReadFails}
+use Rattle.rs_mrt.specs.Record.{MrtRecord, header_len, headed, has_record, front_record, after_record, fault_of_rest}
+use Rattle.rs_mrt.specs.Entry.{front_len, front_of}
+use Rattle.rs_mrt.specs.RecordReading.{Inflow, MayArrive, RecordReading, read_limit}
+
+-- ---- octets
+
+-- What the octets that came in between say: whatever may arrive afterwards may arrive before with them in front; or they
+-- are all, and end so.
+abbrev pub Behind : (List ℕ → ReadEnd → Type 0) → (List ℕ → ReadEnd → Type 0) → List ℕ → Result Bool Failed → Type 0
+Behind old new piece (Ok true) = (later : List ℕ) (end : ReadEnd) → new later end → old (piece ++ later) end
+Behind old new piece (Ok false) = old piece FileEnds
+Behind old new piece (Err failed) = old piece ReadFails
+
+-- a failed call is counted, but for one that isn't made since the limit is met
+abbrev pub CountsCall : ℕ → ℕ → ℕ → Result Bool Failed → Type 0
+CountsCall before after came (Ok more) = after ≡ before
+CountsCall before after came (Err failed) = (after ≡ before + 1) ⊎ ((after ≡ before) × (came ≡ read_limit))
+
+-- this piece came in between
+pub record Draws {R : Type 0} (gives : R → List ℕ → ReadEnd → Type 0) (failures : R → ℕ) (old new : Inflow R) (piece : List ℕ) (result : Result Bool Failed) : Type 0 where
+  pub behind : Behind (MayArrive gives old) (MayArrive gives new) piece result
+  pub came : new.came ≡ old.came + length piece
+  pub within : new.came ≤ read_limit
+  pub counts : CountsCall (failures old.reader) (failures new.reader) new.came result
+
+-- whether a call gave octets
+abbrev pub gave_some : Result ℕ Failed → Result Bool Failed
+gave_some (Ok zero) = Ok false
+gave_some (Ok (suc n)) = Ok true
+gave_some (Err failed) = Err failed
+
+-- the octets that a call gave to the front of the piece
+abbrev pub given_of : Result ℕ Failed → List ℕ → List ℕ
+given_of (Ok n) piece = take n piece
+given_of (Err failed) piece = []
+
+-- what came in between stands behind what was held
+pub record Fills {R : Type 0} (gives : R → List ℕ → ReadEnd → Type 0) (failures : R → ℕ) (old new : Inflow R) (before after : List ℕ) (result : Result Bool Failed) : Type 0 where
+  pub piece : List ℕ
+  pub filled : after ≡ before ++ piece
+  pub drawn : Draws gives failures old new piece result
+
+-- there are as many octets as wanted, or else fewer
+abbrev pub IsEnough : ℕ → ℕ → Result Bool Failed → Type 0
+IsEnough wanted len (Ok true) = wanted ≤ len
+IsEnough wanted len (Ok false) = len < wanted
+IsEnough wanted len (Err failed) = len < wanted
+
+-- a call gave octets, at most so many, and they were forgotten
+pub record Forgets {R : Type 0} (gives : R → List ℕ → ReadEnd → Type 0) (failures : R → ℕ) (old new : Inflow R) (most : ℕ) (result : Result ℕ Failed) : Type 0 where
+  pub piece : List ℕ
+  pub drawn : Draws gives failures old new piece (gave_some result)
+  pub fits : length piece ≤ most
+  pub counted : IfOk result (λ n. length piece ≡ n)
+  pub empty : OnErr result (length piece ≡ 0)
+
+-- a length grew just where octets came
+abbrev pub Grows : ℕ → ℕ → Result Bool Failed → Type 0
+Grows before after (Ok true) = before < after
+Grows before after (Ok false) = after ≡ before
+Grows before after (Err failed) = after ≡ before
+
+-- so many octets came in between, or fewer at the end, and were forgotten
+pub record Skips {R : Type 0} (gives : R → List ℕ → ReadEnd → Type 0) (failures : R → ℕ) (old new : Inflow R) (wanted : ℕ) (result : Result Bool Failed) : Type 0 where
+  pub piece : List ℕ
+  pub drawn : Draws gives failures old new piece result
+  pub most : length piece ≤ wanted
+  pub enough : IsEnough wanted (length piece) result
+
+-- ---- records
+
+-- the record whose header stands at the front of the octets, of its body so many octets
+abbrev pub shown_in : Option ℕ → List ℕ → Option MrtRecord
+shown_in None octets = None
+shown_in (Some n) octets = Some (headed octets (take n (drop header_len octets)))
+
+-- how many octets that takes
+abbrev pub shown_len : Option ℕ → ℕ
+shown_len None = 0
+shown_len (Some n) = header_len + n
+
+-- the octets behind it
+abbrev pub held_behind : Option ℕ → List ℕ → List ℕ
+held_behind shown octets = drop (shown_len shown) octets
+
+-- a whole record came: its front is shown, and all that came behind it is held
+pub record FindsRecord {R : Type 0} (gives : R → List ℕ → ReadEnd → Type 0) (failures : R → ℕ) (old new : Inflow R) (before : List ℕ) (shown : Option MrtRecord) (held : List ℕ) : Type 0 where
+  pub piece : List ℕ
+  pub drawn : Draws gives failures old new piece (Ok true)
+  pub stands : has_record (before ++ piece) ≡ true
+  pub front : shown ≡ Some (front_of (front_record (before ++ piece)))
+  pub behind : held ≡ after_record (before ++ piece)
+
+-- the answer at the end of the octets, which leaves this rest
+abbrev pub answer_at : Option MrtFault → Result Bool SourceFault
+answer_at None = Ok false
+answer_at (Some fault) = Err (Mrt fault)
+
+abbrev pub answer_behind : ReadEnd → List ℕ → Result Bool SourceFault
+answer_behind FileEnds rest = answer_at (fault_of_rest rest)
+answer_behind ReadFails rest = Err Read
+
+-- how octets end, as a call on them answers it
+abbrev pub call_at : ReadEnd → Failed → Result Bool Failed
+call_at FileEnds failed = Ok false
+call_at ReadFails failed = Err failed
+
+-- no whole record comes
+pub record FindsNone {R : Type 0} (gives : R → List ℕ → ReadEnd → Type 0) (failures : R → ℕ) (old new : Inflow R) (before after : List ℕ) (answer : Result Bool SourceFault) : Type 0 where
+  pub piece : List ℕ
+  pub end : ReadEnd
+  pub failed : Failed
+  pub drawn : Draws gives failures old new piece (call_at end failed)
+  pub lacks : has_record (before ++ piece) ≡ false
+  pub says : answer ≡ answer_behind end (before ++ piece)
+  pub fewer : length after ≤ length before + length piece
+
+-- the next record is found in a window, or none is
+abbrev pub Finds : {R : Type 0} → (R → List ℕ → ReadEnd → Type 0) → (R → ℕ) → Inflow R → Inflow R → List ℕ → List ℕ → Result (Option ℕ) SourceFault → Type 0
+Finds gives failures old new before after (Ok (Some n)) =
+    FindsRecord gives failures old new before (shown_in (Some n) after) (held_behind (Some n) after) × (shown_len (Some n) ≤ length after)
+Finds gives failures old new before after (Ok None) = FindsNone gives failures old new before after (Ok false)
+Finds gives failures old new before after (Err fault) = FindsNone gives failures old new before after (Err fault)
+
+-- the same of a reader of records, which stops where none is
+abbrev pub GoesOn : {R : Type 0} → (R → List ℕ → ReadEnd → Type 0) → (R → ℕ) → RecordReading R → RecordReading R → Result Bool SourceFault → Type 0
+GoesOn gives failures old new (Ok true) =
+    FindsRecord gives failures old.inflow new.inflow old.held new.shown new.held × (new.stopped ≡ None)
+GoesOn gives failures old new (Ok false) =
+    FindsNone gives failures old.inflow new.inflow old.held new.held (Ok false) × (new.shown ≡ None) × (new.stopped ≡ Some (Ok false))
+GoesOn gives failures old new (Err fault) =
+    FindsNone gives failures old.inflow new.inflow old.held new.held (Err fault) × (new.shown ≡ None) × (new.stopped ≡ Some (Err fault))
+
+-- what always holds of a reader of records: the record that is shown stands in the window; a call of its reader can be
+-- counted while it is asked; where it has stopped, nothing is shown and no record was the answer
+pub record ReaderFits (shown : Option ℕ) (window : List ℕ) (stopped : Option (Result Bool SourceFault)) (came failures : ℕ) : Type 0 where
+  pub stands : shown_len shown ≤ length window
+  pub room : length window ≤ header_len + front_len
+  pub within : came ≤ read_limit
+  pub counts : stopped ≡ None → failures < 2 ^ 64 - 1
+  pub quiet : (last : Result Bool SourceFault) → stopped ≡ Some last → (shown ≡ None) × (last ≢ Ok true)

@@ -1,0 +1,40 @@
+-- What a reader may still give, and when a call on it has failed. Nothing here is of a standard: all of it is our choice.
+use Rattle.std.specs.Prelude.{◌≡◌, ℕ, zero, suc, List, [], ◌∷◌, ◌++◌, take, Option, None, Some, Result, Ok, Err, refl}
+use Rattle.rs_mrt.specs.declared.stream.Failed.{Failed}
+
+-- how the octets of a reader end: as a file ends, or by a read that fails
+pub data ReadEnd : Type 0 where
+  FileEnds : ReadEnd
+  ReadFails : ReadEnd
+
+-- How many calls failed in a call to read: one where it answers an error.
+abbrev pub failed_reads : Result ℕ Failed → ℕ
+failed_reads (Err failed) = 1
+failed_reads (Ok n) = 0
+
+-- What this answer to `read` says of the octets that may come, where the piece is as the call leaves it: after an error
+-- none may come but a failed read; no octet for a piece that isn't empty is the end of the file; else whatever may come
+-- afterwards may come before, with the octets that were given in front. An empty piece tells nothing.
+abbrev pub ReadGives : (List ℕ → ReadEnd → Type 0) → (List ℕ → ReadEnd → Type 0) → Result ℕ Failed → List ℕ → Type 0
+ReadGives old new (Err failed) piece = old [] ReadFails
+ReadGives old new (Ok zero) (octet ∷ octets) = old [] FileEnds
+ReadGives old new (Ok zero) [] = (later : List ℕ) (end : ReadEnd) → new later end → old later end
+ReadGives old new (Ok (suc n)) piece = (later : List ℕ) (end : ReadEnd) → new later end → old (take (suc n) piece ++ later) end
+
+-- Some octets may be given, and some end.
+abbrev pub SomethingIsGiven : (List ℕ → ReadEnd → Type 0) → Type 0
+SomethingIsGiven gives = (octets : List ℕ) × (end : ReadEnd) × gives octets end
+
+-- ---- a reader of std as a reader of ours
+
+-- What may come where std's reader tells the octets that it has left: just these, or a beginning of them and then a
+-- failed read. Where it tells none, as a file does, anything may.
+abbrev pub MayBeLeft : Option (List ℕ) → List ℕ → ReadEnd → Type 0
+MayBeLeft None octets end = Unit {0}
+MayBeLeft (Some left) octets FileEnds = octets ≡ left
+MayBeLeft (Some left) octets ReadFails = (n : ℕ) × (octets ≡ take n left)
+
+-- something always may
+pub may_be_left : (left : Option (List ℕ)) → SomethingIsGiven (MayBeLeft left)
+may_be_left None = ([], FileEnds, tt)
+may_be_left (Some left) = (left, FileEnds, refl)

@@ -1,0 +1,160 @@
+//! The records of a file that comes in pieces, through any reader (RFC 6396, section 2).
+//!
+//! Our choices: of a body no more than its first 4,121 octets are shown, and only once the whole body came; every error
+//! of a read ends the records and isn't tried again; no more than 2^50 octets are taken.
+
+ghost use Rattle.std.specs.Prelude.{◌≡◌, ◌+◌, ◌^◌, ◌<◌, ◌≤◌, length};
+ghost use Rattle.rs_mrt.specs.Record.{octets_of};
+ghost use Rattle.rs_mrt.specs.RecordReading.{unread, MayCome, StaysStopped, room_left, read_limit, something_comes};
+ghost use Rattle.rs_mrt.specs.Source.{Advances, CountsFailure, Stays, Stops};
+ghost use Rattle.rs_mrt.specs.Inflow.{Finds, GoesOn};
+
+use crate::bgp4mp::FRONT_LEN;
+use crate::fault::{MrtFault, SourceFault};
+use crate::inlet::Inlet;
+use crate::reader::Read;
+use crate::record::{HEADER_LEN, LENGTH_AT, Record, headed};
+use crate::source::Source;
+use crate::window::{WINDOW_LEN, Window};
+use byteorder::{BigEndian, ByteOrder};
+use std::marker::Model;
+
+/// The records of the octets that a reader gives. It holds no more of them than its buffer of 4,133 octets, which is part
+/// of the value, and takes no memory.
+#[derive(Drop)]
+pub struct RecordReader<R: Read> {
+    inlet: Inlet<R>,
+    window: Window,
+    // How many octets of its body are shown of the record that stands at the front of the window.
+    shown: Option<usize>,
+    // The answer from now on, where it has stopped.
+    stopped: Option<Result<bool, SourceFault>>,
+}
+
+impl<R: Read> Model for RecordReader<R> {
+    ghost use Rattle.rs_mrt.specs.RecordReading.{RecordReading};
+    ghost use Rattle.rs_mrt.specs.Inflow.{shown_in, held_behind, ReaderFits};
+
+    ghost Value = { RecordReading R };
+
+    ghost view = { λ r. record {
+      inflow = r.inlet;
+      held = held_behind r.shown r.window;
+      shown = shown_in r.shown r.window;
+      stopped = r.stopped;
+    } };
+
+    ghost invariant = { λ r. ReaderFits r.shown r.window r.stopped r.inlet.came (R.failures r.inlet.reader) };
+}
+
+impl<R: Read> RecordReader<R> {
+    /// Begins with the first octet that the reader gives. It takes no memory, and doesn't read yet.
+    pub fn new(reader: R) -> RecordReader<R>
+        requires { R.failures reader < u64.MAX }
+        ensures { result ≡ unread reader }
+    {
+        RecordReader {
+            inlet: Inlet::new(reader),
+            window: Window::new(),
+            shown: None,
+            stopped: None,
+        }
+    }
+
+    // Lets go of the record that is shown.
+    fn drop_shown(&mut self)
+        ensures { self.new ≡ record self.old { shown = None } }
+    {
+        if let Some(len) = self.shown {
+            self.window.drop_front(HEADER_LEN + len);
+            self.shown = None;
+        }
+    }
+
+    // Goes to the next record; where there is none, stops.
+    fn go_on(&mut self) -> Result<bool, SourceFault>
+        requires asks { self.old.stopped ≡ None }
+        requires shown { self.old.shown ≡ None }
+        ensures { GoesOn R.gives R.failures self.old self.new result }
+    {
+        let answer = match find_front(&mut self.inlet, &mut self.window) {
+            Ok(Some(len)) => {
+                self.shown = Some(len);
+                return Ok(true);
+            }
+            Ok(None) => Ok(false),
+            Err(fault) => Err(fault),
+        };
+        self.stopped = Some(answer);
+        answer
+    }
+}
+
+impl<R: Read> Source for RecordReader<R> {
+    ghost shows = { λ r. r.shown };
+
+    ghost comes = { λ r. MayCome R.gives r };
+
+    ghost stopped = { λ r. r.stopped };
+
+    ghost failures = { λ r. R.failures r.inflow.reader };
+
+    ghost full = { λ r. r.inflow.came ≡ read_limit };
+
+    ghost room = { λ r. room_left r };
+
+    ghost may_come = { λ r. something_comes R.gives r (R.may_come r.inflow.reader) };
+
+    fn advance(&mut self) -> Result<bool, SourceFault>
+        ensures records { Advances (MayCome R.gives) self.old self.new self.new.shown result }
+        ensures bound { room_left self.old < 2 ^ 64 }
+        ensures room { room_left self.new + octets_of self.new.shown ≤ room_left self.old }
+        // A read that fails is counted. Without one the answer is `Read` only at the limit, or where it was before.
+        ensures failures { CountsFailure (R.failures self.old.inflow.reader) (R.failures self.new.inflow.reader)
+            (self.new.inflow.came ≡ read_limit) self.old.stopped result }
+        ensures stays { Stays self.old.stopped (R.failures self.old.inflow.reader) (R.failures self.new.inflow.reader) result }
+        ensures stops { Stops self.new.stopped result }
+        // Once it has stopped, the reader is asked no more.
+        ensures asks_no_more { StaysStopped self.old self.new result }
+    {
+        if let Some(answer) = self.stopped {
+            return answer;
+        }
+        self.drop_shown();
+        self.go_on()
+    }
+
+    fn shown(&self) -> Option<Record<'_>> {
+        let len = self.shown?;
+        let octets = self.window.octets();
+        Some(headed(octets, &octets[HEADER_LEN..HEADER_LEN + len]))
+    }
+}
+
+// Reads until a record stands at the front of the window and its whole body came. Answers how many octets of the body
+// stand there; none at the end of the file.
+fn find_front<R: Read>(
+    inlet: &mut Inlet<R>,
+    window: &mut Window,
+) -> Result<Option<usize>, SourceFault>
+    requires limit { inlet.old.came ≤ read_limit }
+    requires failures { R.failures inlet.old.reader < u64.MAX }
+    ensures finds { Finds R.gives R.failures inlet.old inlet.new window.old window.new result }
+    ensures room { length window.new ≤ WINDOW_LEN }
+{
+    if !window.fill(inlet, HEADER_LEN)? {
+        if window.octets().is_empty() {
+            return Ok(None);
+        }
+        return Err(SourceFault::Mrt(MrtFault::HeaderCutShort));
+    }
+    let length = BigEndian::read_u32(&window.octets()[LENGTH_AT..]) as usize;
+    let front = length.min(FRONT_LEN);
+    if !window.fill(inlet, HEADER_LEN + front)? {
+        return Err(SourceFault::Mrt(MrtFault::BodyCutShort));
+    }
+    if !inlet.skip(length - front)? {
+        return Err(SourceFault::Mrt(MrtFault::BodyCutShort));
+    }
+    Ok(Some(front))
+}

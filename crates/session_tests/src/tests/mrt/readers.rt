@@ -1,0 +1,146 @@
+//! Readers over memory, with limits and without, and of std; and the records that a reader gives in pieces.
+
+use super::files::{TWO_RECORDS, count_records};
+use super::*;
+use std::io;
+
+#[test]
+fn a_reader_over_memory_gives_its_octets_in_pieces(rt: HostRuntime) {
+    let limits = ReadLimits {
+        octets_before_failure: Some(5),
+        piece: 3,
+    };
+    let mut reader = MemoryReader::new(&[1, 2, 3, 4, 5, 6, 7], limits);
+    let mut into = [0; 4];
+    assert_eq!(rt; reader.read(&mut into), Ok(3));
+    assert_eq!(rt; into, [1, 2, 3, 0]);
+    assert_eq!(rt; reader.read(&mut into), Ok(2));
+    assert_eq!(rt; into, [4, 5, 3, 0]);
+    assert_eq!(rt; reader.read(&mut into), Err(Failed));
+    assert_eq!(rt; reader.read(&mut []), Ok(0));
+    assert_eq!(rt; reader.read(&mut into), Ok(2));
+    assert_eq!(rt; into, [6, 7, 3, 0]);
+    assert_eq!(rt; reader.read(&mut into), Ok(0));
+}
+
+// A reader of std whose every call fails.
+#[derive(Drop)]
+struct Broken;
+
+impl io::Read for Broken {
+    fn read(&mut self, _into: &mut [u8]) -> io::Result<usize> {
+        Err(io::Error::from(io::ErrorKind::Interrupted))
+    }
+}
+
+#[test]
+fn a_reader_of_std_is_a_reader(rt: HostRuntime) {
+    let mut into = [0; 2];
+    let mut reader = IoReader::new([1, 2, 3].as_slice());
+    assert_eq!(rt; reader.read(&mut into), Ok(2));
+    assert_eq!(rt; into, [1, 2]);
+    assert_eq!(rt; reader.read(&mut into), Ok(1));
+    assert_eq!(rt; reader.read(&mut into), Ok(0));
+    assert_eq!(rt; reader.into_inner().len(), 0);
+    assert_eq!(rt; IoReader::new(Broken).read(&mut into), Err(Failed));
+}
+
+// The number of records, of octets of bodies that are shown, and the end, of octets that come within the limits.
+fn count_pieces(
+    file: &[u8],
+    octets_before_failure: Option<usize>,
+    piece: usize,
+) -> (usize, usize, Option<SourceFault>) {
+    let limits = ReadLimits {
+        octets_before_failure,
+        piece,
+    };
+    count_records(&mut RecordReader::new(MemoryReader::new(file, limits)))
+}
+
+const CUT_HEADER: Option<SourceFault> = Some(SourceFault::Mrt(MrtFault::HeaderCutShort));
+
+const CUT_BODY: Option<SourceFault> = Some(SourceFault::Mrt(MrtFault::BodyCutShort));
+
+const READ: Option<SourceFault> = Some(SourceFault::Read);
+
+// Of two records of 15 and 12 octets, how many octets come, whether a read then fails, and what is shown.
+const CUTS: &[(usize, bool, (usize, usize, Option<SourceFault>))] = &[
+    (0, false, (0, 0, None)),
+    (0, true, (0, 0, READ)),
+    (11, false, (0, 0, CUT_HEADER)),
+    (11, true, (0, 0, READ)),
+    (14, false, (0, 0, CUT_BODY)),
+    (14, true, (0, 0, READ)),
+    (15, false, (1, 3, None)),
+    (15, true, (1, 3, READ)),
+    (26, false, (1, 3, CUT_HEADER)),
+    (26, true, (1, 3, READ)),
+    (27, false, (2, 3, None)),
+    (27, true, (2, 3, READ)),
+];
+
+#[test]
+fn whole_records_are_shown_before_the_end(rt: HostRuntime) -> Result<(), Fail> {
+    let file = octets(rt.alloc(), TWO_RECORDS)?;
+    for (len, fails, want) in CUTS {
+        let octets = file.get(..*len).ok_or("the file is longer")?;
+        let failing = if *fails { Some(*len) } else { None };
+        for piece in [1, 2, 13, 100] {
+            assert_eq!(rt;
+                count_pieces(octets, failing, piece),
+                *want,
+                "{len} octets by {piece}"
+            );
+        }
+    }
+    Ok(())
+}
+
+#[test]
+fn only_the_front_of_a_long_body_is_shown(rt: HostRuntime) -> Result<(), Fail> {
+    let mut file = Vec::new(rt.alloc());
+    write_header(&mut file, 7, 13, 1, 10_000)?;
+    file.resize(10_012, 1)?;
+    file.extend_from_slice(&octets(rt.alloc(), TWO_RECORDS)?)?;
+    for piece in [1, 100, 4133, 100_000] {
+        assert_eq!(rt;
+            count_pieces(&file, None, piece),
+            (3, 4124, None),
+            "by {piece}"
+        );
+        assert_eq!(rt;
+            count_pieces(&file, Some(10_012), piece),
+            (1, 4121, READ),
+            "by {piece}"
+        );
+        assert_eq!(rt;
+            count_pieces(&file, Some(10_011), piece),
+            (0, 0, READ),
+            "by {piece}"
+        );
+        assert_eq!(rt;
+            count_pieces(&file[..10_011.min(file.len())], None, piece),
+            (0, 0, CUT_BODY),
+            "by {piece}"
+        );
+    }
+    Ok(())
+}
+
+#[test]
+fn a_reader_is_not_asked_again_after_a_failed_read(rt: HostRuntime) -> Result<(), Fail> {
+    let file = octets(rt.alloc(), TWO_RECORDS)?;
+    let limits = ReadLimits {
+        octets_before_failure: Some(20),
+        piece: 100,
+    };
+    let mut records = RecordReader::new(MemoryReader::new(&file, limits));
+    assert!(rt; records.shown().is_none());
+    assert_eq!(rt; records.advance(), Ok(true));
+    assert_eq!(rt; records.shown().map(|record| record.time), Some(1));
+    assert_eq!(rt; records.advance(), Err(SourceFault::Read));
+    assert!(rt; records.shown().is_none());
+    assert_eq!(rt; records.advance(), Err(SourceFault::Read));
+    Ok(())
+}
