@@ -1,5 +1,6 @@
 //! What recorded sessions say, and that announcements share attributes.
 
+mod closing;
 mod losses;
 mod messages;
 mod pieces;
@@ -11,6 +12,7 @@ mod whole_files;
 use super::{A, B, C, D, KEEPALIVE, MARKER, UPDATE, octets};
 use rs_mrt::{BGP4MP, BGP4MP_ET, MESSAGE_AS4, STATE_CHANGE_AS4, write_header};
 use rs_session::*;
+use rs_update::Prefix;
 use std::alloc::{AllocError, Global};
 use std::process::Abort;
 use std::test::*;
