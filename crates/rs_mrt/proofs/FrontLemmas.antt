@@ -1,6 +1,6 @@
 -- What a window that holds the front of a record says of the record, and what a reader of records shows.
 use Rattle.std.proofs.Common.{◌≡◌, ◌≢◌, ℕ, ◌+◌, ◌-◌, ◌≤◌, ◌<◌, min, List, [], ◌∷◌, ◌++◌, length, take, drop, map, Option, Some, None, Result, Bool, true, false, refl, sym, ap, subst, ◌∙◌, append_assoc, arith, inl, inr, length-append}
-use Rattle.std.specs.Prelude.{if◌then◌else◌}
+use Rattle.std.specs.Prelude.{nat_lt, if◌then◌else◌}
 use Rattle.std.specs.Option.{option_map}
 use Rattle.std.proofs.lemmas.Bool.{cases_Bool, lt-ltb, le-ltb, le-leb, and_from, cases_lt}
 use Rattle.std.proofs.lemmas.List.{take_all, take-take, take-append-le, drop-append-le, drop-drop, drop_all, nil_from_length, length-drop, length-take, append-nil}
@@ -12,9 +12,10 @@ use Rattle.rs_mrt.specs.declared.fault.SourceFault.{SourceFault}
 use Rattle.rs_mrt.specs.declared.fault.SourceFault.TheVariants.{Mrt}
 use Rattle.rs_mrt.specs.declared.stream.Failed.{Failed}
 use Rattle.rs_mrt.specs.Reader.{ReadEnd, FileEnds, ReadFails}
-use Rattle.rs_mrt.specs.Record.{MrtRecord, headed, has_record, front_record, after_record, length_field, records_of, rest_of, fault_of_rest}
+use Rattle.rs_mrt.specs.Record.{MrtRecord, headed, has_record, front_record, after_record, length_field, records_of, end_of, rest_of, fault_of_rest}
 use Rattle.rs_mrt.specs.Entry.{front_len, front_of}
-use Rattle.rs_mrt.specs.RecordReading.{Inflow, MayArrive, MayBeShown, fault_behind, fault_of}
+use Rattle.rs_mrt.specs.Source.{source_end}
+use Rattle.rs_mrt.specs.RecordReading.{Inflow, MayArrive, MayBeShown, MayCome, fault_behind, read_limit, unread, fault_of}
 use Rattle.rs_mrt.specs.Inflow.{Draws, FindsRecord, FindsNone, answer_behind, answer_at, call_at, shown_in, held_behind}
 use Rattle.rs_mrt.proofs.RecordLemmas.{has_record-long, records_of-step, records_of-none, rest_of-step, rest_of-none}
 
@@ -191,3 +192,15 @@ module _ {R : Type 0} (gives : R → List ℕ → ReadEnd → Type 0) (failures 
         fronts = sym records ∙ ap (λ (z : List ℕ). map front_of (records_of z)) (sym all);
         ends = may.ends ∙ ap (fault_behind may.end) (sym rest) ∙ ap (λ (z : List ℕ). fault_behind may.end (rest_of z)) (sym all);
       }
+
+  -- octets that are known are shown
+  pub known_shown : (reader : R) (file : List ℕ) → ((octets : List ℕ) (end : ReadEnd) → gives reader octets end → (octets ≡ file) × (end ≡ FileEnds)) → length file < read_limit
+      → (records : List MrtRecord) (fault : Option SourceFault) → MayCome gives (unread reader) records fault → (records ≡ map front_of (records_of file)) × (fault ≡ source_end (end_of file))
+  known_shown reader file only fits records fault may =
+      let come = may.come in
+      let same = only come.all come.last come.given in
+      let most = read_limit - 0 in
+      let octets : may.octets ≡ file = come.cut ∙ ap (take most) same.0 ∙ take_all most file (omega arith) in
+      let below : nat_lt (length come.all) most ≡ true = lt-ltb (length come.all) most (omega (arith, ap length same.0)) in
+      let end : may.end ≡ FileEnds = come.ends ∙ ap (λ (b : Bool). if b then come.last else ReadFails) below ∙ same.1 in
+      (may.fronts ∙ ap (λ (z : List ℕ). map front_of (records_of z)) octets, may.ends ∙ ap (λ (e : ReadEnd). fault_behind e (rest_of may.octets)) end ∙ ap (λ (z : List ℕ). source_end (end_of z)) octets)

@@ -1,11 +1,16 @@
 //! What holds of the definitions. Each law is the contract of a function that does nothing.
 
-ghost use Rattle.std.specs.Prelude.{◌≡◌};
-ghost use Rattle.rs_mrt.specs.Entry.{FrontSaysTheSame, front_len};
+ghost use Rattle.std.specs.Prelude.{◌≡◌, ◌<◌, ℕ, List, Option, length, map};
+ghost use Rattle.rs_mrt.specs.Entry.{FrontSaysTheSame, front_len, front_of};
 ghost use Rattle.rs_mrt.specs.Examples.{RecordExamples, EntryExamples, SourceExamples, WriterExamples, ReaderExamples};
-ghost use Rattle.rs_mrt.specs.Record.{SplitIsFound, SplitIsTheOnlyOne};
+ghost use Rattle.rs_mrt.specs.Reader.{ReadEnd, FileEnds};
+ghost use Rattle.rs_mrt.specs.Record.{MrtRecord, SplitIsFound, SplitIsTheOnlyOne, end_of, records_of};
+ghost use Rattle.rs_mrt.specs.RecordReading.{MayCome, read_limit, unread};
+ghost use Rattle.rs_mrt.specs.Source.{source_end};
+ghost use Rattle.rs_mrt.specs.declared.fault.SourceFault.{SourceFault};
 
 use crate::bgp4mp::FRONT_LEN;
+use crate::reader::Read;
 
 /// A file is records and a rest in one way, and the computed records and rest are these (RFC 6396, section 2).
 pub fn file_splits_in_one_way()
@@ -18,6 +23,15 @@ pub fn file_splits_in_one_way()
 pub fn front_of_a_record_says_the_same()
     ensures len { FRONT_LEN ≡ front_len }
     ensures same { FrontSaysTheSame }
+{}
+
+/// Of a reader that gives just these octets, fewer than 2^50, just the front of each of their records is shown, and then
+/// the end or the fault that their rest says: what `Records` gives, but for long bodies.
+pub fn known_octets_are_shown<R: Read>(_reader: &R, _file: &[u8])
+    requires known { (octets : List ℕ) (end : ReadEnd) → R.gives _reader.now octets end → (octets ≡ _file.now) × (end ≡ FileEnds) }
+    requires fits { length _file.now < read_limit }
+    ensures { (records : List MrtRecord) (fault : Option SourceFault) → MayCome R.gives (unread _reader.now) records fault
+        → (records ≡ map front_of (records_of _file.now)) × (fault ≡ source_end (end_of _file.now)) }
 {}
 
 /// The definitions say of some octets, records and calls what one would say by hand.

@@ -24,7 +24,9 @@ mod window;
 pub use bgp4mp::{AFI_IPV4, BGP4MP, BGP4MP_ET, FRONT_LEN, MESSAGE_AS4, STATE_CHANGE_AS4, entry};
 pub use fault::{MrtFault, SourceFault};
 pub use inlet::READ_LIMIT;
-pub use laws::{examples_hold, file_splits_in_one_way, front_of_a_record_says_the_same};
+pub use laws::{
+    examples_hold, file_splits_in_one_way, front_of_a_record_says_the_same, known_octets_are_shown,
+};
 pub use meaning::Entry;
 pub use memory::{Limits, MemoryWriter};
 pub use memory_reader::{MemoryReader, ReadLimits};
