@@ -24,13 +24,6 @@ abbrev pub CountsCall : ℕ → ℕ → ℕ → Result Bool Failed → Type 0
 CountsCall before after came (Ok more) = after ≡ before
 CountsCall before after came (Err failed) = (after ≡ before + 1) ⊎ ((after ≡ before) × (came ≡ read_limit))
 
--- this piece came in between
-pub record Draws {R : Type 0} (gives : R → List ℕ → ReadEnd → Type 0) (failures : R → ℕ) (old new : Inflow R) (piece : List ℕ) (result : Result Bool Failed) : Type 0 where
-  pub behind : Behind (MayArrive gives old) (MayArrive gives new) piece result
-  pub came : new.came ≡ old.came + length piece
-  pub within : new.came ≤ read_limit
-  pub counts : CountsCall (failures old.reader) (failures new.reader) new.came result
-
 -- whether a call gave octets
 abbrev pub gave_some : Result ℕ Failed → Result Bool Failed
 gave_some (Ok zero) = Ok false
@@ -42,38 +35,17 @@ abbrev pub given_of : Result ℕ Failed → List ℕ → List ℕ
 given_of (Ok n) piece = take n piece
 given_of (Err failed) piece = []
 
--- what came in between stands behind what was held
-pub record Fills {R : Type 0} (gives : R → List ℕ → ReadEnd → Type 0) (failures : R → ℕ) (old new : Inflow R) (before after : List ℕ) (result : Result Bool Failed) : Type 0 where
-  pub piece : List ℕ
-  pub filled : after ≡ before ++ piece
-  pub drawn : Draws gives failures old new piece result
-
 -- there are as many octets as wanted, or else fewer
 abbrev pub IsEnough : ℕ → ℕ → Result Bool Failed → Type 0
 IsEnough wanted len (Ok true) = wanted ≤ len
 IsEnough wanted len (Ok false) = len < wanted
 IsEnough wanted len (Err failed) = len < wanted
 
--- a call gave octets, at most so many, and they were forgotten
-pub record Forgets {R : Type 0} (gives : R → List ℕ → ReadEnd → Type 0) (failures : R → ℕ) (old new : Inflow R) (most : ℕ) (result : Result ℕ Failed) : Type 0 where
-  pub piece : List ℕ
-  pub drawn : Draws gives failures old new piece (gave_some result)
-  pub fits : length piece ≤ most
-  pub counted : IfOk result (λ n. length piece ≡ n)
-  pub empty : OnErr result (length piece ≡ 0)
-
 -- a length grew just where octets came
 abbrev pub Grows : ℕ → ℕ → Result Bool Failed → Type 0
 Grows before after (Ok true) = before < after
 Grows before after (Ok false) = after ≡ before
 Grows before after (Err failed) = after ≡ before
-
--- so many octets came in between, or fewer at the end, and were forgotten
-pub record Skips {R : Type 0} (gives : R → List ℕ → ReadEnd → Type 0) (failures : R → ℕ) (old new : Inflow R) (wanted : ℕ) (result : Result Bool Failed) : Type 0 where
-  pub piece : List ℕ
-  pub drawn : Draws gives failures old new piece result
-  pub most : length piece ≤ wanted
-  pub enough : IsEnough wanted (length piece) result
 
 -- ---- records
 
@@ -91,14 +63,6 @@ shown_len (Some n) = header_len + n
 abbrev pub held_behind : Option ℕ → List ℕ → List ℕ
 held_behind shown octets = drop (shown_len shown) octets
 
--- a whole record came: its front is shown, and all that came behind it is held
-pub record FindsRecord {R : Type 0} (gives : R → List ℕ → ReadEnd → Type 0) (failures : R → ℕ) (old new : Inflow R) (before : List ℕ) (shown : Option MrtRecord) (held : List ℕ) : Type 0 where
-  pub piece : List ℕ
-  pub drawn : Draws gives failures old new piece (Ok true)
-  pub stands : has_record (before ++ piece) ≡ true
-  pub front : shown ≡ Some (front_of (front_record (before ++ piece)))
-  pub behind : held ≡ after_record (before ++ piece)
-
 -- the answer at the end of the octets, which leaves this rest
 abbrev pub answer_at : Option MrtFault → Result Bool SourceFault
 answer_at None = Ok false
@@ -113,32 +77,6 @@ abbrev pub call_at : ReadEnd → Failed → Result Bool Failed
 call_at FileEnds failed = Ok false
 call_at ReadFails failed = Err failed
 
--- no whole record comes
-pub record FindsNone {R : Type 0} (gives : R → List ℕ → ReadEnd → Type 0) (failures : R → ℕ) (old new : Inflow R) (before after : List ℕ) (answer : Result Bool SourceFault) : Type 0 where
-  pub piece : List ℕ
-  pub end : ReadEnd
-  pub failed : Failed
-  pub drawn : Draws gives failures old new piece (call_at end failed)
-  pub lacks : has_record (before ++ piece) ≡ false
-  pub says : answer ≡ answer_behind end (before ++ piece)
-  pub fewer : length after ≤ length before + length piece
-
--- the next record is found in a window, or none is
-abbrev pub Finds : {R : Type 0} → (R → List ℕ → ReadEnd → Type 0) → (R → ℕ) → Inflow R → Inflow R → List ℕ → List ℕ → Result (Option ℕ) SourceFault → Type 0
-Finds gives failures old new before after (Ok (Some n)) =
-    FindsRecord gives failures old new before (shown_in (Some n) after) (held_behind (Some n) after) × (shown_len (Some n) ≤ length after)
-Finds gives failures old new before after (Ok None) = FindsNone gives failures old new before after (Ok false)
-Finds gives failures old new before after (Err fault) = FindsNone gives failures old new before after (Err fault)
-
--- the same of a reader of records, which stops where none is
-abbrev pub GoesOn : {R : Type 0} → (R → List ℕ → ReadEnd → Type 0) → (R → ℕ) → RecordReading R → RecordReading R → Result Bool SourceFault → Type 0
-GoesOn gives failures old new (Ok true) =
-    FindsRecord gives failures old.inflow new.inflow old.held new.shown new.held × (new.stopped ≡ None)
-GoesOn gives failures old new (Ok false) =
-    FindsNone gives failures old.inflow new.inflow old.held new.held (Ok false) × (new.shown ≡ None) × (new.stopped ≡ Some (Ok false))
-GoesOn gives failures old new (Err fault) =
-    FindsNone gives failures old.inflow new.inflow old.held new.held (Err fault) × (new.shown ≡ None) × (new.stopped ≡ Some (Err fault))
-
 -- what always holds of a reader of records: the record that is shown stands in the window; a call of its reader can be
 -- counted while it is asked; where it has stopped, nothing is shown and no record was the answer
 pub record ReaderFits (shown : Option ℕ) (window : List ℕ) (stopped : Option (Result Bool SourceFault)) (came failures : ℕ) : Type 0 where
@@ -147,3 +85,68 @@ pub record ReaderFits (shown : Option ℕ) (window : List ℕ) (stopped : Option
   pub within : came ≤ read_limit
   pub counts : stopped ≡ None → failures < 2 ^ 64 - 1
   pub quiet : (last : Result Bool SourceFault) → stopped ≡ Some last → (shown ≡ None) × (last ≢ Ok true)
+
+-- ---- steps of one reader: what it may still give, and how many of its calls failed
+
+module _ {R : Type 0} (gives : R → List ℕ → ReadEnd → Type 0) (failures : R → ℕ) where
+  -- this piece came in between
+  pub record Draws (old new : Inflow R) (piece : List ℕ) (result : Result Bool Failed) : Type 0 where
+    pub behind : Behind (MayArrive gives old) (MayArrive gives new) piece result
+    pub came : new.came ≡ old.came + length piece
+    pub within : new.came ≤ read_limit
+    pub counts : CountsCall (failures old.reader) (failures new.reader) new.came result
+
+  -- what came in between stands behind what was held
+  pub record Fills (old new : Inflow R) (before after : List ℕ) (result : Result Bool Failed) : Type 0 where
+    pub piece : List ℕ
+    pub filled : after ≡ before ++ piece
+    pub drawn : Draws old new piece result
+
+  -- a call gave octets, at most so many, and they were forgotten
+  pub record Forgets (old new : Inflow R) (most : ℕ) (result : Result ℕ Failed) : Type 0 where
+    pub piece : List ℕ
+    pub drawn : Draws old new piece (gave_some result)
+    pub fits : length piece ≤ most
+    pub counted : IfOk result (λ n. length piece ≡ n)
+    pub empty : OnErr result (length piece ≡ 0)
+
+  -- so many octets came in between, or fewer at the end, and were forgotten
+  pub record Skips (old new : Inflow R) (wanted : ℕ) (result : Result Bool Failed) : Type 0 where
+    pub piece : List ℕ
+    pub drawn : Draws old new piece result
+    pub most : length piece ≤ wanted
+    pub enough : IsEnough wanted (length piece) result
+
+  -- a whole record came: its front is shown, and all that came behind it is held
+  pub record FindsRecord (old new : Inflow R) (before : List ℕ) (shown : Option MrtRecord) (held : List ℕ) : Type 0 where
+    pub piece : List ℕ
+    pub drawn : Draws old new piece (Ok true)
+    pub stands : has_record (before ++ piece) ≡ true
+    pub front : shown ≡ Some (front_of (front_record (before ++ piece)))
+    pub behind : held ≡ after_record (before ++ piece)
+
+  -- no whole record comes
+  pub record FindsNone (old new : Inflow R) (before after : List ℕ) (answer : Result Bool SourceFault) : Type 0 where
+    pub piece : List ℕ
+    pub end : ReadEnd
+    pub failed : Failed
+    pub drawn : Draws old new piece (call_at end failed)
+    pub lacks : has_record (before ++ piece) ≡ false
+    pub says : answer ≡ answer_behind end (before ++ piece)
+    pub fewer : length after ≤ length before + length piece
+
+  -- the next record is found in a window, or none is
+  abbrev pub Finds : Inflow R → Inflow R → List ℕ → List ℕ → Result (Option ℕ) SourceFault → Type 0
+  Finds old new before after (Ok (Some n)) =
+      FindsRecord old new before (shown_in (Some n) after) (held_behind (Some n) after) × (shown_len (Some n) ≤ length after)
+  Finds old new before after (Ok None) = FindsNone old new before after (Ok false)
+  Finds old new before after (Err fault) = FindsNone old new before after (Err fault)
+
+  -- the same of a reader of records, which stops where none is
+  abbrev pub GoesOn : RecordReading R → RecordReading R → Result Bool SourceFault → Type 0
+  GoesOn old new (Ok true) =
+      FindsRecord old.inflow new.inflow old.held new.shown new.held × (new.stopped ≡ None)
+  GoesOn old new (Ok false) =
+      FindsNone old.inflow new.inflow old.held new.held (Ok false) × (new.shown ≡ None) × (new.stopped ≡ Some (Ok false))
+  GoesOn old new (Err fault) =
+      FindsNone old.inflow new.inflow old.held new.held (Err fault) × (new.shown ≡ None) × (new.stopped ≡ Some (Err fault))

@@ -77,18 +77,21 @@ abbrev pub MayCome : {R : Type 0} → (R → List ℕ → ReadEnd → Type 0) �
 MayCome gives reading = ComesUnless reading.stopped (MayBeShown (MayArrive gives reading.inflow) reading.held)
 
 -- something always may
-some_shown : {R : Type 0} (gives : R → List ℕ → ReadEnd → Type 0) (inflow : Inflow R) (held : List ℕ) → SomethingIsGiven (gives inflow.reader) → SomethingComes (MayBeShown (MayArrive gives inflow) held)
+some_shown : {R : Type 0} (gives : R → List ℕ → ReadEnd → Type 0) (inflow : Inflow R) (held : List ℕ)
+    → SomethingIsGiven (gives inflow.reader) → SomethingComes (MayBeShown (MayArrive gives inflow) held)
 some_shown gives inflow held some =
     let octets = take (read_limit - inflow.came) some.0 in
     let end = end_within (read_limit - inflow.came) some.0 some.1 in
     let come : MayArrive gives inflow octets end = record { all = some.0; last = some.1; given = some.2; cut = refl; ends = refl } in
     (map front_of (records_of (held ++ octets)), fault_behind end (rest_of (held ++ octets)), record { octets = octets; end = end; come = come; fronts = refl; ends = refl })
 
-comes_unless : (stopped : Option (Result Bool SourceFault)) (comes : List MrtRecord → Option SourceFault → Type 0) → SomethingComes comes → SomethingComes (ComesUnless stopped comes)
+comes_unless : (stopped : Option (Result Bool SourceFault)) (comes : List MrtRecord → Option SourceFault → Type 0)
+    → SomethingComes comes → SomethingComes (ComesUnless stopped comes)
 comes_unless None comes some = some
 comes_unless (Some answer) comes some = ([], fault_of answer, (refl, refl))
 
-pub something_comes : {R : Type 0} (gives : R → List ℕ → ReadEnd → Type 0) (reading : RecordReading R) → SomethingIsGiven (gives reading.inflow.reader) → SomethingComes (MayCome gives reading)
+pub something_comes : {R : Type 0} (gives : R → List ℕ → ReadEnd → Type 0) (reading : RecordReading R)
+    → SomethingIsGiven (gives reading.inflow.reader) → SomethingComes (MayCome gives reading)
 something_comes gives reading some =
     comes_unless reading.stopped (MayBeShown (MayArrive gives reading.inflow) reading.held) (some_shown gives reading.inflow reading.held some)
 
