@@ -1,5 +1,5 @@
-//! Plain tables with the same structures as `rs_table`: an ordered map from prefix to a cell, held routes of 16 octets sorted by peer, one octet for each client. It
-//! decides as `rs_choice` does. What decisions ask of a route by itself, whether it is eligible and whether every other client may get it, is found when it comes. One
+//! Plain tables with the same structures as `rs_table`: an ordered map from prefix to a cell, held routes of 24 octets sorted by peer, one octet for each client. It
+//! decides as `rs_choice` does. What decisions ask of a route by itself is found when it comes, and stands beside it. One
 //! pass by neighbour groups chooses among all eligible routes, and that choice is shared by the clients to which the few routes on which it rests are permitted; each
 //! other client has a pass of its own. It is the baseline of the ratio.
 //!
@@ -33,10 +33,30 @@ struct Plan {
 
 struct Held {
     peer: u8,
-    eligible: bool,
-    unrestricted: bool,
+    candidacy: Candidacy,
+    path_length: u16,
+    neighbour: u32,
+    med: u32,
     time: u32,
     attributes: Arc<Attributes>,
+}
+
+// 0 of a route that isn't eligible; else 1 and its origin, and 3 more where every other client may get it.
+#[derive(Clone, Copy)]
+struct Candidacy(u8);
+
+impl Candidacy {
+    fn is_eligible(self) -> bool {
+        self.0 > 0
+    }
+
+    fn is_open(self) -> bool {
+        self.0 > 3
+    }
+
+    fn origin(self) -> u8 {
+        (self.0 - 1) % 3
+    }
 }
 
 struct Cell {
@@ -109,28 +129,42 @@ impl Plan {
             && (has_community(attributes, self.asn, asn) || !has_community(attributes, 0, self.asn))
     }
 
-    fn hold(&self, peer: usize, time: u32, attributes: Arc<Attributes>) -> Held {
-        let eligible = self.eligible(&attributes);
-        let restricted = may_be_restricted(&attributes);
-        let unrestricted = (0..self.peers.len()).all(|client| {
-            client == peer || if restricted { self.permits(client, peer, &attributes) } else { !self.refusals[client][peer] }
+    fn candidacy(&self, peer: usize, attributes: &Attributes) -> Candidacy {
+        if !self.eligible(attributes) {
+            return Candidacy(0);
+        }
+        let restricted = may_be_restricted(attributes);
+        let open = (0..self.peers.len()).all(|client| {
+            client == peer || if restricted { self.permits(client, peer, attributes) } else { !self.refusals[client][peer] }
         });
-        Held { peer: peer as u8, eligible, unrestricted, time, attributes }
+        Candidacy(1 + attributes.origin + if open { 3 } else { 0 })
+    }
+
+    fn hold(&self, peer: usize, time: u32, attributes: Arc<Attributes>) -> Held {
+        Held {
+            peer: peer as u8,
+            candidacy: self.candidacy(peer, &attributes),
+            path_length: attributes.path_length as u16,
+            neighbour: attributes.neighbour.unwrap_or(self.peers[peer].asn),
+            med: attributes.med.unwrap_or(0),
+            time,
+            attributes,
+        }
     }
 
     fn permits_held(&self, client: usize, held: &Held) -> bool {
         let peer = usize::from(held.peer);
-        client != peer && (held.unrestricted || self.permits(client, peer, &held.attributes))
+        client != peer && (held.candidacy.is_open() || self.permits(client, peer, &held.attributes))
     }
 
     fn standing(&self, held: &Held) -> Standing {
         let sender = &self.peers[usize::from(held.peer)];
         Standing {
             preference: sender.preference,
-            path_length: held.attributes.path_length,
-            origin: held.attributes.origin,
-            neighbour: held.attributes.neighbour.unwrap_or(sender.asn),
-            med: held.attributes.med.unwrap_or(0),
+            path_length: u32::from(held.path_length),
+            origin: held.candidacy.origin(),
+            neighbour: held.neighbour,
+            med: held.med,
             id: sender.id,
             address: sender.address,
         }
@@ -141,7 +175,7 @@ impl Plan {
         let mut groups = Groups { neighbours: [0; MAX_PEERS], places: [0; MAX_PEERS], keep_out: [false; MAX_PEERS], len: 0 };
         let mut leader: Option<Standing> = None;
         for (place, route) in held.iter().enumerate() {
-            if !route.eligible || !takes_part(route) {
+            if !route.candidacy.is_eligible() || !takes_part(route) {
                 continue;
             }
             let one = self.standing(route);

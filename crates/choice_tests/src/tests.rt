@@ -3,6 +3,7 @@
 
 ghost use Rattle.std.specs.Prelude.{◌<◌, ◌↔◌, IsTrue, length};
 ghost use Rattle.std.specs.List.{All};
+ghost use Rattle.choice_tests.specs.Alike.{AreAlike};
 ghost use Rattle.rs_choice.specs.Held.{IsJudged};
 
 mod clients;
@@ -12,7 +13,7 @@ mod eligible_routes;
 mod export_policy;
 mod plans;
 
-use rs_choice::{Candidate, Exchange, HeldRoute, Local, MAX_PEERS, PeerSpec, PlanFault};
+use rs_choice::{Candidacy, Candidate, Exchange, HeldRoute, Local, MAX_PEERS, PeerSpec, PlanFault};
 use rs_update::{Attributes, Message, Prefix, read_message};
 use std::alloc::{AllocError, Global};
 use std::process::Abort;
@@ -69,6 +70,8 @@ const D: Row = Row {
 const IGP: &str = "40010100";
 
 const EGP: &str = "40010101";
+
+const INCOMPLETE: &str = "40010102";
 
 const PATH_64501: &str = "400206 0201 0000FBF5";
 
@@ -207,6 +210,17 @@ fn is_permitted(
     exchange.permits(client, peer, attributes)
 }
 
+// Whether two routes of one peer are held with the same.
+fn are_alike(one: &HeldRoute, other: &HeldRoute) -> bool
+    ensures { IsTrue result → AreAlike one.now other.now }
+{
+    let alike = one.candidacy == other.candidacy;
+    alike
+        && one.path_length == other.path_length
+        && one.neighbour == other.neighbour
+        && one.med == other.med
+}
+
 // Whether what is held of a route is what is held of its attributes.
 fn is_judged(exchange: &Exchange, held: &HeldRoute) -> bool
     ensures { IsTrue result → IsJudged exchange.now held.now }
@@ -219,7 +233,7 @@ fn is_judged(exchange: &Exchange, held: &HeldRoute) -> bool
         return false;
     };
     let again = exchange.hold(peer, held.time, attributes);
-    held.eligible == again.eligible && held.unrestricted == again.unrestricted
+    are_alike(held, &again)
 }
 
 // Whether what is held of all routes is true of them.

@@ -1,20 +1,22 @@
 -- What is shared of the decisions of all clients, from the groups of the eligible routes.
-use Rattle.std.proofs.Common.{◌≡◌, ◌∙◌, sym, ap, refl, ℕ, ◌<◌, arith, Bool, true, cond, List, [], ◌∷◌, length, map, get_or, Option, Some, None}
-use Rattle.std.specs.Prelude.{slice_get, filter, IfSome}
+use Rattle.std.proofs.Common.{◌≡◌, ◌∙◌, sym, ap, subst, refl, ℕ, suc, zero, ◌<◌, arith, Bool, true, false, cond, List, [], ◌∷◌, length, map, get_or, Option, Some, None}
+use Rattle.std.specs.Prelude.{slice_get, filter, IfSome, IsTrue}
 use Rattle.std.specs.List.{All, Contains}
 use Rattle.std.specs.Option.{option_map}
 use Rattle.std.proofs.lemmas.List.{length-map}
+use Rattle.std.proofs.lemmas.List.Elements.{All-filter}
 use Rattle.std.proofs.lemmas.Option.{slice_get-get_or, slice_get_within}
 use Rattle.rs_choice.specs.declared.candidate.Standing.{Standing}
 use Rattle.rs_choice.specs.declared.candidate.Placed.{Placed}
 use Rattle.rs_choice.specs.declared.held_route.HeldRoute.{HeldRoute}
 use Rattle.rs_choice.specs.declared.neighbour_groups.Group.{Group}
+use Rattle.rs_choice.specs.Candidacy.{is_candidate}
 use Rattle.rs_choice.specs.Clients.{eligible_among}
 use Rattle.rs_choice.specs.Decision.{SentRoute, choice, member_at, standing_of}
 use Rattle.rs_choice.specs.Eligibility.{is_eligible}
 use Rattle.rs_choice.specs.Entrants.{chosen_of, standing_of_held}
 use Rattle.rs_choice.specs.Grouping.{places_of, standing_in, AreGroups, IsFirstOf}
-use Rattle.rs_choice.specs.Held.{sent_of_held, IsJudged}
+use Rattle.rs_choice.specs.Held.{sent_of_held, AreEligible, IsJudged}
 use Rattle.rs_choice.specs.Naturality.{choice-map, filter-map}
 use Rattle.rs_choice.specs.Plan.{Plan}
 use Rattle.rs_choice.specs.Sharing.{sents_at, ArePlaces, AreWeighing, RestsOn, Weighs}
@@ -37,19 +39,41 @@ groups_within S n groups are k d within = place_within S n groups are k (get_or 
 
 -- the eligible routes, by what is held of each one
 eligible_alike : (plan : Plan) (held : List HeldRoute) → All (IsJudged plan) held →
-    filter (λ (one : HeldRoute). one.eligible) held ≡ filter (λ (one : HeldRoute). is_eligible plan one.peer one.attributes.value) held
+    filter (λ (one : HeldRoute). is_candidate one.candidacy) held ≡ filter (λ (one : HeldRoute). is_eligible plan one.peer one.attributes.value) held
 eligible_alike plan [] all = refl
 eligible_alike plan (one ∷ later) all =
     let judged = all 0 one (omega arith) in
     let rest = eligible_alike plan later (all_later (IsJudged plan) one later all) in
-    ap (λ b. cond b (one ∷ filter (λ (one : HeldRoute). one.eligible) later) (filter (λ (one : HeldRoute). one.eligible) later)) judged.eligible
+    ap (λ b. cond b (one ∷ filter (λ (one : HeldRoute). is_candidate one.candidacy) later) (filter (λ (one : HeldRoute). is_candidate one.candidacy) later)) judged.eligible
     ∙ ap (λ list. cond (is_eligible plan one.peer one.attributes.value) (one ∷ list) list) rest
 
 pub eligible_sents : (plan : Plan) (held : List HeldRoute) (places : List ℕ) → All (IsJudged plan) held →
-    chosen_of held places ≡ filter (λ (one : HeldRoute). one.eligible) held → sents_at held places ≡ eligible_among plan (map sent_of_held held)
+    chosen_of held places ≡ filter (λ (one : HeldRoute). is_candidate one.candidacy) held → sents_at held places ≡ eligible_among plan (map sent_of_held held)
 eligible_sents plan held places all is =
     ap (map sent_of_held) (is ∙ eligible_alike plan held all)
     ∙ sym (filter-map sent_of_held (λ (sent : SentRoute). is_eligible plan sent.peer sent.attributes) held)
+
+all_one_more : {X : Type 0} (P : X → Type 0) (x : X) (xs : List X) → P x → All P xs → All P (x ∷ xs)
+all_one_more P x xs holds all zero d within = holds
+all_one_more P x xs holds all (suc k) d within = all k d (omega (arith, within))
+
+-- what a filter keeps passes its test
+filter_passes : {M : Type 0} (p : M → Bool) (xs : List M) → All (λ x. IsTrue (p x)) (filter p xs)
+filter_passes p [] = λ k d within. absurd (omega (arith, within))
+filter_passes {M} p (x ∷ xs) = go (filter_passes p xs) (p x) refl
+  where
+    go : All (λ x. IsTrue (p x)) (filter p xs) → (b : Bool) → p x ≡ b → All (λ x. IsTrue (p x)) (cond b (x ∷ filter p xs) (filter p xs))
+    go later true e = all_one_more (λ x. IsTrue (p x)) x (filter p xs) e later
+    go later false e = later
+
+pub eligible_all : (plan : Plan) (routes : List SentRoute) → AreEligible plan (eligible_among plan routes)
+eligible_all plan routes = filter_passes (λ (sent : SentRoute). is_eligible plan sent.peer sent.attributes) routes
+
+-- those of eligible routes that a test leaves are eligible
+pub eligible_still : (plan : Plan) (q : SentRoute → Bool) (some others routes : List SentRoute) → some ≡ filter q others → others ≡ eligible_among plan routes → AreEligible plan some
+eligible_still plan q some others routes kept is =
+    subst (AreEligible plan) (sym (kept ∙ ap (filter q) is))
+    (All-filter q (λ (sent : SentRoute). IsTrue (is_eligible plan sent.peer sent.attributes)) (eligible_among plan routes) (eligible_all plan routes))
 
 pub weighing_places : (held : List HeldRoute) (eligible weighing : List ℕ) → ArePlaces held eligible → All (λ place. Contains eligible place) weighing → ArePlaces held weighing
 weighing_places held eligible weighing all among k d within =

@@ -11,6 +11,7 @@ pub mod GroupParts
 pub mod GroupSettling
 pub mod LawLemmas
 pub mod Members
+pub mod PathLengthLemmas
 pub mod PlaceLemmas
 pub mod PlanLaws
 pub mod PlanLemmas

@@ -6,7 +6,7 @@ use Rattle.rs_choice.specs.declared.held_route.HeldRoute.{HeldRoute}
 use Rattle.rs_choice.specs.declared.entrants.Listed.TheInside as listed
 use Rattle.rs_choice.specs.declared.entrants.Chosen.TheInside as chosen
 use Rattle.rs_choice.specs.Decision.{sent_route_of, standing_of}
-use Rattle.rs_choice.specs.Held.{sent_of_held}
+use Rattle.rs_choice.specs.Held.{sent_of_held, AreEligible, IsJudged}
 use Rattle.rs_choice.specs.Plan.{Plan}
 
 -- the standings of the candidates of a list, which peers of the plan have sent
@@ -20,7 +20,7 @@ AreKnown fields = All (λ candidate. candidate.peer < length fields.plan.now.pee
 abbrev pub chosen_of : List HeldRoute → List ℕ → List HeldRoute
 chosen_of held places = filter_map (slice_get held) places
 
--- their standings; all are places of the list, whose routes peers of the plan have sent
+-- their standings; all are places of the list, of whose routes what is held is true, and of eligible ones
 abbrev pub standing_of_held : Plan → HeldRoute → Standing
 standing_of_held plan held = standing_of plan (sent_of_held held)
 
@@ -29,4 +29,5 @@ chosen_view fields = map (standing_of_held fields.plan.now) (chosen_of fields.he
 
 pub record AreHeld (fields : chosen.Inside) : Type 0 where
   pub within : All (λ place. place < length fields.held.now) fields.places.now
-  pub known : All (λ held. held.peer < length fields.plan.now.peers) fields.held.now
+  pub judged : All (IsJudged fields.plan.now) fields.held.now
+  pub eligible : AreEligible fields.plan.now (map sent_of_held (chosen_of fields.held.now fields.places.now))

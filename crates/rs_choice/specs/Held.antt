@@ -1,10 +1,14 @@
 -- Routes as they are held for decisions.
-use Rattle.std.specs.Prelude.{◌≡◌, ◌≢◌, ◌<◌, ◌↔◌, ℕ, IsTrue, length}
+use Rattle.std.specs.Prelude.{◌≡◌, ◌≢◌, ◌<◌, ◌↔◌, ℕ, IsTrue, List, length, slice_get}
+use Rattle.std.specs.List.{All}
+use Rattle.std.specs.Option.{option_map_or}
 use Rattle.rs_update.specs.PathAttributes.{PathAttributes}
+use Rattle.rs_choice.specs.declared.candidate.Standing.{Standing}
 use Rattle.rs_choice.specs.declared.held_route.HeldRoute.{HeldRoute}
-use Rattle.rs_choice.specs.Decision.{SentRoute}
+use Rattle.rs_choice.specs.Candidacy.{is_candidate, is_open_candidate, origin_of_candidacy}
+use Rattle.rs_choice.specs.Decision.{SentRoute, no_standing, standing_of}
 use Rattle.rs_choice.specs.Eligibility.{is_eligible}
-use Rattle.rs_choice.specs.Plan.{Plan}
+use Rattle.rs_choice.specs.Plan.{Peer, Plan}
 use Rattle.rs_choice.specs.Policy.{is_permitted}
 
 -- who sent a route, and its attributes
@@ -15,8 +19,28 @@ sent_of_held held = record { peer = held.peer; attributes = held.attributes.valu
 abbrev pub IsOpen : Plan → ℕ → PathAttributes → Type 0
 IsOpen plan peer attributes = (client : ℕ) → client < length plan.peers → client ≢ peer → IsTrue (is_permitted plan client peer attributes)
 
--- what is held of a route is true of it under a plan
+-- all are eligible
+abbrev pub AreEligible : Plan → List SentRoute → Type 0
+AreEligible plan routes = All (λ sent. IsTrue (is_eligible plan sent.peer sent.attributes)) routes
+
+-- what the decision process asks of a held route, by what is held of it and by the plan
+abbrev pub standing_with : Peer → HeldRoute → Standing
+standing_with sender held = record {
+  preference = sender.preference;
+  path_length = held.path_length;
+  origin = origin_of_candidacy held.candidacy;
+  neighbour = held.neighbour;
+  med = held.med;
+  id = sender.id;
+  address = sender.address;
+}
+
+abbrev pub held_standing : Plan → HeldRoute → Standing
+held_standing plan held = option_map_or (λ sender. standing_with sender held) (slice_get plan.peers held.peer) no_standing
+
+-- what is held of a route is true of it under a plan, and where it is eligible a decision needs no more
 pub record IsJudged (plan : Plan) (held : HeldRoute) : Type 0 where
   pub known : held.peer < length plan.peers
-  pub eligible : held.eligible ≡ is_eligible plan held.peer held.attributes.value
-  pub unrestricted : IsTrue held.unrestricted ↔ IsOpen plan held.peer held.attributes.value
+  pub eligible : is_candidate held.candidacy ≡ is_eligible plan held.peer held.attributes.value
+  pub unrestricted : IsTrue (is_open_candidate held.candidacy) ↔ (IsTrue (is_eligible plan held.peer held.attributes.value) × IsOpen plan held.peer held.attributes.value)
+  pub standing : IsTrue (is_candidate held.candidacy) → held_standing plan held ≡ standing_of plan (sent_of_held held)

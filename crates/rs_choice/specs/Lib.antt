@@ -1,3 +1,4 @@
+pub mod Candidacy
 pub mod Checks
 pub mod Clients
 pub mod Comparison

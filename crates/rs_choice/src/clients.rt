@@ -8,10 +8,11 @@
 ghost use Rattle.std.specs.Prelude.{◌≡◌, ◌<◌, ◌≤◌, ◌↔◌, IfSome, IsTrue, filter, length, map};
 ghost use Rattle.std.specs.List.{All};
 ghost use Rattle.std.specs.Option.{option_map};
+ghost use Rattle.rs_choice.specs.Candidacy.{is_candidate};
 ghost use Rattle.rs_choice.specs.Clients.{best_peer_for, is_sent_to, peer_or_own, AreBest};
 ghost use Rattle.rs_choice.specs.Decision.{choice, member_at, standing_of};
 ghost use Rattle.rs_choice.specs.Entrants.{chosen_of};
-ghost use Rattle.rs_choice.specs.Held.{sent_of_held, IsJudged};
+ghost use Rattle.rs_choice.specs.Held.{sent_of_held, AreEligible, IsJudged};
 ghost use Rattle.rs_choice.specs.Sharing.{sents_at, ArePlaces, AreWeighing, IsFirst, IsShared};
 
 use crate::candidate::Placed;
@@ -94,6 +95,7 @@ impl Exchange {
     fn chosen_peer(&self, held: &[HeldRoute], places: &Places) -> Option<u8>
         requires judged { All (IsJudged self.now) held.now }
         requires places { ArePlaces held.now places.now }
+        requires eligible { AreEligible self.now (sents_at held.now places.now) }
         ensures { result ≡ option_map (λ sent. sent.peer) (choice (standing_of self.now) (sents_at held.now places.now)) }
     {
         let _count = places.len();
@@ -157,11 +159,11 @@ fn first_peer(held: &[HeldRoute], places: &Places, first: &Option<Placed>) -> Op
 fn eligible(held: &[HeldRoute]) -> Places
     requires { length held.now ≤ MAX_PEERS }
     ensures places { ArePlaces held.now result }
-    ensures eligible { chosen_of held.now result ≡ filter (λ held. held.eligible) held.now }
+    ensures eligible { chosen_of held.now result ≡ filter (λ held. is_candidate held.candidacy) held.now }
 {
     let mut eligible = Places::new();
     for place in 0..held.len() {
-        if held[place].eligible {
+        if held[place].candidacy.is_eligible() {
             eligible.push(place);
         }
     }

@@ -86,10 +86,7 @@ impl<'a> Entrants for Chosen<'a> {
     }
 
     fn standing(&self, place: usize) -> Standing {
-        let held = &self.held[self.places.place(place)];
-        self.plan.standing(&Candidate {
-            peer: usize::from(held.peer),
-            attributes: &held.attributes,
-        })
+        self.plan
+            .held_standing(&self.held[self.places.place(place)])
     }
 }

@@ -4,10 +4,11 @@
 //! that client's export policy).
 //!
 //! Reading order: `plan` (the server and its peers), `fault` and `checks` (which plans are refused), `exchange` (a plan that is
-//! not), `eligibility`, `policy`, `candidate`, `step`, `decision` (the pass that decides), `entrants`, `held_route` and `clients` (the
+//! not), `eligibility`, `policy`, `candidate`, `step`, `decision` (the pass that decides), `entrants`, `candidacy`, `held_route` and `clients` (the
 //! decisions of all clients), `scan` (the same decision for lists of any length), `laws`.
 #![tactic(auto)]
 
+mod candidacy;
 mod candidate;
 mod checks;
 mod clients;
@@ -25,6 +26,7 @@ mod policy;
 mod scan;
 mod step;
 
+pub use candidacy::Candidacy;
 pub use candidate::Candidate;
 pub use exchange::Exchange;
 pub use fault::PlanFault;

@@ -245,48 +245,96 @@ fn each_client_gets_its_own_best(rt: HostRuntime) -> Result<(), Fail> {
     Ok(())
 }
 
-// Attributes of a route of a, whether it is eligible, and whether every other client may get it.
-const HELD: &[(&[&str], bool, bool)] = &[
-    (&[IGP, PATH_64501_65010, NEXT_HOP_A], true, true),
-    (&[IGP, PATH_64500, NEXT_HOP_A], false, true),
-    (&[IGP, PATH_64501_65010, NEXT_HOP_A, NOT_TO_B], true, false),
-    (&[IGP, PATH_64501_65010, NEXT_HOP_A, TO_NONE], true, false),
+// Attributes of a route of a, and what decisions ask of it before they look at the others.
+const HELD: &[(&[&str], Candidacy)] = &[
+    (&[IGP, PATH_64501_65010, NEXT_HOP_A], Candidacy::OpenIgp),
+    (&[EGP, PATH_64501_65010, NEXT_HOP_A], Candidacy::OpenEgp),
     (
-        &[IGP, PATH_64501_65010, NEXT_HOP_A, TO_B_ALONE],
-        true,
-        false,
+        &[INCOMPLETE, PATH_64501_65010, NEXT_HOP_A],
+        Candidacy::OpenIncomplete,
     ),
-    (&[IGP, PATH_64500, NEXT_HOP_A, TO_NONE], false, false),
+    (&[IGP, PATH_64500, NEXT_HOP_A], Candidacy::Ineligible),
+    (
+        &[IGP, PATH_64501_65010, NEXT_HOP_A, NOT_TO_B],
+        Candidacy::RestrictedIgp,
+    ),
+    (
+        &[EGP, PATH_64501_65010, NEXT_HOP_A, TO_NONE],
+        Candidacy::RestrictedEgp,
+    ),
+    (
+        &[INCOMPLETE, PATH_64501_65010, NEXT_HOP_A, TO_B_ALONE],
+        Candidacy::RestrictedIncomplete,
+    ),
+    (
+        &[IGP, PATH_64500, NEXT_HOP_A, TO_NONE],
+        Candidacy::Ineligible,
+    ),
     // A community that refuses to nobody but its sender, or to nobody.
-    (&[IGP, PATH_64501_65010, NEXT_HOP_A, NOT_TO_A], true, true),
+    (
+        &[IGP, PATH_64501_65010, NEXT_HOP_A, NOT_TO_A],
+        Candidacy::OpenIgp,
+    ),
     (
         &[IGP, PATH_64501_65010, NEXT_HOP_A, NOT_TO_A_STRANGER],
-        true,
-        true,
+        Candidacy::OpenIgp,
     ),
     (
         &[IGP, PATH_64501_65010, NEXT_HOP_A, TO_ALL_BY_NAME],
-        true,
-        true,
+        Candidacy::OpenIgp,
     ),
     // (64500, 64502), which refuses nothing.
     (
         &[IGP, PATH_64501_65010, NEXT_HOP_A, "C00804 FBF4FBF6"],
-        true,
-        true,
+        Candidacy::OpenIgp,
     ),
 ];
 
 #[test]
-fn what_decisions_ask_is_held_with_a_route(rt: HostRuntime) -> Result<(), Fail> {
+fn who_may_get_a_route_is_held_with_it(rt: HostRuntime) -> Result<(), Fail> {
     let alloc = rt.alloc();
     let exchange = exchange(alloc, true, FOUR)?;
-    for (texts, eligible, unrestricted) in HELD {
+    for (texts, candidacy) in HELD {
         let attributes = Arc::new(alloc, attributes(alloc, texts)?)?;
         let held = exchange.hold(0, 1_700_000_000, attributes);
         assert_eq!(rt; (held.peer, held.time), (0, 1_700_000_000));
-        assert_eq!(rt; held.eligible, *eligible);
-        assert_eq!(rt; held.unrestricted, *unrestricted);
+        assert_eq!(rt; held.candidacy, *candidacy);
+        let is_candidate = *candidacy != Candidacy::Ineligible;
+        assert_eq!(rt; held.candidacy.is_eligible(), is_candidate);
+    }
+    Ok(())
+}
+
+// Attributes of a route of a, of AS 64501, and its path length, neighbour AS and MED.
+const KEYS: &[(&[&str], u16, u32, u32)] = &[
+    (&[IGP, PATH_64502_65010, NEXT_HOP_A, MED_10], 2, 64502, 10),
+    (&[IGP, PATH_64502_65010, NEXT_HOP_A], 2, 64502, 0),
+    // An empty path.
+    (&[IGP, "400200", NEXT_HOP_A, MED_5], 0, 64501, 5),
+    // {65010 65011} 65013
+    (
+        &[
+            IGP,
+            "400210 0102 0000FDF2 0000FDF3 0201 0000FDF5",
+            NEXT_HOP_A,
+        ],
+        2,
+        64501,
+        0,
+    ),
+];
+
+#[test]
+fn what_the_steps_compare_is_held_with_a_route(rt: HostRuntime) -> Result<(), Fail> {
+    let alloc = rt.alloc();
+    let exchange = exchange(alloc, true, FOUR)?;
+    for (texts, path_length, neighbour, med) in KEYS {
+        let attributes = Arc::new(alloc, attributes(alloc, texts)?)?;
+        let held = exchange.hold(0, 1_700_000_000, attributes);
+        assert_eq!(rt;
+            (held.path_length, held.neighbour, held.med),
+            (*path_length, *neighbour, *med)
+        );
     }
     Ok(())
 }
@@ -296,7 +344,10 @@ fn a_client_that_refuses_a_peer_restricts_its_routes(rt: HostRuntime) -> Result<
     let alloc = rt.alloc();
     let exchange = exchange(alloc, true, REFUSING)?;
     let held = hold_all(&rt, alloc, &exchange, &[OF_A, OF_B, OF_C])?;
-    let unrestricted: Vec<bool> = held.iter().map(|held| held.unrestricted).collect(alloc)?;
+    let unrestricted: Vec<bool> = held
+        .iter()
+        .map(|held| held.candidacy.is_open())
+        .collect(alloc)?;
     assert_eq!(rt; unrestricted.as_slice(), [false, true, true].as_slice());
     Ok(())
 }

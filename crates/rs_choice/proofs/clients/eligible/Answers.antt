@@ -2,9 +2,10 @@ use Rattle.std.proofs.Common.{◌≡◌, ◌∙◌, sym, ap, arith, filter, leng
 use Rattle.std.specs.Prelude.{slice_get}
 use Rattle.std.proofs.lemmas.Option.{slice_get_read}
 use Rattle.rs_choice.specs.declared.held_route.HeldRoute.{HeldRoute}
+use Rattle.rs_choice.specs.Candidacy.{is_candidate}
 use Rattle.rs_choice.proofs.ChosenLemmas.{chosen_push, filter_push, filter_skip, length_push, places_push, take_more}
 use Rattle.rs_choice.proofs.clients.eligible.Goals as goal
-use Rattle.rs_choice.proofs.clients.eligible.Goals.{then-held-place, else-held-place}
+use Rattle.rs_choice.proofs.clients.eligible.Goals.{then-is_eligible, else-is_eligible}
 
 pub loop-place-preserved : goal.loop-place-preserved
 loop-place-preserved c =
@@ -14,21 +15,21 @@ loop-place-preserved c =
     let so_far = c.loop-place.eligible in
     let at : slice_get held i ≡ Some one = slice_get_read held (length held) i one (omega arith) (omega arith) c.index-held-place.is in
     let more = take_more held i one at in
-    elim c.if-held-place.branch [
-      | then-held-place w ↦
-          let passes = ap (λ (one : HeldRoute). one.eligible) c.index-held-place.is ∙ w.if-held-place.true in
+    elim c.if-is_eligible.branch [
+      | then-is_eligible w ↦
+          let passes = ap (λ (one : HeldRoute). is_candidate one.candidacy) c.index-held-place.is ∙ sym c.is_eligible.ensures ∙ w.if-is_eligible.true in
           rw (w.eligible-is, w.push.ensures) (record {
             few = omega (arith, length_push so_far i, c.loop-place.invariant.few);
             places = places_push held so_far i c.loop-place.invariant.places (omega arith);
             eligible = chosen_push held so_far i one at ∙ ap (λ list. list ++ one ∷ []) c.loop-place.invariant.eligible
-                ∙ sym (ap (filter (λ (held : HeldRoute). held.eligible)) more ∙ filter_push (λ (held : HeldRoute). held.eligible) (take i held) one passes);
+                ∙ sym (ap (filter (λ (held : HeldRoute). is_candidate held.candidacy)) more ∙ filter_push (λ (held : HeldRoute). is_candidate held.candidacy) (take i held) one passes);
           })
-      | else-held-place w ↦
-          let fails = ap (λ (one : HeldRoute). one.eligible) c.index-held-place.is ∙ w.if-held-place.false in
+      | else-is_eligible w ↦
+          let fails = ap (λ (one : HeldRoute). is_candidate one.candidacy) c.index-held-place.is ∙ sym c.is_eligible.ensures ∙ w.if-is_eligible.false in
           rw w.eligible-is (record {
             few = omega (arith, c.loop-place.invariant.few);
             places = c.loop-place.invariant.places;
             eligible = c.loop-place.invariant.eligible
-                ∙ sym (ap (filter (λ (held : HeldRoute). held.eligible)) more ∙ filter_skip (λ (held : HeldRoute). held.eligible) (take i held) one fails);
+                ∙ sym (ap (filter (λ (held : HeldRoute). is_candidate held.candidacy)) more ∙ filter_skip (λ (held : HeldRoute). is_candidate held.candidacy) (take i held) one fails);
           })
     ]

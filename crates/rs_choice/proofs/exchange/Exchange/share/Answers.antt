@@ -1,8 +1,20 @@
-use Rattle.std.proofs.Common.{◌∙◌, arith, length, map}
+use Rattle.std.proofs.Common.{◌∙◌, sym, subst, arith, length, map}
 use Rattle.rs_choice.specs.Entrants.{chosen_of, standing_of_held}
 use Rattle.rs_choice.specs.Grouping.{places_of, standing_in}
-use Rattle.rs_choice.proofs.ClientLemmas.{chosen_is, eligible_sents, first_within, groups_within, rests, view_length, weighing_places}
+use Rattle.rs_choice.specs.Held.{sent_of_held, AreEligible}
+use Rattle.rs_choice.proofs.ClientLemmas.{chosen_is, eligible_all, eligible_sents, first_within, groups_within, rests, view_length, weighing_places}
 use Rattle.rs_choice.proofs.exchange.Exchange.share.Goals as goal
+
+pub invariant_of-entrants : goal.invariant_of-entrants
+invariant_of-entrants c =
+    let plan = c.args.self.now in
+    let held = c.args.held.now in
+    let eligible = c.eligible-eligible.result in
+    record {
+      within = c.eligible-eligible.ensures.places;
+      judged = c.requires.judged;
+      eligible = subst (AreEligible plan) (sym (eligible_sents plan held eligible c.requires.judged c.eligible-eligible.ensures.eligible)) (eligible_all plan (map sent_of_held held));
+    }
 
 pub groups_of-groups-requires : goal.groups_of-groups-requires
 groups_of-groups-requires c =

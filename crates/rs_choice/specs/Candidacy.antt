@@ -1,0 +1,42 @@
+-- What decisions ask of a route before they look at the others (RFC 4271, section 9.1.2; RFC 7947, section 2.3).
+use Rattle.std.specs.Prelude.{◌≡◌, Bool, true, false}
+use Rattle.rs_update.specs.declared.values.Origin.{Origin}
+use Rattle.rs_update.specs.declared.values.Origin.TheVariants.{Igp, Egp, Incomplete}
+use Rattle.rs_choice.specs.declared.candidacy.Candidacy.{Candidacy}
+use Rattle.rs_choice.specs.declared.candidacy.Candidacy.TheVariants as is
+
+-- eligible: it may be a candidate
+abbrev pub is_candidate : Candidacy → Bool
+is_candidate is.Ineligible = false
+is_candidate is.RestrictedIgp = true
+is_candidate is.RestrictedEgp = true
+is_candidate is.RestrictedIncomplete = true
+is_candidate is.OpenIgp = true
+is_candidate is.OpenEgp = true
+is_candidate is.OpenIncomplete = true
+
+-- eligible, and permitted to every client but its sender
+abbrev pub is_open_candidate : Candidacy → Bool
+is_open_candidate is.Ineligible = false
+is_open_candidate is.RestrictedIgp = false
+is_open_candidate is.RestrictedEgp = false
+is_open_candidate is.RestrictedIncomplete = false
+is_open_candidate is.OpenIgp = true
+is_open_candidate is.OpenEgp = true
+is_open_candidate is.OpenIncomplete = true
+
+-- the origin of an eligible route
+abbrev pub origin_of_candidacy : Candidacy → Origin
+origin_of_candidacy is.Ineligible = Incomplete
+origin_of_candidacy is.RestrictedIgp = Igp
+origin_of_candidacy is.RestrictedEgp = Egp
+origin_of_candidacy is.RestrictedIncomplete = Incomplete
+origin_of_candidacy is.OpenIgp = Igp
+origin_of_candidacy is.OpenEgp = Egp
+origin_of_candidacy is.OpenIncomplete = Incomplete
+
+-- that of an eligible route with an origin, permitted to every client but its sender or not
+pub record CandidacyOf (unrestricted : Bool) (origin : Origin) (candidacy : Candidacy) : Type 0 where
+  pub eligible : is_candidate candidacy ≡ true
+  pub open_agrees : is_open_candidate candidacy ≡ unrestricted
+  pub origin_agrees : origin_of_candidacy candidacy ≡ origin
