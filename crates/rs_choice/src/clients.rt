@@ -16,7 +16,7 @@ ghost use Rattle.rs_choice.specs.Held.{sent_of_held, AreEligible, IsJudged};
 ghost use Rattle.rs_choice.specs.Sharing.{sents_at, ArePlaces, AreWeighing, IsFirst, IsShared};
 
 use crate::candidate::Placed;
-use crate::decision::{first_of, groups_of};
+use crate::decision::{first_of, group_all};
 use crate::entrants::Chosen;
 use crate::exchange::Exchange;
 use crate::held_route::HeldRoute;
@@ -46,14 +46,16 @@ impl Exchange {
         ensures count { length bests.new.items ≡ length self.now.peers }
         ensures best { AreBest self.now (map sent_of_held held.now) bests.new.items }
     {
-        let shared = self.share(held);
+        let mut groups = NeighbourGroups::new();
+        let shared = self.share(held, &mut groups);
         for client in 0..self.count() {
-            bests[client] = self.choose_for(held, &shared, client);
+            bests[client] = self.choose_for(held, &shared, client, &mut groups);
         }
     }
 
-    // What is decided among all eligible routes.
-    fn share(&self, held: &[HeldRoute]) -> Shared
+    // What is decided among all eligible routes. The groups are those of some other decision before and of this one after: so their
+    // arrays are filled once for all clients.
+    fn share(&self, held: &[HeldRoute], groups: &mut NeighbourGroups) -> Shared
         requires judged { All (IsJudged self.now) held.now }
         requires bound { length held.now ≤ MAX_PEERS }
         ensures { IsShared self.now held.now result }
@@ -65,9 +67,9 @@ impl Exchange {
             held,
             places: &eligible,
         };
-        let groups = groups_of(&entrants);
-        let first = first_of(&entrants, &groups);
-        let weighing = weighing(&eligible, &groups, &first);
+        group_all(&entrants, groups);
+        let first = first_of(&entrants, groups);
+        let weighing = weighing(&eligible, groups, &first);
         let peer = first_peer(held, &eligible, &first);
         Shared {
             eligible,
@@ -77,7 +79,13 @@ impl Exchange {
     }
 
     // The number of the peer whose route a client gets, or its own number where it gets none.
-    fn choose_for(&self, held: &[HeldRoute], shared: &Shared, client: usize) -> u8
+    fn choose_for(
+        &self,
+        held: &[HeldRoute],
+        shared: &Shared,
+        client: usize,
+        groups: &mut NeighbourGroups,
+    ) -> u8
         requires judged { All (IsJudged self.now) held.now }
         requires shared { IsShared self.now held.now shared.now }
         requires client_known { client < length self.now.peers }
@@ -88,11 +96,16 @@ impl Exchange {
             return number(shared.peer, client);
         }
         let permitted = self.permitted(held, &shared.eligible, client);
-        number(self.chosen_peer(held, &permitted), client)
+        number(self.chosen_peer(held, &permitted, groups), client)
     }
 
     // The peer whose route is chosen among those at some places.
-    fn chosen_peer(&self, held: &[HeldRoute], places: &Places) -> Option<u8>
+    fn chosen_peer(
+        &self,
+        held: &[HeldRoute],
+        places: &Places,
+        groups: &mut NeighbourGroups,
+    ) -> Option<u8>
         requires judged { All (IsJudged self.now) held.now }
         requires places { ArePlaces held.now places.now }
         requires eligible { AreEligible self.now (sents_at held.now places.now) }
@@ -104,8 +117,8 @@ impl Exchange {
             held,
             places,
         };
-        let groups = groups_of(&entrants);
-        let first = first_of(&entrants, &groups);
+        group_all(&entrants, groups);
+        let first = first_of(&entrants, groups);
         first_peer(held, places, &first)
     }
 

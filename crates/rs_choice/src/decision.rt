@@ -27,22 +27,22 @@ impl Exchange {
             plan: self,
             candidates,
         };
-        let groups = groups_of(&entrants);
+        let mut groups = NeighbourGroups::new();
+        group_all(&entrants, &mut groups);
         first_of(&entrants, &groups).map(|first| first.place)
     }
 }
 
-// The groups of all entrants.
-pub(crate) fn groups_of<E: Entrants>(entrants: &E) -> NeighbourGroups
+// Puts the groups of all entrants in the place of others.
+pub(crate) fn group_all<E: Entrants>(entrants: &E, groups: &mut NeighbourGroups)
     requires bound { length (E.standings entrants.now) ≤ MAX_PEERS }
-    ensures { AreGroups (standing_in (E.standings entrants.now)) (length (E.standings entrants.now)) result }
+    ensures { AreGroups (standing_in (E.standings entrants.now)) (length (E.standings entrants.now)) groups.new }
 {
-    let mut groups = NeighbourGroups::new();
+    groups.clear();
     let mut leader = None;
     for place in 0..entrants.count() {
-        leader = Some(take_in(entrants, &mut groups, leader, place));
+        leader = Some(take_in(entrants, groups, leader, place));
     }
-    groups
 }
 
 // Takes one more entrant into the groups: it begins them anew, joins them or is left out. The leader is one that is level with all

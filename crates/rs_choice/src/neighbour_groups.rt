@@ -100,6 +100,13 @@ impl NeighbourGroups {
         }
     }
 
+    // Drops all groups.
+    pub(crate) fn clear(&mut self)
+        ensures { self.new ≡ [] }
+    {
+        self.len = 0;
+    }
+
     // Drops all groups but this one.
     pub(crate) fn restart(&mut self, group: Group)
         ensures { self.new ≡ group ∷ [] }

@@ -13,7 +13,7 @@ returns-clause-place c =
     let candidates = c.args.candidates.now in
     let mapped : c.map.result ≡ option_map (λ first. first.place) c.first_of.result = grind (arith, common_steps) in
     mapped ∙ sym (place_of_choice-map sent_route_of (standing_of plan) candidates
-    ∙ place_by_groups (λ (candidate : Candidate). standing_of plan (sent_route_of candidate)) candidates c.groups_of-groups.result c.first_of.result c.groups_of-groups.ensures c.first_of.ensures)
+    ∙ place_by_groups (λ (candidate : Candidate). standing_of plan (sent_route_of candidate)) candidates c.group_all.new.groups c.first_of.result c.group_all.ensures c.first_of.ensures)
 
 pub returns-clause-member : goal.returns-clause-member
 returns-clause-member c =

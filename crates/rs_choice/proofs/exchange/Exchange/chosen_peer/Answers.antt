@@ -4,8 +4,8 @@ use Rattle.rs_choice.specs.Grouping.{places_of, standing_in}
 use Rattle.rs_choice.proofs.ClientLemmas.{chosen_is, first_within, view_length}
 use Rattle.rs_choice.proofs.exchange.Exchange.chosen_peer.Goals as goal
 
-pub groups_of-groups-requires : goal.groups_of-groups-requires
-groups_of-groups-requires c =
+pub group_all-requires : goal.group_all-requires
+group_all-requires c =
     let n = view_length c.args.self.now c.args.held.now c.args.places.now c.requires.places in
     record { bound = omega (arith, n, c.len-count.ensures.value, c.len-count.ensures.bound) }
 
@@ -13,9 +13,9 @@ pub first_peer-requires-clause-first : goal.first_peer-requires-clause-first
 first_peer-requires-clause-first c =
     let view = map (standing_of_held c.args.self.now) (chosen_of c.args.held.now c.args.places.now) in
     let n = view_length c.args.self.now c.args.held.now c.args.places.now c.requires.places in
-    rw n at (first_within (standing_in view) (length view) (length (places_of c.groups_of-groups.result)) c.groups_of-groups.result c.first_of-first.result c.groups_of-groups.ensures c.first_of-first.ensures)
+    rw n at (first_within (standing_in view) (length view) (length (places_of c.group_all.new.groups)) c.group_all.new.groups c.first_of-first.result c.group_all.ensures c.first_of-first.ensures)
 
 pub returns : goal.returns
 returns c =
     c.first_peer.ensures
-    ∙ chosen_is c.args.self.now c.args.held.now c.args.places.now c.groups_of-groups.result c.first_of-first.result c.groups_of-groups.ensures c.first_of-first.ensures
+    ∙ chosen_is c.args.self.now c.args.held.now c.args.places.now c.group_all.new.groups c.first_of-first.result c.group_all.ensures c.first_of-first.ensures

@@ -16,8 +16,8 @@ invariant_of-entrants c =
       eligible = subst (AreEligible plan) (sym (eligible_sents plan held eligible c.requires.judged c.eligible-eligible.ensures.eligible)) (eligible_all plan (map sent_of_held held));
     }
 
-pub groups_of-groups-requires : goal.groups_of-groups-requires
-groups_of-groups-requires c =
+pub group_all-requires : goal.group_all-requires
+group_all-requires c =
     let n = view_length c.args.self.now c.args.held.now c.eligible-eligible.result c.eligible-eligible.ensures.places in
     record { bound = omega (arith, n, c.len-count.ensures.value, c.len-count.ensures.bound) }
 
@@ -25,13 +25,13 @@ pub weighing-weighing-requires : goal.weighing-weighing-requires
 weighing-weighing-requires c =
     let view = map (standing_of_held c.args.self.now) (chosen_of c.args.held.now c.eligible-eligible.result) in
     let n = view_length c.args.self.now c.args.held.now c.eligible-eligible.result c.eligible-eligible.ensures.places in
-    rw n at (groups_within (standing_in view) (length view) c.groups_of-groups.result c.groups_of-groups.ensures)
+    rw n at (groups_within (standing_in view) (length view) c.group_all.new.groups c.group_all.ensures)
 
 pub first_peer-peer-requires-clause-first : goal.first_peer-peer-requires-clause-first
 first_peer-peer-requires-clause-first c =
     let view = map (standing_of_held c.args.self.now) (chosen_of c.args.held.now c.eligible-eligible.result) in
     let n = view_length c.args.self.now c.args.held.now c.eligible-eligible.result c.eligible-eligible.ensures.places in
-    rw n at (first_within (standing_in view) (length view) (length (places_of c.groups_of-groups.result)) c.groups_of-groups.result c.first_of-first.result c.groups_of-groups.ensures c.first_of-first.ensures)
+    rw n at (first_within (standing_in view) (length view) (length (places_of c.group_all.new.groups)) c.group_all.new.groups c.first_of-first.result c.group_all.ensures c.first_of-first.ensures)
 
 pub returns : goal.returns
 returns c =
@@ -42,8 +42,8 @@ returns c =
     record {
       places = c.eligible-eligible.ensures.places;
       eligible = eligible_sents plan held eligible c.requires.judged c.eligible-eligible.ensures.eligible;
-      peer = c.first_peer-peer.ensures ∙ chosen_is plan held eligible c.groups_of-groups.result c.first_of-first.result c.groups_of-groups.ensures c.first_of-first.ensures;
+      peer = c.first_peer-peer.ensures ∙ chosen_is plan held eligible c.group_all.new.groups c.first_of-first.result c.group_all.ensures c.first_of-first.ensures;
       weighing = weighing;
-      rests = rests plan held eligible c.groups_of-groups.result c.first_of-first.result c.weighing-weighing.result c.eligible-eligible.ensures.places weighing
-          c.groups_of-groups.ensures c.first_of-first.ensures c.weighing-weighing.ensures;
+      rests = rests plan held eligible c.group_all.new.groups c.first_of-first.result c.weighing-weighing.result c.eligible-eligible.ensures.places weighing
+          c.group_all.ensures c.first_of-first.ensures c.weighing-weighing.ensures;
     }

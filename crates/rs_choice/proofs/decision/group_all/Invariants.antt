@@ -1,5 +1,5 @@
 use Rattle.rs_choice.specs.Grouping.{standing_in, AreGroups, LeadsAll}
-use Rattle.rs_choice.proofs.decision.groups_of.Given as goal
+use Rattle.rs_choice.proofs.decision.group_all.Given as goal
 
 -- the first entrants are in their groups, and the leader leads them
 abbrev pub invariant-loop-place : goal.invariant-loop-place
