@@ -4,12 +4,12 @@ use Rattle.rs_mrt.specs.Entry.{Meaning, Message, State, Other, entry_of}
 use Rattle.rs_mrt.specs.Fault.{number_of}
 use Rattle.rs_mrt.specs.Record.{MrtRecord}
 use Rattle.rs_mrt.specs.declared.fault.MrtFault.{MrtFault}
-use Rattle.rs_update.specs.Message.{MessageContent, IsOpen, IsUpdate, IsNotification, IsKeepAlive, IsRefresh, message_of}
+use Rattle.rs_update.specs.Message.{MessageContent, IsOpen, IsUpdate, IsTreated, IsNotification, IsKeepAlive, IsRefresh, message_of}
 use Rattle.rs_update.specs.declared.fault.MessageFault.{MessageFault}
 use Rattle.rs_update.specs.declared.fault.MessageFault.TheVariants as message_fault
 use Rattle.rs_session.specs.Change.{Change, Lost}
 use Rattle.rs_session.specs.Peer.{is_of}
-use Rattle.rs_session.specs.UpdateChanges.{changes_of_update}
+use Rattle.rs_session.specs.UpdateChanges.{changes_of_update, changes_of_treated}
 use Rattle.rs_session.specs.declared.peer.PeerId.{PeerId}
 use Rattle.rs_session.specs.declared.word.Reason.{Reason}
 use Rattle.rs_session.specs.declared.word.Reason.TheVariants as reasons
@@ -40,6 +40,7 @@ reason_of message_fault.Memory = reasons.Memory
 abbrev pub effect_of_message : ℕ → Result MessageContent MessageFault → RecordEffect
 effect_of_message time (Ok IsOpen) = Gives []
 effect_of_message time (Ok (IsUpdate update)) = Gives (changes_of_update time update)
+effect_of_message time (Ok (IsTreated treated)) = Gives (changes_of_treated time treated)
 effect_of_message time (Ok IsNotification) = loss time
 effect_of_message time (Ok IsKeepAlive) = Gives []
 effect_of_message time (Ok IsRefresh) = Gives []

@@ -2,7 +2,7 @@
 use Rattle.std.specs.Prelude.{ℕ, Bool, not, ◌&&◌, ◌==◌, List, [], ◌++◌, Option, Some, None, map, filter}
 use Rattle.std.specs.List.{list_any}
 use Rattle.rs_update.specs.IpPrefix.{IpPrefix}
-use Rattle.rs_update.specs.Message.{UpdateContent}
+use Rattle.rs_update.specs.Message.{UpdateContent, TreatedContent}
 use Rattle.rs_update.specs.PathAttributes.{PathAttributes}
 use Rattle.rs_update.specs.Prefix.{is_multicast}
 use Rattle.rs_session.specs.Change.{Change, Announced, Withdrawn}
@@ -39,3 +39,9 @@ abbrev pub changes_of_update : ℕ → UpdateContent → List Change
 changes_of_update time update =
     map (withdraws time) (withdrawn_only update.withdrawn update.nlri)
     ++ announcements time update.attributes (unicast update.nlri)
+
+-- the changes of an UPDATE whose routes are all treated as withdrawn: first what it withdraws, then what it would announce (RFC 7606, section 2), in order
+abbrev pub changes_of_treated : ℕ → TreatedContent → List Change
+changes_of_treated time treated =
+    map (withdraws time) (withdrawn_only treated.withdrawn treated.nlri)
+    ++ map (withdraws time) (unicast treated.nlri)

@@ -82,6 +82,8 @@ fn read_recorded_message(alloc: Global, time: u32, octets: &[u8]) -> Result<Effe
     let effect = match read_message(alloc, octets) {
         Ok(Message::Open) => Effect::Gives(Pending::none(alloc)),
         Ok(Message::Update(update)) => Effect::Gives(Pending::of_update(alloc, time, update)?),
+        // RFC 4271 treats no UPDATE as withdrawn.
+        Ok(Message::Treated { .. }) => unreachable!(),
         Ok(Message::Notification) => Effect::Gives(Pending::of_loss(alloc, time)),
         Ok(Message::KeepAlive) => Effect::Gives(Pending::none(alloc)),
         Ok(Message::Refresh) => Effect::Gives(Pending::none(alloc)),

@@ -1,7 +1,9 @@
 pub mod AgainLemmas
+pub mod AgreeLemmas
 pub mod BoundLemmas
 pub mod FirstFaultLemmas
 pub mod FoundLemmas
+pub mod HandlingLemmas
 pub mod ItemLemmas
 pub mod KeptLemmas
 pub mod KindLemmas
@@ -22,5 +24,6 @@ pub mod SegmentLemmas
 pub mod SoundLemmas
 pub mod SpelledParts
 pub mod SplitLemmas
+pub mod TreatingLemmas
 pub mod WholeLemmas
 pub mod WrittenLemmas

@@ -138,7 +138,7 @@ steps-content None None (Ok attributes) (Ok withdrawn) (Ok nlri) content e =
     let is : record { withdrawn = withdrawn; attributes = attributes; nlri = nlri } ≡ content = cc in
     (ap (λ (c : UpdateContent). Ok c.attributes) is, ap (λ (c : UpdateContent). Ok c.nlri) is)
 
-listed_is : (octets : List ℕ) (prefixes : List IpPrefix) → listed_prefixes octets ≡ Ok prefixes → prefixes_of octets ≡ Some prefixes
+pub listed_is : (octets : List ℕ) (prefixes : List IpPrefix) → listed_prefixes octets ≡ Ok prefixes → prefixes_of octets ≡ Some prefixes
 listed_is octets prefixes =
     elim (prefixes_of octets) as (λ listed. ◌≡◌ {A = Result (List IpPrefix) UpdateFault} (elim listed as (λ x. Result (List IpPrefix) UpdateFault) [ None ↦ Err InvalidNetworkField | Some found ↦ Ok found ]) (Ok prefixes) → listed ≡ Some prefixes) [
       | None ↦ λ e. absurd cc

@@ -53,7 +53,7 @@ or_false : (b : Bool) → (b || false) ≡ b
 or_false true = refl
 or_false false = refl
 
-list_any-push : (p : Item → Bool) (xs : List Item) (x : Item) → list_any p (xs ++ x ∷ []) ≡ (list_any p xs || p x)
+pub list_any-push : (p : Item → Bool) (xs : List Item) (x : Item) → list_any p (xs ++ x ∷ []) ≡ (list_any p xs || p x)
 list_any-push p xs x = grind (arith, common_steps)
 
 -- nothing stood earlier
@@ -61,7 +61,7 @@ pub none_seen : IsSeen (replicate 256 false) []
 none_seen = record { whole = length-replicate 256 false; at_each = λ kind below. get_or-replicate 256 kind false false below }
 
 -- one more type stood earlier
-one_seen : (seen : List Bool) (earlier : List Item) (item : Item) → item.kind < 256 → IsSeen seen earlier → IsSeen (set seen item.kind true) (earlier ++ item ∷ [])
+pub one_seen : (seen : List Bool) (earlier : List Item) (item : Item) → item.kind < 256 → IsSeen seen earlier → IsSeen (set seen item.kind true) (earlier ++ item ∷ [])
 one_seen seen earlier item octet before = record {
   whole = length-set seen item.kind true ∙ before.whole;
   at_each = λ kind below.

@@ -1,5 +1,5 @@
 -- What callers see of the attributes of a route.
-use Rattle.std.specs.Prelude.{◌≡◌, ℕ, ◌≤◌, List, length, Some, None, map}
+use Rattle.std.specs.Prelude.{◌≡◌, ℕ, ◌<◌, ◌≤◌, List, length, Some, None, map}
 use Rattle.std.specs.Option.{option_map}
 use Rattle.rs_update.specs.declared.attributes.Attributes.TheInside.{Inside}
 use Rattle.rs_update.specs.PathAttributes.{PathAttributes}
@@ -30,5 +30,6 @@ pub record IsWhole (fields : Inside) : Type 0 where
   pub fits_a_message : length section ≤ 4073
   pub attributes_agree : attributes_of (items_of section) ≡ Some (view_of fields)
   pub path_length_agrees : fields.path_length ≡ path_length_of (view_of fields).path
+  pub path_length_fits : fields.path_length < 65536
   pub neighbour_agrees : fields.neighbour ≡ first_as_of (view_of fields).path
   pub spelling_agrees : fields.spelling.items ≡ written (view_of fields)

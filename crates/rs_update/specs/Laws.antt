@@ -1,17 +1,22 @@
 -- What holds of the definitions: each is the contract of a function that does nothing.
-use Rattle.std.specs.Prelude.{◌≡◌, ◌≢◌, ◌⊎◌, ℕ, ◌<◌, ◌≤◌, ◌↔◌, List, [], length, Some, None, Ok, Err, IsOk, IsSome}
+use Rattle.std.specs.Prelude.{◌≡◌, ◌≢◌, ◌⊎◌, ℕ, ◌<◌, ◌≤◌, ◌↔◌, List, [], ◌∷◌, ◌++◌, length, Some, None, Ok, Err, IsOk, IsSome}
+use Rattle.rs_update.specs.declared.errors.Errors.TheVariants.{Rfc4271, Rfc7606}
 use Rattle.rs_update.specs.declared.fault.MessageFault.{MessageFault}
 use Rattle.rs_update.specs.declared.fault.UpdateFault.{UpdateFault}
 use Rattle.rs_update.specs.declared.fault.UpdateFault.TheVariants.{MalformedAttributeList}
 use Rattle.rs_update.specs.Gathered.{attributes_of}
+use Rattle.rs_update.specs.declared.handling.Handling.{Handling}
+use Rattle.rs_update.specs.declared.handling.Handling.TheVariants.{Keep, AttributeDiscard, TreatAsWithdraw, SessionReset}
+use Rattle.rs_update.specs.Handling.{handling_behind, handling_of_rest, strongest_in}
 use Rattle.rs_update.specs.IpPrefix.{IpPrefix}
-use Rattle.rs_update.specs.Message.{UpdateContent, update_of, message_of, message_fault}
+use Rattle.rs_update.specs.Message.{MessageContent, UpdateContent, update_of, message_of, message_fault}
 use Rattle.rs_update.specs.Parts.{AreOctets, IsWholeFront}
 use Rattle.rs_update.specs.PathAttributes.{PathAttributes, PathSegment}
 use Rattle.rs_update.specs.PathSegments.{SpellsSegment, segments_of}
 use Rattle.rs_update.specs.Prefix.{IsField, prefixes_of}
 use Rattle.rs_update.specs.Section.{Item, SpellsItem, items_of, rest_of, section_fault, AreFaultless, IsFirstAtFault}
 use Rattle.rs_update.specs.Spelling.{written}
+use Rattle.rs_update.specs.Treating.{message_by}
 
 -- a field lists at most one list of prefixes, and reading finds it exactly where there is one (RFC 4271, section 4.3)
 abbrev pub FieldIsRead : Type 0
@@ -58,3 +63,25 @@ abbrev pub WrittenIsRead : Type 0
 WrittenIsRead =
     (section : List ℕ) (attributes : PathAttributes) → AreOctets section → section_fault section ≡ None → attributes_of (items_of section) ≡ Some attributes
     → (section_fault (written attributes) ≡ None) × (attributes_of (items_of (written attributes)) ≡ Some attributes) × (length (written attributes) ≤ length section)
+
+-- by RFC 4271 a message says what it says
+abbrev pub Rfc4271IsAsBefore : Type 0
+Rfc4271IsAsBefore = (octets : List ℕ) → message_by Rfc4271 octets ≡ message_of octets
+
+-- a message without a fault says the same by RFC 7606
+abbrev pub StandardsAgree : Type 0
+StandardsAgree = (octets : List ℕ) (content : MessageContent) → message_of octets ≡ Ok content → message_by Rfc7606 octets ≡ Ok content
+
+-- how strong a handling is
+abbrev pub strength : Handling → ℕ
+strength Keep = 0
+strength AttributeDiscard = 1
+strength TreatAsWithdraw = 2
+strength (SessionReset fault) = 3
+
+-- no attribute of a section, and not what is left over, asks for more than is done
+abbrev pub StrongestIsFound : Type 0
+StrongestIsFound =
+    (section : List ℕ) (before : List Item) (item : Item) (after : List Item) → items_of section ≡ before ++ item ∷ after
+    → (strength (handling_behind before item) ≤ strength (strongest_in section))
+    × (strength (handling_of_rest (rest_of section)) ≤ strength (strongest_in section))

@@ -5,6 +5,7 @@ pub mod Community
 pub mod Fault
 pub mod Found
 pub mod Gathered
+pub mod Handling
 pub mod Header
 pub mod IpPrefix
 pub mod Items
@@ -20,3 +21,4 @@ pub mod Section
 pub mod Segments
 pub mod Shapes
 pub mod Spelling
+pub mod Treating

@@ -25,10 +25,16 @@ pub record UpdateContent : Type 0 where
   pub attributes : Option PathAttributes
   pub nlri : List IpPrefix
 
+-- an UPDATE whose routes are all treated as withdrawn (RFC 7606, section 2): the prefixes that it withdraws, and those that it announces
+pub record TreatedContent : Type 0 where
+  pub withdrawn : List IpPrefix
+  pub nlri : List IpPrefix
+
 -- a message by its type; only an UPDATE has contents that count
 pub data MessageContent : Type 0 where
   IsOpen : MessageContent
   IsUpdate : UpdateContent → MessageContent
+  IsTreated : TreatedContent → MessageContent
   IsNotification : MessageContent
   IsKeepAlive : MessageContent
   IsRefresh : MessageContent
@@ -39,6 +45,7 @@ update_content_of update = record { withdrawn = update.withdrawn.items; attribut
 abbrev pub content_of : Message → MessageContent
 content_of kinds.Open = IsOpen
 content_of (kinds.Update update) = IsUpdate (update_content_of update)
+content_of (kinds.Treated withdrawn nlri) = IsTreated (record { withdrawn = withdrawn.items; nlri = nlri.items })
 content_of kinds.Notification = IsNotification
 content_of kinds.KeepAlive = IsKeepAlive
 content_of kinds.Refresh = IsRefresh
@@ -163,6 +170,16 @@ Answers (Err (faults.Bgp code subcode)) says = says ≡ Err (faults.Bgp code sub
 abbrev pub HasAttributesForRoutes : Message → Type 0
 HasAttributesForRoutes kinds.Open = Unit {0}
 HasAttributesForRoutes (kinds.Update update) = IsSome update.attributes ↔ (0 < length update.nlri.items)
+HasAttributesForRoutes (kinds.Treated withdrawn nlri) = Unit {0}
 HasAttributesForRoutes kinds.Notification = Unit {0}
 HasAttributesForRoutes kinds.KeepAlive = Unit {0}
 HasAttributesForRoutes kinds.Refresh = Unit {0}
+
+-- no routes are treated as withdrawn
+abbrev pub IsUntreated : Message → Type 0
+IsUntreated kinds.Open = Unit {0}
+IsUntreated (kinds.Update update) = Unit {0}
+IsUntreated (kinds.Treated withdrawn nlri) = ⊥
+IsUntreated kinds.Notification = Unit {0}
+IsUntreated kinds.KeepAlive = Unit {0}
+IsUntreated kinds.Refresh = Unit {0}

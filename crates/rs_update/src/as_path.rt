@@ -2,7 +2,7 @@
 //!
 //! An empty AS_PATH is accepted (our choice). Segments of confederations are of no known type here, and so a fault.
 
-ghost use Rattle.std.specs.Prelude.{◌≡◌, ◌<◌, ◌^◌, ◌==◌, map};
+ghost use Rattle.std.specs.Prelude.{◌≡◌, ◌<◌, ◌==◌, map};
 ghost use Rattle.std.specs.List.{list_any};
 ghost use Rattle.std.specs.Option.{option_map};
 ghost use Rattle.rs_update.specs.AsPath.{segment_of, numbers_of, path_length_of, first_as_of};
@@ -86,8 +86,9 @@ pub(crate) fn is_path(value: &[u8]) -> bool
 
 /// How many AS numbers a path has, an AS_SET counting 1 (RFC 4271, section 9.1.2.2, a).
 pub(crate) fn path_length(path: &[Segment]) -> u32
-    requires { path_length_of (map segment_of path.now) < 2 ^ 32 }
-    ensures { result ≡ path_length_of (map segment_of path.now) }
+    requires { path_length_of (map segment_of path.now) < 65536 }
+    ensures value { result ≡ path_length_of (map segment_of path.now) }
+    ensures bound { result < 65536 }
 {
     let mut hops = 0;
     for segment in path {

@@ -1,6 +1,6 @@
 //! The path attributes that a route keeps (RFC 4271, section 5; RFC 6793; RFC 1997).
 
-ghost use Rattle.std.specs.Prelude.{◌≡◌, ◌≤◌, length, map, None, Some};
+ghost use Rattle.std.specs.Prelude.{◌≡◌, ◌<◌, ◌≤◌, length, map, None, Some};
 ghost use Rattle.std.specs.Option.{option_map};
 ghost use Rattle.rs_update.specs.AsPath.{segment_of, path_length_of, neighbour_of, holds_as_in};
 ghost use Rattle.rs_update.specs.Shapes.{communities_of, other_of};
@@ -135,9 +135,10 @@ impl Attributes {
         &self.others
     }
 
-    /// How many AS numbers AS_PATH has, an AS_SET counting 1 (RFC 4271, section 9.1.2.2, a).
+    /// How many AS numbers AS_PATH has, an AS_SET counting 1 (RFC 4271, section 9.1.2.2, a): below 65,536, since a message is short.
     pub fn path_length(&self) -> u32
-        ensures { result ≡ path_length_of self.now.path }
+        ensures value { result ≡ path_length_of self.now.path }
+        ensures bound { result < 65536 }
     {
         self.path_length
     }

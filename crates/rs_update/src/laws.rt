@@ -2,7 +2,7 @@
 
 ghost use Rattle.std.specs.Prelude.{◌≡◌, None, Some};
 ghost use Rattle.rs_update.specs.Gathered.{attributes_of};
-ghost use Rattle.rs_update.specs.Laws.{FieldIsRead, SectionIsRead, SectionIsFaultless, SectionFaultIsFirst, PathIsRead, FaultIsFirst, NoFaultIsMessage, AttributesAreForRoutes, WrittenIsRead};
+ghost use Rattle.rs_update.specs.Laws.{FieldIsRead, SectionIsRead, SectionIsFaultless, SectionFaultIsFirst, PathIsRead, FaultIsFirst, NoFaultIsMessage, AttributesAreForRoutes, WrittenIsRead, Rfc4271IsAsBefore, StandardsAgree, StrongestIsFound};
 ghost use Rattle.rs_update.specs.Section.{items_of, section_fault};
 ghost use Rattle.rs_update.specs.Spelling.{written};
 
@@ -38,6 +38,22 @@ pub fn a_path_is_one_list_of_segments()
 pub fn a_message_is_at_fault_by_its_first_fault()
     ensures fault { FaultIsFirst }
     ensures none { NoFaultIsMessage }
+{}
+
+/// With faults handled by RFC 4271 a message says what that standard says.
+pub fn by_rfc_4271_a_message_says_what_it_says()
+    ensures { Rfc4271IsAsBefore }
+{}
+
+/// Where RFC 4271 finds no fault, RFC 7606 reads the same message.
+pub fn without_a_fault_both_standards_agree()
+    ensures { StandardsAgree }
+{}
+
+/// By RFC 7606 the strongest of what is found counts, wherever it stands in a section: nothing in it asks for more than is done
+/// (RFC 7606, sections 2 and 3).
+pub fn the_strongest_that_is_found_counts()
+    ensures { StrongestIsFound }
 {}
 
 /// An UPDATE has attributes exactly where it announces prefixes.

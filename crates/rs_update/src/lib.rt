@@ -3,17 +3,20 @@
 //! To read in this order: `prefix` (an address prefix, and the fields that list them), `fault` (what can be wrong, by code and subcode),
 //! `attribute_type`, `flags` and `item` (one path attribute, and what its flags must say), `as_path` and `values` (values of attributes),
 //! `section` (the first fault of a section of attributes), `attributes` (what a route keeps of them), `gather` (how that is read),
-//! `header`, `update` and `message` (a message by its type, and its first fault), `spelling` (attributes as they are written), `laws`
+//! `handling` and `treating` (what RFC 7606 does in place of a fault), `header`, `update` and `message` (a message by its type, and its first
+//! fault), `spelling` (attributes as they are written), `laws`
 //! (what holds of the definitions that the contracts cite).
 #![tactic(auto)]
 
 mod as_path;
 mod attribute_type;
 mod attributes;
+mod errors;
 mod fault;
 mod flags;
 mod found;
 mod gather;
+mod handling;
 mod header;
 mod item;
 mod laws;
@@ -22,20 +25,24 @@ mod prefix;
 mod readers;
 mod section;
 mod spelling;
+mod treating;
 mod update;
 mod values;
 
 pub use as_path::Segment;
 pub use attributes::{Attributes, Communities, Unrecognized};
+pub use errors::Errors;
 pub use fault::{HeaderFault, MessageFault, UpdateFault};
 pub use header::MessageType;
 pub use laws::{
     a_field_is_one_list_of_prefixes, a_message_is_at_fault_by_its_first_fault,
     a_path_is_one_list_of_segments, a_section_is_at_fault_by_its_first_attribute_at_fault,
     a_section_is_one_list_of_attributes, attributes_are_for_announced_routes,
-    the_attributes_of_a_route_read_back, what_is_written_reads_as_the_same_attributes,
+    by_rfc_4271_a_message_says_what_it_says, the_attributes_of_a_route_read_back,
+    the_strongest_that_is_found_counts, what_is_written_reads_as_the_same_attributes,
+    without_a_fault_both_standards_agree,
 };
-pub use message::{Message, Update, read_message};
+pub use message::{Message, Update, read_message, read_message_by};
 pub use prefix::Prefix;
 pub use spelling::write_attributes;
 pub use values::{Aggregator, Origin};

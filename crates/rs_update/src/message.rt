@@ -1,13 +1,15 @@
 //! Messages of BGP-4 (RFC 4271, sections 4.1, 4.3, 6.1 and 6.3).
 
 ghost use Rattle.std.specs.Prelude.{IfOk};
-ghost use Rattle.rs_update.specs.Message.{message_of, Answers, HasAttributesForRoutes};
+ghost use Rattle.rs_update.specs.Message.{message_of, Answers, HasAttributesForRoutes, IsUntreated};
+ghost use Rattle.rs_update.specs.Treating.{message_by};
 
 use crate::attributes::Attributes;
+use crate::errors::Errors;
 use crate::fault::MessageFault;
 use crate::header::{HEADER_LEN, MessageType, read_header};
 use crate::prefix::Prefix;
-use crate::update::read_update;
+use crate::update::read_update_by;
 use std::alloc::Global;
 
 /// An UPDATE: the routes that it withdraws, and those that it announces with their common attributes.
@@ -28,6 +30,13 @@ pub enum Message {
     Open,
     /// UPDATE, type 2.
     Update(Update),
+    /// UPDATE, type 2, all of whose routes are treated as withdrawn (RFC 7606, section 2): only `read_message_by` gives it.
+    Treated {
+        /// The withdrawn prefixes, in order, repeated ones too.
+        withdrawn: Vec<Prefix>,
+        /// The prefixes that were to be announced, in order, repeated ones too: they are withdrawn.
+        nlri: Vec<Prefix>,
+    },
     /// NOTIFICATION, type 3.
     Notification,
     /// KEEPALIVE, type 4.
@@ -36,21 +45,41 @@ pub enum Message {
     Refresh,
 }
 
-/// Reads one message, the octets of which are `octets`, or answers its first fault.
+/// Reads one message, the octets of which are `octets`, or answers its first fault (RFC 4271, section 6): `read_message_by` with
+/// `Errors::Rfc4271`.
 ///
 /// The faults, in the order of testing: those of the header; of an UPDATE its lengths, its path attributes front to back, a mandatory
 /// attribute that misses, the withdrawn routes, the NLRI. `MessageFault::Memory` comes only where memory was refused, and memory is
 /// taken only for an UPDATE that is known to be without fault.
-#[tactic(auto, unfolding(crate::specs::Message::message_of))]
 pub fn read_message(alloc: Global, octets: &[u8]) -> Result<Message, MessageFault>
     ensures answer { Answers result (message_of octets.now) }
+    ensures routes { IfOk result HasAttributesForRoutes }
+    ensures untreated { IfOk result IsUntreated }
+{
+    read_message_by(alloc, Errors::Rfc4271, octets)
+}
+
+/// Reads one message, the octets of which are `octets`, with faults in path attributes handled by the standard `errors`.
+///
+/// By RFC 7606 an attribute that is repeated, or ATOMIC_AGGREGATE or AGGREGATOR of a wrong length, is left out; for any other fault of
+/// an attribute, and where announced routes lack a mandatory one, the answer is `Message::Treated`. What still closes the session, in
+/// the order of testing: faults of the header; of an UPDATE its lengths, in its path attributes front to back a well-known one that isn't
+/// recognized and a repeated MP_REACH_NLRI or MP_UNREACH_NLRI, octets left over, the withdrawn routes, the NLRI.
+/// `MessageFault::Memory` comes only where memory was refused, and memory is taken only once no fault can close the session.
+#[tactic(auto, unfolding(crate::specs::Treating::message_by))]
+pub fn read_message_by(
+    alloc: Global,
+    errors: Errors,
+    octets: &[u8],
+) -> Result<Message, MessageFault>
+    ensures answer { Answers result (message_by errors octets.now) }
     ensures routes { IfOk result HasAttributesForRoutes }
 {
     let kind = read_header(octets)?;
     let body = &octets[HEADER_LEN..];
     match kind {
         MessageType::Open => Ok(Message::Open),
-        MessageType::Update => Ok(Message::Update(read_update(alloc, body)?)),
+        MessageType::Update => read_update_by(alloc, errors, body),
         MessageType::Notification => Ok(Message::Notification),
         MessageType::KeepAlive => Ok(Message::KeepAlive),
         MessageType::Refresh => Ok(Message::Refresh),

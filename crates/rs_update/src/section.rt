@@ -15,7 +15,7 @@ use crate::flags::Flags;
 use crate::item::{Item, split_item};
 
 // The numbers that a type can have.
-const TYPES: usize = 256;
+pub(crate) const TYPES: usize = 256;
 
 /// The first fault of a section, or None where it has none. It reads each octet once and takes no memory.
 pub(crate) fn section_fault(section: &[u8]) -> Option<UpdateFault>
@@ -47,7 +47,7 @@ fn item_fault(seen: &[bool; TYPES], item: &Item) -> Option<UpdateFault>
 }
 
 // The fault of one attribute by its own tests: class, flags, length, value.
-fn own_fault(kind: AttributeType, flags: Flags, value: &[u8]) -> Option<UpdateFault>
+pub(crate) fn own_fault(kind: AttributeType, flags: Flags, value: &[u8]) -> Option<UpdateFault>
     ensures { result ≡ first_fault (tests_of kind flags.octet value.now) }
 {
     if kind.is_unrecognized() && !flags.is_optional() {

@@ -6,17 +6,23 @@
 ghost use Rattle.std.specs.Prelude.{◌≡◌, ◌≤◌, length, None, Some, IfOk, IfErr, OnOk};
 ghost use Rattle.std.specs.Result.{is_err};
 ghost use Rattle.rs_update.specs.Fault.{first_fault};
+ghost use Rattle.rs_update.specs.Handling.{kept_of, strongest_in};
+ghost use Rattle.rs_update.specs.Gathered.{attributes_of};
 ghost use Rattle.rs_update.specs.Message as spec;
+ghost use Rattle.rs_update.specs.Treating.{standing_attributes as standing_attributes_of, treating_update_of, treating_message, update_by, attributes_in, reset_of};
 ghost use Rattle.rs_update.specs.Found.{found_in, found_of};
 ghost use Rattle.rs_update.specs.Section.{items_of, section_fault as section_fault_of};
 
 use crate::attributes::Attributes;
+use crate::errors::Errors;
 use crate::fault::{MessageFault, UpdateFault};
 use crate::found::{Found, find_items};
 use crate::gather::gather;
-use crate::message::Update;
+use crate::handling::Handling;
+use crate::message::{Message, Update};
 use crate::prefix::{count_prefixes, read_prefixes};
 use crate::section::section_fault;
+use crate::treating::{keep_attributes, section_handling};
 use byteorder::{BigEndian, ByteOrder};
 use std::alloc::{AllocError, Global};
 
@@ -81,9 +87,9 @@ fn announced_attributes(
     gather(alloc, fields.section, found)
 }
 
-/// Reads an UPDATE behind its header. Memory is taken only once it is known to be without fault.
+// Reads an UPDATE behind its header by RFC 4271. Memory is taken only once it is known to be without fault.
 #[tactic(auto, unfolding(crate::specs::Message::update_of))]
-pub(crate) fn read_update(alloc: Global, body: &[u8]) -> Result<Update, MessageFault>
+fn read_update(alloc: Global, body: &[u8]) -> Result<Update, MessageFault>
     requires least { 4 ≤ length body.now }
     requires most { length body.now ≤ 4077 }
     ensures { spec.AnswersUpdate result (spec.update_of body.now) }
@@ -106,4 +112,96 @@ pub(crate) fn read_update(alloc: Global, body: &[u8]) -> Result<Update, MessageF
         attributes,
         nlri,
     })
+}
+
+// What becomes of the routes of an UPDATE by RFC 7606.
+#[derive(Drop)]
+enum Standing {
+    // They are treated as withdrawn.
+    Withdrawn,
+    // They stand, with attributes where any is announced.
+    Stands(Option<Attributes>),
+}
+
+// The attributes of the announced routes without those that are discarded, or that the routes are treated as withdrawn.
+fn standing_attributes(
+    alloc: Global,
+    fields: UpdateFields<'_>,
+    handling: Handling,
+) -> Result<Standing, AllocError>
+    requires handled { handling ≡ strongest_in fields.section.now }
+    requires stands { reset_of handling ≡ None }
+    requires short { length fields.section.now ≤ 4073 }
+    ensures { IfOk result (λ standing. attributes_in standing ≡ standing_attributes_of handling fields.entry.section.now fields.entry.nlri.now) }
+{
+    if let Handling::TreatAsWithdraw = handling {
+        return Ok(Standing::Withdrawn);
+    }
+    if fields.nlri.is_empty() {
+        return Ok(Standing::Stands(None));
+    }
+    match kept_attributes(alloc, fields.section, handling)? {
+        None => Ok(Standing::Withdrawn),
+        Some(attributes) => Ok(Standing::Stands(Some(attributes))),
+    }
+}
+
+// The attributes that a section gives announced routes without those that are discarded, or None where a mandatory one misses.
+fn kept_attributes(
+    alloc: Global,
+    section: &[u8],
+    handling: Handling,
+) -> Result<Option<Attributes>, AllocError>
+    requires handled { handling ≡ strongest_in section.now }
+    requires short { length section.now ≤ 4073 }
+    ensures { IfOk result (λ attributes. attributes ≡ attributes_of (kept_of (items_of section.now))) }
+{
+    if handling.is_keep() {
+        return gather(alloc, section, &find_items(section));
+    }
+    let kept = keep_attributes(alloc, section)?;
+    gather(alloc, &kept, &find_items(&kept))
+}
+
+// Reads an UPDATE behind its header by RFC 7606. Memory is taken only once no fault can close the session.
+#[tactic(auto, unfolding(crate::specs::Treating::treating_update_of))]
+fn read_treating(alloc: Global, body: &[u8]) -> Result<Message, MessageFault>
+    requires least { 4 ≤ length body.now }
+    requires most { length body.now ≤ 4077 }
+    ensures { spec.Answers result (treating_message (treating_update_of body.now)) }
+{
+    let fields = split_fields(body)?;
+    let handling = section_handling(fields.section);
+    if let Handling::SessionReset(fault) = handling {
+        return Err(fault.into());
+    }
+    let withdrawn_count = count_prefixes(fields.withdrawn).ok_or(UpdateFault::InvalidNetworkField)?;
+    let nlri_count = count_prefixes(fields.nlri).ok_or(UpdateFault::InvalidNetworkField)?;
+    let standing = standing_attributes(alloc, fields, handling)?;
+    let withdrawn = read_prefixes(alloc, fields.withdrawn, withdrawn_count)?;
+    let nlri = read_prefixes(alloc, fields.nlri, nlri_count)?;
+    match standing {
+        Standing::Withdrawn => Ok(Message::Treated { withdrawn, nlri }),
+        Standing::Stands(attributes) => Ok(Message::Update(Update {
+            withdrawn,
+            attributes,
+            nlri,
+        })),
+    }
+}
+
+/// Reads an UPDATE behind its header by one of the two standards.
+pub(crate) fn read_update_by(
+    alloc: Global,
+    errors: Errors,
+    body: &[u8],
+) -> Result<Message, MessageFault>
+    requires least { 4 ≤ length body.now }
+    requires most { length body.now ≤ 4077 }
+    ensures { spec.Answers result (update_by errors body.now) }
+{
+    match errors {
+        Errors::Rfc4271 => Ok(Message::Update(read_update(alloc, body)?)),
+        Errors::Rfc7606 => read_treating(alloc, body),
+    }
 }

@@ -1,5 +1,6 @@
 //! Messages by hand, each with what it says, by the formats of RFC 4271, RFC 6793 and RFC 1997. Octets are written in hexadecimal.
 
+mod handlings;
 mod headers;
 mod prefixes;
 mod refusals;
@@ -8,8 +9,8 @@ mod updates;
 mod written_forms;
 
 use rs_update::{
-    Aggregator, Attributes, HeaderFault, Message, MessageFault, Origin, Prefix, Update,
-    UpdateFault, read_message, write_attributes,
+    Aggregator, Attributes, Errors, HeaderFault, Message, MessageFault, Origin, Prefix, Update,
+    UpdateFault, read_message, read_message_by, write_attributes,
 };
 use std::alloc::{AllocError, Global};
 use std::test::Fail;
@@ -76,12 +77,27 @@ fn update(alloc: Global, withdrawn: &str, attributes: &[u8], nlri: &str) -> Resu
 
 // What a message says: its type, and of an UPDATE how many prefixes; or its first fault.
 fn says(alloc: Global, message: &[u8]) -> Result<String, Fail> {
-    let says = match read_message(alloc, message) {
+    text_of(alloc, read_message(alloc, message))
+}
+
+// The same with faults handled by a standard.
+fn says_by(alloc: Global, errors: Errors, message: &[u8]) -> Result<String, Fail> {
+    text_of(alloc, read_message_by(alloc, errors, message))
+}
+
+// An answer as a text.
+fn text_of(alloc: Global, answer: Result<Message, MessageFault>) -> Result<String, Fail> {
+    let text = match answer {
         Ok(Message::Open) => String::from_str(alloc, "OPEN")?,
         Ok(Message::Update(update)) => format!(in alloc;
             "UPDATE -{} +{}",
             update.withdrawn.len(),
             update.nlri.len()
+        )?,
+        Ok(Message::Treated { withdrawn, nlri }) => format!(in alloc;
+            "TREATED -{} +{}",
+            withdrawn.len(),
+            nlri.len()
         )?,
         Ok(Message::Notification) => String::from_str(alloc, "NOTIFICATION")?,
         Ok(Message::KeepAlive) => String::from_str(alloc, "KEEPALIVE")?,
@@ -89,7 +105,7 @@ fn says(alloc: Global, message: &[u8]) -> Result<String, Fail> {
         Err(MessageFault::Memory) => return Err(Fail::from("out of memory")),
         Err(fault) => format!(in alloc; "{fault}")?,
     };
-    Ok(says)
+    Ok(text)
 }
 
 // The UPDATE that a message is, which must be one.

@@ -52,3 +52,30 @@ fn refused_memory_is_no_fault_of_a_message(rt: HostRuntime) -> Result<(), Fail> 
     assert_eq!(rt; out.as_slice(), wanted.as_slice());
     Ok(())
 }
+
+// The UPDATE with an ORIGIN more, which RFC 7606 discards.
+const REPEATED: &str =
+    "006B 02 0002 080A 004A 40010100 400210 0102 0000FBF7 0000FBF8 0201 0000FDF2 400304C000020B 80040400000007 400600
+    E00708 0000FBF5 C0000201 C00808 FBF4FBF6 FDE80001 C0200107 C0210108 40010102 18CB0071 18C63364";
+
+#[test]
+fn refused_memory_treats_no_update_as_withdrawn(rt: HostRuntime) -> Result<(), Fail> {
+    let alloc = rt.alloc();
+    let received = octets_again(alloc, &[MARKER, REPEATED])?;
+    let wanted = octets_again(alloc, &[WRITTEN])?;
+    let first = read_message_by(alloc, Errors::Rfc7606, &received);
+    let answer = match first {
+        Err(MessageFault::Memory) => read_message_by(alloc, Errors::Rfc7606, &received),
+        other => other,
+    };
+    let Ok(Message::Update(read)) = answer else {
+        return Err(Fail::from("not an UPDATE that stands"));
+    };
+    let mut out = Vec::new(alloc);
+    let attributes = read.attributes.ok_or("no attributes")?;
+    if write_attributes(&attributes, &mut out).is_err() {
+        write_attributes(&attributes, &mut out)?;
+    }
+    assert_eq!(rt; out.as_slice(), wanted.as_slice());
+    Ok(())
+}

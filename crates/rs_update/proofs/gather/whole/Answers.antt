@@ -136,7 +136,8 @@ invariant_of-result c =
       is_faultless = c.requires.faultless;
       fits_a_message = c.requires.short;
       attributes_agree = agrees c;
-      path_length_agrees = c.path_length.ensures ∙ ap (λ (segments : List Segment). path_length_of (map segment_of segments)) c.deref-2.ensures.value;
+      path_length_agrees = c.path_length.ensures.value ∙ ap (λ (segments : List Segment). path_length_of (map segment_of segments)) c.deref-2.ensures.value;
+      path_length_fits = c.path_length.ensures.bound;
       neighbour_agrees = c.first_as.ensures ∙ ap (λ (segments : List Segment). first_as_of (map segment_of segments)) c.deref-3.ensures.value;
       spelling_agrees =
           c.in_ok-spelling.ensures

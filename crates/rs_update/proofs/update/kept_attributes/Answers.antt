@@ -1,0 +1,18 @@
+use Rattle.std.proofs.Common.{◌≡◌, ◌∙◌, sym, ap, subst, List}
+use Rattle.std.specs.Prelude.{IfOk, Option}
+use Rattle.rs_update.specs.Gathered.{attributes_of}
+use Rattle.rs_update.specs.PathAttributes.{PathAttributes}
+use Rattle.rs_update.specs.Section.{Item}
+use Rattle.rs_update.proofs.HandlingLemmas.{is_kept-keep, nothing_discarded}
+use Rattle.rs_update.proofs.update.kept_attributes.Goals as goal
+
+pub gather-requires-clause-faultless : goal.gather-requires-clause-faultless
+gather-requires-clause-faultless c =
+    let keep = is_kept-keep c.args.handling (sym c.is_keep.ensures ∙ c.if-is_keep.true) in
+    (nothing_discarded c.args.section.now (sym c.requires.handled ∙ keep)).1
+
+pub returns-then-is_keep : goal.returns-then-is_keep
+returns-then-is_keep c =
+    let keep = is_kept-keep c.args.handling (sym c.is_keep.ensures ∙ c.if-is_keep.true) in
+    let all = (nothing_discarded c.args.section.now (sym c.requires.handled ∙ keep)).0 in
+    rw all c.gather.ensures

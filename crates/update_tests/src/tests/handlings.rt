@@ -1,0 +1,314 @@
+//! UPDATEs by RFC 7606 and by RFC 4271, against a slow reading of lists of attributes, from the formats (RFC 4271, sections 4.3 and 6.3; RFC
+//! 7606, sections 3 and 7).
+
+use super::*;
+
+// Flags, type and value of attributes, at fault and without a fault.
+const ATTRIBUTES: &[(u8, u8, &str)] = &[
+    (0x40, 1, "01"),
+    (0x40, 1, "03"),
+    (0x40, 1, "0000"),
+    (0xC0, 1, "00"),
+    (0x40, 2, ""),
+    (0x60, 2, "0202 0000FBF5 0000FDF2"),
+    (0x40, 2, "0202 0000FBF5"),
+    (0x40, 2, "0301 0000FBF5"),
+    (0x40, 2, "0200"),
+    (0x00, 2, ""),
+    (0x40, 3, "DF00020B"),
+    (0x40, 3, "E000020B"),
+    (0x40, 3, "0000020B"),
+    (0x40, 3, "C00002"),
+    (0x80, 3, "C000020B"),
+    (0x80, 4, "00000007"),
+    (0x80, 4, "000007"),
+    (0xC0, 4, "00000007"),
+    (0x00, 5, "00"),
+    (0x40, 6, ""),
+    (0x40, 6, "00"),
+    (0xC0, 6, ""),
+    (0x80, 6, "00"),
+    (0xC0, 7, "0000FBF5 C0000201"),
+    (0xE0, 7, "FBF5 C0000201"),
+    (0x80, 7, "0000FBF5 C0000201"),
+    (0x40, 7, "FBF5 C0000201"),
+    (0xC0, 8, "FBF4FBF6 FDE80001"),
+    (0xC0, 8, ""),
+    (0xC0, 8, "0000000700"),
+    (0x80, 8, "00000007"),
+    (0x80, 14, "00"),
+    (0x00, 15, ""),
+    (0xC0, 17, "00"),
+    (0x00, 18, "00"),
+    (0xC0, 32, "07"),
+    (0x80, 32, "07"),
+    (0x40, 32, "07"),
+    (0x20, 0, ""),
+];
+
+// An attribute as it is received.
+#[derive(Drop)]
+struct Received {
+    flags: u8,
+    kind: u8,
+    value: Vec<u8>,
+}
+
+// The first of some tests that fails, by its subcode.
+fn first(tests: &[(bool, u8)]) -> Option<u8> {
+    tests
+        .iter()
+        .find(|(fails, _)| *fails)
+        .map(|(_, subcode)| *subcode)
+}
+
+// Whether a value is segments of an AS_PATH.
+fn is_path(value: &[u8]) -> bool {
+    let mut rest = value;
+    for _ in 0..value.len() {
+        let [kind, count, numbers @ ..] = rest else {
+            break;
+        };
+        let Some(behind) = numbers.get(4 * usize::from(*count)..) else {
+            return false;
+        };
+        if *count == 0 || (*kind != 1 && *kind != 2) {
+            return false;
+        }
+        rest = behind;
+    }
+    rest.is_empty()
+}
+
+impl Received {
+    // The fault of the attribute by itself: the rows of the formats.
+    fn fault(&self) -> Option<u8> {
+        let optional = self.flags >= 0x80;
+        let transitive = self.flags & 0x40 != 0;
+        let len = self.value.len();
+        let octet = self.value.first().copied().unwrap_or(0);
+        match self.kind {
+            1 => first(&[(optional || !transitive, 4), (len != 1, 5), (octet > 2, 6)]),
+            2 => first(&[(optional || !transitive, 4), (!is_path(&self.value), 11)]),
+            3 => first(&[
+                (optional || !transitive, 4),
+                (len != 4, 5),
+                (octet == 0 || octet > 223, 8),
+            ]),
+            4 => first(&[(!optional || transitive, 4), (len != 4, 5)]),
+            6 => first(&[(optional || !transitive, 4), (len != 0, 5)]),
+            7 => first(&[(!optional || !transitive, 4), (len != 8, 5)]),
+            8 => first(&[(!optional || !transitive, 4), (len == 0 || len % 4 != 0, 5)]),
+            5 | 14 | 15 | 17 | 18 => None,
+            _ => first(&[(!optional, 2)]),
+        }
+    }
+}
+
+// Whether a type stands among attributes.
+fn stands(attributes: &[Received], kind: u8) -> bool {
+    attributes.iter().any(|one| one.kind == kind)
+}
+
+// Whether ORIGIN, AS_PATH or NEXT_HOP is missing.
+fn lacks(attributes: &[Received]) -> bool {
+    !(stands(attributes, 1) && stands(attributes, 2) && stands(attributes, 3))
+}
+
+// The subcode by which attributes close a session, and whether they are treated as withdrawn, by RFC 4271.
+fn by_rfc_4271(attributes: &[Received], announces: bool) -> (Option<u8>, bool) {
+    for (place, one) in attributes.iter().enumerate() {
+        let earlier = attributes.get(..place).unwrap_or(&[]);
+        if stands(earlier, one.kind) {
+            return (Some(1), false);
+        }
+        if let Some(subcode) = one.fault() {
+            return (Some(subcode), false);
+        }
+    }
+    let missing = announces && lacks(attributes);
+    (if missing { Some(3) } else { None }, false)
+}
+
+// The same by RFC 7606.
+fn by_rfc_7606(attributes: &[Received], announces: bool) -> (Option<u8>, bool) {
+    let mut treated = announces && lacks(attributes);
+    for (place, one) in attributes.iter().enumerate() {
+        let earlier = attributes.get(..place).unwrap_or(&[]);
+        match (stands(earlier, one.kind), one.kind, one.fault()) {
+            (true, 14 | 15, _) => return (Some(1), false),
+            (true, _, _) => {}
+            (false, _, Some(2)) => return (Some(2), false),
+            (false, 6 | 7, Some(5)) => {}
+            (false, _, fault) => treated = treated || fault.is_some(),
+        }
+    }
+    (None, treated)
+}
+
+// Appends an attribute of flags, type and value, unless its value is too long.
+fn push(alloc: Global, list: &mut Vec<Received>, one: (u8, u8, &str)) -> Result<(), Fail> {
+    let (flags, kind, value) = one;
+    let value = octets(alloc, &[value])?;
+    list.push(Received { flags, kind, value })?;
+    Ok(())
+}
+
+// ORIGIN, AS_PATH and NEXT_HOP without a fault, where no other attribute is of the type, and others behind them.
+fn with_mandatory(alloc: Global, others: &[(u8, u8, &str)]) -> Result<Vec<Received>, Fail> {
+    let mut list = Vec::new(alloc);
+    for one in [
+        (0x40, 1, "00"),
+        (0x40, 2, "0201 0000FBF5"),
+        (0x40, 3, "C000020B"),
+    ] {
+        if others.iter().all(|(_, kind, _)| *kind != one.1) {
+            push(alloc, &mut list, one)?;
+        }
+    }
+    for one in others {
+        push(alloc, &mut list, *one)?;
+    }
+    Ok(list)
+}
+
+// The section that attributes are spelled as.
+fn section(alloc: Global, attributes: &[Received]) -> Result<Vec<u8>, Fail> {
+    let mut section = Vec::new(alloc);
+    for one in attributes {
+        let len = u8::try_from(one.value.len())?;
+        section.extend_from_slice(&[one.flags, one.kind, len])?;
+        section.extend_from_slice(&one.value)?;
+    }
+    Ok(section)
+}
+
+// What the slow reading finds, as a text.
+fn slow_text(alloc: Global, found: (Option<u8>, bool), count: usize) -> Result<String, Fail> {
+    let text = match found {
+        (Some(subcode), _) => format!(in alloc; "BGP error 3/{subcode}")?,
+        (None, true) => format!(in alloc; "TREATED -0 +{count}")?,
+        (None, false) => format!(in alloc; "UPDATE -0 +{count}")?,
+    };
+    Ok(text)
+}
+
+// Whether attributes are read as the slow reading reads them, by both standards, with a route and without one.
+fn are_read(alloc: Global, attributes: &[Received]) -> Result<bool, Fail> {
+    let section = section(alloc, attributes)?;
+    for (nlri, count) in [("", 0), (ROUTE, 1)] {
+        let message = update(alloc, "", &section, nlri)?;
+        let by_4271 = slow_text(alloc, by_rfc_4271(attributes, count != 0), count)?;
+        let by_7606 = slow_text(alloc, by_rfc_7606(attributes, count != 0), count)?;
+        if says_by(alloc, Errors::Rfc4271, &message)? != by_4271
+            || says(alloc, &message)? != by_4271
+            || says_by(alloc, Errors::Rfc7606, &message)? != by_7606
+        {
+            return Ok(false);
+        }
+    }
+    Ok(true)
+}
+
+#[test]
+fn each_attribute_alone_and_before_each_other(rt: HostRuntime) -> Result<(), Fail> {
+    let alloc = rt.alloc();
+    for one in ATTRIBUTES {
+        assert!(rt;
+            are_read(alloc, &with_mandatory(alloc, &[*one])?)?,
+            "{one:?}"
+        );
+        for other in ATTRIBUTES {
+            let both = with_mandatory(alloc, &[*one, *other])?;
+            assert!(rt; are_read(alloc, &both)?, "{one:?} {other:?}");
+        }
+    }
+    Ok(())
+}
+
+// Withdrawn routes, path attributes, NLRI, and what is said by RFC 7606.
+const UPDATES: &[(&str, &str, &str, &str)] = &[
+    ("", "40630100 40010103", "", "BGP error 3/2"),
+    ("21", "40010103", "", "BGP error 3/10"),
+    ("", "40010103", "21", "BGP error 3/10"),
+    ("080A", "40010103", "18CB0071 18C63364", "TREATED -1 +2"),
+    ("", "40010103 40", "", "BGP error 3/1"),
+    ("", "40010100", "18CB0071", "TREATED -0 +1"),
+    ("080A", "40010100", "", "UPDATE -1 +0"),
+    ("", "40010103 40630100", "18CB0071", "BGP error 3/2"),
+    (
+        "",
+        "800F0100 40010103 800F0100",
+        "18CB0071",
+        "BGP error 3/1",
+    ),
+];
+
+#[test]
+fn what_closes_comes_before_what_is_treated(rt: HostRuntime) -> Result<(), Fail> {
+    let alloc = rt.alloc();
+    for (withdrawn, attributes, nlri, wanted) in UPDATES {
+        let message = update(alloc, withdrawn, &octets(alloc, &[attributes])?, nlri)?;
+        let said = says_by(alloc, Errors::Rfc7606, &message)?;
+        assert_eq!(rt; said.as_str(), *wanted, "{withdrawn}, {attributes}, {nlri}");
+    }
+    Ok(())
+}
+
+// Attributes as received, and as written of what RFC 7606 leaves of them.
+const DISCARDED: &[(&str, &str)] = &[
+    (
+        "40010100 40010103 40020602010000FBF5 400304C000020B",
+        "40010100 40020602010000FBF5 400304C000020B",
+    ),
+    (
+        "40010101 40020602010000FBF5 400304C000020B C007060000FBF5C000",
+        "40010101 40020602010000FBF5 400304C000020B",
+    ),
+    // The type of a discarded one is repeated: that one is discarded too.
+    (
+        "4F010101 40020602010000FBF5 400304C000020B 40060100 400600 C007060000FBF5C000 C007080000FBF5C0000201",
+        "40010101 40020602010000FBF5 400304C000020B",
+    ),
+    (
+        "C0200107 40010101 40020602010000FBF5 C0200108 400304C000020B 40200109 80040400000007 80040400000008",
+        "40010101 40020602010000FBF5 400304C000020B 80040400000007 E0200107",
+    ),
+];
+
+#[test]
+fn what_is_discarded_is_as_though_not_received(rt: HostRuntime) -> Result<(), Fail> {
+    let alloc = rt.alloc();
+    for (received, wanted) in DISCARDED {
+        let message = update(alloc, "", &octets(alloc, &[received])?, ROUTE)?;
+        let Message::Update(read) = read_message_by(alloc, Errors::Rfc7606, &message)? else {
+            return Err(Fail::from("not an UPDATE that stands"));
+        };
+        let mut out = Vec::new(alloc);
+        write_attributes(&read.attributes.ok_or("no attributes")?, &mut out)?;
+        let wanted = octets(alloc, &[wanted])?;
+        assert_eq!(rt; out.as_slice(), wanted.as_slice(), "{received}");
+    }
+    Ok(())
+}
+
+#[test]
+fn a_treated_update_lists_all_its_prefixes_in_order(rt: HostRuntime) -> Result<(), Fail> {
+    let alloc = rt.alloc();
+    let message = update(
+        alloc,
+        "080A 00",
+        &octets(alloc, &["80060100"])?,
+        "18CB0071 080A",
+    )?;
+    let Message::Treated { withdrawn, nlri } = read_message_by(alloc, Errors::Rfc7606, &message)?
+    else {
+        return Err(Fail::from("not treated as withdrawn"));
+    };
+    let lens = (
+        withdrawn.iter().map(|prefix| prefix.len()),
+        nlri.iter().map(|prefix| prefix.len()),
+    );
+    assert!(rt; lens.0.eq([8, 0]) && lens.1.eq([24, 8]));
+    Ok(())
+}
