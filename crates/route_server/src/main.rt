@@ -10,13 +10,15 @@ ghost use Rattle.rs_ended.specs.Texts.{CanTell};
 
 mod files;
 mod folder_outlet;
+mod overwritten;
 
 use files::{read_file, read_files};
 use folder_outlet::FolderOutlet;
+use overwritten::first_overwritten;
 use rs_ended::{Ended, FAILED, MEMORY_LINE, NOT_UTF_8, OUT_OF_MEMORY, OUTPUT_LINE, line, status};
 use rs_mrt::IoWriter;
 use rs_options::{Options, WordsFault};
-use rs_run::run;
+use rs_run::{RunFault, run};
 use rs_setup::{Setup, a_configuration_has_a_file_for_each_peer, read_setup};
 use rs_words::read_words;
 use std::env::Env;
@@ -63,7 +65,8 @@ fn configuration<R: AllocGlobal + Files>(rt: &R, options: &Options) -> Result<Se
     }
 }
 
-// Reads the peers' files, and runs over them: dumps go to the folder of the options, the report to standard output.
+// Reads the peers' files, and runs over them: dumps go to the folder of the options, the report to standard output. Where a dump would take the place of a file
+// that was read, nothing is written.
 fn serve<R: AllocGlobal + Files + Print>(
     rt: &R,
     setup: &Setup,
@@ -74,6 +77,9 @@ fn serve<R: AllocGlobal + Files + Print>(
 {
     let alloc = rt.alloc();
     let octets = read_files(rt, &setup.files)?;
+    if let Some(client) = first_overwritten(rt, setup, options)? {
+        return Err(Ended::Run(RunFault::Dump(client)));
+    }
     let files: Vec<&[u8]> = octets.iter().map(|file| file.as_slice()).collect(alloc)?;
     let mut outlet = FolderOutlet::new(rt, alloc, &options.out);
     let mut report = IoWriter::new(io::writer(rt));

@@ -1,7 +1,8 @@
 -- The line that says why the program stops short (docs/FORMATS.md, "Texts on standard error").
-use Rattle.std.specs.Prelude.{◌<◌, ◌==◌, ℕ, ⊤, List, [], ◌++◌, Option, None, Some, codes, encode_utf8, if◌then◌else◌, length, option_map, slice_get, string_bytes, unwrap_or}
+use Rattle.std.specs.Prelude.{◌<◌, ◌==◌, ◌+◌, ◌/◌, ◌%◌, ℕ, ⊤, List, [], ◌++◌, Option, None, Some, codes, encode_utf8, if◌then◌else◌, length, nat_lt, option_map, slice_get, string_bytes, unwrap_or}
 use Rattle.std.specs.Borrow.{Bor}
 use Rattle.std.specs.Fmt.{decimal}
+use Rattle.std.specs.Char.{is_control}
 use Rattle.std.specs.List.{flat_map}
 use Rattle.std.specs.Str.{chars}
 use Rattle.rs_choice.specs.FaultNumber.{number_of_fault, peer_of_fault}
@@ -22,11 +23,20 @@ use Rattle.rs_setup.specs.declared.setup.SetupFault.TheVariants as setup
 abbrev pub Text : Type 0
 Text = List ℕ
 
--- a character as it is shown: a line break as two characters, any other as it is
-abbrev pub shown : ℕ → Text
-shown character = if character == 10 then codes "\\n" else (if character == 13 then codes "\\r" else encode_utf8 character)
+-- a hexadecimal digit
+abbrev pub hex_digit : ℕ → ℕ
+hex_digit value = if nat_lt value 10 then 48 + value else 87 + value
 
--- a text whose line breaks are escaped, so that it stays on one line
+-- a control character by its two hexadecimal digits
+abbrev pub escaped : ℕ → Text
+escaped control = codes "\\u{" ++ (encode_utf8 (hex_digit (control / 16 % 16)) ++ (encode_utf8 (hex_digit (control % 16)) ++ codes "}"))
+
+-- a character as it is shown: a line break as two characters, another control character by its number, any other as it is
+abbrev pub shown : ℕ → Text
+shown character =
+    if character == 10 then codes "\\n" else (if character == 13 then codes "\\r" else (if is_control character then escaped character else encode_utf8 character))
+
+-- a text whose control characters are escaped, so that it stays on one line
 abbrev pub one_line : Text → Text
 one_line text = flat_map shown (chars text)
 

@@ -9,4 +9,4 @@ mod texts;
 
 pub use ended::{Ended, FAILED, OUT_OF_MEMORY, REFUSED, status};
 pub use paths::path_in;
-pub use texts::{MEMORY_LINE, NOT_UTF_8, OUTPUT_LINE, line};
+pub use texts::{MEMORY_LINE, NOT_UTF_8, OUTPUT_LINE, dump_path, line};

@@ -1,7 +1,7 @@
 //! The line that says why the program stops short.
 
 ghost use Rattle.std.specs.Prelude.{◌≡◌, ◌++◌, ◌<◌, IfOk, OnOk, length, string_bytes};
-ghost use Rattle.rs_ended.specs.Texts.{CanTell, NamesClient, dump_path, key_line, line_of, one_line, plan_line, run_line, setup_line, shown};
+ghost use Rattle.rs_ended.specs.Texts.{CanTell, NamesClient, dump_path, escaped, hex_digit, key_line, line_of, one_line, plan_line, run_line, setup_line, shown};
 
 use crate::ended::Ended;
 use crate::paths::path_in;
@@ -22,7 +22,7 @@ pub const NOT_UTF_8: &str = "error: an argument is not UTF-8\n";
 
 /// The line that says why the program stops short, without a line break at its end; for help and a refused command line the whole text of `clap`.
 ///
-/// Of a run that stopped short, `setup` and `options` are those that it was given. Line breaks in a key or a path are shown as `\n` and `\r`. Fails
+/// Of a run that stopped short, `setup` and `options` are those that it was given. Line breaks in a key or a path are shown as `\n` and `\r`, other control characters as `\u{1b}`. Fails
 /// where memory is refused.
 pub fn line(
     alloc: Global,
@@ -107,8 +107,8 @@ fn run_line(
     }
 }
 
-// The path of a client's dump.
-fn dump_path(
+/// The path of a client's dump. Fails where memory is refused.
+pub fn dump_path(
     alloc: Global,
     setup: &Setup,
     options: &Options,
@@ -122,7 +122,7 @@ fn dump_path(
     path_in(alloc, &options.out, &file)
 }
 
-// The text with its line breaks escaped, so that it stays on one line.
+// The text with its line breaks and other control characters escaped, so that it stays on one line.
 fn on_one_line(alloc: Global, text: &str) -> Result<String, AllocError>
     ensures { IfOk result (λ line. string_bytes line ≡ one_line text.now) }
 {
@@ -133,13 +133,35 @@ fn on_one_line(alloc: Global, text: &str) -> Result<String, AllocError>
     Ok(line)
 }
 
-// Appends one character, a line break as two.
+// Appends one character, a line break as two, and another control character by its number.
 fn push_shown(line: &mut String, character: char) -> Result<(), AllocError>
     ensures { OnOk result (string_bytes line.new ≡ string_bytes line.old ++ shown character) }
 {
     match character {
         '\n' => line.push_str("\\n"),
         '\r' => line.push_str("\\r"),
+        control if control.is_control() => push_escaped(line, control),
         character => line.push(character),
+    }
+}
+
+// Appends a control character by its two hexadecimal digits.
+fn push_escaped(line: &mut String, control: char) -> Result<(), AllocError>
+    ensures { OnOk result (string_bytes line.new ≡ string_bytes line.old ++ escaped control) }
+{
+    let number = control as u32;
+    let (high, low) = (hex_digit(number / 16 % 16), hex_digit(number % 16));
+    write!(line, "\\u{{{high}{low}}}")
+}
+
+// The hexadecimal digit of a number.
+fn hex_digit(value: u32) -> char
+    requires { value < 16 }
+    ensures { result ≡ hex_digit value }
+{
+    if value < 10 {
+        (b'0' + value as u8) as char
+    } else {
+        (b'a' - 10 + value as u8) as char
     }
 }
