@@ -2,27 +2,25 @@
 
 use super::*;
 
-// Old and new state, and whether the session is lost between them: 7 is Quagga's Clearing.
-const CHANGES_OF_STATE: &[(&str, bool)] = &[
-    ("0006 0001", true),
-    ("0006 0007", true),
-    ("0006 0000", true),
-    ("0006 0001 00", true),
-    ("0006 0006", false),
-    ("0005 0001", false),
-    ("0007 0001", false),
-    ("0001 0006", false),
+const LOSS: &[Given] = &[Given::Down(100), END];
+
+const NO_LOSS: &[Given] = &[END];
+
+// Old and new state, and what a change between them says: 7 is Quagga's Clearing.
+const CHANGES_OF_STATE: &[(&str, &[Given])] = &[
+    ("0006 0001", LOSS),
+    ("0006 0007", LOSS),
+    ("0006 0000", LOSS),
+    ("0006 0001 00", LOSS),
+    ("0006 0006", NO_LOSS),
+    ("0005 0001", NO_LOSS),
+    ("0007 0001", NO_LOSS),
+    ("0001 0006", NO_LOSS),
 ];
 
 #[test]
 fn the_session_is_lost_where_it_leaves_established(rt: HostRuntime) -> Result<(), Fail> {
-    for (states, lost) in CHANGES_OF_STATE {
-        let changes = [Given::Down(100), END];
-        let changes = if *lost {
-            changes.as_slice()
-        } else {
-            &changes[1..]
-        };
+    for (states, changes) in CHANGES_OF_STATE {
         let body = [A, *states];
         let recorded = (100, BGP4MP, STATE_CHANGE_AS4, body.as_slice());
         assert_says(&rt, rt.alloc(), &[recorded], changes, 0)?;
