@@ -13,10 +13,10 @@ use Rattle.rs_table.specs.Cell.{CellContent, IsCell, routes_in, without_route}
 use Rattle.rs_table.specs.Cells.{Entries, AreCells, cell_at, routes_at, routes_of}
 use Rattle.rs_table.proofs.PrefixLemmas.{same_prefix-true}
 
-abbrev Below : IpPrefix → Entries → Type 0
+abbrev pub Below : IpPrefix → Entries → Type 0
 Below prefix entries = AllByRecursion (λ other. prefix_cmp prefix other ≡ Less) (map (λ entry. entry.0) entries)
 
-none_below : (q : IpPrefix) (entries : Entries) → Below q entries → cell_at entries q ≡ None
+pub none_below : (q : IpPrefix) (entries : Entries) → Below q entries → cell_at entries q ≡ None
 none_below q [] below = refl
 none_below q (e ∷ es) below = rw below.0 (none_below q es below.1)
 

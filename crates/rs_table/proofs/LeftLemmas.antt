@@ -1,5 +1,5 @@
 -- What a list of changes leaves: prefix by prefix, after one more change, and by last places.
-use Rattle.std.proofs.Common.{◌≡◌, ℕ, Bool, true, false, cond, ◌||◌, List, [], ◌∷◌, ◌++◌, reverse, Option, Some, None, refl, sym, ap, ◌∙◌, inl, inr}
+use Rattle.std.proofs.Common.{◌≡◌, ℕ, Bool, true, false, cond, ◌||◌, List, [], ◌∷◌, ◌++◌, reverse, filter, Option, Some, None, refl, sym, ap, ◌∙◌, inl, inr}
 use Rattle.std.specs.List.{find, filter_map, cons_option, list_any}
 use Rattle.std.specs.Option.{option_and_then, option_map_or, option_or}
 use Rattle.std.specs.FinMap as map
@@ -173,6 +173,64 @@ left_more changes change unclosed =
     ∙ left_more_at changes change q unclosed
     ∙ ap (λ o. cond (drops_routes change) None (cond (bears_on q change) (body_route change.time change.body) o)) (sym (get-left changes q))
     ∙ sym (get-after (left changes) change q))
+
+-- ---- by a part of the list
+
+find_last_more : {X : Type 0} (p : X → Bool) (x : X) (xs : List X) → find p (reverse (x ∷ xs)) ≡ option_or (find p (reverse xs)) (find p (x ∷ []))
+find_last_more p x xs = ap (find p) (reverse-append (x ∷ []) xs) ∙ find-append p (reverse xs) (x ∷ [])
+
+or_none : {X : Type 0} (o : Option X) → option_or o None ≡ o
+or_none None = refl
+or_none (Some x) = refl
+
+-- what all that passes is kept of, is found all the same
+module _ {X : Type 0} (p keeps : X → Bool) (kept : (x : X) → p x ≡ true → keeps x ≡ true) where
+  passed_over : (x : X) → keeps x ≡ false → p x ≡ false
+  passed_over x not_kept = elim (cases_Bool (p x)) [ inl passes ↦ absurd (cc (kept x passes, not_kept)) | inr fails ↦ fails ]
+
+  find_last-filter : (xs : List X) → find p (reverse (filter keeps xs)) ≡ find p (reverse xs)
+  find_last-filter [] = refl
+  find_last-filter (x ∷ xs) =
+      elim (cases_Bool (keeps x)) [
+        | inl stays ↦ rw stays (
+            find_last_more p x (filter keeps xs)
+            ∙ ap (λ o. option_or o (find p (x ∷ []))) (find_last-filter xs)
+            ∙ sym (find_last_more p x xs))
+        | inr goes ↦ rw goes (
+            find_last-filter xs
+            ∙ sym (or_none (find p (reverse xs)))
+            ∙ ap (option_or (find p (reverse xs))) (sym (find_none p (x ∷ []) (or_from _ _ (passed_over x goes) refl)))
+            ∙ sym (find_last_more p x xs))
+      ]
+
+  any-filter : (xs : List X) → list_any p (filter keeps xs) ≡ list_any p xs
+  any-filter [] = refl
+  any-filter (x ∷ xs) =
+      elim (cases_Bool (keeps x)) [
+        | inl stays ↦ rw stays (ap (λ b. p x || b) (any-filter xs))
+        | inr goes ↦ rw (goes, passed_over x goes) (any-filter xs)
+      ]
+
+drops_on_none : (body : ChangeBody) → body_drops body ≡ true → body_prefix body ≡ None
+drops_on_none (Announced prefix attributes) e = absurd (cc e)
+drops_on_none (Withdrawn prefix) e = absurd (cc e)
+drops_on_none Lost e = refl
+drops_on_none (Closed reason) e = refl
+
+loses_on_none : (body : ChangeBody) → body_loses body ≡ true → body_prefix body ≡ None
+loses_on_none (Announced prefix attributes) e = absurd (cc e)
+loses_on_none (Withdrawn prefix) e = absurd (cc e)
+loses_on_none Lost e = refl
+loses_on_none (Closed reason) e = refl
+
+pub route_left_by_part : (keeps : Change → Bool) (prefix : IpPrefix) → ((change : Change) → is_on prefix change ≡ true → keeps change ≡ true) →
+    ((change : Change) → body_prefix change.body ≡ None → keeps change ≡ true) → (changes : List Change) → route_left_on prefix (filter keeps changes) ≡ route_left_on prefix changes
+route_left_by_part keeps prefix on none changes =
+    let bearing : (change : Change) → bears_on prefix change ≡ true → keeps change ≡ true =
+    λ change bears. elim (cases_Bool (is_loss change)) [ inl loss ↦ none change (loses_on_none change.body loss) | inr up ↦ on change (rw up at bears) ] in
+    ap (λ b. cond b None (option_and_then (λ change. body_route change.time change.body) (last_change_on prefix (filter keeps changes))))
+    (any-filter drops_routes keeps (λ change drops. none change (drops_on_none change.body drops)) changes)
+    ∙ ap (λ o. cond (list_any drops_routes changes) None (option_and_then (λ change. body_route change.time change.body) o)) (find_last-filter (bears_on prefix) keeps bearing changes)
 
 -- ---- by last places
 

@@ -7,6 +7,7 @@ pub mod KnownLemmas
 pub mod LeftLemmas
 pub mod ListingLemmas
 pub mod MemberLemmas
+pub mod MergeLemmas
 pub mod PrefixLemmas
 pub mod PutLemmas
 pub mod RowLemmas

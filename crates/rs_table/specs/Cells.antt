@@ -4,7 +4,7 @@ use Rattle.std.specs.BTreeMap.{is_at}
 use Rattle.std.specs.FinMap.{from_entries}
 use Rattle.std.specs.List.{AllByRecursion, filter_map}
 use Rattle.std.specs.Map.{lookup}
-use Rattle.std.specs.Option.{option_map}
+use Rattle.std.specs.Option.{option_map, option_or}
 use Rattle.rs_update.specs.IpPrefix.{IpPrefix}
 use Rattle.rs_update.specs.PrefixOrder.{prefix_cmp}
 use Rattle.rs_session.specs.Change.{Change, ChangeBody, Announced, Withdrawn, Lost, Closed}
@@ -58,3 +58,7 @@ IsFirstOn entries (Announced prefix attributes) = cell_at entries prefix ≡ Non
 IsFirstOn entries (Withdrawn prefix) = ⊥
 IsFirstOn entries Lost = ⊥
 IsFirstOn entries (Closed reason) = ⊥
+
+-- the cells of two maps came into one
+abbrev pub AreJoined : Entries → Entries → Entries → Type 0
+AreJoined one other joined = (prefix : IpPrefix) → cell_at joined prefix ≡ option_or (cell_at other prefix) (cell_at one prefix)

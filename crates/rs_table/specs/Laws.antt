@@ -1,9 +1,9 @@
 -- Laws of the definitions.
-use Rattle.std.specs.Prelude.{◌≡◌, ◌↔◌, ◌++◌, ◌∷◌, [], ℕ, List, Some}
+use Rattle.std.specs.Prelude.{◌≡◌, ◌↔◌, ◌++◌, ◌∷◌, [], ℕ, Bool, true, List, filter, Some, None}
 use Rattle.std.specs.FinMap.{get}
 use Rattle.rs_update.specs.IpPrefix.{IpPrefix}
 use Rattle.rs_session.specs.Change.{Change}
-use Rattle.rs_table.specs.Left.{RouteLeft, Leaves, HasNoClose, left, after}
+use Rattle.rs_table.specs.Left.{RouteLeft, Leaves, HasNoClose, body_prefix, is_on, left, after}
 use Rattle.rs_table.specs.Content.{TablesContent}
 use Rattle.rs_table.specs.Table.{TableRow, IsTable, table_of}
 
@@ -14,6 +14,15 @@ LeftByLastChanges = (changes : List Change) (prefix : IpPrefix) (route : RouteLe
 -- what a list with one more change leaves is one step from what the list leaves
 abbrev pub LeftAfterOneMore : Type 0
 LeftAfterOneMore = (changes : List Change) (change : Change) → HasNoClose changes → left (changes ++ change ∷ []) ≡ after (left changes) change
+
+-- a part of a list leaves on a prefix what the list leaves there, where the part has every change on that prefix and every change on
+-- no prefix: those are losses and closes
+abbrev pub LeftByPart : Type 0
+LeftByPart =
+    (keeps : Change → Bool) (prefix : IpPrefix)
+    → ((change : Change) → is_on prefix change ≡ true → keeps change ≡ true)
+    → ((change : Change) → body_prefix change.body ≡ None → keeps change ≡ true)
+    → (changes : List Change) (route : RouteLeft) → Leaves changes prefix route ↔ Leaves (filter keeps changes) prefix route
 
 -- there is one table of a client, the one that is computed
 abbrev pub TableIsComputed : Type 0

@@ -17,6 +17,7 @@ pub mod Examples
 pub mod Laws
 pub mod Left
 pub mod Listing
+pub mod Merge
 pub mod RouteView
 pub mod Table
 pub mod TablesView

@@ -1,11 +1,13 @@
 //! The cells of all prefixes, and what a change of a peer makes of them (RFC 4271, section 3.2).
 
-ghost use Rattle.std.specs.Prelude.{◌≡◌, ◌<◌, if◌then◌else◌, None, OnOk, OnErr, length};
+ghost use Rattle.std.specs.Prelude.{◌≡◌, ◌<◌, if◌then◌else◌, None, IfOk, OnOk, OnErr, length};
+ghost use Rattle.std.specs.BTreeMap.{IsOrdered};
 ghost use Rattle.rs_session.specs.Change.{change_of};
 ghost use Rattle.rs_update.specs.IpPrefix.{IpPrefix};
+ghost use Rattle.rs_update.specs.PrefixOrder.{prefix_cmp};
 ghost use Rattle.rs_choice.specs.Held.{IsJudged};
 ghost use Rattle.rs_table.specs.Cell.{route_of_held, with_route, without_route};
-ghost use Rattle.rs_table.specs.Cells.{cell_at, routes_at, AreCells, ChangeTo, IsFirstOn};
+ghost use Rattle.rs_table.specs.Cells.{cell_at, routes_at, AreCells, AreJoined, ChangeTo, IsFirstOn};
 ghost use Rattle.rs_table.specs.Left.{same_prefix};
 
 use crate::cell::Cell;
@@ -89,6 +91,18 @@ fn withdraw(cells: &mut BTreeMap<Prefix, Cell>, plan: &Exchange, peer: usize, pr
     if !cell.withdraw(plan, peer) {
         cells.remove(&prefix);
     }
+}
+
+// All cells of two maps that have no prefix in common. Each is moved, and none made anew.
+pub(crate) fn join(
+    mut cells: BTreeMap<Prefix, Cell>,
+    mut others: BTreeMap<Prefix, Cell>,
+) -> Result<BTreeMap<Prefix, Cell>, AllocError>
+    ensures cells { IfOk result (λ joined. AreJoined cells.entries others.entries joined.entries) }
+    ensures ordered { IfOk result (λ joined. IsOrdered prefix_cmp joined) }
+{
+    cells.append(&mut others)?;
+    Ok(cells)
 }
 
 // Removes all routes of a peer, and each cell with its last route.

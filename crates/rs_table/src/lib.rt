@@ -4,7 +4,7 @@
 //! export policy before its decision).
 //!
 //! Reading order: `tables` (what each peer has left, and what a client gets on a prefix), `route` (what is answered), `listing` (a
-//! client's whole table), `why` (and why not), `laws` (of the definitions). Below them `cells` (of all prefixes) and `cell` (of one;
+//! client's whole table), `why` (and why not), `merge` (parts made one), `laws` (of the definitions). Below them `cells` (of all prefixes) and `cell` (of one;
 //! who gets which route on it is decided in `rs_choice`).
 #![tactic(auto)]
 
@@ -12,11 +12,14 @@ mod cell;
 mod cells;
 mod laws;
 mod listing;
+mod merge;
 mod route;
 mod tables;
 mod why;
 
-pub use laws::{examples_hold, left_after_one_more, left_by_last_changes, table_is_computed};
+pub use laws::{
+    examples_hold, left_after_one_more, left_by_last_changes, left_by_part, table_is_computed,
+};
 pub use route::{Route, Row};
 pub use tables::Tables;
 pub use why::Why;

@@ -12,11 +12,12 @@ ghost use Rattle.rs_table.specs.Cells.{cell_at};
 ghost use Rattle.rs_table.specs.Content.{nothing_held, rib_of};
 ghost use Rattle.rs_table.specs.Left.{is_close, BecomeBy, IsNewAnnouncement};
 ghost use Rattle.rs_table.specs.Listing.{is_held, IsFirstAnnouncement};
+ghost use Rattle.rs_table.specs.Merge.{AreParts, IsJoined};
 ghost use Rattle.rs_table.specs.RouteView.{peer_route_of};
 ghost use Rattle.rs_table.specs.Table.{best_of, route_from};
 
 use crate::cell::Cell;
-use crate::cells::change;
+use crate::cells::{change, join};
 use crate::route::Route;
 use rs_choice::{Exchange, MAX_PEERS};
 use rs_session::{Body, Word};
@@ -141,6 +142,19 @@ impl Tables {
         ensures none { (prefix : IpPrefix) → cell_at result.now.entries prefix ≡ None → is_held self.now.ribs prefix ≡ false }
     {
         &self.cells
+    }
+
+    // These tables and others as one. Each cell is moved, and none made anew.
+    pub(crate) fn joined_with(self, other: Tables) -> Result<Tables, AllocError>
+        requires { AreParts self other }
+        ensures { IfOk result (IsJoined self other) }
+    {
+        let cells = join(self.cells, other.cells)?;
+        Ok(Tables {
+            plan: self.plan,
+            closed: self.closed,
+            cells,
+        })
     }
 
     // The allocator.

@@ -1,0 +1,26 @@
+//! Tables that hold different prefixes for one exchange are made one.
+
+ghost use Rattle.std.specs.Prelude.{◌<◌, AllPairs, IfOk, length};
+ghost use Rattle.rs_table.specs.Merge.{AreParts, IsMerged};
+
+use crate::tables::Tables;
+use std::alloc::AllocError;
+
+impl Tables {
+    /// Makes parts one: tables over one plan, where no two have a route on the same prefix and the same peers are closed in all. Each
+    /// peer has left the routes that it has left in the parts. Nothing is decided anew.
+    ///
+    /// Refused memory, the parts are dropped.
+    pub fn merge(parts: Vec<Tables>) -> Result<Tables, AllocError>
+        requires some { 0 < length parts.items }
+        requires parts { AllPairs AreParts parts.items }
+        ensures { IfOk result (IsMerged parts.items) }
+    {
+        let mut parts = parts.into_iter();
+        let mut merged = parts.next().unwrap();
+        for part in parts {
+            merged = merged.joined_with(part)?;
+        }
+        Ok(merged)
+    }
+}
