@@ -11,7 +11,9 @@ use Rattle.rs_update.specs.Fault.{first_fault, of_header}
 use Rattle.rs_update.specs.Section.{section_fault}
 use Rattle.rs_update.specs.Header.{header_of}
 use Rattle.rs_update.specs.IpPrefix.{IpPrefix}
-use Rattle.rs_update.specs.Message.{UpdateContent, message_of, typed_message, update_message, update_of, listed_prefixes, withdrawn_field, withdrawn_length, behind_withdrawn, section_length, section_field, nlri_field, length_tests, passes, announced_attributes, ◌>>=◌}
+use Rattle.rs_update.specs.Message.{MessageContent, UpdateContent, TreatedContent, update_message, update_of, listed_prefixes, withdrawn_field, withdrawn_length, behind_withdrawn, section_length, section_field, nlri_field, length_tests, passes, announced_attributes, ◌>>=◌}
+use Rattle.rs_update.specs.Handling.{strongest_in}
+use Rattle.rs_update.specs.Treating.{message_by, typed_message_by, update_by, treating_message, treating_update_of, reset_of, standing_attributes, content_with}
 use Rattle.rs_update.specs.Parts.{parts_within}
 use Rattle.rs_update.specs.PathAttributes.{PathAttributes}
 use Rattle.rs_update.specs.Prefix.{prefix_at, is_multicast}
@@ -25,9 +27,10 @@ use Rattle.rs_session.specs.Laws.{is_closing, has_close, is_recorded}
 use Rattle.rs_session.specs.Peer.{is_of}
 use Rattle.std.specs.Prelude.{nat_lt}
 use Rattle.rs_mrt.specs.Endian.{big_number}
-use Rattle.rs_session.specs.UpdateChanges.{withdraws, announces, announcements, changes_of_update, is_listed, withdrawn_only, unicast}
+use Rattle.rs_session.specs.UpdateChanges.{withdraws, announces, announcements, changes_of_update, changes_of_treated, is_listed, withdrawn_only, unicast}
+use Rattle.rs_update.specs.declared.errors.Errors.{Errors}
+use Rattle.rs_update.specs.declared.errors.Errors.TheVariants.{Rfc4271, Rfc7606}
 use Rattle.rs_session.specs.declared.peer.PeerId.{PeerId}
-use Rattle.rs_session.specs.declared.word.Reason.TheVariants as reasons
 
 abbrev pub IsFine : ℕ → RecordEffect → Type 0
 IsFine octets PassesOver = Unit {0}
@@ -141,6 +144,45 @@ fine-update time body =
     bind P few_announced (listed_prefixes (nlri_field body)) (λ nlri. Ok (content attributes withdrawn nlri)) (listed (nlri_field body)) bad (λ nlri as_few.
     fine-changes time (length body) (content attributes withdrawn nlri) (fields_fit body (length withdrawn) (length nlri) few as_few))))))
 
+-- ---- an UPDATE that may be treated as withdrawn
+
+fine-treated : (time octets : ℕ) (treated : TreatedContent) → length treated.withdrawn + length treated.nlri ≤ octets → IsFine octets (Gives (changes_of_treated time treated))
+fine-treated time octets treated few =
+    let withdrawn = withdrawn_only treated.withdrawn treated.nlri in
+    let announced = unicast treated.nlri in (
+      list_any-append (λ change. is_closing change.body) (map (withdraws time) withdrawn) (map (withdraws time) announced)
+          ∙ rw (has_close-withdraws time withdrawn, has_close-withdraws time announced) refl,
+      omega (
+        arith,
+        length-append (map (withdraws time) withdrawn) (map (withdraws time) announced),
+        length-map withdrawn (withdraws time),
+        length-map announced (withdraws time),
+        length-filter-le (λ prefix. not (is_multicast prefix) && not (is_listed treated.nlri prefix)) treated.withdrawn,
+        length-filter-le (λ prefix. not (is_multicast prefix)) treated.nlri,
+      ),
+    )
+
+fine-content : (time octets : ℕ) (standing : Option (Option PathAttributes)) (withdrawn nlri : List IpPrefix) → length withdrawn + length nlri ≤ octets → IsFine octets (effect_of_message time (Ok (content_with standing withdrawn nlri)))
+fine-content time octets None withdrawn nlri few = fine-treated time octets (record { withdrawn = withdrawn; nlri = nlri }) few
+fine-content time octets (Some attributes) withdrawn nlri few = fine-changes time octets (record { withdrawn = withdrawn; attributes = attributes; nlri = nlri }) few
+
+fine-treating : (time : ℕ) (body : List ℕ) → IsFine (length body) (effect_of_message time (treating_message (treating_update_of body)))
+unfolding treating_update_of
+fine-treating time body =
+    let P : Result MessageContent UpdateFault → Type 0 = λ answer. IsFine (length body) (effect_of_message time (treating_message answer)) in
+    let bad : (fault : UpdateFault) → P (Err fault) = λ fault. refl in
+    let few_withdrawn : List IpPrefix → Type 0 = λ prefixes. length prefixes ≤ length (withdrawn_field body) in
+    let few_announced : List IpPrefix → Type 0 = λ prefixes. length prefixes ≤ length (nlri_field body) in
+    let standing : Option (Option PathAttributes) = standing_attributes (strongest_in (section_field body)) (section_field body) (nlri_field body) in
+    let nlri_step : List IpPrefix → Result MessageContent UpdateFault = λ withdrawn. listed_prefixes (nlri_field body) >>= (λ nlri. Ok (content_with standing withdrawn nlri)) in
+    let withdrawn_step : Result MessageContent UpdateFault = listed_prefixes (withdrawn_field body) >>= nlri_step in
+    let section_step : Result MessageContent UpdateFault = passes (reset_of (strongest_in (section_field body))) >>= (λ (checked : Unit {0}). withdrawn_step) in
+    bind P (λ (checked : Unit {0}). Unit {0}) (passes (first_fault (length_tests body))) (λ (checked : Unit {0}). section_step) (any_ok (passes (first_fault (length_tests body)))) bad (λ lengths _.
+    bind P (λ (checked : Unit {0}). Unit {0}) (passes (reset_of (strongest_in (section_field body)))) (λ (checked : Unit {0}). withdrawn_step) (any_ok (passes (reset_of (strongest_in (section_field body))))) bad (λ section _.
+    bind P few_withdrawn (listed_prefixes (withdrawn_field body)) nlri_step (listed (withdrawn_field body)) bad (λ withdrawn few.
+    bind P few_announced (listed_prefixes (nlri_field body)) (λ nlri. Ok (content_with standing withdrawn nlri)) (listed (nlri_field body)) bad (λ nlri as_few.
+    fine-content time (length body) standing withdrawn nlri (fields_fit body (length withdrawn) (length nlri) few as_few)))))
+
 -- ---- messages and records
 
 IsFine-more : (few many : ℕ) (effect : RecordEffect) → few ≤ many → IsFine few effect → IsFine many effect
@@ -151,65 +193,70 @@ IsFine-more few many (Ends reason) le fine = fine
 fine-loss : (octets time : ℕ) → 1 ≤ octets → IsFine octets (loss time)
 fine-loss octets time some = (refl, omega arith)
 
-fine-typed : (time : ℕ) (octets : List ℕ) (kind : MessageType) → 1 ≤ length octets → IsFine (length octets) (effect_of_message time (typed_message kind (drop 19 octets)))
-fine-typed time octets types.Open some = (refl, omega arith)
-fine-typed time octets types.Update some = IsFine-more (length (drop 19 octets)) (length octets) _ (omega (arith, length-drop 19 octets)) (fine-update time (drop 19 octets))
-fine-typed time octets types.Notification some = fine-loss (length octets) time some
-fine-typed time octets types.KeepAlive some = (refl, omega arith)
-fine-typed time octets types.Refresh some = (refl, omega arith)
+fine-update_by : (errors : Errors) (time : ℕ) (body : List ℕ) → IsFine (length body) (effect_of_message time (update_by errors body))
+fine-update_by Rfc4271 time body = fine-update time body
+fine-update_by Rfc7606 time body = fine-treating time body
 
-fine-headed : (time : ℕ) (octets : List ℕ) (header : Result MessageType HeaderFault) → 1 ≤ length octets → IsFine (length octets) (effect_of_message time (elim header [ Ok kind ↦ typed_message kind (drop 19 octets) | Err fault ↦ Err (of_header fault) ]))
-fine-headed time octets (Ok kind) some = fine-typed time octets kind some
-fine-headed time octets (Err fault) some = refl
+fine-typed : (errors : Errors) (time : ℕ) (octets : List ℕ) (kind : MessageType) → 1 ≤ length octets → IsFine (length octets) (effect_of_message time (typed_message_by errors kind (drop 19 octets)))
+fine-typed errors time octets types.Open some = (refl, omega arith)
+fine-typed errors time octets types.Update some =
+    IsFine-more (length (drop 19 octets)) (length octets) _ (omega (arith, length-drop 19 octets)) (fine-update_by errors time (drop 19 octets))
+fine-typed errors time octets types.Notification some = fine-loss (length octets) time some
+fine-typed errors time octets types.KeepAlive some = (refl, omega arith)
+fine-typed errors time octets types.Refresh some = (refl, omega arith)
 
-fine-message : (time : ℕ) (octets : List ℕ) → IsFine (length octets) (effect_of_message time (message_of octets))
-unfolding message_of
-fine-message time [] = refl
-fine-message time (octet ∷ octets) = fine-headed time (octet ∷ octets) (header_of (octet ∷ octets)) (omega arith)
+fine-headed : (errors : Errors) (time : ℕ) (octets : List ℕ) (header : Result MessageType HeaderFault) → 1 ≤ length octets → IsFine (length octets) (effect_of_message time (elim header [ Ok kind ↦ typed_message_by errors kind (drop 19 octets) | Err fault ↦ Err (of_header fault) ]))
+fine-headed errors time octets (Ok kind) some = fine-typed errors time octets kind some
+fine-headed errors time octets (Err fault) some = refl
 
-fine-message_entry : (peer : PeerId) (time : ℕ) (fields : List ℕ) → IsFine (length fields) (effect_of_entry peer time (message_entry fields))
-fine-message_entry peer time fields =
-    branch (λ (meaning : Result Meaning MrtFault). IsFine (length fields) (effect_of_entry peer time meaning)) (nat_lt (length fields) 20) (Err FieldsCutShort)
+fine-message : (errors : Errors) (time : ℕ) (octets : List ℕ) → IsFine (length octets) (effect_of_message time (message_by errors octets))
+unfolding message_by
+fine-message errors time [] = refl
+fine-message errors time (octet ∷ octets) = fine-headed errors time (octet ∷ octets) (header_of (octet ∷ octets)) (omega arith)
+
+fine-message_entry : (errors : Errors) (peer : PeerId) (time : ℕ) (fields : List ℕ) → IsFine (length fields) (effect_of_entry errors peer time (message_entry fields))
+fine-message_entry errors peer time fields =
+    branch (λ (meaning : Result Meaning MrtFault). IsFine (length fields) (effect_of_entry errors peer time meaning)) (nat_lt (length fields) 20) (Err FieldsCutShort)
     (Ok (Message (big_number 4 fields) (big_number 4 (drop 12 fields)) (drop 20 fields)))
     refl
-    (branch (IsFine (length fields)) (is_of peer (big_number 4 fields) (big_number 4 (drop 12 fields))) (effect_of_message time (message_of (drop 20 fields))) PassesOver
-    (IsFine-more (length (drop 20 fields)) (length fields) (effect_of_message time (message_of (drop 20 fields))) (omega (arith, length-drop 20 fields)) (fine-message time (drop 20 fields)))
+    (branch (IsFine (length fields)) (is_of peer (big_number 4 fields) (big_number 4 (drop 12 fields))) (effect_of_message time (message_by errors (drop 20 fields))) PassesOver
+    (IsFine-more (length (drop 20 fields)) (length fields) (effect_of_message time (message_by errors (drop 20 fields))) (omega (arith, length-drop 20 fields)) (fine-message errors time (drop 20 fields)))
     tt)
 
 fine-state : (octets time old new : ℕ) → 1 ≤ octets → IsFine octets (effect_of_state time old new)
 fine-state octets time old new some = branch (IsFine octets) ((old == 6) && not (new == 6)) (loss time) (Gives []) (fine-loss octets time some) (refl, omega arith)
 
-fine-state_entry : (peer : PeerId) (time : ℕ) (fields : List ℕ) → IsFine (length fields) (effect_of_entry peer time (state_entry fields))
-fine-state_entry peer time [] = refl
-fine-state_entry peer time (octet ∷ octets) =
+fine-state_entry : (errors : Errors) (peer : PeerId) (time : ℕ) (fields : List ℕ) → IsFine (length fields) (effect_of_entry errors peer time (state_entry fields))
+fine-state_entry errors peer time [] = refl
+fine-state_entry errors peer time (octet ∷ octets) =
     let fields : List ℕ = octet ∷ octets in
     let old = big_number 2 (drop 20 fields) in
     let new = big_number 2 (drop 22 fields) in
-    branch (λ (meaning : Result Meaning MrtFault). IsFine (length fields) (effect_of_entry peer time meaning)) (nat_lt (length fields) 24) (Err FieldsCutShort)
+    branch (λ (meaning : Result Meaning MrtFault). IsFine (length fields) (effect_of_entry errors peer time meaning)) (nat_lt (length fields) 24) (Err FieldsCutShort)
     (Ok (State (big_number 4 fields) (big_number 4 (drop 12 fields)) old new))
     refl
     (branch (IsFine (length fields)) (is_of peer (big_number 4 fields) (big_number 4 (drop 12 fields))) (effect_of_state time old new) PassesOver (fine-state (length fields) time old new (omega arith)) tt)
 
-fine-fields : (peer : PeerId) (time subtype : ℕ) (fields : List ℕ) → IsFine (length fields) (effect_of_entry peer time (fields_entry subtype fields))
+fine-fields : (errors : Errors) (peer : PeerId) (time subtype : ℕ) (fields : List ℕ) → IsFine (length fields) (effect_of_entry errors peer time (fields_entry subtype fields))
 unfolding fields_entry
-fine-fields peer time subtype fields =
-    let P : Result Meaning MrtFault → Type 0 = λ meaning. IsFine (length fields) (effect_of_entry peer time meaning) in
+fine-fields errors peer time subtype fields =
+    let P : Result Meaning MrtFault → Type 0 = λ meaning. IsFine (length fields) (effect_of_entry errors peer time meaning) in
     let by_subtype : Result Meaning MrtFault = cond (subtype == 4) (message_entry fields) (state_entry fields) in
     let by_family : Result Meaning MrtFault = cond (not (big_number 2 (drop 10 fields) == 1)) (Ok Other) by_subtype in
     let by_length : Result Meaning MrtFault = cond (nat_lt (length fields) 12) (Err FieldsCutShort) by_family in
     branch P (not (subtype == 4) && not (subtype == 5)) (Ok Other) by_length tt
     (branch P (nat_lt (length fields) 12) (Err FieldsCutShort) by_family refl
     (branch P (not (big_number 2 (drop 10 fields) == 1)) (Ok Other) by_subtype tt
-    (branch P (subtype == 4) (message_entry fields) (state_entry fields) (fine-message_entry peer time fields) (fine-state_entry peer time fields))))
+    (branch P (subtype == 4) (message_entry fields) (state_entry fields) (fine-message_entry errors peer time fields) (fine-state_entry errors peer time fields))))
 
-pub fine-effect : (peer : PeerId) (r : MrtRecord) → IsFine (length r.body) (effect_of peer r)
+pub fine-effect : (errors : Errors) (peer : PeerId) (r : MrtRecord) → IsFine (length r.body) (effect_of errors peer r)
 unfolding effect_of entry_of
-fine-effect peer r =
-    let P : Result Meaning MrtFault → Type 0 = λ meaning. IsFine (length r.body) (effect_of_entry peer r.time meaning) in
+fine-effect errors peer r =
+    let P : Result Meaning MrtFault → Type 0 = λ meaning. IsFine (length r.body) (effect_of_entry errors peer r.time meaning) in
     let fields : List ℕ = drop 4 r.body in
     let extended : Result Meaning MrtFault = cond (nat_lt (length r.body) 4) (Err MicrosecondsCutShort) (fields_entry r.subtype fields) in
-    branch P (r.kind == 16) (fields_entry r.subtype r.body) (cond (r.kind == 17) extended (Ok Other)) (fine-fields peer r.time r.subtype r.body)
+    branch P (r.kind == 16) (fields_entry r.subtype r.body) (cond (r.kind == 17) extended (Ok Other)) (fine-fields errors peer r.time r.subtype r.body)
     (branch P (r.kind == 17) extended (Ok Other)
     (branch P (nat_lt (length r.body) 4) (Err MicrosecondsCutShort) (fields_entry r.subtype fields) refl
-    (IsFine-more (length fields) (length r.body) (effect_of_entry peer r.time (fields_entry r.subtype fields)) (omega (arith, length-drop 4 r.body)) (fine-fields peer r.time r.subtype fields)))
+    (IsFine-more (length fields) (length r.body) (effect_of_entry errors peer r.time (fields_entry r.subtype fields)) (omega (arith, length-drop 4 r.body)) (fine-fields errors peer r.time r.subtype fields)))
     tt)

@@ -11,12 +11,14 @@ use Rattle.std.specs.List.{list_all}
 use Rattle.std.specs.Option.{is_none}
 use Rattle.rs_update.specs.Fault.{of_header, first_fault}
 use Rattle.rs_update.specs.Header.{is_marked, has_length, length_field, type_of, type_field, suits_type}
-use Rattle.rs_update.specs.Message.{MessageContent, message_of}
+use Rattle.rs_update.specs.Message.{MessageContent}
+use Rattle.rs_update.specs.Treating.{message_by}
 use Rattle.rs_update.specs.declared.fault.HeaderFault.{HeaderFault}
 use Rattle.rs_update.specs.declared.fault.HeaderFault.TheVariants.{NotSynchronized, BadLength, BadType}
 use Rattle.rs_update.specs.declared.fault.MessageFault.{MessageFault}
 use Rattle.rs_session.specs.Effect.{effect_of, effect_of_entry}
 use Rattle.rs_session.specs.Laws.{FrontSuffices}
+use Rattle.rs_update.specs.declared.errors.Errors.{Errors}
 use Rattle.rs_session.specs.declared.peer.PeerId.{PeerId}
 
 -- what octets that are more than any message has say, by whether they begin with a Marker
@@ -32,30 +34,30 @@ header_fault-long false false false later h k = refl
 header_fault-long false marked true later h k = cc
 header_fault-long true marked fits later h k = cc
 
-message_of-long : (octets : List ℕ) → 4096 < length octets → message_of octets ≡ too_long (is_marked octets)
-unfolding message_of too_long
-message_of-long octets long =
+message_by-long : (errors : Errors) (octets : List ℕ) → 4096 < length octets → message_by errors octets ≡ too_long (is_marked octets)
+unfolding message_by too_long
+message_by-long errors octets long =
     let short : nat_lt (length octets) 19 ≡ false = grind (arith, common_steps) in
     let later : List (Bool × HeaderFault) = (is_none (type_of (type_field octets)), BadType) ∷ (not (suits_type (type_of (type_field octets)) (length octets)), BadLength) ∷ [] in
-    rw (message_of, header_fault-long (nat_lt (length octets) 19) (is_marked octets) (has_length octets) later short (no_length (length_field octets) (length octets) long)) refl
+    rw (message_by, header_fault-long (nat_lt (length octets) 19) (is_marked octets) (has_length octets) later short (no_length (length_field octets) (length octets) long)) refl
 
 -- of octets that are more than any message has, any front that is more says the same
-message_of-take : (n : ℕ) (octets : List ℕ) → 4096 < n → message_of (take n octets) ≡ message_of octets
-message_of-take n octets enough =
+message_by-take : (errors : Errors) (n : ℕ) (octets : List ℕ) → 4096 < n → message_by errors (take n octets) ≡ message_by errors octets
+message_by-take errors n octets enough =
     elim (leb_tells (length octets) n) [
-      | inl whole ↦ let le = whole.1 in ap message_of (take_all n octets le)
+      | inl whole ↦ let le = whole.1 in ap (message_by errors) (take_all n octets le)
       | inr cut ↦
           let longer = cut.1 in
-          message_of-long (take n octets) (omega (arith, length-take n octets))
+          message_by-long errors (take n octets) (omega (arith, length-take n octets))
           ∙ ap (λ front. too_long (list_all (λ octet. octet == 0xff) front)) (take-take 16 n octets (omega arith))
-          ∙ sym (message_of-long octets (omega arith))
+          ∙ sym (message_by-long errors octets (omega arith))
     ]
 
-effect-cut : (peer : PeerId) (time n : ℕ) (meaning : Result Meaning MrtFault) → 4096 < n → effect_of_entry peer time (cut_message n meaning) ≡ effect_of_entry peer time meaning
-effect-cut peer time n (Ok (Message asn address octets)) enough = rw (message_of-take n octets enough) refl
-effect-cut peer time n (Ok (State asn address old new)) enough = refl
-effect-cut peer time n (Ok Other) enough = refl
-effect-cut peer time n (Err fault) enough = refl
+effect-cut : (errors : Errors) (peer : PeerId) (time n : ℕ) (meaning : Result Meaning MrtFault) → 4096 < n → effect_of_entry errors peer time (cut_message n meaning) ≡ effect_of_entry errors peer time meaning
+effect-cut errors peer time n (Ok (Message asn address octets)) enough = rw (message_by-take errors n octets enough) refl
+effect-cut errors peer time n (Ok (State asn address old new)) enough = refl
+effect-cut errors peer time n (Ok Other) enough = refl
+effect-cut errors peer time n (Err fault) enough = refl
 
 -- what holds in both branches holds of the choice
 branch : {A : Type 0} (P : A → Type 0) (b : Bool) (x y : A) → P x → P y → P (cond b x y)
@@ -67,4 +69,4 @@ room_enough r = branch (λ n. 4096 < n) (r.kind == 17) 4097 4101 (omega arith) (
 
 pub front_suffices : FrontSaysTheSame → FrontSuffices
 unfolding effect_of
-front_suffices same peer r = rw (same r) (effect-cut peer r.time (message_room r) (entry_of r) (room_enough r))
+front_suffices same errors peer r = rw (same r) (effect-cut errors peer r.time (message_room r) (entry_of r) (room_enough r))

@@ -8,7 +8,8 @@ use Rattle.rs_mrt.specs.declared.fault.SourceFault.{SourceFault}
 use Rattle.rs_mrt.specs.declared.fault.SourceFault.TheVariants as faults
 use Rattle.rs_session.specs.Effect.{RecordEffect, PassesOver, Gives, Ends, effect_of}
 use Rattle.rs_session.specs.Laws.{is_closing, is_recorded, may_close, ClosesLast}
-use Rattle.rs_session.specs.FileChanges.{changes_of, close_at, reason_at_end, changes_in}
+use Rattle.rs_session.specs.FileChanges.{changes_of, close_at, reason_at_end, changes_in_by}
+use Rattle.rs_update.specs.declared.errors.Errors.{Errors}
 use Rattle.rs_session.specs.declared.peer.PeerId.{PeerId}
 use Rattle.rs_session.specs.declared.word.Reason.{Reason}
 use Rattle.rs_session.specs.declared.word.Reason.TheVariants as reasons
@@ -32,47 +33,47 @@ recorded_before (Some faults.Read) (reasons.Mrt number) h = refl
 recorded_before (Some faults.Read) reasons.Memory h = h
 recorded_before (Some faults.Read) reasons.Read h = refl
 
-closes-record : (peer : PeerId) (r : MrtRecord) (later : List MrtRecord) (end : Option SourceFault) (effect : RecordEffect) → effect_of peer r ≡ effect → IsFine (length r.body) effect → ClosesLast end (changes_of peer later end) → ClosesLast end (changes_of peer (r ∷ later) end)
-closes-record peer r later end PassesOver is fine h = record {
+closes-record : (errors : Errors) (peer : PeerId) (r : MrtRecord) (later : List MrtRecord) (end : Option SourceFault) (effect : RecordEffect) → effect_of errors peer r ≡ effect → IsFine (length r.body) effect → ClosesLast end (changes_of errors peer later end) → ClosesLast end (changes_of errors peer (r ∷ later) end)
+closes-record errors peer r later end PassesOver is fine h = record {
   before = h.before;
   time = h.time;
   reason = h.reason;
-  splits = changes_of-passes peer r later end is ∙ h.splits;
+  splits = changes_of-passes errors peer r later end is ∙ h.splits;
   none_before = h.none_before;
   recorded = h.recorded;
 }
-closes-record peer r later end (Gives changes) is fine h = record {
+closes-record errors peer r later end (Gives changes) is fine h = record {
   before = changes ++ h.before;
   time = h.time;
   reason = h.reason;
-  splits = changes_of-gives peer r changes later end is ∙ ap (λ cs. changes ++ cs) h.splits ∙ sym (append_assoc changes h.before (close_at h.time h.reason ∷ []));
+  splits = changes_of-gives errors peer r changes later end is ∙ ap (λ cs. changes ++ cs) h.splits ∙ sym (append_assoc changes h.before (close_at h.time h.reason ∷ []));
   none_before = list_any-append (λ change. is_closing change.body) changes h.before ∙ rw (fine.0, h.none_before) refl;
   recorded = h.recorded;
 }
-closes-record peer r later end (Ends reason) is fine h = record {
+closes-record errors peer r later end (Ends reason) is fine h = record {
   before = [];
   time = r.time;
   reason = reason;
-  splits = changes_of-ends peer r reason later end is;
+  splits = changes_of-ends errors peer r reason later end is;
   none_before = refl;
   recorded = recorded_before end reason fine;
 }
 
-pub closes_last : (peer : PeerId) (records : List MrtRecord) (end : Option SourceFault) → ClosesLast end (changes_of peer records end)
-closes_last peer [] end = record {
+pub closes_last : (errors : Errors) (peer : PeerId) (records : List MrtRecord) (end : Option SourceFault) → ClosesLast end (changes_of errors peer records end)
+closes_last errors peer [] end = record {
   before = [];
   time = 0;
   reason = reason_at_end end;
-  splits = changes_of-nil peer end;
+  splits = changes_of-nil errors peer end;
   none_before = refl;
   recorded = recorded_at_end end;
 }
-closes_last peer (r ∷ later) end = closes-record peer r later end (effect_of peer r) refl (fine-effect peer r) (closes_last peer later end)
+closes_last errors peer (r ∷ later) end = closes-record errors peer r later end (effect_of errors peer r) refl (fine-effect errors peer r) (closes_last errors peer later end)
 
 -- so it says at least one change
-pub changes_of-some : (peer : PeerId) (records : List MrtRecord) (end : Option SourceFault) → 1 ≤ length (changes_of peer records end)
-changes_of-some peer records end =
-    let h = closes_last peer records end in
+pub changes_of-some : (errors : Errors) (peer : PeerId) (records : List MrtRecord) (end : Option SourceFault) → 1 ≤ length (changes_of errors peer records end)
+changes_of-some errors peer records end =
+    let h = closes_last errors peer records end in
     omega (arith, ap length h.splits, length-append h.before (close_at h.time h.reason ∷ []))
 
 -- ---- the number of changes
@@ -81,15 +82,15 @@ body_octets : List MrtRecord → ℕ
 body_octets [] = 0
 body_octets (r ∷ records) = length r.body + body_octets records
 
-length-record : (peer : PeerId) (r : MrtRecord) (later : List MrtRecord) (end : Option SourceFault) (effect : RecordEffect) → effect_of peer r ≡ effect → IsFine (length r.body) effect → length (changes_of peer later end) ≤ body_octets later + 1 → length (changes_of peer (r ∷ later) end) ≤ length r.body + body_octets later + 1
-length-record peer r later end PassesOver is fine h = rw (changes_of-passes peer r later end is) (omega arith)
-length-record peer r later end (Gives changes) is fine h = rw (changes_of-gives peer r changes later end is) (let few = fine.1 in omega (arith, length-append changes (changes_of peer later end)))
-length-record peer r later end (Ends reason) is fine h = rw (changes_of-ends peer r reason later end is) (omega arith)
+length-record : (errors : Errors) (peer : PeerId) (r : MrtRecord) (later : List MrtRecord) (end : Option SourceFault) (effect : RecordEffect) → effect_of errors peer r ≡ effect → IsFine (length r.body) effect → length (changes_of errors peer later end) ≤ body_octets later + 1 → length (changes_of errors peer (r ∷ later) end) ≤ length r.body + body_octets later + 1
+length-record errors peer r later end PassesOver is fine h = rw (changes_of-passes errors peer r later end is) (omega arith)
+length-record errors peer r later end (Gives changes) is fine h = rw (changes_of-gives errors peer r changes later end is) (let few = fine.1 in omega (arith, length-append changes (changes_of errors peer later end)))
+length-record errors peer r later end (Ends reason) is fine h = rw (changes_of-ends errors peer r reason later end is) (omega arith)
 
-length-changes_of : (peer : PeerId) (records : List MrtRecord) (end : Option SourceFault) → length (changes_of peer records end) ≤ body_octets records + 1
+length-changes_of : (errors : Errors) (peer : PeerId) (records : List MrtRecord) (end : Option SourceFault) → length (changes_of errors peer records end) ≤ body_octets records + 1
 unfolding body_octets
-length-changes_of peer [] end = rw (changes_of-nil peer end) (omega arith)
-length-changes_of peer (r ∷ later) end = length-record peer r later end (effect_of peer r) refl (fine-effect peer r) (length-changes_of peer later end)
+length-changes_of errors peer [] end = rw (changes_of-nil errors peer end) (omega arith)
+length-changes_of errors peer (r ∷ later) end = length-record errors peer r later end (effect_of errors peer r) refl (fine-effect errors peer r) (length-changes_of errors peer later end)
 
 -- what holds in both branches holds of the choice
 branch : {A : Type 0} (P : A → Type 0) (b : Bool) (x y : A) → P x → P y → P (cond b x y)
@@ -112,6 +113,6 @@ octets-records_within (suc fuel) octets =
     ))
     (omega arith)
 
-pub length-changes_in : (peer : PeerId) (file : List ℕ) → length (changes_in peer file) ≤ length file + 1
+pub length-changes_in : (errors : Errors) (peer : PeerId) (file : List ℕ) → length (changes_in_by errors peer file) ≤ length file + 1
 unfolding records_of
-length-changes_in peer file = let few = length-changes_of peer (records_of file) (source_end (end_of file)) in let fit = octets-records_within (length file) file in omega (arith, few, fit)
+length-changes_in errors peer file = let few = length-changes_of errors peer (records_of file) (source_end (end_of file)) in let fit = octets-records_within (length file) file in omega (arith, few, fit)

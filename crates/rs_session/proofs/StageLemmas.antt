@@ -7,9 +7,10 @@ use Rattle.rs_mrt.specs.Source.{Advances, IsLeft, SomethingComes, source_end}
 use Rattle.rs_mrt.specs.declared.fault.SourceFault.{SourceFault}
 use Rattle.rs_session.specs.Change.{Change, change_of}
 use Rattle.rs_session.specs.Effect.{RecordEffect, PassesOver, Gives, Ends, effect_of}
-use Rattle.rs_session.specs.FileChanges.{changes_in, passed_in, changes_of, close_at}
+use Rattle.rs_session.specs.FileChanges.{changes_in_by, passed_in_by, changes_of, close_at}
 use Rattle.rs_session.specs.Stage.{Comes, Stage, MayRead, May, Keeps, KeepsBehind, IsOver, SaysJust, fresh, to_read, changes_left, passed_in_the_end}
 use Rattle.rs_session.specs.Laws.{SomethingMayCome}
+use Rattle.rs_update.specs.declared.errors.Errors.{Errors}
 use Rattle.rs_session.specs.declared.peer.PeerId.{PeerId}
 use Rattle.rs_session.specs.Steps.{closed_by, Fetches, Applies, ReadsShown, Steps}
 use Rattle.rs_session.specs.declared.word.Reason.{Reason}
@@ -59,8 +60,8 @@ module _ {S : Type 0} (comes : Comes S) (shows : S → Option MrtRecord) where
         records = [];
         end = end.0;
         may_read = end.1;
-        left = rw (unclosed, idle, changes_of-nil old.peer end.0, ← end.2) (ap (λ (cs : List Change). close_at 0 reason ∷ cs) (rw closed at m.left));
-        counted = rw (unclosed, passed_of-nil old.peer, add-zero) (rw (closed, same) at m.counted);
+        left = rw (unclosed, idle, changes_of-nil old.errors old.peer end.0, ← end.2) (ap (λ (cs : List Change). close_at 0 reason ∷ cs) (rw closed at m.left));
+        counted = rw (unclosed, passed_of-nil old.errors old.peer, add-zero) (rw (closed, same) at m.counted);
       }
 
   -- ---- reading
@@ -73,14 +74,14 @@ module _ {S : Type 0} (comes : Comes S) (shows : S → Option MrtRecord) where
     read = rw (full, shown) (ap (λ (rs : List MrtRecord). r ∷ rs) (rw empty at m.read));
   }
 
-  pub steps-applied : (old new : Stage S) (r : MrtRecord) (effect : RecordEffect) (given : Option Word) → old.held ≡ true → old.closed ≡ false → old.waiting ≡ [] → shows old.source ≡ Some r → effect_of old.peer r ≡ effect → Applies r.time effect old given new → Steps comes shows old new (Ok given)
+  pub steps-applied : (old new : Stage S) (r : MrtRecord) (effect : RecordEffect) (given : Option Word) → old.held ≡ true → old.closed ≡ false → old.waiting ≡ [] → shows old.source ≡ Some r → effect_of old.errors old.peer r ≡ effect → Applies r.time effect old given new → Steps comes shows old new (Ok given)
   steps-applied old new r PassesOver None full unclosed idle shown says h = (
     (λ changes passed m. record {
       records = r ∷ m.records;
       end = m.end;
       may_read = may_read-held old new r m.records m.end full (rw h refl) (rw h refl) shown m.may_read;
-      left = rw (unclosed, idle, changes_of-passes old.peer r m.records m.end says) (rw (h, unclosed, idle) at m.left);
-      counted = rw (unclosed, passed_of-passes old.peer r m.records says) (let e = rw (h, unclosed) at m.counted in omega (arith, e));
+      left = rw (unclosed, idle, changes_of-passes old.errors old.peer r m.records m.end says) (rw (h, unclosed, idle) at m.left);
+      counted = rw (unclosed, passed_of-passes old.errors old.peer r m.records says) (let e = rw (h, unclosed) at m.counted in omega (arith, e));
     }),
     rw h unclosed,
     rw h refl,
@@ -90,8 +91,8 @@ module _ {S : Type 0} (comes : Comes S) (shows : S → Option MrtRecord) where
       records = r ∷ m.records;
       end = m.end;
       may_read = may_read-held old new r m.records m.end full (rw h refl) (rw h refl) shown m.may_read;
-      left = rw (unclosed, idle, changes_of-gives old.peer r changes m.records m.end says) (rw (h, unclosed) at m.left);
-      counted = rw (unclosed, passed_of-gives old.peer r changes m.records says) (rw (h, unclosed) at m.counted);
+      left = rw (unclosed, idle, changes_of-gives old.errors old.peer r changes m.records m.end says) (rw (h, unclosed) at m.left);
+      counted = rw (unclosed, passed_of-gives old.errors old.peer r changes m.records says) (rw (h, unclosed) at m.counted);
     }),
     rw h unclosed,
     rw h refl,
@@ -101,8 +102,8 @@ module _ {S : Type 0} (comes : Comes S) (shows : S → Option MrtRecord) where
       records = r ∷ m.records;
       end = m.end;
       may_read = may_read-held old new r m.records m.end full (rw h.2 refl) (rw h.2 refl) shown m.may_read;
-      left = rw (unclosed, idle, changes_of-ends old.peer r reason m.records m.end says, h.0) (ap (λ (cs : List Change). close_at r.time reason ∷ cs) (rw h.2 at m.left));
-      counted = rw (unclosed, passed_of-ends old.peer r reason m.records says, add-zero) (rw h.2 at m.counted);
+      left = rw (unclosed, idle, changes_of-ends old.errors old.peer r reason m.records m.end says, h.0) (ap (λ (cs : List Change). close_at r.time reason ∷ cs) (rw h.2 at m.left));
+      counted = rw (unclosed, passed_of-ends old.errors old.peer r reason m.records says, add-zero) (rw h.2 at m.counted);
     }),
     rw h.0 refl,
     rw h.2 refl,
@@ -114,7 +115,7 @@ module _ {S : Type 0} (comes : Comes S) (shows : S → Option MrtRecord) where
   -- ---- a whole step
 
   steps-shown : (old new : Stage S) (shown : Option MrtRecord) (given : Option Word) → old.held ≡ true → old.closed ≡ false → old.waiting ≡ [] → shows old.source ≡ shown → ReadsShown shown old given new → Steps comes shows old new (Ok given)
-  steps-shown old new (Some r) given full unclosed idle shown says = steps-applied old new r (effect_of old.peer r) given full unclosed idle shown refl says
+  steps-shown old new (Some r) given full unclosed idle shown says = steps-applied old new r (effect_of old.errors old.peer r) given full unclosed idle shown refl says
   steps-shown old new None (Some word) full unclosed idle shown says = cc
   steps-shown old new None None full unclosed idle shown says = (
     (λ changes passed m. record {
@@ -157,7 +158,7 @@ module _ {S : Type 0} (comes : Comes S) (shows : S → Option MrtRecord) where
       over-open : (closed : Bool) → stage.closed ≡ closed → stage.passed ≡ passed
       over-open true is = sym (rw is at m.counted)
       over-open false is =
-          absurd (let some = changes_of-some stage.peer m.records m.end in omega (arith, some, ap length (rw is at m.left), length-append stage.waiting (changes_of stage.peer m.records m.end)))
+          absurd (let some = changes_of-some stage.errors stage.peer m.records m.end in omega (arith, some, ap length (rw is at m.left), length-append stage.waiting (changes_of stage.errors stage.peer m.records m.end)))
 
   -- where something may come from the source, something may come
   pub something_comes : (stage : Stage S) → SomethingComes (comes stage.source) → SomethingMayCome comes shows stage
@@ -169,8 +170,8 @@ module _ {S : Type 0} (comes : Comes S) (shows : S → Option MrtRecord) where
       )
 
 -- just what a file says may come from its records
-pub says_just-file : (peer : PeerId) (file : List ℕ) → SaysJust (λ s later end. IsLeft s later end) (λ s. s.shown) (fresh (reading_of None file) peer) (changes_in peer file) (passed_in peer file)
-says_just-file peer file changes passed = (
+pub says_just-file : (errors : Errors) (peer : PeerId) (file : List ℕ) → SaysJust (λ s later end. IsLeft s later end) (λ s. s.shown) (fresh (reading_of None file) peer errors) (changes_in_by errors peer file) (passed_in_by errors peer file)
+says_just-file errors peer file changes passed = (
   (λ m.
       let same = m.may_read.read ∙ m.may_read.come.0 in
       (m.left ∙ rw (same, m.may_read.come.1) refl, m.counted ∙ rw same (omega arith))),

@@ -4,7 +4,9 @@ use Rattle.rs_mrt.specs.Entry.{Meaning, Message, State, Other, entry_of}
 use Rattle.rs_mrt.specs.Fault.{number_of}
 use Rattle.rs_mrt.specs.Record.{MrtRecord}
 use Rattle.rs_mrt.specs.declared.fault.MrtFault.{MrtFault}
-use Rattle.rs_update.specs.Message.{MessageContent, IsOpen, IsUpdate, IsTreated, IsNotification, IsKeepAlive, IsRefresh, message_of}
+use Rattle.rs_update.specs.Message.{MessageContent, IsOpen, IsUpdate, IsTreated, IsNotification, IsKeepAlive, IsRefresh}
+use Rattle.rs_update.specs.Treating.{message_by}
+use Rattle.rs_update.specs.declared.errors.Errors.{Errors}
 use Rattle.rs_update.specs.declared.fault.MessageFault.{MessageFault}
 use Rattle.rs_update.specs.declared.fault.MessageFault.TheVariants as message_fault
 use Rattle.rs_session.specs.Change.{Change, Lost}
@@ -46,12 +48,13 @@ effect_of_message time (Ok IsKeepAlive) = Gives []
 effect_of_message time (Ok IsRefresh) = Gives []
 effect_of_message time (Err fault) = Ends (reason_of fault)
 
--- what a record says: a record of any other kind, and one of another peer, is passed over (our choice)
-abbrev pub effect_of_entry : PeerId → ℕ → Result Meaning MrtFault → RecordEffect
-effect_of_entry peer time (Ok (Message asn address octets)) = if is_of peer asn address then effect_of_message time (message_of octets) else PassesOver
-effect_of_entry peer time (Ok (State asn address old new)) = if is_of peer asn address then effect_of_state time old new else PassesOver
-effect_of_entry peer time (Ok Other) = PassesOver
-effect_of_entry peer time (Err fault) = Ends (reasons.Mrt (number_of fault))
+-- what a record says, faults in messages being handled by one of the standards: a record of any other kind, and one of another peer, is passed
+-- over (our choice)
+abbrev pub effect_of_entry : Errors → PeerId → ℕ → Result Meaning MrtFault → RecordEffect
+effect_of_entry errors peer time (Ok (Message asn address octets)) = if is_of peer asn address then effect_of_message time (message_by errors octets) else PassesOver
+effect_of_entry errors peer time (Ok (State asn address old new)) = if is_of peer asn address then effect_of_state time old new else PassesOver
+effect_of_entry errors peer time (Ok Other) = PassesOver
+effect_of_entry errors peer time (Err fault) = Ends (reasons.Mrt (number_of fault))
 
-unfoldable pub effect_of : PeerId → MrtRecord → RecordEffect
-effect_of peer r = effect_of_entry peer r.time (entry_of r)
+unfoldable pub effect_of : Errors → PeerId → MrtRecord → RecordEffect
+effect_of errors peer r = effect_of_entry errors peer r.time (entry_of r)

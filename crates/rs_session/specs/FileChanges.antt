@@ -8,6 +8,8 @@ use Rattle.rs_mrt.specs.declared.fault.SourceFault.{SourceFault}
 use Rattle.rs_mrt.specs.declared.fault.SourceFault.TheVariants as faults
 use Rattle.rs_session.specs.Change.{Change, Closed}
 use Rattle.rs_session.specs.Effect.{RecordEffect, PassesOver, Gives, Ends, effect_of}
+use Rattle.rs_update.specs.declared.errors.Errors.{Errors}
+use Rattle.rs_update.specs.declared.errors.Errors.TheVariants.{Rfc4271}
 use Rattle.rs_session.specs.declared.peer.PeerId.{PeerId}
 use Rattle.rs_session.specs.declared.word.Reason.{Reason}
 use Rattle.rs_session.specs.declared.word.Reason.TheVariants.{EndOfFile, Mrt, Read}
@@ -36,8 +38,8 @@ changes_by time (Ends reason) = close_at time reason ∷ []
 -- ---- all records
 
 -- the records that are read while the session is open: all before the first one that ends it
-abbrev pub open_records : PeerId → List MrtRecord → List MrtRecord
-open_records peer records = take_while (λ r. not (ends (effect_of peer r))) records
+abbrev pub open_records : Errors → PeerId → List MrtRecord → List MrtRecord
+open_records errors peer records = take_while (λ r. not (ends (effect_of errors peer r))) records
 
 -- how a session closes that no record ends; such a close has time 0 (our choice)
 abbrev pub reason_at_end : Option SourceFault → Reason
@@ -46,26 +48,36 @@ reason_at_end (Some (faults.Mrt fault)) = Mrt (number_of fault)
 reason_at_end (Some faults.Read) = Read
 
 -- the close: by the first record that ends the session, else by how the records end
-abbrev pub closing : PeerId → Option SourceFault → Option MrtRecord → List Change
-closing peer end (Some r) = changes_by r.time (effect_of peer r)
-closing peer end None = close_at 0 (reason_at_end end) ∷ []
+abbrev pub closing : Errors → PeerId → Option SourceFault → Option MrtRecord → List Change
+closing errors peer end (Some r) = changes_by r.time (effect_of errors peer r)
+closing errors peer end None = close_at 0 (reason_at_end end) ∷ []
 
 -- the changes that records say, and then the close; later records say nothing
-unfoldable pub changes_of : PeerId → List MrtRecord → Option SourceFault → List Change
-changes_of peer records end =
-    flat_map (λ r. changes_by r.time (effect_of peer r)) (open_records peer records)
-    ++ closing peer end (find (λ r. ends (effect_of peer r)) records)
+unfoldable pub changes_of : Errors → PeerId → List MrtRecord → Option SourceFault → List Change
+changes_of errors peer records end =
+    flat_map (λ r. changes_by r.time (effect_of errors peer r)) (open_records errors peer records)
+    ++ closing errors peer end (find (λ r. ends (effect_of errors peer r)) records)
 
 -- how many records are passed over while the session is open
-unfoldable pub passed_of : PeerId → List MrtRecord → ℕ
-passed_of peer records = count_by (λ r. passes_over (effect_of peer r)) (open_records peer records)
+unfoldable pub passed_of : Errors → PeerId → List MrtRecord → ℕ
+passed_of errors peer records = count_by (λ r. passes_over (effect_of errors peer r)) (open_records errors peer records)
 
 -- ---- a file
 
--- the changes that a file says of a peer
-abbrev pub changes_in : PeerId → List ℕ → List Change
-changes_in peer file = changes_of peer (records_of file) (source_end (end_of file))
+-- the changes that a file says of a peer, faults in messages being handled by one of the standards
+abbrev pub changes_in_by : Errors → PeerId → List ℕ → List Change
+changes_in_by errors peer file = changes_of errors peer (records_of file) (source_end (end_of file))
 
 -- how many of its records are passed over
+abbrev pub passed_in_by : Errors → PeerId → List ℕ → ℕ
+passed_in_by errors peer file = passed_of errors peer (records_of file)
+
+-- RFC 4271 is meant where no standard is named
+abbrev pub default_standard : Errors
+default_standard = Rfc4271
+
+abbrev pub changes_in : PeerId → List ℕ → List Change
+changes_in peer file = changes_in_by default_standard peer file
+
 abbrev pub passed_in : PeerId → List ℕ → ℕ
-passed_in peer file = passed_of peer (records_of file)
+passed_in peer file = passed_in_by default_standard peer file

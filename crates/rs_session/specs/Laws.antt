@@ -7,8 +7,9 @@ use Rattle.rs_mrt.specs.declared.fault.SourceFault.{SourceFault}
 use Rattle.rs_mrt.specs.declared.fault.SourceFault.TheVariants as faults
 use Rattle.rs_session.specs.Change.{Change, ChangeBody, Announced, Withdrawn, Lost, Closed}
 use Rattle.rs_session.specs.Effect.{effect_of}
-use Rattle.rs_session.specs.FileChanges.{changes_of, close_at, changes_in}
+use Rattle.rs_session.specs.FileChanges.{changes_of, close_at, changes_in_by}
 use Rattle.rs_session.specs.Stage.{Comes, Stage, May}
+use Rattle.rs_update.specs.declared.errors.Errors.{Errors}
 use Rattle.rs_session.specs.declared.peer.PeerId.{PeerId}
 use Rattle.rs_session.specs.declared.word.Reason.{Reason}
 use Rattle.rs_session.specs.declared.word.Reason.TheVariants as reasons
@@ -44,15 +45,15 @@ pub record ClosesLast (end : Option SourceFault) (changes : List Change) : Type 
 
 -- whatever the records and their end, they say exactly one close, and it is the last change
 abbrev pub ClosesOnce : Type 0
-ClosesOnce = (peer : PeerId) (records : List MrtRecord) (end : Option SourceFault) → ClosesLast end (changes_of peer records end)
+ClosesOnce = (errors : Errors) (peer : PeerId) (records : List MrtRecord) (end : Option SourceFault) → ClosesLast end (changes_of errors peer records end)
 
 -- a file says at most one change more than it has octets
 abbrev pub SaysNoMoreThanOctets : Type 0
-SaysNoMoreThanOctets = (peer : PeerId) (file : List ℕ) → length (changes_in peer file) ≤ length file + 1
+SaysNoMoreThanOctets = (errors : Errors) (peer : PeerId) (file : List ℕ) → length (changes_in_by errors peer file) ≤ length file + 1
 
 -- the first 4,121 octets of a record's body say what the body says
 abbrev pub FrontSuffices : Type 0
-FrontSuffices = (peer : PeerId) (r : MrtRecord) → effect_of peer (front_of r) ≡ effect_of peer r
+FrontSuffices = (errors : Errors) (peer : PeerId) (r : MrtRecord) → effect_of errors peer (front_of r) ≡ effect_of errors peer r
 
 -- there is always something that may come, if only no change
 abbrev pub SomethingMayCome : {S : Type 0} → Comes S → (S → Option MrtRecord) → Stage S → Type 0

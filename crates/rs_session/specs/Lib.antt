@@ -7,6 +7,7 @@ pub use Rattle.rs_update.specs.Message
 pub use Rattle.rs_update.specs.PathAttributes
 pub use Rattle.rs_update.specs.Prefix
 pub use Rattle.rs_update.specs.PrefixOrder
+pub use Rattle.rs_update.specs.Treating
 pub mod Change
 pub mod Counts
 pub mod Effect

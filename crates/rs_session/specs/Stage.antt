@@ -7,6 +7,7 @@ use Rattle.rs_mrt.specs.declared.fault.SourceFault.{SourceFault}
 use Rattle.rs_mrt.specs.declared.fault.SourceFault.TheVariants as faults
 use Rattle.rs_session.specs.Change.{Change, change_of, is_close, is_read_failure}
 use Rattle.rs_session.specs.FileChanges.{changes_of, passed_of}
+use Rattle.rs_update.specs.declared.errors.Errors.{Errors}
 use Rattle.rs_session.specs.declared.peer.PeerId.{PeerId}
 use Rattle.rs_session.specs.declared.word.Word.{Word}
 
@@ -20,6 +21,7 @@ Comes S = S → List MrtRecord → Option SourceFault → Type 0
 pub record Stage (S : Type 0) : Type 0 where
   pub source : S
   pub peer : PeerId
+  pub errors : Errors
   pub waiting : List Change
   pub held : Bool
   pub closed : Bool
@@ -27,8 +29,8 @@ pub record Stage (S : Type 0) : Type 0 where
   pub skipped : ℕ
 
 -- nothing was read yet
-abbrev pub fresh : {S : Type 0} → S → PeerId → Stage S
-fresh source peer = record { source = source; peer = peer; waiting = []; held = false; closed = false; passed = 0; skipped = 0 }
+abbrev pub fresh : {S : Type 0} → S → PeerId → Errors → Stage S
+fresh source peer errors = record { source = source; peer = peer; errors = errors; waiting = []; held = false; closed = false; passed = 0; skipped = 0 }
 
 -- ---- what may still come
 
@@ -44,11 +46,11 @@ pub record MayRead {S : Type 0} (comes : Comes S) (shows : S → Option MrtRecor
 
 -- the changes that are still to be given, where these records are read
 abbrev pub changes_left : {S : Type 0} → Stage S → List MrtRecord → Option SourceFault → List Change
-changes_left stage records end = if stage.closed then [] else stage.waiting ++ changes_of stage.peer records end
+changes_left stage records end = if stage.closed then [] else stage.waiting ++ changes_of stage.errors stage.peer records end
 
 -- how many records are passed over in the end, where these records are read
 abbrev pub passed_in_the_end : {S : Type 0} → Stage S → List MrtRecord → ℕ
-passed_in_the_end stage records = if stage.closed then stage.passed else stage.passed + stage.skipped + passed_of stage.peer records
+passed_in_the_end stage records = if stage.closed then stage.passed else stage.passed + stage.skipped + passed_of stage.errors stage.peer records
 
 -- these changes may still come, and so many records are passed over in the end
 pub record May {S : Type 0} (comes : Comes S) (shows : S → Option MrtRecord) (stage : Stage S) (changes : List Change) (passed : ℕ) : Type 0 where

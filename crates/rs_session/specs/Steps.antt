@@ -52,7 +52,7 @@ Applies time (Ends reason) old None new = ⊥
 -- the record that is shown is read
 abbrev pub ReadsShown : {S : Type 0} → Option MrtRecord → Stage S → Option Word → Stage S → Type 0
 ReadsShown None old given new = (given ≡ None) × (new ≡ record old { held = false })
-ReadsShown (Some r) old given new = Applies r.time (effect_of old.peer r) old given new
+ReadsShown (Some r) old given new = Applies r.time (effect_of old.errors old.peer r) old given new
 
 -- ---- a whole step
 

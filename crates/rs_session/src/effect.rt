@@ -6,7 +6,7 @@
 
 ghost use Rattle.std.specs.Prelude.{◌≡◌, IsTrue, IfOk};
 ghost use Rattle.rs_mrt.specs.Record.{record_of};
-ghost use Rattle.rs_update.specs.Message.{message_of};
+ghost use Rattle.rs_update.specs.Treating.{message_by};
 ghost use Rattle.rs_session.specs.Effect.{effect_of, effect_of_message, effect_of_state};
 ghost use Rattle.rs_session.specs.EffectView.{effect_value, IsRecorded};
 
@@ -14,7 +14,7 @@ use crate::peer::PeerId;
 use crate::pending::Pending;
 use crate::word::Reason;
 use rs_mrt::{Entry, Record, entry};
-use rs_update::{Message, MessageFault, read_message};
+use rs_update::{Errors, Message, MessageFault, read_message_by};
 use std::alloc::{AllocError, Global};
 
 // State 6: the session is up (RFC 6396, section 4.4.1).
@@ -31,14 +31,15 @@ pub(crate) enum Effect {
     Ends(Reason),
 }
 
-// What a record says to the session of a peer. Nothing is allocated for a record that is passed over.
+// What a record says to the session of a peer, faults in messages being handled by one of the standards. Nothing is allocated for a record that is passed over.
 #[tactic(auto, unfolding(crate::specs::Effect::effect_of))]
 pub(crate) fn read_record(
     alloc: Global,
+    errors: Errors,
     peer: PeerId,
     record: &Record<'_>,
 ) -> Result<Effect, AllocError>
-    ensures says { IfOk result (λ effect. effect_value effect ≡ effect_of peer (record_of «record».now)) }
+    ensures says { IfOk result (λ effect. effect_value effect ≡ effect_of errors peer (record_of «record».now)) }
     ensures recorded { IfOk result IsRecorded }
 {
     match entry(record) {
@@ -48,7 +49,12 @@ pub(crate) fn read_record(
                 peer: address,
                 message,
             },
-        ) if peer.is(peer_as, address) => read_recorded_message(alloc, record.time, message),
+        ) if peer.is(peer_as, address) => read_recorded_message(
+            alloc,
+            errors,
+            record.time,
+            message,
+        ),
         Ok(
             Entry::State {
                 peer_as,
@@ -75,15 +81,21 @@ fn effect_of_state(alloc: Global, time: u32, old: u16, new: u16) -> Effect
 }
 
 // What a message says, recorded at a time.
-fn read_recorded_message(alloc: Global, time: u32, octets: &[u8]) -> Result<Effect, AllocError>
-    ensures says { IfOk result (λ effect. effect_value effect ≡ effect_of_message time (message_of octets.now)) }
+fn read_recorded_message(
+    alloc: Global,
+    errors: Errors,
+    time: u32,
+    octets: &[u8],
+) -> Result<Effect, AllocError>
+    ensures says { IfOk result (λ effect. effect_value effect ≡ effect_of_message time (message_by errors octets.now)) }
     ensures recorded { IfOk result IsRecorded }
 {
-    let effect = match read_message(alloc, octets) {
+    let effect = match read_message_by(alloc, errors, octets) {
         Ok(Message::Open) => Effect::Gives(Pending::none(alloc)),
         Ok(Message::Update(update)) => Effect::Gives(Pending::of_update(alloc, time, update)?),
-        // RFC 4271 treats no UPDATE as withdrawn.
-        Ok(Message::Treated { .. }) => unreachable!(),
+        Ok(Message::Treated { withdrawn, nlri }) => Effect::Gives(Pending::of_treated(
+            alloc, time, withdrawn, nlri,
+        )?),
         Ok(Message::Notification) => Effect::Gives(Pending::of_loss(alloc, time)),
         Ok(Message::KeepAlive) => Effect::Gives(Pending::none(alloc)),
         Ok(Message::Refresh) => Effect::Gives(Pending::none(alloc)),

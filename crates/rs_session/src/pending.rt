@@ -1,12 +1,13 @@
 //! The changes of one record, given one after another (RFC 4271, sections 3.1, 4.3 and 8.2.2).
 //!
-//! Our choices: of an UPDATE first what is withdrawn, then what is announced; a multicast prefix gives no change.
+//! Our choices: of an UPDATE first what is withdrawn, then what is announced; a multicast prefix gives no change. Where an UPDATE is treated
+//! as withdrawn, what it announces is withdrawn too (RFC 7606, section 2).
 
 ghost use Rattle.std.specs.Prelude.{◌≡◌, false, [], ◌∷◌, IfOk, IfSome, OnErr};
 ghost use Rattle.std.specs.Option.{option_map};
 ghost use Rattle.rs_update.specs.Message.{update_content_of};
 ghost use Rattle.rs_session.specs.Change.{GivesFirst, Lost, is_close};
-ghost use Rattle.rs_session.specs.UpdateChanges.{changes_of_update};
+ghost use Rattle.rs_session.specs.UpdateChanges.{changes_of_update, changes_of_treated};
 
 use crate::withdrawn::{keep_unicast, keep_withdrawn_only};
 use crate::word::{Body, Word};
@@ -80,6 +81,29 @@ impl Pending {
             withdrawn: withdrawn.into_iter(),
             announced: announced.into_iter(),
             attributes,
+        })
+    }
+
+    // The withdrawals that an UPDATE gives whose routes are all treated as withdrawn, with the time of its record.
+    pub(crate) fn of_treated(
+        alloc: Global,
+        time: u32,
+        withdrawn: Vec<Prefix>,
+        nlri: Vec<Prefix>,
+    ) -> Result<Pending, AllocError>
+        ensures { IfOk result (λ changes. changes ≡ changes_of_treated time (record { withdrawn = withdrawn.items; nlri = nlri.items })) }
+    {
+        let mut treated = withdrawn;
+        let mut announced = nlri;
+        keep_withdrawn_only(alloc, &mut treated, &announced)?;
+        keep_unicast(&mut announced);
+        treated.extend_from_slice(&announced)?;
+        Ok(Pending {
+            time,
+            lost: false,
+            withdrawn: treated.into_iter(),
+            announced: Vec::new(alloc).into_iter(),
+            attributes: None,
         })
     }
 

@@ -5,6 +5,7 @@
 
 ghost use Rattle.std.specs.Prelude.{◌≡◌, ◌+◌, ◌<◌, ◌≤◌, ℕ, Bool, true, false, List, [], None, Option, Result, OnErr, IfOk, IfSome, IfNone, is_none};
 ghost use Rattle.rs_mrt.specs.declared.fault.SourceFault.{SourceFault};
+ghost use Rattle.rs_update.specs.declared.errors.Errors.TheVariants.{Rfc4271};
 ghost use Rattle.rs_mrt.specs.Record.{reading_of};
 ghost use Rattle.rs_mrt.specs.Source.{CountsFailure};
 ghost use Rattle.rs_session.specs.FileChanges.{changes_in, passed_in};
@@ -19,6 +20,7 @@ use crate::peer::PeerId;
 use crate::pending::Pending;
 use crate::word::{Body, Reason, Word};
 use rs_mrt::{Records, Source, SourceFault};
+use rs_update::Errors;
 use std::alloc::{AllocError, Global};
 use std::marker::Model;
 
@@ -28,6 +30,8 @@ pub struct Session<S: Source> {
     alloc: Global,
     source: S,
     peer: PeerId,
+    // How faults in messages are handled.
+    errors: Errors,
     // The changes that the last record gave and that haven't been given yet.
     waiting: Pending,
     // Whether the record that the source shows is still to be read.
@@ -49,6 +53,7 @@ impl<S: Source> Model for Session<S> {
     ghost view = { λ s. record {
       source = s.source;
       peer = s.peer;
+      errors = s.errors;
       waiting = s.waiting;
       held = s.held;
       closed = s.closed;
@@ -60,7 +65,7 @@ impl<S: Source> Model for Session<S> {
 }
 
 impl<'a> Session<Records<'a>> {
-    /// Begins at the first octet of a file. It takes no memory.
+    /// Begins at the first octet of a file, faults in messages being handled as RFC 4271 says. It takes no memory.
     pub fn new(alloc: Global, file: &'a [u8], peer: PeerId) -> Session<Records<'a>>
         // What may come is just what the file says of the peer.
         ensures says { SaysJust ⟦<Records<'a> as Source>⟧.comes ⟦<Records<'a> as Source>⟧.shows
@@ -73,14 +78,23 @@ impl<'a> Session<Records<'a>> {
 }
 
 impl<S: Source> Session<S> {
-    /// Begins at the next record of the source. It takes no memory.
+    /// Begins at the next record of the source, faults in messages being handled as RFC 4271 says. It takes no memory.
     pub fn over(alloc: Global, source: S, peer: PeerId) -> Session<S>
-        ensures { result ≡ fresh source peer }
+        ensures { result ≡ fresh source peer Rfc4271 }
+    {
+        Session::over_by(alloc, source, peer, Errors::Rfc4271)
+    }
+
+    /// Begins at the next record of the source, faults in messages being handled by one of the standards: by RFC 7606 many UPDATEs at fault
+    /// close nothing, and their routes are withdrawn. It takes no memory.
+    pub fn over_by(alloc: Global, source: S, peer: PeerId, errors: Errors) -> Session<S>
+        ensures { result ≡ fresh source peer errors }
     {
         Session {
             alloc,
             source,
             peer,
+            errors,
             waiting: Pending::none(alloc),
             held: false,
             closed: false,
@@ -192,7 +206,7 @@ impl<S: Source> Session<S> {
             return Ok(None);
         };
         let time = record.time;
-        let effect = read_record(self.alloc, self.peer, &record)?;
+        let effect = read_record(self.alloc, self.errors, self.peer, &record)?;
         self.held = false;
         match effect {
             Effect::PassesOver => {

@@ -6,13 +6,17 @@ mod messages;
 mod pieces;
 mod recorders;
 mod refusals;
+mod treated;
 mod updates;
 mod whole_files;
 
 use super::{A, B, C, D, KEEPALIVE, MARKER, UPDATE, octets};
-use rs_mrt::{BGP4MP, BGP4MP_ET, MESSAGE_AS4, STATE_CHANGE_AS4, write_header};
+use rs_mrt::{
+    BGP4MP, BGP4MP_ET, MESSAGE_AS4, MemoryReader, ReadLimits, RecordReader, Records,
+    STATE_CHANGE_AS4, Source, write_header,
+};
 use rs_session::*;
-use rs_update::Prefix;
+use rs_update::{Errors, Origin, Prefix};
 use std::alloc::{AllocError, Global};
 use std::process::Abort;
 use std::test::*;
@@ -74,17 +78,24 @@ fn file_of(alloc: Global, records: &[Recorded<'_>]) -> Result<Vec<u8>, AllocErro
     Ok(file)
 }
 
-// What a file says of the peer, and how many records are passed over.
-fn read(alloc: Global, file: &[u8]) -> Result<(Vec<Given>, u64), AllocError> {
-    let mut session = Session::new(alloc, file, PEER);
+// What a session says in its first thousand changes, and how many records are passed over.
+fn read_session<S: Source + Drop>(
+    alloc: Global,
+    mut session: Session<S>,
+) -> Result<(Vec<Given>, u64), AllocError> {
     let mut changes = Vec::new(alloc);
-    for _ in 0..=file.len() {
+    for _ in 0..1000 {
         match session.next_word()? {
             Some(word) => changes.push(seen(&word))?,
             None => break,
         }
     }
     Ok((changes, session.passed_over()))
+}
+
+// The same of a file that is at hand.
+fn read(alloc: Global, file: &[u8]) -> Result<(Vec<Given>, u64), AllocError> {
+    read_session(alloc, Session::new(alloc, file, PEER))
 }
 
 // That a file of these records says just these changes, and so many are passed over.

@@ -3,7 +3,7 @@ use Rattle.std.proofs.Common.{◌≡◌, refl, sym, ap, subst, [], ◌∙◌, ar
 use Rattle.rs_mrt.specs.Record.{Reading, records_of, end_of}
 use Rattle.rs_mrt.specs.Source.{source_end}
 use Rattle.rs_session.specs.Change.{Change, change_of}
-use Rattle.rs_session.specs.FileChanges.{changes_in, passed_in}
+use Rattle.rs_session.specs.FileChanges.{changes_in, passed_in, default_standard}
 use Rattle.rs_session.specs.Stage.{Stage, May}
 use Rattle.rs_table.specs.Content.{rib_of}
 use Rattle.rs_run.proofs.SessionLemmas.{comes, shows, to_come, to_come-given, to_come-none, reading-fresh, reading-given, reading-count, reading-whole, reading-end, open-before}
@@ -22,7 +22,7 @@ overflow_add-changes c =
     let first = to_come-given c.loop-session.session c.next_word.new.self c.in-Some.word says in
     let bound = reading-count (changes_in c.args.id c.args.file.now) (passed_in c.args.id c.args.file.now) c.loop-session.session (rib_of c.loop-session.tables c.args.peer) (record { changes = c.loop-session.changes; reason = c.loop-session.reason })
     (change_of c.in-Some.word) (to_come c.next_word.new.self) c.loop-session.invariant.reading first in
-    let octets = c.a_file_says_no_more_changes_than_octets.ensures c.args.id c.args.file.now in
+    let octets = c.a_file_says_no_more_changes_than_octets.ensures default_standard c.args.id c.args.file.now in
     omega (arith, bound, octets)
 
 pub apply-requires-clause-open : goal.apply-requires-clause-open
@@ -53,7 +53,7 @@ pub returns-clause-read : goal.returns-clause-read
 returns-clause-read c =
     let says = rw c.in_default.is at c.in_ok-word.ensures.says in
     reading-whole (changes_in c.args.id c.args.file.now) (passed_in c.args.id c.args.file.now) c.loop-session.session (rib_of c.loop-session.tables c.args.peer) (record { changes = c.loop-session.changes; reason = c.loop-session.reason })
-    c.loop-session.invariant.reading (to_come-none c.loop-session.session c.next_word.new.self says) (source_end (end_of c.args.file.now)) (c.a_session_closes_once.ensures c.args.id (records_of c.args.file.now) (source_end (end_of c.args.file.now)))
+    c.loop-session.invariant.reading (to_come-none c.loop-session.session c.next_word.new.self says) (source_end (end_of c.args.file.now)) (c.a_session_closes_once.ensures default_standard c.args.id (records_of c.args.file.now) (source_end (end_of c.args.file.now)))
 
 pub returns-clause-end : goal.returns-clause-end
 returns-clause-end c =

@@ -1,33 +1,15 @@
 //! What a session says over files that come in pieces, and where a read fails.
 
 use super::*;
-use rs_mrt::{MemoryReader, ReadLimits, RecordReader, Source};
 
-// What a source says of the peer, in so many changes at most, and how many records are passed over.
-fn read_source<S: Source + Drop>(
-    alloc: Global,
-    source: S,
-    most: usize,
-) -> Result<(Vec<Given>, u64), AllocError> {
-    let mut session = Session::over(alloc, source, PEER);
-    let mut changes = Vec::new(alloc);
-    for _ in 0..=most {
-        match session.next_word()? {
-            Some(word) => changes.push(seen(&word))?,
-            None => break,
-        }
-    }
-    Ok((changes, session.passed_over()))
-}
-
-// The same of a file that is read within the limits.
+// What a file says of the peer that is read within the limits, and how many records are passed over.
 fn read_pieces(
     alloc: Global,
     file: &[u8],
     limits: ReadLimits,
 ) -> Result<(Vec<Given>, u64), AllocError> {
     let source = RecordReader::new(MemoryReader::new(file, limits));
-    read_source(alloc, source, file.len())
+    read_session(alloc, Session::over(alloc, source, PEER))
 }
 
 const FIRST: Given = Given::Announce(100, 0xCB00_7100, 24);
