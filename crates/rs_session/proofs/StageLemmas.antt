@@ -1,20 +1,21 @@
 -- What a step leaves to come.
-use Rattle.std.proofs.Common.{◌≡◌, ℕ, Bool, true, false, List, [], ◌∷◌, ◌++◌, Option, Some, None, Result, Ok, Err, IfOk, OnErr, refl, sym, ◌∙◌, ap, arith, add-zero, length, length-append}
+use Rattle.std.proofs.Common.{◌≡◌, ℕ, ◌+◌, ◌≤◌, Bool, true, false, List, [], ◌∷◌, ◌++◌, Option, Some, None, Result, Ok, Err, IfOk, OnErr, refl, sym, ◌∙◌, ap, arith, add-zero, length, length-append}
 use Rattle.std.specs.Option.{option_to_list}
 use Rattle.std.specs.declared.alloc.AllocError.{AllocError}
-use Rattle.rs_mrt.specs.Record.{MrtRecord, reading_of, records_of, end_of}
+use Rattle.rs_mrt.specs.Record.{MrtRecord, reading_of, records_of, end_of, octets_of}
 use Rattle.rs_mrt.specs.Source.{Advances, IsLeft, SomethingComes, source_end}
 use Rattle.rs_mrt.specs.declared.fault.SourceFault.{SourceFault}
-use Rattle.rs_session.specs.Change.{Change, change_of}
+use Rattle.rs_session.specs.Change.{Change, change_of, is_close}
 use Rattle.rs_session.specs.Effect.{RecordEffect, PassesOver, Gives, Ends, effect_of}
 use Rattle.rs_session.specs.FileChanges.{changes_in_by, passed_in_by, changes_of, close_at}
-use Rattle.rs_session.specs.Stage.{Comes, Stage, MayRead, May, Keeps, KeepsBehind, IsOver, SaysJust, fresh, to_read, changes_left, passed_in_the_end}
+use Rattle.rs_session.specs.Stage.{Comes, Stage, MayRead, May, Keeps, KeepsBehind, IsOver, SaysJust, fresh, to_read, changes_left, passed_in_the_end, held_octets, most_changes, Fewer}
 use Rattle.rs_session.specs.Laws.{SomethingMayCome}
 use Rattle.rs_update.specs.declared.errors.Errors.{Errors}
 use Rattle.rs_session.specs.declared.peer.PeerId.{PeerId}
-use Rattle.rs_session.specs.Steps.{closed_by, Fetches, Applies, ReadsShown, Steps}
+use Rattle.rs_session.specs.Steps.{closed_by, GivesWaiting, Fetches, Applies, ReadsShown, Steps}
 use Rattle.rs_session.specs.declared.word.Reason.{Reason}
 use Rattle.rs_session.specs.declared.word.Word.{Word}
+use Rattle.rs_session.proofs.EffectLemmas.{IsFine, fine-effect}
 use Rattle.rs_session.proofs.LawLemmas.{changes_of-some}
 use Rattle.rs_session.proofs.FileChangesLemmas.{changes_of-nil, passed_of-nil, changes_of-passes, passed_of-passes, changes_of-gives, passed_of-gives, changes_of-ends, passed_of-ends}
 
@@ -168,6 +169,53 @@ module _ {S : Type 0} (comes : Comes S) (shows : S → Option MrtRecord) where
         passed_in_the_end stage records,
         record { records = records; end = some.1; may_read = record { later = some.0; come = some.2; read = refl }; left = refl; counted = refl },
       )
+
+-- ---- how many changes may come
+
+-- no more octets are held than the record is spelled with
+pub held_le : (held : Bool) (shown : Option MrtRecord) → held_octets held shown ≤ octets_of shown
+held_le false shown = omega arith
+held_le true None = omega arith
+held_le true (Some r) = omega arith
+
+module _ {S : Type 0} (room : S → ℕ) (shows : S → Option MrtRecord) where
+  fewer-applied : (old new : Stage S) (r : MrtRecord) (effect : RecordEffect) (given : Option Word) → old.waiting ≡ [] → old.held ≡ true → shows old.source ≡ Some r → IsFine (length r.body) effect → Applies r.time effect old given new → most_changes room shows new ≤ most_changes room shows old
+  fewer-applied old new r PassesOver None idle full shown fine h = rw h (omega arith)
+  fewer-applied old new r (Gives changes) None idle full shown fine h =
+      let few = fine.1 in
+      let body : held_octets old.held (shows old.source) ≡ length r.body = rw (full, shown) refl in
+      rw h (omega arith)
+  fewer-applied old new r (Ends reason) (Some word) idle full shown fine h = rw h.2 (omega arith)
+  fewer-applied old new r PassesOver (Some word) idle full shown fine h = absurd h
+  fewer-applied old new r (Gives changes) (Some word) idle full shown fine h = absurd h
+  fewer-applied old new r (Ends reason) None idle full shown fine h = absurd h
+
+  fewer-shown : (old new : Stage S) (shown : Option MrtRecord) (given : Option Word) → old.waiting ≡ [] → old.held ≡ true → shows old.source ≡ shown → ReadsShown shown old given new → most_changes room shows new ≤ most_changes room shows old
+  fewer-shown old new (Some r) given idle full shown h = fewer-applied old new r (effect_of old.errors old.peer r) given idle full shown (fine-effect old.errors old.peer r) h
+  fewer-shown old new None given idle full shown h = rw h.1 (omega arith)
+
+  -- a record that is read has no more changes than its body has octets
+  pub fewer-read : (old fetched new : Stage S) (result : Result (Option Word) AllocError) → old.waiting ≡ [] → fetched ≡ record old { source = fetched.source; held = true } → most_changes room shows fetched ≤ most_changes room shows old → IfOk result (λ given. ReadsShown (shows fetched.source) fetched given new) → OnErr result (new ≡ fetched) → most_changes room shows new ≤ most_changes room shows old
+  fewer-read old fetched new (Ok given) idle same less says refused =
+      let read = fewer-shown fetched new (shows fetched.source) given (ap (λ (stage : Stage S). stage.waiting) same ∙ idle) (ap (λ (stage : Stage S). stage.held) same) refl says in
+      omega (arith, read, less)
+  fewer-read old fetched new (Err e) idle same less says refused = rw refused less
+
+  -- closing gives none up
+  pub fewer-closed : (old fetched new : Stage S) → most_changes room shows fetched ≤ most_changes room shows old → new ≡ closed_by fetched → most_changes room shows new ≤ most_changes room shows old
+  fewer-closed old fetched new less closed = rw closed (omega (arith, less))
+
+  -- a change that waits is given
+  pub fewer-gives : (first old new : Stage S) (word : Word) → most_changes room shows old ≤ most_changes room shows first → GivesWaiting old (Some word) new → Fewer (most_changes room shows first) (most_changes room shows new) (Ok (Some word))
+  fewer-gives first old new word less given =
+      let one : length old.waiting ≡ length new.waiting + 1 = ap length given.0 ∙ omega arith in
+      let held : held_octets new.held (shows new.source) ≡ held_octets old.held (shows old.source) = ap (λ (stage : Stage S). held_octets stage.held (shows stage.source)) given.2 in
+      let left : room new.source ≡ room old.source = ap (λ (stage : Stage S). room stage.source) given.2 in
+      rw given.1 (omega (arith, less))
+
+  -- the close is given
+  pub fewer-closes : (first between new : Stage S) (word : Word) → most_changes room shows between ≤ most_changes room shows first → most_changes room shows new ≤ most_changes room shows between → is_close word.body ≡ true → Fewer (most_changes room shows first) (most_changes room shows new) (Ok (Some word))
+  fewer-closes first between new word less closed close = rw close (omega (arith, less, closed))
 
 -- just what a file says may come from its records
 pub says_just-file : (errors : Errors) (peer : PeerId) (file : List ℕ) → SaysJust (λ s later end. IsLeft s later end) (λ s. s.shown) (fresh (reading_of None file) peer errors) (changes_in_by errors peer file) (passed_in_by errors peer file)

@@ -1,5 +1,5 @@
 -- A session that is being read, over any source of records.
-use Rattle.std.specs.Prelude.{◌≡◌, ◌↔◌, ℕ, ◌+◌, Bool, true, false, List, [], ◌∷◌, ◌++◌, Option, Some, None, Result, Ok, Err, if◌then◌else◌}
+use Rattle.std.specs.Prelude.{◌≡◌, ◌↔◌, ℕ, ◌+◌, ◌≤◌, Bool, true, false, List, [], ◌∷◌, ◌++◌, length, Option, Some, None, Result, Ok, Err, if◌then◌else◌}
 use Rattle.std.specs.Option.{option_to_list}
 use Rattle.std.specs.declared.alloc.AllocError.{AllocError}
 use Rattle.rs_mrt.specs.Record.{MrtRecord}
@@ -90,6 +90,22 @@ abbrev pub Closes : Bool → Bool → Result (Option Word) AllocError → Type 0
 Closes before after (Ok (Some word)) = (before ≡ false) × (after ≡ is_close word.body)
 Closes before after (Ok None) = (before ≡ true) × (after ≡ true)
 Closes before after (Err refused) = (before ≡ false) × (after ≡ false)
+
+-- the octets of the body of the record that is held
+abbrev pub held_octets : Bool → Option MrtRecord → ℕ
+held_octets false shown = 0
+held_octets true None = 0
+held_octets true (Some r) = length r.body
+
+-- how many changes at most may still come before the close: those that wait, and one for each octet that spells the records to be read
+abbrev pub most_changes : {S : Type 0} → (S → ℕ) → (S → Option MrtRecord) → Stage S → ℕ
+most_changes room shows stage = length stage.waiting + held_octets stage.held (shows stage.source) + room stage.source
+
+-- each change but the close is one of these
+abbrev pub Fewer : ℕ → ℕ → Result (Option Word) AllocError → Type 0
+Fewer before after (Ok (Some word)) = after + (if is_close word.body then 0 else 1) ≤ before
+Fewer before after (Ok None) = after ≤ before
+Fewer before after (Err refused) = after ≤ before
 
 -- the answer of a source behind an answer of a session: a failed read behind the close that says so
 abbrev pub answer_behind : Result (Option Word) AllocError → Result Bool SourceFault

@@ -10,7 +10,7 @@ ghost use Rattle.rs_mrt.specs.Record.{reading_of};
 ghost use Rattle.rs_mrt.specs.Source.{CountsFailure};
 ghost use Rattle.rs_session.specs.FileChanges.{changes_in, passed_in};
 ghost use Rattle.rs_session.specs.Laws.{SomethingMayCome};
-ghost use Rattle.rs_session.specs.Stage.{fresh, May, Says, SaysJust, Closes, GoesOn, answer_behind};
+ghost use Rattle.rs_session.specs.Stage.{fresh, May, Says, SaysJust, Closes, Fewer, GoesOn, answer_behind, most_changes};
 ghost use Rattle.rs_session.specs.Change.{Change, closing_word};
 ghost use Rattle.rs_session.specs.Steps.{Fetches, GivesWaiting, ReadsShown, Steps, answer_of_fetch, closed_by};
 ghost use Rattle.rs_session.specs.Counts.{held_count};
@@ -108,6 +108,8 @@ impl<S: Source> Session<S> {
     pub fn next_word(&mut self) -> Result<Option<Word>, AllocError>
         ensures says { Says S.comes S.shows self.old self.new result }
         ensures closes { Closes self.old.closed self.new.closed result }
+        // A source of so many octets gives no more changes before the close.
+        ensures fewer { Fewer (most_changes S.room S.shows self.old) (most_changes S.room S.shows self.new) result }
         // A close for want of readable records comes only where a read failed, or where the source takes no more octets.
         ensures failures { CountsFailure (S.failures self.old.source) (S.failures self.new.source)
             (S.full self.new.source) (S.stopped self.old.source) (answer_behind result) }
@@ -164,6 +166,7 @@ impl<S: Source> Session<S> {
         ensures failures { CountsFailure (S.failures self.old.source) (S.failures self.new.source)
             (S.full self.new.source) (S.stopped self.old.source) (answer_behind result) }
         ensures goes_on { GoesOn (S.stopped self.old.source) (S.stopped self.new.source) result }
+        ensures fewer { most_changes S.room S.shows self.new ≤ most_changes S.room S.shows self.old }
     {
         if let Some(reason) = self.fetch() {
             return Ok(Some(self.close(0, reason)));
@@ -180,6 +183,7 @@ impl<S: Source> Session<S> {
             (S.full self.new.source) (S.stopped self.old.source) (answer_of_fetch result) }
         ensures goes_on { IfNone result ((last : Result Bool SourceFault) →
             S.stopped self.new.source ≡ Some last → S.stopped self.old.source ≡ Some last) }
+        ensures fewer { most_changes S.room S.shows self.new ≤ most_changes S.room S.shows self.old }
     {
         if self.held {
             return None;
