@@ -1,6 +1,7 @@
-//! Rings in one thread and between two.
+//! Rings in one thread and between two, and schedules.
 
 mod rings;
+mod schedules;
 mod threads;
 
 ghost use Rattle.std.specs.Prelude.{◌≡◌};

@@ -1,0 +1,383 @@
+//! Schedules in one thread, over recorded files: how far each peer comes, and the tables that are left.
+
+use rs_choice::{Exchange, Local, PeerSpec};
+use rs_floor::{Floor, FloorRefused, Turn, replay};
+use rs_update::Prefix;
+use std::alloc::Global;
+use std::process::Abort;
+use std::sync::Arc;
+use std::test::*;
+
+// The peers by their numbers.
+const A: usize = 0;
+
+const B: usize = 1;
+
+const C: usize = 2;
+
+const D: usize = 3;
+
+// A peer of an exchange by its name, AS number, address and identifier.
+type Peer<'a> = (&'a str, u32, u32, u32);
+
+const TWO: &[Peer<'static>] = &[
+    ("a", 64501, 0xC000_020B, 0xC000_020B),
+    ("b", 64502, 0xC000_020C, 0xC000_020C),
+];
+
+// Three peers that send, of which two are of one AS and the identifiers are 0.0.0.1, 0.0.0.9 and 0.0.0.5, and one that doesn't.
+const FOUR: &[Peer<'static>] = &[
+    ("a", 64501, 0xC000_020B, 1),
+    ("b", 64501, 0xC000_020C, 9),
+    ("c", 64502, 0xC000_020D, 5),
+    ("d", 64504, 0xC000_020E, 0xC000_020E),
+];
+
+const EIGHT: &[Peer<'static>] = &[
+    ("a", 64501, 0xC000_020B, 11),
+    ("b", 64501, 0xC000_020C, 2),
+    ("c", 64502, 0xC000_020D, 13),
+    ("d", 64502, 0xC000_020E, 4),
+    ("e", 64503, 0xC000_020F, 15),
+    ("f", 64504, 0xC000_0210, 6),
+    ("g", 64505, 0xC000_0211, 17),
+    ("h", 64505, 0xC000_0212, 8),
+];
+
+// The attributes of routes (RFC 4271, section 4.3): IGP, a path, NEXT_HOP 192.0.2.11, and a MED.
+const PATH_64501: &str = "4001010040020602010000FBF5400304C000020B";
+
+const PATH_64501_65010: &str = "4001010040020A02020000FBF50000FDF2400304C000020B";
+
+const PATH_64502_65010: &str = "4001010040020A02020000FBF60000FDF2400304C000020B";
+
+const MED_10: &str = "8004040000000A";
+
+const MED_5: &str = "80040400000005";
+
+// 203.0.113.0/24 and 198.51.100.0/24, spelled.
+const DOCUMENTATION: &str = "18CB0071";
+
+const OTHER: &str = "18C63364";
+
+// The exchange of AS 64500 at 192.0.2.1 with these peers.
+fn exchange(alloc: Global, rows: &[Peer]) -> Option<Arc<Exchange>> {
+    let mut peers = Vec::new(alloc);
+    for (name, asn, address, id) in rows {
+        let peer = PeerSpec {
+            name: String::from_str(alloc, name).ok()?,
+            asn: *asn,
+            address: *address,
+            id: *id,
+            preference: 100,
+            refuse_from: Vec::new(alloc),
+        };
+        peers.push(peer).ok()?;
+    }
+    let local = Local {
+        asn: 64500,
+        address: 0xC000_0201,
+        id: 0xC000_0201,
+        subnet: None,
+    };
+    Arc::new(alloc, Exchange::new(alloc, local, peers).ok()?).ok()
+}
+
+// The octets that hexadecimal digits spell.
+fn octets(alloc: Global, text: &str) -> Option<Vec<u8>> {
+    let mut octets = Vec::new(alloc);
+    let mut high = None;
+    for digit in text.chars().filter_map(|letter| letter.to_digit(16)) {
+        let digit = u8::try_from(digit).unwrap_or(0);
+        match high {
+            None => high = Some(digit),
+            Some(first) => {
+                octets.push((first & 15) << 4 | digit).ok()?;
+                high = None;
+            }
+        }
+    }
+    Some(octets)
+}
+
+// How many octets the texts spell, beside others.
+fn spelled(others: usize, texts: [&str; 3]) -> usize {
+    let digits = texts[0].len().saturating_add(texts[1].len());
+    others.saturating_add(digits.saturating_add(texts[2].len()) / 2)
+}
+
+// The record of an UPDATE of a peer, in digits (RFC 6396, section 4.4.3): what it withdraws, its attributes, and what it announces.
+fn update(alloc: Global, time: u32, peer: &Peer, texts: [&str; 3]) -> Option<String> {
+    let [withdrawn, attributes, nlri] = texts;
+    let (_, asn, address, _) = *peer;
+    let message = spelled(23, texts);
+    let record = spelled(43, texts);
+    let (first, second) = (withdrawn.len() / 2, attributes.len() / 2);
+    let marker = "FFFFFFFFFFFFFFFFFFFFFFFFFFFFFFFF";
+    let head = format!(in alloc;
+        "{time:08X}00100004{record:08X}{asn:08X}0000FBF400000001{address:08X}C0000201"
+    ).ok()?;
+    format!(in alloc;
+        "{head}{marker}{message:04X}02{first:04X}{withdrawn}{second:04X}{attributes}{nlri}"
+    ).ok()
+}
+
+// The octets of some records of a peer, at times from 100 on.
+fn file(alloc: Global, peer: &Peer, updates: &[[&str; 3]]) -> Option<Vec<u8>> {
+    let mut text = String::new(alloc);
+    let mut time = 100;
+    for texts in updates {
+        text.push_str(&update(alloc, time, peer, *texts)?).ok()?;
+        time = time.saturating_add(1);
+    }
+    octets(alloc, &text)
+}
+
+// The end of a schedule.
+fn run(
+    rt: &impl Abort,
+    alloc: Global,
+    plan: &Arc<Exchange>,
+    files: &[&[u8]],
+    capacity: usize,
+    turns: &[Turn],
+) -> Result<Floor, FloorRefused> {
+    let fit = files.iter().all(|file| file.len() < 1 << 50);
+    assert!(rt; fit);
+    assert!(rt; files.len() == plan.count());
+    replay(alloc, plan, files, capacity, turns)
+}
+
+// How many changes of a peer were sent, and how many received.
+fn counts(rt: &impl Abort, floor: &Floor, peer: usize) -> (u64, u64) {
+    assert!(rt; peer < floor.tables().count());
+    (floor.sent(peer), floor.received(peer))
+}
+
+// The rows of a client's table: the prefix, the peer that sent the route, and when.
+fn shown(alloc: Global, floor: &Floor, client: usize) -> Option<Vec<(Prefix, usize, u32)>> {
+    let mut shown = Vec::new(alloc);
+    for row in floor.tables().rows(client).ok()? {
+        shown
+            .push((row.prefix, row.route.peer, row.route.time))
+            .ok()?;
+    }
+    Some(shown)
+}
+
+#[test]
+fn a_ring_of_one_change_takes_turns(rt: HostRuntime) {
+    let alloc = rt.alloc();
+    let plan = exchange(alloc, TWO).expect(&rt, "an exchange");
+    let a = file(
+        alloc,
+        &TWO[A],
+        &[["", PATH_64501, DOCUMENTATION], ["", PATH_64501, OTHER]],
+    )
+    .expect(&rt, "a file");
+    let turns = [
+        Turn::Send(A),
+        Turn::Send(A),
+        Turn::Receive(A),
+        Turn::Receive(A),
+        Turn::Send(A),
+    ];
+    for (taken, wanted) in [
+        (0, (0, 0)),
+        (1, (1, 0)),
+        (2, (1, 0)),
+        (3, (1, 1)),
+        (4, (1, 1)),
+        (5, (2, 1)),
+    ] {
+        let floor = run(&rt, alloc, &plan, &[&a, &[]], 1, &turns[..taken]).expect(&rt, "a floor");
+        assert_eq!(rt; counts(&rt, &floor, A), wanted, "after {taken} turns");
+        assert_eq!(rt; counts(&rt, &floor, B), (0, 0));
+    }
+}
+
+#[test]
+fn changes_are_in_the_tables_once_they_are_received(rt: HostRuntime) {
+    let alloc = rt.alloc();
+    let plan = exchange(alloc, TWO).expect(&rt, "an exchange");
+    let a = file(alloc, &TWO[A], &[["", PATH_64501, DOCUMENTATION]]).expect(&rt, "a file");
+    let documentation = Prefix::new(0xCB00_7100, 24).expect(&rt, "a prefix");
+    let turns = [
+        Turn::Send(B),
+        Turn::Send(A),
+        Turn::Receive(A),
+        Turn::Send(A),
+        Turn::Send(A),
+        Turn::Send(9),
+        Turn::Receive(B),
+        Turn::Receive(A),
+    ];
+    for (taken, of_a, of_b, rows) in [
+        (1, (0, 0), (1, 0), 0),
+        (2, (1, 0), (1, 0), 0),
+        (3, (1, 1), (1, 0), 1),
+        (4, (2, 1), (1, 0), 1),
+        (5, (2, 1), (1, 0), 1),
+        (6, (2, 1), (1, 0), 1),
+        (7, (2, 1), (1, 1), 1),
+        (8, (2, 2), (1, 1), 1),
+    ] {
+        let floor = run(&rt, alloc, &plan, &[&a, &[]], 2, &turns[..taken]).expect(&rt, "a floor");
+        assert_eq!(rt; counts(&rt, &floor, A), of_a, "after {taken} turns");
+        assert_eq!(rt; counts(&rt, &floor, B), of_b, "after {taken} turns");
+        let b = shown(alloc, &floor, B).expect(&rt, "rows");
+        assert_eq!(rt; b.len(), rows, "after {taken} turns");
+        assert!(rt; b.iter().all(|row| *row == (documentation, A, 100)));
+        assert_eq!(rt; shown(alloc, &floor, A).expect(&rt, "rows").len(), 0);
+        assert_eq!(rt; floor.tables().is_closed(A), taken == 8);
+    }
+}
+
+// The files of four peers: by steps 1 to 3 all routes are alike, MED decides between the first two, and the identifier between the last.
+fn three_routes(alloc: Global) -> Option<Vec<Vec<u8>>> {
+    let with_10 = format!(in alloc; "{PATH_64501_65010}{MED_10}").ok()?;
+    let with_5 = format!(in alloc; "{PATH_64501_65010}{MED_5}").ok()?;
+    let mut files = Vec::new(alloc);
+    files
+        .push(file(alloc, &FOUR[A], &[["", &with_10, DOCUMENTATION]])?)
+        .ok()?;
+    let of_b = [["", &with_5, DOCUMENTATION], [DOCUMENTATION, "", ""]];
+    files.push(file(alloc, &FOUR[B], &of_b)?).ok()?;
+    files
+        .push(file(alloc, &FOUR[C], &[["", PATH_64502_65010, DOCUMENTATION]])?)
+        .ok()?;
+    files.push(file(alloc, &FOUR[D], &[])?).ok()?;
+    Some(files)
+}
+
+// The octets of files.
+fn slices<'a>(alloc: Global, files: &'a [Vec<u8>]) -> Option<Vec<&'a [u8]>> {
+    let mut slices: Vec<&[u8]> = Vec::new(alloc);
+    for file in files {
+        slices.push(file).ok()?;
+    }
+    Some(slices)
+}
+
+#[test]
+fn the_order_of_arrival_does_not_decide(rt: HostRuntime) {
+    let alloc = rt.alloc();
+    let plan = exchange(alloc, FOUR).expect(&rt, "an exchange");
+    let files = three_routes(alloc).expect(&rt, "files");
+    let slices = slices(alloc, &files).expect(&rt, "slices");
+    for [first, second, third] in [
+        [A, B, C],
+        [A, C, B],
+        [B, A, C],
+        [B, C, A],
+        [C, A, B],
+        [C, B, A],
+    ] {
+        let turns = [
+            Turn::Send(first),
+            Turn::Send(second),
+            Turn::Send(third),
+            Turn::Receive(first),
+            Turn::Receive(second),
+            Turn::Receive(third),
+            Turn::Send(B),
+            Turn::Receive(B),
+        ];
+        for (taken, winner) in [(6, C), (8, A)] {
+            let floor = run(&rt, alloc, &plan, &slices, 4, &turns[..taken]).expect(&rt, "a floor");
+            let rows = shown(alloc, &floor, D).expect(&rt, "rows");
+            assert_eq!(rt;
+                rows.first().map(|row| row.1),
+                Some(winner),
+                "{first} {second} {third}, {taken} turns"
+            );
+        }
+    }
+}
+
+#[test]
+fn a_capacity_out_of_range_is_refused(rt: HostRuntime) {
+    let alloc = rt.alloc();
+    let plan = exchange(alloc, TWO).expect(&rt, "an exchange");
+    for (capacity, refused) in [(0, true), (1, false), (65_536, false), (65_537, true)] {
+        let answer = run(&rt, alloc, &plan, &[&[], &[]], capacity, &[]).err();
+        assert_eq!(rt;
+            answer == Some(FloorRefused::Capacity),
+            refused,
+            "at {capacity}"
+        );
+    }
+}
+
+// The announcements and withdrawals of a peer: a dozen, of seven prefixes.
+fn dozen(alloc: Global, peer: usize) -> Option<Vec<u8>> {
+    let mut text = String::new(alloc);
+    for step in 0..12usize {
+        let number = peer.wrapping_mul(5).wrapping_add(step.wrapping_mul(3)) % 7;
+        let med = peer.wrapping_add(step) % 3;
+        let prefix = format!(in alloc; "100A{number:02X}").ok()?;
+        let attributes = format!(in alloc; "{PATH_64501_65010}800404{med:08X}").ok()?;
+        let texts = if step % 5 == 4 {
+            [prefix.as_str(), "", ""]
+        } else {
+            ["", &attributes, &prefix]
+        };
+        let time = u32::try_from(step).unwrap_or(0);
+        text.push_str(&update(alloc, time, EIGHT.get(peer)?, texts)?)
+            .ok()?;
+    }
+    octets(alloc, &text)
+}
+
+// A schedule of turns that look random, of nine peers (multiplicative, modulo 2^32).
+fn random_turns(alloc: Global, count: usize) -> Option<Vec<Turn>> {
+    let mut turns = Vec::new(alloc);
+    let mut state = 5u32;
+    for _ in 0..count {
+        state = state.wrapping_mul(1_664_525).wrapping_add(1_013_904_223);
+        let peer = usize::try_from(state >> 20).unwrap_or(0) % 9;
+        let turn = if state >> 16 & 1 == 0 {
+            Turn::Send(peer)
+        } else {
+            Turn::Receive(peer)
+        };
+        turns.push(turn).ok()?;
+    }
+    Some(turns)
+}
+
+// A schedule that takes one peer after another.
+fn turns_by_peer(alloc: Global) -> Option<Vec<Turn>> {
+    let mut turns = Vec::new(alloc);
+    for peer in 0..8 {
+        for _ in 0..13 {
+            turns.push(Turn::Send(peer)).ok()?;
+            turns.push(Turn::Receive(peer)).ok()?;
+        }
+    }
+    Some(turns)
+}
+
+#[test]
+fn drained_schedules_leave_the_same_tables(rt: HostRuntime) {
+    let alloc = rt.alloc();
+    let plan = exchange(alloc, EIGHT).expect(&rt, "an exchange");
+    let mut files = Vec::new(alloc);
+    for peer in 0..8 {
+        files
+            .push(dozen(alloc, peer).expect(&rt, "a file"))
+            .expect(&rt, "memory");
+    }
+    let slices = slices(alloc, &files).expect(&rt, "slices");
+    let random = random_turns(alloc, 10_000).expect(&rt, "turns");
+    let ordered = turns_by_peer(alloc).expect(&rt, "turns");
+    let one = run(&rt, alloc, &plan, &slices, 3, &random).expect(&rt, "a floor");
+    let other = run(&rt, alloc, &plan, &slices, 1, &ordered).expect(&rt, "a floor");
+    for peer in 0..8 {
+        assert_eq!(rt; counts(&rt, &one, peer), (13, 13));
+        assert_eq!(rt; counts(&rt, &other, peer), (13, 13));
+        let rows = shown(alloc, &one, peer).expect(&rt, "rows");
+        assert!(rt; rows.len() > 3);
+        assert_eq!(rt; Some(rows), shown(alloc, &other, peer), "of client {peer}");
+    }
+}

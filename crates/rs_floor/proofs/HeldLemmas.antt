@@ -1,0 +1,85 @@
+-- What tables hold beside the lanes.
+use Rattle.std.proofs.Common.{◌≡◌, ◌≢◌, ◌∙◌, sym, ap, refl, ℕ, ◌+◌, suc, zero, inl, inr, Bool, true, false, List, [], ◌∷◌, ◌++◌, take, Some, Result, Ok, Err}
+use Rattle.std.proofs.Math.Numerals.{add-one}
+use Rattle.std.specs.Prelude.{slice_get, slice_set, ◌||◌, OnOk}
+use Rattle.std.specs.List.{list_any}
+use Rattle.std.specs.FinMap.{empty}
+use Rattle.std.proofs.lemmas.Bool.Decides.{eqb_tells}
+use Rattle.rs_session.specs.Change.{Change}
+use Rattle.rs_table.specs.Content.{TablesContent, RibContent, rib_of, nothing_held}
+use Rattle.rs_table.specs.Left.{Routes, BecomeBy, left, is_close}
+use Rattle.rs_floor.specs.Lane.{LaneContent, received_of, rib_left}
+use Rattle.rs_floor.specs.Schedule.{after_receive}
+use Rattle.rs_floor.proofs.ListLemmas.{get-set_same, get-set_other, get-within}
+use Rattle.rs_floor.specs.Steps.{HoldReceived}
+
+pub left-nothing : left [] ≡ empty
+unfolding left
+left-nothing = refl
+
+-- nothing was received yet
+pub rib_left-nothing : rib_left [] ≡ nothing_held
+rib_left-nothing = ap (λ (routes : Routes). let held : RibContent = record { routes = routes; closed = false } in held) left-nothing
+
+any-one_more : {X : Type 0} (p : X → Bool) (xs : List X) (x : X) → list_any p xs ≡ false → list_any p (xs ++ x ∷ []) ≡ p x
+any-one_more p [] x none = or-false (p x)
+  where
+    or-false : (b : Bool) → (b || false) ≡ b
+    or-false true = refl
+    or-false false = refl
+any-one_more p (y ∷ ys) x none = skip (p y) (list_any p ys) (list_any p (ys ++ x ∷ [])) (p x) none (any-one_more p ys x)
+  where
+    skip : (b rest whole one : Bool) → (b || rest) ≡ false → (rest ≡ false → whole ≡ one) → (b || whole) ≡ one
+    skip true rest whole one none h = absurd cc
+    skip false rest whole one none h = h none
+
+-- the tables took one change more
+pub rib_left-more : (changes : List Change) (change : Change) (before after : RibContent) → before ≡ rib_left changes → list_any is_close changes ≡ false → BecomeBy before.routes change after.routes → after.closed ≡ is_close change
+    → after ≡ rib_left (changes ++ change ∷ [])
+rib_left-more changes change before after held unclosed become closed =
+    let routes : after.routes ≡ left (changes ++ change ∷ []) = sym (become changes unclosed (sym (ap (λ (rib : RibContent). rib.routes) held))) in
+    let closes : after.closed ≡ list_any is_close (changes ++ change ∷ []) = closed ∙ sym (any-one_more is_close changes change unclosed) in
+    ap (λ (rs : Routes). let rib : RibContent = record { routes = rs; closed = after.closed } in rib) routes
+    ∙ ap (λ (b : Bool). let rib : RibContent = record { routes = left (changes ++ change ∷ []); closed = b } in rib) closes
+
+-- one change more of a list
+take-suc : {X : Type 0} (xs : List X) (at : ℕ) (x : X) → slice_get xs at ≡ Some x → take (suc at) xs ≡ take at xs ++ x ∷ []
+take-suc [] at x e = absurd cc
+take-suc (y ∷ ys) zero x e = let found : y ≡ x = cc in ap (λ z. z ∷ []) found
+take-suc (y ∷ ys) (suc at) x e = ap (λ zs. y ∷ zs) (take-suc ys at x e)
+
+pub take-more : {X : Type 0} (xs : List X) (at : ℕ) (x : X) → slice_get xs at ≡ Some x → take (at + 1) xs ≡ take at xs ++ x ∷ []
+take-more xs at x e = rw add-one (take-suc xs at x e)
+
+-- what holds anyway holds where the answer is Ok
+pub ok-anyway : {A E : Type 0} (result : Result A E) (Q : Type 0) → Q → OnOk result Q
+ok-anyway (Ok value) Q q = q
+ok-anyway (Err fault) Q q = tt
+
+pub ok-both : {A E : Type 0} (result : Result A E) (P R Q : Type 0) → OnOk result P → OnOk result R → (P → R → Q) → OnOk result Q
+ok-both (Ok value) P R Q p r h = h p r
+ok-both (Err fault) P R Q p r h = tt
+
+-- a change was received from one lane, and the tables took it
+pub held-after : (lanes : List LaneContent) (before after : TablesContent) (at : ℕ) (lane new : LaneContent) (change : Change) → HoldReceived before lanes → slice_get lanes at ≡ Some lane
+    → new ≡ record lane { counts = after_receive lane.counts } → new.counts.received ≡ lane.counts.received + 1 → slice_get lane.said lane.counts.received ≡ Some change → list_any is_close (received_of lane) ≡ false
+    → ((other : ℕ) → other ≢ at → rib_of after other ≡ rib_of before other) → BecomeBy (rib_of before at).routes change (rib_of after at).routes → (rib_of after at).closed ≡ is_close change
+    → HoldReceived after (slice_set lanes at new)
+held-after lanes before after at lane new change held found new_is one_more given unclosed others become closed other one e =
+    elim (eqb_tells other at) [ inl told ↦ here told.1 | inr told ↦ others other told.1 ∙ held other one (sym (get-set_other lanes at new other told.1) ∙ e) ]
+  where
+    said_same : new.said ≡ lane.said
+    said_same = ap (λ (l : LaneContent). l.said) new_is
+
+    more : received_of new ≡ received_of lane ++ change ∷ []
+    more = ap (λ (n : ℕ). take n new.said) one_more ∙ ap (λ (cs : List Change). take (lane.counts.received + 1) cs) said_same ∙ take-more lane.said lane.counts.received change given
+
+    rib : rib_of after at ≡ rib_left (received_of new)
+    rib = rib_left-more (received_of lane) change (rib_of before at) (rib_of after at) (held at lane found) unclosed become closed ∙ ap rib_left (sym more)
+
+    here : other ≡ at → rib_of after other ≡ rib_left (received_of one)
+    here same =
+        let set : slice_get (slice_set lanes at new) at ≡ Some new = get-set_same lanes at new (get-within lanes at lane found) in
+        let there : slice_get (slice_set lanes at new) at ≡ Some one = ap (λ (n : ℕ). slice_get (slice_set lanes at new) n) (sym same) ∙ e in
+        let one_is : new ≡ one = cc in
+        ap (λ (n : ℕ). rib_of after n) same ∙ rib ∙ ap (λ (l : LaneContent). rib_left (received_of l)) one_is

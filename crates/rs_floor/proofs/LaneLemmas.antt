@@ -1,0 +1,122 @@
+-- One peer's changes on their way through its ring.
+use Rattle.std.proofs.Common.{◌≡◌, ◌∙◌, sym, ap, refl, ℕ, ◌+◌, ◌-◌, ◌<◌, ◌≤◌, suc, arith, Bool, true, false, List, [], ◌∷◌, ◌++◌, length, take, Option, Some, append_assoc, length-append}
+use Rattle.std.specs.Prelude.{slice_get, ◌&&◌, nat_lt, if◌then◌else◌}
+use Rattle.std.specs.List.{list_any}
+use Rattle.std.proofs.lemmas.Bool.{le-ltb, lt-ltb}
+use Rattle.std.proofs.lemmas.List.{length-map, map-append, take-append-le}
+use Rattle.std.proofs.Math.Seq.{take-append_seam}
+use Rattle.rs_mrt.specs.declared.fault.SourceFault.{SourceFault}
+use Rattle.rs_session.specs.Change.{Change, ChangeBody, Announced, Withdrawn, Lost, Closed, change_of, body_of}
+use Rattle.rs_session.specs.Change as session
+use Rattle.rs_session.specs.FileChanges.{close_at}
+use Rattle.rs_session.specs.Laws as laws
+use Rattle.rs_session.specs.declared.word.Body.{Body}
+use Rattle.rs_session.specs.declared.word.Body.TheVariants.{Announce, Withdraw, Down, Close}
+use Rattle.rs_session.specs.declared.word.Word.{Word}
+use Rattle.rs_table.specs.Left as table
+use Rattle.rs_floor.specs.Lane.{NoneClosesBefore, sent_changes}
+use Rattle.rs_floor.specs.Schedule.{after_send, after_receive}
+use Rattle.rs_floor.specs.declared.counts.Counts.{Counts}
+use Rattle.rs_floor.proofs.ListLemmas.{none-take, get-append_seam}
+
+-- ---- which changes close
+
+same_body : (body : Body) → session.is_close body ≡ table.body_closes (body_of body)
+same_body (Announce prefix attributes) = refl
+same_body (Withdraw prefix) = refl
+same_body Down = refl
+same_body (Close reason) = refl
+
+same_change : (body : ChangeBody) → table.body_closes body ≡ laws.is_closing body
+same_change (Announced prefix attributes) = refl
+same_change (Withdrawn prefix) = refl
+same_change Lost = refl
+same_change (Closed reason) = refl
+
+-- a word closes where its change does
+pub closes-words : (words : List Word) → list_any (λ word. session.is_close word.body) words ≡ list_any table.is_close (sent_changes words)
+closes-words [] = refl
+closes-words (word ∷ words) = rw (same_body word.body, closes-words words) refl
+
+closes-changes : (changes : List Change) → list_any table.is_close changes ≡ laws.has_close changes
+closes-changes [] = refl
+closes-changes (change ∷ changes) = rw (same_change change.body, closes-changes changes) refl
+
+-- a session that closes once, as the last change, closes nowhere before
+pub none-before : (end : Option SourceFault) (said : List Change) → laws.ClosesLast end said → NoneClosesBefore said
+none-before end said last = rw last.splits (λ n below. rw (take-append-le n last.before (close_at last.time last.reason ∷ []) (omega (arith, below, length-append last.before (close_at last.time last.reason ∷ [])))) (none-take table.is_close n last.before (closes-changes last.before ∙ last.none_before)))
+
+-- ---- counts
+
+neither : {X : Type 0} (a b : Bool) (x y : X) → b ≡ false → (if a && b then x else y) ≡ y
+neither true true x y e = absurd cc
+neither true false x y e = refl
+neither false b x y e = refl
+
+not_first : {X : Type 0} (a b : Bool) (x y : X) → a ≡ false → (if a && b then x else y) ≡ y
+not_first true b x y e = absurd cc
+not_first false b x y e = refl
+
+both : {X : Type 0} (a b : Bool) (x y : X) → a ≡ true → b ≡ true → (if a && b then x else y) ≡ x
+both true true x y e f = refl
+both true false x y e f = absurd cc
+both false b x y e f = absurd cc
+
+one : {X : Type 0} (a : Bool) (x y : X) → a ≡ true → (if a then x else y) ≡ x
+one true x y e = refl
+one false x y e = absurd cc
+
+other : {X : Type 0} (a : Bool) (x y : X) → a ≡ false → (if a then x else y) ≡ y
+other true x y e = absurd cc
+other false x y e = refl
+
+pub send-full : (capacity total : ℕ) (counts : Counts) → capacity ≤ counts.sent - counts.received → after_send capacity total counts ≡ counts
+send-full capacity total counts full = neither (nat_lt counts.sent total) (nat_lt (counts.sent - counts.received) capacity) (record counts { sent = counts.sent + 1 }) counts (le-ltb (counts.sent - counts.received) capacity full)
+
+pub send-none_left : (capacity total : ℕ) (counts : Counts) → total ≤ counts.sent → after_send capacity total counts ≡ counts
+send-none_left capacity total counts all = not_first (nat_lt counts.sent total) (nat_lt (counts.sent - counts.received) capacity) (record counts { sent = counts.sent + 1 }) counts (le-ltb counts.sent total all)
+
+pub send-one : (capacity total : ℕ) (counts : Counts) → counts.sent < total → counts.sent - counts.received < capacity → after_send capacity total counts ≡ record counts { sent = counts.sent + 1 }
+send-one capacity total counts some room = both (nat_lt counts.sent total) (nat_lt (counts.sent - counts.received) capacity) (record counts { sent = counts.sent + 1 }) counts (lt-ltb counts.sent total some) (lt-ltb (counts.sent - counts.received) capacity room)
+
+pub receive-none : (counts : Counts) → counts.sent ≤ counts.received → after_receive counts ≡ counts
+receive-none counts none = other (nat_lt counts.received counts.sent) (record counts { received = counts.received + 1 }) counts (le-ltb counts.received counts.sent none)
+
+pub receive-one : (counts : Counts) → counts.received < counts.sent → after_receive counts ≡ record counts { received = counts.received + 1 }
+receive-one counts some = one (nat_lt counts.received counts.sent) (record counts { received = counts.received + 1 }) counts (lt-ltb counts.received counts.sent some)
+
+-- ---- a send
+
+-- what is said stays the same where the first change to come is sent
+pub said-sent : (sent : List Word) (word : Word) (before after : List Change) → before ≡ change_of word ∷ after → sent_changes (sent ++ word ∷ []) ++ after ≡ sent_changes sent ++ before
+said-sent sent word before after first =
+    rw (map-append change_of sent (word ∷ []), append_assoc (sent_changes sent) (change_of word ∷ []) after, first) refl
+
+-- nothing closed while a change is to come
+pub open-sent : (sent : List Word) (to_come : List Change) (first : Change) (later : List Change) → NoneClosesBefore (sent_changes sent ++ to_come) → to_come ≡ first ∷ later → list_any (λ word. session.is_close word.body) sent ≡ false
+open-sent sent to_come first later none some =
+    let counted : length (sent_changes sent) ≡ length sent = length-map sent change_of in
+    let more : length to_come ≡ suc (length later) = ap (λ (cs : List Change). length cs) some in
+    closes-words sent ∙ sym (ap (λ (cs : List Change). list_any table.is_close cs) (take-append_seam (sent_changes sent) to_come)) ∙ none (length (sent_changes sent)) (omega (arith, more, length-append (sent_changes sent) to_come))
+
+-- ---- a receipt
+
+-- the change at the place of a word that waits
+pub said-waiting : (sent received : List Word) (word : Word) (later : List Word) (to_come : List Change) → received ++ word ∷ later ≡ sent → slice_get (sent_changes sent ++ to_come) (length received) ≡ Some (change_of word)
+said-waiting sent received word later to_come all =
+    let counted : length (sent_changes received) ≡ length received = length-map received change_of in
+    let spelled : sent_changes sent ≡ sent_changes received ++ change_of word ∷ sent_changes later = sym (ap (λ (ws : List Word). sent_changes ws) all) ∙ map-append change_of received (word ∷ later) in
+    rw (spelled, append_assoc (sent_changes received) (change_of word ∷ sent_changes later) to_come, ← counted) (get-append_seam (sent_changes received) (sent_changes later ++ to_come) (change_of word))
+
+-- a beginning of what was sent, with one more
+pub beginning-more : (sent received : List Word) (word : Word) (later : List Word) → received ++ word ∷ later ≡ sent → take (length (received ++ word ∷ [])) sent ≡ received ++ word ∷ []
+beginning-more sent received word later all =
+    let regrouped : (received ++ word ∷ []) ++ later ≡ sent = append_assoc received (word ∷ []) later ∙ all in
+    rw (← regrouped) (take-append_seam (received ++ word ∷ []) later)
+
+-- before a word that waits nothing closed
+pub open-received : (sent received : List Word) (word : Word) (later : List Word) (to_come : List Change) → NoneClosesBefore (sent_changes sent ++ to_come) → received ++ word ∷ later ≡ sent → list_any table.is_close (take (length received) (sent_changes sent ++ to_come)) ≡ false
+open-received sent received word later to_come none all =
+    let counted : length (sent_changes sent) ≡ length sent = length-map sent change_of in
+    let whole : length sent ≡ length received + suc (length later) = sym (ap (λ (ws : List Word). length ws) all) ∙ length-append received (word ∷ later) in
+    none (length received) (omega (arith, length-append (sent_changes sent) to_come))

@@ -1,0 +1,52 @@
+-- One peer: its session and its ring.
+use Rattle.std.specs.Prelude.{◌≡◌, ◌<◌, ℕ, false, List, length, map, take}
+use Rattle.std.specs.List.{list_any}
+use Rattle.rs_mrt.specs.Record.{Reading}
+use Rattle.rs_mrt.specs.Source.{source_end}
+use Rattle.rs_session.specs.Change.{Change, change_of}
+use Rattle.rs_session.specs.FileChanges.{changes_in}
+use Rattle.rs_session.specs.Stage.{Stage, to_read, changes_left}
+use Rattle.rs_session.specs.declared.peer.PeerId.{PeerId}
+use Rattle.rs_session.specs.declared.word.Word.{Word}
+use Rattle.rs_table.specs.Content.{RibContent}
+use Rattle.rs_table.specs.Left.{is_close, left}
+use Rattle.rs_floor.specs.Schedule.{at_start, after_turn, after_turns}
+use Rattle.rs_floor.specs.declared.counts.Counts.{Counts}
+use Rattle.rs_floor.specs.declared.turn.Turn.{Turn}
+
+-- all changes that the peer's file says, the capacity of its ring, and how far the peer has come
+pub record LaneContent : Type 0 where
+  pub said : List Change
+  pub capacity : ℕ
+  pub counts : Counts
+
+-- the changes of a file in memory that its session hasn't given yet
+abbrev pub to_come : Stage Reading → List Change
+to_come stage = changes_left stage (to_read stage.held stage.source.shown stage.source.left) (source_end stage.source.end)
+
+-- the changes that were sent
+abbrev pub sent_changes : List Word → List Change
+sent_changes words = map change_of words
+
+-- none closes before the last one
+abbrev pub NoneClosesBefore : List Change → Type 0
+NoneClosesBefore said = (n : ℕ) → n < length said → list_any is_close (take n said) ≡ false
+
+-- before the first turn
+abbrev pub fresh_lane : ℕ → PeerId → List ℕ → LaneContent
+fresh_lane capacity peer file = record { said = changes_in peer file; capacity = capacity; counts = at_start }
+
+-- after a turn, and after several
+abbrev pub lane_after : ℕ → LaneContent → Turn → LaneContent
+lane_after peer lane turn = record lane { counts = after_turn lane.capacity (length lane.said) peer lane.counts turn }
+
+abbrev pub lane_through : List Turn → ℕ → LaneContent → LaneContent
+lane_through turns peer lane = record lane { counts = after_turns lane.capacity (length lane.said) peer lane.counts turns }
+
+-- the changes that were received
+abbrev pub received_of : LaneContent → List Change
+received_of lane = take lane.counts.received lane.said
+
+-- what tables hold of a peer of which they took these changes
+abbrev pub rib_left : List Change → RibContent
+rib_left changes = record { routes = left changes; closed = list_any is_close changes }

@@ -1,0 +1,13 @@
+pub use Rattle.rs_table.specs.Content
+pub use Rattle.rs_table.specs.Left
+pub use Rattle.rs_table.specs.Table
+pub use Rattle.rs_ring.specs.Items
+pub use Rattle.rs_session.specs.Change
+pub use Rattle.rs_session.specs.FileChanges
+pub use Rattle.rs_choice.specs.Plan
+pub mod FloorContent
+pub mod Lane
+pub mod LaneView
+pub mod Laws
+pub mod Schedule
+pub mod Steps

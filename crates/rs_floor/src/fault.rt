@@ -1,0 +1,26 @@
+//! Why a run has no tables.
+
+ghost use Rattle.std.specs.Prelude.{◌≡◌};
+ghost use Rattle.rs_floor.specs.declared.fault.FloorRefused.TheVariants.{Memory};
+
+use std::alloc::AllocError;
+use thiserror::Error;
+
+/// Why a run is refused. Then there are no tables.
+#[derive(Debug, Drop, Error, PartialEq, Eq, Clone, Copy)]
+pub enum FloorRefused {
+    /// Memory is refused.
+    #[error("out of memory")]
+    Memory,
+    /// The capacity of the rings isn't from 1 to 65,536.
+    #[error("ring capacity not from 1 to 65536")]
+    Capacity,
+}
+
+impl From<AllocError> for FloorRefused {
+    ghost from_gives = { λ _ fault. fault ≡ Memory };
+
+    fn from(_refused: AllocError) -> FloorRefused {
+        FloorRefused::Memory
+    }
+}
