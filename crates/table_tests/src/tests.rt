@@ -5,6 +5,7 @@ mod decisions;
 mod dumps;
 mod eligible_routes;
 mod listings;
+mod merged_parts;
 mod random_changes;
 mod refusals;
 mod slow_reading;

@@ -1,0 +1,81 @@
+//! Tables in parts by prefix, and the parts made one: every client gets what it gets of tables that took all changes.
+
+ghost use Rattle.std.specs.Prelude.{IfSome};
+ghost use Rattle.table_tests.specs.Parts.{IsOnLength};
+
+use super::*;
+use slow_reading::History;
+
+// Which peer announces which route on the prefix of 10.0.0.0 that has this length.
+const ROUTES: [(usize, u8, &str); 3] = [(A, 8, VIA_64501), (C, 16, VIA_64503), (B, 24, VIA_64502)];
+
+// Tables of one route, on a prefix of this length.
+fn part(alloc: Global, plan: &Arc<Exchange>, peer: usize, len: u8, route: &str) -> Option<Tables>
+    ensures { IfSome result (IsOnLength plan.now.value len) }
+{
+    let Ok(plan) = plan.clone() else {
+        return None;
+    };
+    let Ok(mut tables) = Tables::new(alloc, plan) else {
+        return None;
+    };
+    let prefix = Prefix::new(0x0A00_0000, len)?;
+    let route = attributes(alloc, route)?;
+    if peer >= tables.count() || prefix.len() != len {
+        return None;
+    }
+    let body = Body::Announce(prefix, route);
+    let Ok(()) = tables.apply(peer, Word { time: 100, body }) else {
+        return None;
+    };
+    Some(tables)
+}
+
+// The parts of those routes, made one.
+fn merged(alloc: Global, plan: &Arc<Exchange>) -> Option<Tables> {
+    let first = part(alloc, plan, A, 8, VIA_64501)?;
+    let second = part(alloc, plan, C, 16, VIA_64503)?;
+    let third = part(alloc, plan, B, 24, VIA_64502)?;
+    let Ok(parts) = vec![in alloc; first, second, third] else {
+        return None;
+    };
+    Tables::merge(parts).ok()
+}
+
+// What tables give every client that took all of those routes.
+fn whole(alloc: Global, plan: &Arc<Exchange>) -> Option<Vec<Vec<Shown>>> {
+    let mut history = History::new(alloc, plan.clone().ok()?);
+    let mut prefixes = Vec::new(alloc);
+    for (peer, len, route) in ROUTES {
+        let prefix = Prefix::new(0x0A00_0000, len)?;
+        let body = Body::Announce(prefix, attributes(alloc, route)?);
+        history.add(peer, Word { time: 100, body })?;
+        prefixes.push(prefix).ok()?;
+    }
+    let mut all = Vec::new(alloc);
+    for client in 0..4 {
+        all.push(history.rows(alloc, client, &prefixes)?).ok()?;
+    }
+    Some(all)
+}
+
+#[test]
+fn parts_are_made_one_and_come_again_where_memory_is_refused(rt: HostRuntime) {
+    let alloc = rt.alloc();
+    let plan = exchange(alloc, subnet(), FOUR_PEERS)
+        .or_else(|| exchange(alloc, subnet(), FOUR_PEERS))
+        .expect(&rt, "an exchange");
+    let wanted = whole(alloc, &plan)
+        .or_else(|| whole(alloc, &plan))
+        .expect(&rt, "what the rules say");
+    let tables = merged(alloc, &plan)
+        .or_else(|| merged(alloc, &plan))
+        .expect(&rt, "tables");
+    for (client, rows) in wanted.iter().enumerate() {
+        let given = shown(alloc, &tables, client)
+            .or_else(|| shown(alloc, &tables, client))
+            .expect(&rt, "rows");
+        assert!(rt; given == *rows, "client {client}");
+    }
+    assert!(rt; !tables.is_closed(A));
+}
