@@ -18,6 +18,7 @@ pub mod PathLemmas
 pub mod PathWalkLemmas
 pub mod PrefixLemmas
 pub mod ReceivedLemmas
+pub mod RoomLemmas
 pub mod SectionExamples
 pub mod SectionLemmas
 pub mod SegmentLemmas

@@ -27,11 +27,6 @@ pub message_of-typed : (octets : List ℕ) (kind : MessageType) → header_of oc
 unfolding message_of
 message_of-typed octets kind e = rw (e, message_of) refl
 
--- an answer for an UPDATE is one for its message
-pub update_answers : (octets : List ℕ) (fault : MessageFault) → header_of octets ≡ Ok types.Update → AnswersUpdate (Err fault) (update_of (drop 19 octets)) → Answers (Err fault) (message_of octets)
-update_answers octets faults.Memory header answers = tt
-update_answers octets (faults.Bgp code subcode) header answers = message_of-typed octets types.Update header ∙ answers
-
 -- ---- the first fault
 
 -- what a reading answers in place of a value

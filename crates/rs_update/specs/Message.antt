@@ -154,16 +154,26 @@ message_fault octets = or_else (option_map of_header (header_fault octets)) (opt
 
 -- ---- what a reader answers
 
--- what a reader of an UPDATE answers is what the octets say; want of memory says nothing of them
+-- an UPDATE without a fault that lists a prefix: a reader takes memory for nothing else
+abbrev pub ListsPrefix : Result MessageContent MessageFault → Type 0
+ListsPrefix (Ok (IsUpdate update)) = 0 < length update.withdrawn + length update.nlri
+ListsPrefix (Ok (IsTreated treated)) = 0 < length treated.withdrawn + length treated.nlri
+ListsPrefix (Ok IsOpen) = ⊥
+ListsPrefix (Ok IsNotification) = ⊥
+ListsPrefix (Ok IsKeepAlive) = ⊥
+ListsPrefix (Ok IsRefresh) = ⊥
+ListsPrefix (Err fault) = ⊥
+
+-- what a reader of an UPDATE answers is what the octets say; want of memory comes only where a prefix is listed
 abbrev pub AnswersUpdate : Result Update MessageFault → Result UpdateContent UpdateFault → Type 0
 AnswersUpdate (Ok update) says = says ≡ Ok (update_content_of update)
-AnswersUpdate (Err faults.Memory) says = Unit {0}
+AnswersUpdate (Err faults.Memory) says = ListsPrefix (update_message says)
 AnswersUpdate (Err (faults.Bgp code subcode)) says = update_message says ≡ Err (faults.Bgp code subcode)
 
--- what a reader answers is what the octets say; want of memory says nothing of them
+-- what a reader answers is what the octets say; want of memory comes only where a prefix is listed
 abbrev pub Answers : Result Message MessageFault → Result MessageContent MessageFault → Type 0
 Answers (Ok message) says = says ≡ Ok (content_of message)
-Answers (Err faults.Memory) says = Unit {0}
+Answers (Err faults.Memory) says = ListsPrefix says
 Answers (Err (faults.Bgp code subcode)) says = says ≡ Err (faults.Bgp code subcode)
 
 -- an UPDATE has attributes exactly where it announces prefixes

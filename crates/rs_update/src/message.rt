@@ -49,8 +49,8 @@ pub enum Message {
 /// `Errors::Rfc4271`.
 ///
 /// The faults, in the order of testing: those of the header; of an UPDATE its lengths, its path attributes front to back, a mandatory
-/// attribute that misses, the withdrawn routes, the NLRI. `MessageFault::Memory` comes only where memory was refused, and memory is
-/// taken only for an UPDATE that is known to be without fault.
+/// attribute that misses, the withdrawn routes, the NLRI. `MessageFault::Memory` comes only where memory was refused, and only for an
+/// UPDATE without fault that lists a prefix.
 pub fn read_message(alloc: Global, octets: &[u8]) -> Result<Message, MessageFault>
     ensures answer { Answers result (message_of octets.now) }
     ensures routes { IfOk result HasAttributesForRoutes }
@@ -65,7 +65,7 @@ pub fn read_message(alloc: Global, octets: &[u8]) -> Result<Message, MessageFaul
 /// an attribute, and where announced routes lack a mandatory one, the answer is `Message::Treated`. What still closes the session, in
 /// the order of testing: faults of the header; of an UPDATE its lengths, in its path attributes front to back a well-known one that isn't
 /// recognized and a repeated MP_REACH_NLRI or MP_UNREACH_NLRI, octets left over, the withdrawn routes, the NLRI.
-/// `MessageFault::Memory` comes only where memory was refused, and memory is taken only once no fault can close the session.
+/// `MessageFault::Memory` comes only where memory was refused, and only for an UPDATE that closes no session and lists a prefix.
 #[tactic(auto, unfolding(crate::specs::Treating::message_by))]
 pub fn read_message_by(
     alloc: Global,

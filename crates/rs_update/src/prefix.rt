@@ -2,7 +2,7 @@
 //!
 //! Bits past the length have no meaning in the standard; ours are cleared, so that equal prefixes are equal values.
 
-ghost use Rattle.std.specs.Prelude.{◌≡◌, ◌≤◌, ◌↔◌, length, Some, IsSome, IfSome, IfOk};
+ghost use Rattle.std.specs.Prelude.{◌≡◌, ◌<◌, ◌≤◌, ◌↔◌, length, Some, IsSome, IfSome, IfOk, OnErr};
 ghost use Rattle.std.specs.Option.{option_map};
 ghost use Rattle.byteorder.specs.Endian.{big_number};
 ghost use Rattle.rs_update.specs.Prefix as spec;
@@ -132,15 +132,19 @@ pub(crate) fn count_prefixes(field: &[u8]) -> Option<usize>
     if rest.is_empty() { Some(count) } else { None }
 }
 
-// The prefixes that a field lists, which are `count`.
+// The prefixes that a field lists, which are `count`: no memory is taken for none.
 pub(crate) fn read_prefixes(
     alloc: Global,
     field: &[u8],
     count: usize,
 ) -> Result<Vec<Prefix>, AllocError>
     requires { option_map length (spec.prefixes_of field.now) ≡ Some count }
-    ensures { IfOk result (λ prefixes. spec.prefixes_of field.now ≡ Some prefixes.items) }
+    ensures value { IfOk result (λ prefixes. spec.prefixes_of field.now ≡ Some prefixes.items) }
+    ensures memory { OnErr result (0 < count) }
 {
+    if count == 0 {
+        return Ok(Vec::new(alloc));
+    }
     let mut prefixes = Vec::with_capacity(alloc, count)?;
     let mut rest = field;
     while let Some(split) = split_first(rest) {

@@ -3,7 +3,7 @@
 //! The standard leaves the order of the tests open. Ours: both lengths, the path attributes, the mandatory attributes, the withdrawn
 //! routes, the NLRI.
 
-ghost use Rattle.std.specs.Prelude.{◌≡◌, ◌≤◌, length, None, Some, IfOk, IfErr, OnOk};
+ghost use Rattle.std.specs.Prelude.{◌≡◌, ◌<◌, ◌≤◌, length, None, Some, IfOk, IfErr, OnOk, OnErr};
 ghost use Rattle.std.specs.Result.{is_err};
 ghost use Rattle.rs_update.specs.Fault.{first_fault};
 ghost use Rattle.rs_update.specs.Handling.{kept_of, strongest_in};
@@ -79,7 +79,8 @@ fn announced_attributes(
     requires faultless { section_fault_of fields.section.now ≡ None }
     requires short { length fields.section.now ≤ 4073 }
     requires are_found { found_of found.now ≡ found_in (items_of fields.section.now) }
-    ensures { IfOk result (λ attributes. IfOk (spec.announced_attributes fields.entry.section.now fields.entry.nlri.now) (λ announced. attributes ≡ announced)) }
+    ensures memory { OnErr result (0 < length fields.entry.nlri.now) }
+    ensures value { IfOk result (λ attributes. IfOk (spec.announced_attributes fields.entry.section.now fields.entry.nlri.now) (λ announced. attributes ≡ announced)) }
 {
     if fields.nlri.is_empty() {
         return Ok(None);
@@ -132,7 +133,8 @@ fn standing_attributes(
     requires handled { handling ≡ strongest_in fields.section.now }
     requires stands { reset_of handling ≡ None }
     requires short { length fields.section.now ≤ 4073 }
-    ensures { IfOk result (λ standing. attributes_in standing ≡ standing_attributes_of handling fields.entry.section.now fields.entry.nlri.now) }
+    ensures memory { OnErr result (0 < length fields.entry.nlri.now) }
+    ensures value { IfOk result (λ standing. attributes_in standing ≡ standing_attributes_of handling fields.entry.section.now fields.entry.nlri.now) }
 {
     if let Handling::TreatAsWithdraw = handling {
         return Ok(Standing::Withdrawn);

@@ -1,0 +1,32 @@
+use Rattle.std.proofs.Common.{◌≡◌, ◌<◌, ◌+◌, ℕ, Option, Some, None, Bool, true, false, length, sym, ap, ◌∙◌, arith, rules}
+use Rattle.std.specs.Prelude.{is_err}
+use Rattle.std.specs.Option.{option_map}
+use Rattle.std.proofs.lemmas.Grind.{common_steps}
+use Rattle.std.proofs.lemmas.Result.{err_from_is_err_and}
+use Rattle.rs_update.specs.Fault.{first_fault}
+use Rattle.rs_update.specs.Handling.{strongest_in}
+use Rattle.rs_update.specs.Message.{announced_attributes, length_tests, withdrawn_field, section_field, nlri_field}
+use Rattle.rs_update.specs.Prefix.{prefixes_of}
+use Rattle.rs_update.specs.Section.{section_fault}
+use Rattle.rs_update.specs.Treating.{reset_of}
+use Rattle.rs_update.proofs.RoomLemmas.{HasRoutes, announces_some, update_lists, treating_update_lists}
+use Rattle.rs_update.proofs.update.read_treating.Goals as goal
+
+pub returns-in_err-standing : goal.returns-in_err-standing
+returns-in_err-standing c =
+    let body = c.args.body.now in
+    let fields = c.in_ok-fields.ensures in
+    let withdrawn : option_map length (prefixes_of (withdrawn_field body)) ≡ Some c.in_ok-withdrawn_count.withdrawn_count = grind (arith, common_steps) in
+    let nlri : option_map length (prefixes_of (nlri_field body)) ≡ Some c.in_ok-nlri_count.nlri_count = grind (arith, common_steps) in
+    let octets : 0 < length (nlri_field body) = rw fields.nlri at c.in_err-standing.ensures.memory in
+    let routes : HasRoutes body = record {
+      withdrawn_count = c.in_ok-withdrawn_count.withdrawn_count;
+      nlri_count = c.in_ok-nlri_count.nlri_count;
+      withdrawn = withdrawn;
+      nlri = nlri;
+      some = omega (arith, announces_some (nlri_field body) c.in_ok-nlri_count.nlri_count nlri octets);
+    } in
+    let reset : reset_of (strongest_in (section_field body)) ≡ None = grind (arith, common_steps) in
+    let from = c.from_residual-in_err-standing in
+    let p = err_from_is_err_and from.result from.ensures.1 in
+    rw (p.1, p.2) (treating_update_lists body routes fields.lengths reset)
