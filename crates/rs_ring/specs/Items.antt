@@ -1,5 +1,5 @@
 -- The items of a ring.
-use Rattle.std.specs.Prelude.{◌≡◌, ◌<◌, ◌≤◌, ◌&&◌, ℕ, Bool, false, nat_le, List, length, if◌then◌else◌}
+use Rattle.std.specs.Prelude.{◌≡◌, ◌<◌, ◌&&◌, ℕ, Bool, false, nat_le, List, length, if◌then◌else◌}
 use Rattle.std.specs.List.{list_any}
 use Rattle.rs_ring.specs.declared.fault.SendRefused.{SendRefused}
 use Rattle.rs_ring.specs.declared.fault.SendRefused.TheVariants.{Closed, Full}

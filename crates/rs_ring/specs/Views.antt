@@ -1,5 +1,4 @@
 -- The ends of a ring by their fields.
-use Rattle.std.specs.Prelude.{◌≡◌, ℕ, List, length}
 use Rattle.std.specs.declared.alloc.Global.{Global}
 use Rattle.rtrb.specs.declared.end.End.{End}
 use Rattle.rs_ring.specs.Ends.{Ring}

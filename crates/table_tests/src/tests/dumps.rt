@@ -41,7 +41,7 @@ const EMPTY_OF_B: &str =
 const EMPTY_OF_C: &str =
     "00000000 000D 0001 00000030 C0000201 0001 63 0003 02 C000020B C000020B 0000FBF5 02 C000020C C000020C 0000FBF6 02 C000020D C000020D 0000FBF7";
 
-// A row of a's, announced at 100.
+/// A row of a's, announced at 100.
 pub fn row<'a>(prefix: Prefix, attributes: &'a Attributes) -> Row<'a> {
     Row {
         prefix,
@@ -69,7 +69,7 @@ fn rows_on<'a>(
     Some(rows)
 }
 
-// Whether all rows are of peers of the plan.
+/// Whether all rows are of peers of the plan.
 pub fn are_known(plan: &Exchange, rows: &[Row]) -> bool
     ensures { IsTrue result → All (λ row. row.route.peer < length plan.now.peers) (map row_of rows.now) }
 {
@@ -82,7 +82,7 @@ pub fn are_known(plan: &Exchange, rows: &[Row]) -> bool
     true
 }
 
-// Writes a dump at that time to memory within the limits; answers what `write_dump` does, and what the writer has taken then.
+/// Writes a dump at that time to memory within the limits; answers what `write_dump` does, and what the writer has taken then.
 pub fn dump(
     rt: &impl Abort,
     alloc: Global,

@@ -88,6 +88,7 @@ pub struct History {
 }
 
 impl History {
+    /// Begins with no change.
     pub fn new(alloc: Global, plan: Arc<Exchange>) -> History {
         History {
             plan,
@@ -95,7 +96,7 @@ impl History {
         }
     }
 
-    // Appends a change.
+    /// Appends a change.
     pub fn add(&mut self, peer: usize, word: Word) -> Option<()> {
         self.changes.push((peer, word)).ok()
     }

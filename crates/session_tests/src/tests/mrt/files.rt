@@ -70,7 +70,7 @@ fn a_fault_comes_after_the_records_before_it(rt: HostRuntime) -> Result<(), Fail
     Ok(())
 }
 
-// How many records a source shows, how many octets their bodies have, and how it stops.
+/// How many records a source shows, how many octets their bodies have, and how it stops.
 pub fn count_records<S: Source>(source: &mut S) -> (usize, usize, Option<SourceFault>) {
     let mut octets: usize = 0;
     for records in 0..1_000_000 {
