@@ -62,17 +62,17 @@ ok-both (Err fault) P R Q p r h = tt
 
 -- a change was received from one lane, and the tables took it
 pub held-after : (lanes : List LaneContent) (before after : TablesContent) (at : ℕ) (lane new : LaneContent) (change : Change) → HoldReceived before lanes → slice_get lanes at ≡ Some lane
-    → new ≡ record lane { counts = after_receive lane.counts } → new.counts.received ≡ lane.counts.received + 1 → slice_get lane.said lane.counts.received ≡ Some change → list_any is_close (received_of lane) ≡ false
+    → new ≡ record lane { counts = after_receive lane.counts } → new.counts.received ≡ lane.counts.received + 1 → slice_get lane.recorded lane.counts.received ≡ Some change → list_any is_close (received_of lane) ≡ false
     → ((other : ℕ) → other ≢ at → rib_of after other ≡ rib_of before other) → BecomeBy (rib_of before at).routes change (rib_of after at).routes → (rib_of after at).closed ≡ is_close change
     → HoldReceived after (slice_set lanes at new)
 held-after lanes before after at lane new change held found new_is one_more given unclosed others become closed other one e =
     elim (eqb_tells other at) [ inl told ↦ here told.1 | inr told ↦ others other told.1 ∙ held other one (sym (get-set_other lanes at new other told.1) ∙ e) ]
   where
-    said_same : new.said ≡ lane.said
-    said_same = ap (λ (l : LaneContent). l.said) new_is
+    recorded_same : new.recorded ≡ lane.recorded
+    recorded_same = ap (λ (l : LaneContent). l.recorded) new_is
 
     more : received_of new ≡ received_of lane ++ change ∷ []
-    more = ap (λ (n : ℕ). take n new.said) one_more ∙ ap (λ (cs : List Change). take (lane.counts.received + 1) cs) said_same ∙ take-more lane.said lane.counts.received change given
+    more = ap (λ (n : ℕ). take n new.recorded) one_more ∙ ap (λ (cs : List Change). take (lane.counts.received + 1) cs) recorded_same ∙ take-more lane.recorded lane.counts.received change given
 
     rib : rib_of after at ≡ rib_left (received_of new)
     rib = rib_left-more (received_of lane) change (rib_of before at) (rib_of after at) (held at lane found) unclosed become closed ∙ ap rib_left (sym more)

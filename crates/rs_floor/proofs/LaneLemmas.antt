@@ -43,8 +43,8 @@ closes-changes [] = refl
 closes-changes (change ∷ changes) = rw (same_change change.body, closes-changes changes) refl
 
 -- a session that closes once, as the last change, closes nowhere before
-pub none-before : (end : Option SourceFault) (said : List Change) → laws.ClosesLast end said → NoneClosesBefore said
-none-before end said last = rw last.splits (λ n below. rw (take-append-le n last.before (close_at last.time last.reason ∷ []) (omega (arith, below, length-append last.before (close_at last.time last.reason ∷ [])))) (none-take table.is_close n last.before (closes-changes last.before ∙ last.none_before)))
+pub none-before : (end : Option SourceFault) (recorded : List Change) → laws.ClosesLast end recorded → NoneClosesBefore recorded
+none-before end recorded last = rw last.splits (λ n below. rw (take-append-le n last.before (close_at last.time last.reason ∷ []) (omega (arith, below, length-append last.before (close_at last.time last.reason ∷ [])))) (none-take table.is_close n last.before (closes-changes last.before ∙ last.none_before)))
 
 -- ---- counts
 
@@ -87,9 +87,9 @@ receive-one counts some = one (nat_lt counts.received counts.sent) (record count
 
 -- ---- a send
 
--- what is said stays the same where the first change to come is sent
-pub said-sent : (sent : List Word) (word : Word) (before after : List Change) → before ≡ change_of word ∷ after → sent_changes (sent ++ word ∷ []) ++ after ≡ sent_changes sent ++ before
-said-sent sent word before after first =
+-- what is recorded stays the same where the first change to come is sent
+pub recorded-sent : (sent : List Word) (word : Word) (before after : List Change) → before ≡ change_of word ∷ after → sent_changes (sent ++ word ∷ []) ++ after ≡ sent_changes sent ++ before
+recorded-sent sent word before after first =
     rw (map-append change_of sent (word ∷ []), append_assoc (sent_changes sent) (change_of word ∷ []) after, first) refl
 
 -- nothing closed while a change is to come
@@ -102,8 +102,8 @@ open-sent sent to_come first later none some =
 -- ---- a receipt
 
 -- the change at the place of a word that waits
-pub said-waiting : (sent received : List Word) (word : Word) (later : List Word) (to_come : List Change) → received ++ word ∷ later ≡ sent → slice_get (sent_changes sent ++ to_come) (length received) ≡ Some (change_of word)
-said-waiting sent received word later to_come all =
+pub recorded-waiting : (sent received : List Word) (word : Word) (later : List Word) (to_come : List Change) → received ++ word ∷ later ≡ sent → slice_get (sent_changes sent ++ to_come) (length received) ≡ Some (change_of word)
+recorded-waiting sent received word later to_come all =
     let counted : length (sent_changes received) ≡ length received = length-map received change_of in
     let spelled : sent_changes sent ≡ sent_changes received ++ change_of word ∷ sent_changes later = sym (ap (λ (ws : List Word). sent_changes ws) all) ∙ map-append change_of received (word ∷ later) in
     rw (spelled, append_assoc (sent_changes received) (change_of word ∷ sent_changes later) to_come, ← counted) (get-append_seam (sent_changes received) (sent_changes later ++ to_come) (change_of word))

@@ -10,44 +10,44 @@ use Rattle.rs_floor.specs.LaneView.{IsLane, lane_view}
 use Rattle.rs_floor.specs.Schedule.{after_send, after_receive}
 use Rattle.rs_floor.specs.declared.counts.Counts.{Counts}
 use Rattle.rs_floor.specs.declared.lane.Lane.TheInside.{Inside}
-use Rattle.rs_floor.proofs.LaneLemmas.{said-sent, beginning-more, send-none_left, send-one, receive-one}
+use Rattle.rs_floor.proofs.LaneLemmas.{recorded-sent, beginning-more, send-none_left, send-one, receive-one}
 
 -- the changes that a lane's file says
-abbrev pub said_of : Inside → List Change
-said_of lane = sent_changes lane.sender.sent ++ to_come lane.session
+abbrev pub recorded_of : Inside → List Change
+recorded_of lane = sent_changes lane.sender.sent ++ to_come lane.session
 
 -- what the lane is seen as, by its parts
-pub view-is : (lane : Inside) (said : List Change) (capacity sent received : ℕ) → said_of lane ≡ said → lane.capacity ≡ capacity → length lane.sender.sent ≡ sent → length lane.receiver.received ≡ received
-    → let seen : LaneContent = record { said = said; capacity = capacity; counts = record { sent = sent; received = received } } in lane_view lane ≡ seen
-view-is lane said capacity sent received a b c d =
-    ap (λ (cs : List Change). let seen : LaneContent = record { said = cs; capacity = lane.capacity; counts = record { sent = length lane.sender.sent; received = length lane.receiver.received } } in seen) a
-    ∙ ap (λ (n : ℕ). let seen : LaneContent = record { said = said; capacity = n; counts = record { sent = length lane.sender.sent; received = length lane.receiver.received } } in seen) b
-    ∙ ap (λ (n : ℕ). let seen : LaneContent = record { said = said; capacity = capacity; counts = record { sent = n; received = length lane.receiver.received } } in seen) c
-    ∙ ap (λ (n : ℕ). let seen : LaneContent = record { said = said; capacity = capacity; counts = record { sent = sent; received = n } } in seen) d
+pub view-is : (lane : Inside) (recorded : List Change) (capacity sent received : ℕ) → recorded_of lane ≡ recorded → lane.capacity ≡ capacity → length lane.sender.sent ≡ sent → length lane.receiver.received ≡ received
+    → let seen : LaneContent = record { recorded = recorded; capacity = capacity; counts = record { sent = sent; received = received } } in lane_view lane ≡ seen
+view-is lane recorded capacity sent received a b c d =
+    ap (λ (cs : List Change). let seen : LaneContent = record { recorded = cs; capacity = lane.capacity; counts = record { sent = length lane.sender.sent; received = length lane.receiver.received } } in seen) a
+    ∙ ap (λ (n : ℕ). let seen : LaneContent = record { recorded = recorded; capacity = n; counts = record { sent = length lane.sender.sent; received = length lane.receiver.received } } in seen) b
+    ∙ ap (λ (n : ℕ). let seen : LaneContent = record { recorded = recorded; capacity = capacity; counts = record { sent = n; received = length lane.receiver.received } } in seen) c
+    ∙ ap (λ (n : ℕ). let seen : LaneContent = record { recorded = recorded; capacity = capacity; counts = record { sent = sent; received = n } } in seen) d
 
 last-along : (one other : List Change) → one ≡ other → NoneClosesBefore other → NoneClosesBefore one
 last-along one other e h = let P : List Change → Type 0 = λ cs. NoneClosesBefore cs in subst P (sym e) h
 
 -- ---- before the first turn
 
-fresh-said : (lane : Inside) (said : List Change) → lane.sender.sent ≡ [] → to_come lane.session ≡ said → said_of lane ≡ said
-fresh-said lane said none e = ap (λ (ws : List Word). sent_changes ws ++ to_come lane.session) none ∙ e
+fresh-recorded : (lane : Inside) (recorded : List Change) → lane.sender.sent ≡ [] → to_come lane.session ≡ recorded → recorded_of lane ≡ recorded
+fresh-recorded lane recorded none e = ap (λ (ws : List Word). sent_changes ws ++ to_come lane.session) none ∙ e
 
-pub fresh-is_lane : (lane : Inside) (said : List Change) → lane.sender.ring ≡ lane.receiver.ring → lane.sender.capacity ≡ lane.capacity → lane.sender.sent ≡ [] → lane.receiver.received ≡ [] → lane.received ≡ 0 → to_come lane.session ≡ said → NoneClosesBefore said → length said ≤ 2 ^ 51
+pub fresh-is_lane : (lane : Inside) (recorded : List Change) → lane.sender.ring ≡ lane.receiver.ring → lane.sender.capacity ≡ lane.capacity → lane.sender.sent ≡ [] → lane.receiver.received ≡ [] → lane.received ≡ 0 → to_come lane.session ≡ recorded → NoneClosesBefore recorded → length recorded ≤ 2 ^ 51
     → IsLane lane
-fresh-is_lane lane said pair capacity sent received counted e last fits = record {
+fresh-is_lane lane recorded pair capacity sent received counted e last fits = record {
   pair = pair;
   capacity = capacity;
   beginning = rw received refl;
   within = rw (received, sent) (omega arith);
   counted = rw received counted;
-  last = last-along (said_of lane) said (fresh-said lane said sent e) last;
-  fits = rw (fresh-said lane said sent e) fits;
+  last = last-along (recorded_of lane) recorded (fresh-recorded lane recorded sent e) last;
+  fits = rw (fresh-recorded lane recorded sent e) fits;
 }
 
 pub fresh-view : (lane : Inside) (capacity : ℕ) (peer : PeerId) (file : List ℕ) → lane.capacity ≡ capacity → lane.sender.sent ≡ [] → lane.receiver.received ≡ [] → to_come lane.session ≡ changes_in peer file → lane_view lane ≡ fresh_lane capacity peer file
 fresh-view lane capacity peer file same sent received e =
-    view-is lane (changes_in peer file) capacity 0 0 (fresh-said lane (changes_in peer file) sent e) same (ap (λ (ws : List Word). length ws) sent) (ap (λ (ws : List Word). length ws) received)
+    view-is lane (changes_in peer file) capacity 0 0 (fresh-recorded lane (changes_in peer file) sent e) same (ap (λ (ws : List Word). length ws) sent) (ap (λ (ws : List Word). length ws) received)
 
 -- ---- looking at the ring
 
@@ -61,27 +61,27 @@ pub record LooksLike (old new : Inside) : Type 0 where
 -- nothing went through either end, and the same is to come
 pub looked-is_lane : (old new : Inside) → IsLane old → LooksLike old new → new.sender.sent ≡ old.sender.sent → new.receiver.received ≡ old.receiver.received → new.received ≡ old.received → to_come new.session ≡ to_come old.session → IsLane new
 looked-is_lane old new lane like sent received counted coming =
-    let said : said_of new ≡ said_of old = ap (λ (ws : List Word). sent_changes ws ++ to_come new.session) sent ∙ ap (λ (cs : List Change). sent_changes old.sender.sent ++ cs) coming in
+    let recorded : recorded_of new ≡ recorded_of old = ap (λ (ws : List Word). sent_changes ws ++ to_come new.session) sent ∙ ap (λ (cs : List Change). sent_changes old.sender.sent ++ cs) coming in
     record {
       pair = like.ring ∙ lane.pair ∙ sym like.receiving;
       capacity = like.room ∙ lane.capacity ∙ sym like.capacity;
       beginning = rw (received, sent) lane.beginning;
       within = rw (received, sent) lane.within;
       counted = counted ∙ lane.counted ∙ sym (ap (λ (ws : List Word). length ws) received);
-      last = last-along (said_of new) (said_of old) said lane.last;
-      fits = rw said lane.fits;
+      last = last-along (recorded_of new) (recorded_of old) recorded lane.last;
+      fits = rw recorded lane.fits;
     }
 
 pub looked-view : (old new : Inside) → LooksLike old new → new.sender.sent ≡ old.sender.sent → new.receiver.received ≡ old.receiver.received → to_come new.session ≡ to_come old.session → lane_view new ≡ lane_view old
 looked-view old new like sent received coming =
-    view-is new (said_of old) old.capacity (length old.sender.sent) (length old.receiver.received)
+    view-is new (recorded_of old) old.capacity (length old.sender.sent) (length old.receiver.received)
     (ap (λ (ws : List Word). sent_changes ws ++ to_come new.session) sent ∙ ap (λ (cs : List Change). sent_changes old.sender.sent ++ cs) coming)
     like.capacity (ap (λ (ws : List Word). length ws) sent) (ap (λ (ws : List Word). length ws) received)
 
 -- ---- a send
 
 abbrev pub with_send : LaneContent → LaneContent
-with_send lane = record lane { counts = after_send lane.capacity (length lane.said) lane.counts }
+with_send lane = record lane { counts = after_send lane.capacity (length lane.recorded) lane.counts }
 
 abbrev pub with_receipt : LaneContent → LaneContent
 with_receipt lane = record lane { counts = after_receive lane.counts }
@@ -90,11 +90,11 @@ with_receipt lane = record lane { counts = after_receive lane.counts }
 pub unsent-view : (old new : Inside) → LooksLike old new → new.sender.sent ≡ old.sender.sent → new.receiver.received ≡ old.receiver.received → to_come new.session ≡ to_come old.session → to_come old.session ≡ []
     → lane_view new ≡ with_send (lane_view old)
 unsent-view old new like sent received coming none =
-    let all : length (said_of old) ≤ length old.sender.sent = omega (arith, length-append (sent_changes old.sender.sent) (to_come old.session), length-map old.sender.sent change_of, ap (λ (cs : List Change). length cs) none) in
+    let all : length (recorded_of old) ≤ length old.sender.sent = omega (arith, length-append (sent_changes old.sender.sent) (to_come old.session), length-map old.sender.sent change_of, ap (λ (cs : List Change). length cs) none) in
     let seen : LaneContent = lane_view old in
-    looked-view old new like sent received coming ∙ sym (ap (λ (counts : Counts). let made : LaneContent = record seen { counts = counts } in made) (send-none_left seen.capacity (length seen.said) seen.counts all))
+    looked-view old new like sent received coming ∙ sym (ap (λ (counts : Counts). let made : LaneContent = record seen { counts = counts } in made) (send-none_left seen.capacity (length seen.recorded) seen.counts all))
 
--- a change is left, so fewer were sent than are said
+-- a change is left, so fewer were sent than are recorded
 pub some-left : (sent : List Word) (coming : List Change) (first : Change) (later : List Change) → coming ≡ first ∷ later → length sent < length (sent_changes sent ++ coming)
 some-left sent coming first later some =
     omega (arith, length-append (sent_changes sent) coming, length-map sent change_of, ap (λ (cs : List Change). length cs) some)
@@ -102,26 +102,26 @@ some-left sent coming first later some =
 -- the first change to come was sent
 pub sent-is_lane : (old new : Inside) (word : Word) → IsLane old → LooksLike old new → new.sender.sent ≡ old.sender.sent ++ word ∷ [] → new.receiver.received ≡ old.receiver.received → new.received ≡ old.received → to_come old.session ≡ change_of word ∷ to_come new.session → IsLane new
 sent-is_lane old new word lane like sent received counted coming =
-    let said : said_of new ≡ said_of old = ap (λ (ws : List Word). sent_changes ws ++ to_come new.session) sent ∙ said-sent old.sender.sent word (to_come old.session) (to_come new.session) coming in
+    let recorded : recorded_of new ≡ recorded_of old = ap (λ (ws : List Word). sent_changes ws ++ to_come new.session) sent ∙ recorded-sent old.sender.sent word (to_come old.session) (to_come new.session) coming in
     record {
       pair = like.ring ∙ lane.pair ∙ sym like.receiving;
       capacity = like.room ∙ lane.capacity ∙ sym like.capacity;
       beginning = rw (received, sent) (take-append-le (length old.receiver.received) old.sender.sent (word ∷ []) lane.within ∙ lane.beginning);
       within = rw (received, sent) (omega (arith, lane.within, length-append old.sender.sent (word ∷ [])));
       counted = counted ∙ lane.counted ∙ sym (ap (λ (ws : List Word). length ws) received);
-      last = last-along (said_of new) (said_of old) said lane.last;
-      fits = rw said lane.fits;
+      last = last-along (recorded_of new) (recorded_of old) recorded lane.last;
+      fits = rw recorded lane.fits;
     }
 
 pub sent-view : (old new : Inside) (word : Word) → LooksLike old new → new.sender.sent ≡ old.sender.sent ++ word ∷ [] → new.receiver.received ≡ old.receiver.received → to_come old.session ≡ change_of word ∷ to_come new.session
     → length old.sender.sent - length old.receiver.received < old.capacity → lane_view new ≡ with_send (lane_view old)
 sent-view old new word like sent received coming room =
-    let said : said_of new ≡ said_of old = ap (λ (ws : List Word). sent_changes ws ++ to_come new.session) sent ∙ said-sent old.sender.sent word (to_come old.session) (to_come new.session) coming in
+    let recorded : recorded_of new ≡ recorded_of old = ap (λ (ws : List Word). sent_changes ws ++ to_come new.session) sent ∙ recorded-sent old.sender.sent word (to_come old.session) (to_come new.session) coming in
     let seen : LaneContent = lane_view old in
     let more : length new.sender.sent ≡ length old.sender.sent + 1 = ap (λ (ws : List Word). length ws) sent ∙ length-append old.sender.sent (word ∷ []) in
-    view-is new (said_of old) old.capacity (length old.sender.sent + 1) (length old.receiver.received) said like.capacity more (ap (λ (ws : List Word). length ws) received)
+    view-is new (recorded_of old) old.capacity (length old.sender.sent + 1) (length old.receiver.received) recorded like.capacity more (ap (λ (ws : List Word). length ws) received)
     ∙ sym (ap (λ (counts : Counts). let made : LaneContent = record seen { counts = counts } in made)
-    (send-one seen.capacity (length seen.said) seen.counts (some-left old.sender.sent (to_come old.session) (change_of word) (to_come new.session) coming) room))
+    (send-one seen.capacity (length seen.recorded) seen.counts (some-left old.sender.sent (to_come old.session) (change_of word) (to_come new.session) coming) room))
 
 -- ---- a receipt
 
@@ -133,7 +133,7 @@ front (first ∷ behind) later word rest e some = let found : first ≡ word = c
 pub received-is_lane : (old new : Inside) (word : Word) (behind : List Word) → IsLane old → LooksLike old new → new.sender.sent ≡ old.sender.sent → old.receiver.received ++ word ∷ behind ≡ old.sender.sent → new.receiver.received ≡ old.receiver.received ++ word ∷ []
     → new.received ≡ old.received + 1 → to_come new.session ≡ to_come old.session → IsLane new
 received-is_lane old new word behind lane like sent waited received counted coming =
-    let said : said_of new ≡ said_of old = ap (λ (ws : List Word). sent_changes ws ++ to_come new.session) sent ∙ ap (λ (cs : List Change). sent_changes old.sender.sent ++ cs) coming in
+    let recorded : recorded_of new ≡ recorded_of old = ap (λ (ws : List Word). sent_changes ws ++ to_come new.session) sent ∙ ap (λ (cs : List Change). sent_changes old.sender.sent ++ cs) coming in
     let more : length new.receiver.received ≡ length old.receiver.received + 1 = ap (λ (ws : List Word). length ws) received ∙ length-append old.receiver.received (word ∷ []) in
     let whole : length old.sender.sent ≡ length old.receiver.received + suc (length behind) = sym (ap (λ (ws : List Word). length ws) waited) ∙ length-append old.receiver.received (word ∷ behind) in
     record {
@@ -142,16 +142,16 @@ received-is_lane old new word behind lane like sent waited received counted comi
       beginning = rw (received, sent) (beginning-more old.sender.sent old.receiver.received word behind waited);
       within = rw sent (omega (arith, more, whole));
       counted = counted ∙ ap (λ (n : ℕ). n + 1) lane.counted ∙ sym more;
-      last = last-along (said_of new) (said_of old) said lane.last;
-      fits = rw said lane.fits;
+      last = last-along (recorded_of new) (recorded_of old) recorded lane.last;
+      fits = rw recorded lane.fits;
     }
 
 pub received-view : (old new : Inside) (word : Word) (behind : List Word) → LooksLike old new → new.sender.sent ≡ old.sender.sent → old.receiver.received ++ word ∷ behind ≡ old.sender.sent → new.receiver.received ≡ old.receiver.received ++ word ∷ []
     → to_come new.session ≡ to_come old.session → lane_view new ≡ with_receipt (lane_view old)
 received-view old new word behind like sent waited received coming =
-    let said : said_of new ≡ said_of old = ap (λ (ws : List Word). sent_changes ws ++ to_come new.session) sent ∙ ap (λ (cs : List Change). sent_changes old.sender.sent ++ cs) coming in
+    let recorded : recorded_of new ≡ recorded_of old = ap (λ (ws : List Word). sent_changes ws ++ to_come new.session) sent ∙ ap (λ (cs : List Change). sent_changes old.sender.sent ++ cs) coming in
     let seen : LaneContent = lane_view old in
     let more : length new.receiver.received ≡ length old.receiver.received + 1 = ap (λ (ws : List Word). length ws) received ∙ length-append old.receiver.received (word ∷ []) in
     let whole : length old.sender.sent ≡ length old.receiver.received + suc (length behind) = sym (ap (λ (ws : List Word). length ws) waited) ∙ length-append old.receiver.received (word ∷ behind) in
-    view-is new (said_of old) old.capacity (length old.sender.sent) (length old.receiver.received + 1) said like.capacity (ap (λ (ws : List Word). length ws) sent) more
+    view-is new (recorded_of old) old.capacity (length old.sender.sent) (length old.receiver.received + 1) recorded like.capacity (ap (λ (ws : List Word). length ws) sent) more
     ∙ sym (ap (λ (counts : Counts). let made : LaneContent = record seen { counts = counts } in made) (receive-one seen.counts (omega (arith, whole))))

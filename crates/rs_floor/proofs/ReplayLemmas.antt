@@ -10,7 +10,7 @@ use Rattle.rs_choice.specs.Plan.{Peer, Plan}
 use Rattle.rs_session.specs.Change.{Change}
 use Rattle.rs_session.specs.FileChanges.{changes_in}
 use Rattle.rs_table.specs.Content.{RibContent, TablesContent, rib_of, nothing_held}
-use Rattle.rs_floor.specs.FloorContent.{IsPeerReplayed, IsReplayed, id_of, said_by}
+use Rattle.rs_floor.specs.FloorContent.{IsPeerReplayed, IsReplayed, id_of, recorded_by}
 use Rattle.rs_floor.specs.Lane.{LaneContent, fresh_lane, lane_through, received_of, rib_left}
 use Rattle.rs_floor.specs.Laws.{DrainedSchedulesAgree}
 use Rattle.rs_floor.specs.Schedule.{at_start, after_turns}
@@ -28,18 +28,18 @@ pub record IsSaidAt (peers : List Peer) (files : List (List ℕ)) (at : ℕ) (ch
   pub file_at : slice_get files at ≡ Some file
   pub says : changes_in (id_of peer) file ≡ changes
 
-pub said-at : (peers : List Peer) (files : List (List ℕ)) (at : ℕ) (changes : List Change) → slice_get (map (λ (peer, file). changes_in (id_of peer) file) (zip peers files)) at ≡ Some changes → IsSaidAt peers files at changes
-said-at [] files at changes e = absurd cc
-said-at (p ∷ peers) [] at changes e = absurd cc
-said-at (p ∷ peers) (f ∷ files) zero changes e = record { peer = p; file = f; peer_at = refl; file_at = refl; says = cc }
-said-at (p ∷ peers) (f ∷ files) (suc at) changes e =
-    let later = said-at peers files at changes e in
+pub recorded-at : (peers : List Peer) (files : List (List ℕ)) (at : ℕ) (changes : List Change) → slice_get (map (λ (peer, file). changes_in (id_of peer) file) (zip peers files)) at ≡ Some changes → IsSaidAt peers files at changes
+recorded-at [] files at changes e = absurd cc
+recorded-at (p ∷ peers) [] at changes e = absurd cc
+recorded-at (p ∷ peers) (f ∷ files) zero changes e = record { peer = p; file = f; peer_at = refl; file_at = refl; says = cc }
+recorded-at (p ∷ peers) (f ∷ files) (suc at) changes e =
+    let later = recorded-at peers files at changes e in
     record { peer = later.peer; file = later.file; peer_at = later.peer_at; file_at = later.file_at; says = later.says }
 
-pub length-said : (peers : List Peer) (files : List (List ℕ)) → length files ≡ length peers → length (map (λ (peer, file). changes_in (id_of peer) file) (zip peers files)) ≡ length peers
-length-said [] files e = refl
-length-said (p ∷ peers) [] e = absurd (omega (arith, e))
-length-said (p ∷ peers) (f ∷ files) e = ap suc (length-said peers files (omega (arith, e)))
+pub length-recorded : (peers : List Peer) (files : List (List ℕ)) → length files ≡ length peers → length (map (λ (peer, file). changes_in (id_of peer) file) (zip peers files)) ≡ length peers
+length-recorded [] files e = refl
+length-recorded (p ∷ peers) [] e = absurd (omega (arith, e))
+length-recorded (p ∷ peers) (f ∷ files) e = ap suc (length-recorded peers files (omega (arith, e)))
 
 through-nothing : (peer : ℕ) (lane : Option LaneContent) → option_map (lane_through [] peer) lane ≡ lane
 through-nothing peer None = refl
@@ -71,7 +71,7 @@ held-fresh plan files capacity lanes tables as_many lanes_many fresh empty numbe
     let same : start ≡ lane = cc in
     empty number ∙ sym rib_left-nothing ∙ ap (λ (l : LaneContent). rib_left (received_of l)) same
 
--- what holds of an answer is said of it in other words
+-- what holds of an answer is recorded of it in other words
 pub if-ok : {A E : Type 0} (result : Result A E) (P Q : A → Type 0) → IfOk result P → ((x : A) → P x → Q x) → IfOk result Q
 if-ok (Ok x) P Q p h = h x p
 if-ok (Err e) P Q p h = tt
@@ -93,26 +93,26 @@ pub replayed : (plan : Plan) (files : List (List ℕ)) (capacity : ℕ) (turns :
     → length files ≡ length plan.peers → length lanes ≡ length files → tables.plan ≡ plan → length tables.ribs ≡ length plan.peers
     → ((number : ℕ) (peer : Peer) (file : List ℕ) → slice_get plan.peers number ≡ Some peer → slice_get files number ≡ Some file → slice_get lanes number ≡ Some (fresh_lane capacity (id_of peer) file))
     → IsEnd turns lanes counts tables
-    → IsReplayed plan (said_by plan files) capacity turns (record { tables = tables; counts = counts })
+    → IsReplayed plan (recorded_by plan files) capacity turns (record { tables = tables; counts = counts })
 replayed plan files capacity turns lanes tables counts as_many lanes_many plan_is ribs_many fresh end =
-    let said_many : length (said_by plan files) ≡ length plan.peers = length-said plan.peers files as_many in
+    let recorded_many : length (recorded_by plan files) ≡ length plan.peers = length-recorded plan.peers files as_many in
     record {
       plan_is = plan_is;
-      as_many = ribs_many ∙ sym said_many;
-      counted = end.counted ∙ lanes_many ∙ as_many ∙ sym said_many;
+      as_many = ribs_many ∙ sym recorded_many;
+      counted = end.counted ∙ lanes_many ∙ as_many ∙ sym recorded_many;
       peers = λ number changes e.
-          let at = said-at plan.peers files number changes e in
+          let at = recorded-at plan.peers files number changes e in
           let start : LaneContent = fresh_lane capacity (id_of at.peer) at.file in
           let here : slice_get lanes number ≡ Some start = fresh number at.peer at.file at.peer_at at.file_at in
           let P : List Change → Type 0 = λ cs. IsPeerReplayed cs (after_turns capacity (length cs) number at_start turns) (record { tables = tables; counts = counts }) number in
-          let below : number < length tables.ribs = omega (arith, get-within (said_by plan files) number changes e, said_many, ribs_many) in
+          let below : number < length tables.ribs = omega (arith, get-within (recorded_by plan files) number changes e, recorded_many, ribs_many) in
           subst P at.says (record {
             counts_are = end.counts_are number start here;
             rib = slice_get-get_or tables.ribs number nothing_held below ∙ ap Some (end.held number start here);
           });
     }
 
--- where all was received, what the tables hold is what is said
+-- where all was received, what the tables hold is what is recorded
 map-at : {X Y : Type 0} (f : X → Y) (xs : List X) (at : ℕ) (y : Y) → slice_get (map f xs) at ≡ Some y → (x : X) × ((slice_get xs at ≡ Some x) × (f x ≡ y))
 map-at f [] at y e = absurd cc
 map-at f (x ∷ xs) zero y e = (x, (refl, cc))
@@ -120,13 +120,13 @@ map-at f (x ∷ xs) (suc at) y e = map-at f xs at y e
 
 pub drained : DrainedSchedulesAgree
 drained plan files capacity turns floor replayed_so all =
-    let said : List (List Change) = said_by plan files in
-    let places : (at : ℕ) (rib : RibContent) → slice_get (map rib_left said) at ≡ Some rib → slice_get floor.tables.ribs at ≡ Some rib = λ at rib e.
-    let found = map-at rib_left said at rib e in
+    let recorded : List (List Change) = recorded_by plan files in
+    let places : (at : ℕ) (rib : RibContent) → slice_get (map rib_left recorded) at ≡ Some rib → slice_get floor.tables.ribs at ≡ Some rib = λ at rib e.
+    let found = map-at rib_left recorded at rib e in
     let one = replayed_so.peers at found.0 found.1.0 in
     let whole = all at found.0 (after_turns capacity (length found.0) at at_start turns) found.1.0 one.counts_are in
     one.rib ∙ ap (λ (n : ℕ). Some (rib_left (take n found.0))) whole ∙ ap (λ (cs : List Change). Some (rib_left cs)) (take-length found.0) ∙ ap Some found.1.1 in
-    let ribs : floor.tables.ribs ≡ map rib_left said = same-places (map rib_left said) floor.tables.ribs (length-map said rib_left ∙ sym replayed_so.as_many) places in
+    let ribs : floor.tables.ribs ≡ map rib_left recorded = same-places (map rib_left recorded) floor.tables.ribs (length-map recorded rib_left ∙ sym replayed_so.as_many) places in
     let plan_is : floor.tables.plan ≡ plan = replayed_so.plan_is in
     let tables : TablesContent = floor.tables in
     ap (λ (held : Plan). let made : TablesContent = record { plan = held; ribs = tables.ribs } in made) plan_is ∙ ap (λ (held : List RibContent). let made : TablesContent = record { plan = plan; ribs = held } in made) ribs

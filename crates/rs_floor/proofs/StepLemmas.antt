@@ -24,11 +24,11 @@ equal_itself : (n : ℕ) → (n == n) ≡ true
 equal_itself n = elim (eqb_tells n n) [ inl told ↦ told.0 | inr told ↦ absurd (told.1 refl) ]
 
 -- a turn changes only the lane of its own peer
-pub send-own : (peer : ℕ) (lane : LaneContent) → lane_after peer lane (Send peer) ≡ record lane { counts = after_send lane.capacity (length lane.said) lane.counts }
-send-own peer lane = ap (λ (counts : Counts). let made : LaneContent = record lane { counts = counts } in made) (if_true (peer == peer) (after_send lane.capacity (length lane.said) lane.counts) lane.counts (equal_itself peer))
+pub send-own : (peer : ℕ) (lane : LaneContent) → lane_after peer lane (Send peer) ≡ record lane { counts = after_send lane.capacity (length lane.recorded) lane.counts }
+send-own peer lane = ap (λ (counts : Counts). let made : LaneContent = record lane { counts = counts } in made) (if_true (peer == peer) (after_send lane.capacity (length lane.recorded) lane.counts) lane.counts (equal_itself peer))
 
 pub send-other : (peer other : ℕ) (lane : LaneContent) → other ≢ peer → lane_after other lane (Send peer) ≡ lane
-send-other peer other lane apart = ap (λ (counts : Counts). let made : LaneContent = record lane { counts = counts } in made) (if_false (peer == other) (after_send lane.capacity (length lane.said) lane.counts) lane.counts (ne_eqb peer other (λ e. apart (sym e))))
+send-other peer other lane apart = ap (λ (counts : Counts). let made : LaneContent = record lane { counts = counts } in made) (if_false (peer == other) (after_send lane.capacity (length lane.recorded) lane.counts) lane.counts (ne_eqb peer other (λ e. apart (sym e))))
 
 pub receive-own : (peer : ℕ) (lane : LaneContent) → lane_after peer lane (Receive peer) ≡ record lane { counts = after_receive lane.counts }
 receive-own peer lane = ap (λ (counts : Counts). let made : LaneContent = record lane { counts = counts } in made) (if_true (peer == peer) (after_receive lane.counts) lane.counts (equal_itself peer))

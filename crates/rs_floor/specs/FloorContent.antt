@@ -30,8 +30,8 @@ abbrev pub id_of : Peer → PeerId
 id_of peer = record { address = peer.address; asn = peer.asn }
 
 -- the changes that each peer's file says, in the order of the peers
-abbrev pub said_by : Plan → List (List ℕ) → List (List Change)
-said_by plan files = map (λ (peer, file). changes_in (id_of peer) file) (zip plan.peers files)
+abbrev pub recorded_by : Plan → List (List ℕ) → List (List Change)
+recorded_by plan files = map (λ (peer, file). changes_in (id_of peer) file) (zip plan.peers files)
 
 -- each file is shorter than 2^50 octets
 abbrev pub FitAll : List (Bor (List ℕ)) → Type 0
@@ -52,9 +52,9 @@ pub record IsPeerReplayed (changes : List Change) (counts : Counts) (floor : Flo
   pub rib : slice_get floor.tables.ribs peer ≡ Some (rib_left (take counts.received changes))
 
 -- the end of a schedule of peers that say so: each has come as far as the turns say, from nothing sent
-pub record IsReplayed (plan : Plan) (said : List (List Change)) (capacity : ℕ) (turns : List Turn) (floor : FloorContent) : Type 0 where
+pub record IsReplayed (plan : Plan) (recorded : List (List Change)) (capacity : ℕ) (turns : List Turn) (floor : FloorContent) : Type 0 where
   pub plan_is : floor.tables.plan ≡ plan
-  pub as_many : length floor.tables.ribs ≡ length said
-  pub counted : length floor.counts ≡ length said
-  pub peers : (peer : ℕ) (changes : List Change) → slice_get said peer ≡ Some changes
+  pub as_many : length floor.tables.ribs ≡ length recorded
+  pub counted : length floor.counts ≡ length recorded
+  pub peers : (peer : ℕ) (changes : List Change) → slice_get recorded peer ≡ Some changes
       → IsPeerReplayed changes (after_turns capacity (length changes) peer at_start turns) floor peer

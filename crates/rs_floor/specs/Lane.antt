@@ -16,7 +16,7 @@ use Rattle.rs_floor.specs.declared.turn.Turn.{Turn}
 
 -- all changes that the peer's file says, the capacity of its ring, and how far the peer has come
 pub record LaneContent : Type 0 where
-  pub said : List Change
+  pub recorded : List Change
   pub capacity : ℕ
   pub counts : Counts
 
@@ -30,22 +30,22 @@ sent_changes words = map change_of words
 
 -- none closes before the last one
 abbrev pub NoneClosesBefore : List Change → Type 0
-NoneClosesBefore said = (n : ℕ) → n < length said → list_any is_close (take n said) ≡ false
+NoneClosesBefore recorded = (n : ℕ) → n < length recorded → list_any is_close (take n recorded) ≡ false
 
 -- before the first turn
 abbrev pub fresh_lane : ℕ → PeerId → List ℕ → LaneContent
-fresh_lane capacity peer file = record { said = changes_in peer file; capacity = capacity; counts = at_start }
+fresh_lane capacity peer file = record { recorded = changes_in peer file; capacity = capacity; counts = at_start }
 
 -- after a turn, and after several
 abbrev pub lane_after : ℕ → LaneContent → Turn → LaneContent
-lane_after peer lane turn = record lane { counts = after_turn lane.capacity (length lane.said) peer lane.counts turn }
+lane_after peer lane turn = record lane { counts = after_turn lane.capacity (length lane.recorded) peer lane.counts turn }
 
 abbrev pub lane_through : List Turn → ℕ → LaneContent → LaneContent
-lane_through turns peer lane = record lane { counts = after_turns lane.capacity (length lane.said) peer lane.counts turns }
+lane_through turns peer lane = record lane { counts = after_turns lane.capacity (length lane.recorded) peer lane.counts turns }
 
 -- the changes that were received
 abbrev pub received_of : LaneContent → List Change
-received_of lane = take lane.counts.received lane.said
+received_of lane = take lane.counts.received lane.recorded
 
 -- what tables hold of a peer of which they took these changes
 abbrev pub rib_left : List Change → RibContent

@@ -5,7 +5,7 @@ use Rattle.rs_floor.specs.Lane.{LaneContent, to_come, sent_changes, NoneClosesBe
 
 abbrev pub lane_view : Inside → LaneContent
 lane_view l = record {
-  said = sent_changes l.sender.sent ++ to_come l.session;
+  recorded = sent_changes l.sender.sent ++ to_come l.session;
   capacity = l.capacity;
   counts = record { sent = length l.sender.sent; received = length l.receiver.received };
 }

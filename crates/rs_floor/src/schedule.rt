@@ -2,7 +2,7 @@
 
 ghost use Rattle.std.specs.Prelude.{◌≡◌, length, map, true, false, Err, IfOk, IfErr};
 ghost use Rattle.rs_ring.specs.Items.{is_capacity};
-ghost use Rattle.rs_floor.specs.FloorContent.{FitAll, IsReplayed, said_by};
+ghost use Rattle.rs_floor.specs.FloorContent.{FitAll, IsReplayed, recorded_by};
 ghost use Rattle.rs_floor.specs.declared.fault.FloorRefused.TheVariants.{Capacity, Memory};
 
 use crate::fault::FloorRefused;
@@ -29,7 +29,7 @@ pub fn replay(
 ) -> Result<Floor, FloorRefused>
     requires files { length files.now ≡ length plan.now.value.peers }
     requires limit { FitAll files.now }
-    ensures floor { IfOk result (IsReplayed plan.now.value (said_by plan.now.value (map (λ file. file.now) files.now)) capacity turns.now) }
+    ensures floor { IfOk result (IsReplayed plan.now.value (recorded_by plan.now.value (map (λ file. file.now) files.now)) capacity turns.now) }
     ensures capacity { is_capacity capacity ≡ false → result ≡ Err Capacity }
     ensures memory { is_capacity capacity ≡ true → IfErr result (λ fault. fault ≡ Memory) }
 {

@@ -3,7 +3,7 @@ use Rattle.std.proofs.Common.{◌≡◌, ◌∙◌, sym, ap, subst, rules, ℕ, 
 use Rattle.std.specs.Prelude.{slice_get}
 use Rattle.std.proofs.lemmas.List.{length-map}
 use Rattle.rs_choice.specs.Plan.{Peer, Plan}
-use Rattle.rs_floor.specs.FloorContent.{FloorContent, IsReplayed, id_of, said_by}
+use Rattle.rs_floor.specs.FloorContent.{FloorContent, IsReplayed, id_of, recorded_by}
 use Rattle.rs_floor.specs.Lane.{LaneContent, fresh_lane}
 use Rattle.rs_floor.specs.Steps.{HoldReceived}
 use Rattle.rs_floor.proofs.ReplayLemmas.{held-fresh, replayed}
@@ -30,7 +30,7 @@ returns-clause-floor c =
     let OfPlan : Plan → Type 0 = λ held. Fresh held c.in_ok-lanes.lanes.items in
     let OfLanes : List LaneContent → Type 0 = λ lanes. Fresh plan lanes in
     let fresh : OfLanes c.deref_mut.result.now = subst OfLanes (sym before) (subst OfPlan c.deref.ensures c.in_ok-lanes.ensures.fresh) in
-    let P : FloorContent → Type 0 = λ floor. IsReplayed plan (said_by plan files) c.args.capacity c.args.turns.now floor in
+    let P : FloorContent → Type 0 = λ floor. IsReplayed plan (recorded_by plan files) c.args.capacity c.args.turns.now floor in
     subst P (sym c.new-2.ensures) (replayed plan files c.args.capacity c.args.turns.now c.deref_mut.result.now c.run_turns.new.tables c.in_ok-counts.counts.items
     (many ∙ c.requires.files) (ap (λ (lanes : List LaneContent). length lanes) before ∙ c.in_ok-lanes.ensures.count ∙ sym many)
     (c.in_ok-counts.ensures.plan.0 ∙ of_plan) (c.in_ok-counts.ensures.plan.1 ∙ ribs) fresh c.in_ok-counts.ensures.end)

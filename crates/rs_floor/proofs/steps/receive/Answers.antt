@@ -1,4 +1,4 @@
--- A change that is received is the next one said, and the tables take it.
+-- A change that is received is the next one recorded, and the tables take it.
 use Rattle.std.proofs.Common.{◌≡◌, ◌∙◌, sym, ap, arith, Some, get_or}
 use Rattle.std.specs.Prelude.{slice_get}
 use Rattle.std.proofs.lemmas.Option.{slice_get-get_or}

@@ -6,7 +6,7 @@ use Rattle.rs_session.specs.Change.{change_of}
 use Rattle.rs_session.specs.declared.word.Word.{Word}
 use Rattle.rs_floor.specs.Lane.{LaneContent, to_come}
 use Rattle.rs_floor.specs.declared.lane.Lane.TheInside.{Inside}
-use Rattle.rs_floor.proofs.LaneLemmas.{said-waiting}
+use Rattle.rs_floor.proofs.LaneLemmas.{recorded-waiting}
 use Rattle.rs_floor.proofs.LaneStates.{front, received-is_lane}
 use Rattle.rs_floor.proofs.lane.Lane.receive.Goals as goal
 
@@ -38,5 +38,5 @@ returns-clause-given c =
     let received = ap (λ (r : Receiving Word). r.received) c.beside.ensures.same in
     let sent = ap (λ (s : Sending Word). s.sent) c.beside.ensures.sender in
     let waited = ap (λ (ws : List Word). ws ++ item ∷ found.0) (sym received) ∙ ap (λ (ws : List Word). c.beside.new.self.received ++ ws) (sym found.1) ∙ c.beside.ensures.all ∙ sent in
-    let P : LaneContent → Type 0 = λ lane. slice_get lane.said lane.counts.received ≡ Some (change_of item) in
-    subst P c.self.view_is (said-waiting old.sender.sent old.receiver.received item found.0 (to_come old.session) waited)
+    let P : LaneContent → Type 0 = λ lane. slice_get lane.recorded lane.counts.received ≡ Some (change_of item) in
+    subst P c.self.view_is (recorded-waiting old.sender.sent old.receiver.received item found.0 (to_come old.session) waited)
