@@ -143,7 +143,7 @@ impl History {
         }
     }
 
-    // Whose route a client gets on a prefix, and when it was announced: what the six steps leave of its candidates.
+    /// Whose route a client gets on a prefix, and when it was announced: what the six steps leave of its candidates.
     pub fn best(
         &self,
         alloc: Global,
@@ -162,7 +162,7 @@ impl History {
         Some(members.first().map(|member| (member.peer, member.time)))
     }
 
-    // A client's rows on these prefixes, which ascend.
+    /// A client's rows on these prefixes, which ascend.
     pub fn rows(&self, alloc: Global, client: usize, prefixes: &[Prefix]) -> Option<Vec<Shown>> {
         let mut rows = Vec::new(alloc);
         for prefix in prefixes {
@@ -174,7 +174,7 @@ impl History {
     }
 }
 
-// The same change again.
+/// The same change again.
 pub fn again(word: &Word) -> Option<Word> {
     let body = match &word.body {
         Body::Announce(prefix, route) => Body::Announce(*prefix, route.clone().ok()?),
