@@ -12,6 +12,7 @@ pub mod Items
 pub mod Laws
 pub mod Message
 pub mod Numbers
+pub mod OriginOrder
 pub mod Parts
 pub mod PathAttributes
 pub mod PathSegments
