@@ -1,21 +1,20 @@
 -- RFC 7606 beside RFC 4271: where nothing is at fault they agree, and the strongest of what is found counts.
-use Rattle.std.proofs.Common.{◌≡◌, ℕ, ◌<◌, ◌≤◌, Bool, true, false, eqb, List, [], ◌∷◌, ◌++◌, length, drop, Option, Some, None, Result, Ok, Err, refl, sym, ap, ◌∙◌, arith, inl, inr, append_assoc}
+use Rattle.std.proofs.Common.{◌≡◌, ℕ, ◌≤◌, Bool, true, false, List, [], ◌∷◌, ◌++◌, drop, Option, Some, None, Result, Ok, Err, refl, ap, ◌∙◌, arith, append_assoc}
 use Rattle.std.specs.Prelude.{if◌then◌else◌}
 use Rattle.std.specs.Option.{option_map}
-use Rattle.std.proofs.lemmas.Bool.{true≢false}
 use Rattle.std.proofs.lemmas.List.{append-nil}
 use Rattle.rs_update.specs.declared.attribute_type.AttributeType.{AttributeType}
-use Rattle.rs_update.specs.declared.errors.Errors.TheVariants.{Rfc4271, Rfc7606}
+use Rattle.rs_update.specs.declared.errors.Errors.TheVariants.{Rfc7606}
 use Rattle.rs_update.specs.declared.fault.HeaderFault.{HeaderFault}
 use Rattle.rs_update.specs.declared.fault.MessageFault.{MessageFault}
 use Rattle.rs_update.specs.declared.fault.UpdateFault.{UpdateFault}
-use Rattle.rs_update.specs.declared.fault.UpdateFault.TheVariants.{MalformedAttributeList, MissingWellKnown, InvalidNetworkField}
+use Rattle.rs_update.specs.declared.fault.UpdateFault.TheVariants.{MalformedAttributeList, MissingWellKnown}
 use Rattle.rs_update.specs.declared.handling.Handling.{Handling}
 use Rattle.rs_update.specs.declared.handling.Handling.TheVariants.{Keep, AttributeDiscard, TreatAsWithdraw, SessionReset}
 use Rattle.rs_update.specs.declared.header.MessageType.{MessageType}
 use Rattle.rs_update.specs.declared.header.MessageType.TheVariants as types
 use Rattle.rs_update.specs.AttributeType.{type_of}
-use Rattle.rs_update.specs.Fault.{first_fault, or_else, of_header}
+use Rattle.rs_update.specs.Fault.{first_fault, of_header}
 use Rattle.rs_update.specs.Gathered.{attributes_of}
 use Rattle.rs_update.specs.Handling.{stronger, handling_again, handling_of_own, handling_behind, strongest_behind, handling_of_rest, strongest_in, kept_of}
 use Rattle.rs_update.specs.Header.{header_of}

@@ -6,7 +6,6 @@ use Rattle.std.proofs.lemmas.Bool.{ne_eqb, true≢false}
 use Rattle.rs_update.specs.declared.fault.HeaderFault.{HeaderFault}
 use Rattle.rs_update.specs.declared.fault.HeaderFault.TheVariants.{NotSynchronized, BadLength, BadType}
 use Rattle.rs_update.specs.declared.fault.MessageFault.{MessageFault}
-use Rattle.rs_update.specs.declared.fault.MessageFault.TheVariants as faults
 use Rattle.rs_update.specs.declared.header.MessageType.{MessageType}
 use Rattle.rs_update.specs.declared.header.MessageType.TheVariants as types
 use Rattle.rs_update.specs.declared.fault.UpdateFault.{UpdateFault}
@@ -14,7 +13,7 @@ use Rattle.rs_update.specs.declared.fault.UpdateFault.TheVariants.{MissingWellKn
 use Rattle.rs_update.specs.Fault.{first_fault, or_else, of_header, of_update}
 use Rattle.rs_update.specs.Gathered.{attributes_of}
 use Rattle.rs_update.specs.Header.{header_fault, header_of, is_marked, has_length, suits_type, type_of, type_field}
-use Rattle.rs_update.specs.Message.{MessageContent, UpdateContent, ◌>>=◌, passes, listed_prefixes, announced_attributes, withdrawn_field, section_field, nlri_field, length_tests, contents_fault, update_fault, update_message, update_of, message_fault, message_of, typed_message, Answers, AnswersUpdate}
+use Rattle.rs_update.specs.Message.{MessageContent, UpdateContent, ◌>>=◌, passes, listed_prefixes, announced_attributes, withdrawn_field, section_field, nlri_field, length_tests, contents_fault, update_fault, update_message, update_of, message_fault, message_of, typed_message}
 use Rattle.rs_update.specs.Prefix.{prefixes_of}
 use Rattle.rs_update.specs.Section.{items_of, section_fault}
 use Rattle.rs_update.specs.IpPrefix.{IpPrefix}

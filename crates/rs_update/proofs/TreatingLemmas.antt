@@ -1,30 +1,28 @@
 -- A message by either standard of handling faults.
-use Rattle.std.proofs.Common.{◌≡◌, ℕ, ◌<◌, Bool, true, false, eqb, List, [], ◌∷◌, ◌++◌, length, drop, Option, Some, None, Result, Ok, Err, refl, sym, ap, ◌∙◌, arith, inl, inr}
-use Rattle.std.specs.Prelude.{◌↔◌, IfOk, IsSome, if◌then◌else◌}
+use Rattle.std.proofs.Common.{◌≡◌, ℕ, ◌<◌, true, List, [], ◌∷◌, length, drop, Option, Some, None, Result, Ok, Err, refl, sym, ap, ◌∙◌, arith}
+use Rattle.std.specs.Prelude.{◌↔◌, IfOk, IsSome}
 use Rattle.std.specs.Option.{is_some, option_map}
 use Rattle.std.proofs.lemmas.Bool.{true≢false}
 use Rattle.rs_update.specs.declared.errors.Errors.{Errors}
 use Rattle.rs_update.specs.declared.errors.Errors.TheVariants.{Rfc4271, Rfc7606}
 use Rattle.rs_update.specs.declared.fault.HeaderFault.{HeaderFault}
 use Rattle.rs_update.specs.declared.fault.MessageFault.{MessageFault}
-use Rattle.rs_update.specs.declared.fault.MessageFault.TheVariants as faults
 use Rattle.rs_update.specs.declared.fault.UpdateFault.{UpdateFault}
-use Rattle.rs_update.specs.declared.fault.UpdateFault.TheVariants.{MissingWellKnown, InvalidNetworkField, MalformedAttributeList}
 use Rattle.rs_update.specs.declared.handling.Handling.{Handling}
 use Rattle.rs_update.specs.declared.handling.Handling.TheVariants.{Keep, AttributeDiscard, TreatAsWithdraw, SessionReset}
 use Rattle.rs_update.specs.declared.header.MessageType.{MessageType}
 use Rattle.rs_update.specs.declared.header.MessageType.TheVariants as types
 use Rattle.rs_update.specs.declared.message.Message.{Message}
 use Rattle.rs_update.specs.declared.message.Message.TheVariants as kinds
-use Rattle.rs_update.specs.Fault.{first_fault, or_else, of_header, of_update}
+use Rattle.rs_update.specs.Fault.{first_fault, of_header}
 use Rattle.rs_update.specs.Gathered.{attributes_of}
 use Rattle.rs_update.specs.Handling.{kept_of, strongest_in}
 use Rattle.rs_update.specs.Header.{header_of}
 use Rattle.rs_update.specs.IpPrefix.{IpPrefix}
-use Rattle.rs_update.specs.Message.{MessageContent, UpdateContent, TreatedContent, IsUpdate, IsTreated, ◌>>=◌, passes, length_tests, listed_prefixes, announced_attributes, withdrawn_field, section_field, nlri_field, content_of, update_content_of, update_message, update_of, typed_message, message_of, Answers, HasAttributesForRoutes, IsUntreated}
+use Rattle.rs_update.specs.Message.{MessageContent, UpdateContent, TreatedContent, IsUpdate, IsTreated, ◌>>=◌, passes, length_tests, listed_prefixes, withdrawn_field, section_field, nlri_field, update_content_of, update_message, update_of, typed_message, message_of, Answers, HasAttributesForRoutes, IsUntreated}
 use Rattle.rs_update.specs.PathAttributes.{PathAttributes}
 use Rattle.rs_update.specs.Prefix.{prefixes_of}
-use Rattle.rs_update.specs.Section.{items_of, section_fault}
+use Rattle.rs_update.specs.Section.{items_of}
 use Rattle.rs_update.specs.Treating.{reset_of, kept_attributes, standing_attributes, content_with, treating_update_of, treating_message, update_by, typed_message_by, message_by}
 use Rattle.rs_update.proofs.MessageLemmas.{attributes_for_routes, listed_is}
 use Rattle.rs_update.proofs.PrefixLemmas.{no_prefix, some_prefix}

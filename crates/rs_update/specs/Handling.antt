@@ -1,5 +1,5 @@
 -- What RFC 7606 does for what it finds in the path attributes of an UPDATE (sections 2, 3 and 7).
-use Rattle.std.specs.Prelude.{◌≡◌, ℕ, Bool, true, false, ◌==◌, List, [], ◌∷◌, ◌++◌, length, Option, Some, None, if◌then◌else◌}
+use Rattle.std.specs.Prelude.{ℕ, Bool, true, false, ◌==◌, List, [], ◌∷◌, ◌++◌, length, Option, Some, None, if◌then◌else◌}
 use Rattle.std.specs.List.{flat_map}
 use Rattle.rs_update.specs.declared.attribute_type.AttributeType.{AttributeType}
 use Rattle.rs_update.specs.declared.attribute_type.AttributeType.TheVariants as types

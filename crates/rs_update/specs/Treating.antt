@@ -1,12 +1,12 @@
 -- A message by either standard of handling faults: RFC 4271, or RFC 7606 (sections 2 to 4 and 7).
-use Rattle.std.specs.Prelude.{ℕ, Bool, true, false, List, [], ◌∷◌, drop, Option, Some, None, Result, Ok, Err}
+use Rattle.std.specs.Prelude.{ℕ, List, [], ◌∷◌, drop, Option, Some, None, Result, Ok, Err}
 use Rattle.std.specs.Option.{option_map}
 use Rattle.rs_update.specs.declared.errors.Errors.{Errors}
 use Rattle.rs_update.specs.declared.errors.Errors.TheVariants.{Rfc4271, Rfc7606}
 use Rattle.rs_update.specs.declared.fault.UpdateFault.{UpdateFault}
 use Rattle.rs_update.specs.declared.fault.MessageFault.{MessageFault}
 use Rattle.rs_update.specs.declared.handling.Handling.{Handling}
-use Rattle.rs_update.specs.declared.handling.Handling.TheVariants.{Keep, AttributeDiscard, TreatAsWithdraw, SessionReset}
+use Rattle.rs_update.specs.declared.handling.Handling.TheVariants.{TreatAsWithdraw, SessionReset}
 use Rattle.rs_update.specs.declared.header.MessageType.{MessageType}
 use Rattle.rs_update.specs.declared.header.MessageType.TheVariants as types
 use Rattle.rs_update.specs.declared.update.Standing.{Standing}

@@ -1,10 +1,8 @@
-use Rattle.std.proofs.Common.{◌≡◌, ◌≤◌, ◌<◌, ◌∙◌, ◌++◌, [], refl, sym, ap, rules, arith, length, take, List, ℕ, Bool, true, false}
-use Rattle.std.proofs.lemmas.List.{length-append}
+use Rattle.std.proofs.Common.{◌≡◌, ◌<◌, ◌∙◌, ◌++◌, [], refl, sym, ap, rules, arith, List, ℕ, Bool, true, false}
 use Rattle.rs_update.specs.Handling.{is_kept, kept_section}
 use Rattle.rs_update.specs.Items.{item_of, split_of}
 use Rattle.rs_update.specs.Parts.{AreOctets}
-use Rattle.rs_update.specs.Section.{Item, items_of, section_fault}
-use Rattle.rs_update.specs.Spelling.{spelled_item}
+use Rattle.rs_update.specs.Section.{items_of, section_fault}
 use Rattle.rs_update.proofs.ItemLemmas.{item_at-takes}
 use Rattle.rs_update.proofs.SectionLemmas.{none_seen}
 use Rattle.rs_update.proofs.HandlingLemmas.{keeps_on-yes, keeps_on-no, keeps_end, taken_is_spelled, kept_items, kept_faultless, kept_bound}

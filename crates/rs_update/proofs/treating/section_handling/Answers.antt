@@ -1,4 +1,4 @@
-use Rattle.std.proofs.Common.{◌<◌, ◌∙◌, [], refl, sym, ap, rules}
+use Rattle.std.proofs.Common.{◌<◌, ◌∙◌, [], refl, sym, rules}
 use Rattle.rs_update.specs.Items.{item_of, split_of}
 use Rattle.rs_update.specs.Handling.{strongest_in}
 use Rattle.rs_update.proofs.ItemLemmas.{item_at-takes}

@@ -1,8 +1,4 @@
-use Rattle.std.proofs.Common.{◌≡◌, ◌∙◌, sym, ap, subst, List}
-use Rattle.std.specs.Prelude.{IfOk, Option}
-use Rattle.rs_update.specs.Gathered.{attributes_of}
-use Rattle.rs_update.specs.PathAttributes.{PathAttributes}
-use Rattle.rs_update.specs.Section.{Item}
+use Rattle.std.proofs.Common.{◌∙◌, sym}
 use Rattle.rs_update.proofs.HandlingLemmas.{is_kept-keep, nothing_discarded}
 use Rattle.rs_update.proofs.update.kept_attributes.Goals as goal
 

@@ -1,15 +1,12 @@
-use Rattle.std.proofs.Common.{◌≡◌, ◌<◌, ◌+◌, ℕ, Option, Some, None, Bool, true, false, length, sym, ap, ◌∙◌, arith, rules}
+use Rattle.std.proofs.Common.{◌≡◌, ◌<◌, Some, None, false, length, arith}
 use Rattle.std.specs.Prelude.{is_err}
 use Rattle.std.specs.Option.{option_map}
 use Rattle.std.proofs.lemmas.Grind.{common_steps}
 use Rattle.std.proofs.lemmas.Result.{err_from_is_err_and}
-use Rattle.rs_update.specs.Fault.{first_fault}
-use Rattle.rs_update.specs.Handling.{strongest_in}
-use Rattle.rs_update.specs.Message.{announced_attributes, length_tests, withdrawn_field, section_field, nlri_field}
+use Rattle.rs_update.specs.Message.{announced_attributes, withdrawn_field, section_field, nlri_field}
 use Rattle.rs_update.specs.Prefix.{prefixes_of}
 use Rattle.rs_update.specs.Section.{section_fault}
-use Rattle.rs_update.specs.Treating.{reset_of}
-use Rattle.rs_update.proofs.RoomLemmas.{HasRoutes, announces_some, update_lists, treating_update_lists}
+use Rattle.rs_update.proofs.RoomLemmas.{HasRoutes, announces_some, update_lists}
 use Rattle.rs_update.proofs.update.read_update.Goals as goal
 
 pub returns-in_err-attributes : goal.returns-in_err-attributes
