@@ -6,9 +6,9 @@ use Rattle.std.specs.List.{list_any}
 use Rattle.std.specs.FinMap.{empty}
 use Rattle.std.proofs.lemmas.Bool.Decides.{eqb_tells}
 use Rattle.rs_session.specs.Change.{Change}
-use Rattle.rs_table.specs.Content.{TablesContent, RibContent, rib_of, nothing_held}
+use Rattle.rs_table.specs.Content.{TablesContent, RibContent, rib_of, rib_left, nothing_held}
 use Rattle.rs_table.specs.Left.{Routes, BecomeBy, left, is_close}
-use Rattle.rs_floor.specs.Lane.{LaneContent, received_of, rib_left}
+use Rattle.rs_floor.specs.Lane.{LaneContent, received_of}
 use Rattle.rs_floor.specs.Schedule.{after_receive}
 use Rattle.rs_floor.proofs.ListLemmas.{get-set_same, get-set_other, get-within}
 use Rattle.rs_floor.specs.Steps.{HoldReceived}

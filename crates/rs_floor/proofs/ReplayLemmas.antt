@@ -9,9 +9,9 @@ use Rattle.std.proofs.Math.Seq.{take-length}
 use Rattle.rs_choice.specs.Plan.{Peer, Plan}
 use Rattle.rs_session.specs.Change.{Change}
 use Rattle.rs_session.specs.FileChanges.{changes_in}
-use Rattle.rs_table.specs.Content.{RibContent, TablesContent, rib_of, nothing_held}
+use Rattle.rs_table.specs.Content.{RibContent, TablesContent, rib_of, rib_left, nothing_held}
 use Rattle.rs_floor.specs.FloorContent.{IsPeerReplayed, IsReplayed, id_of, recorded_by}
-use Rattle.rs_floor.specs.Lane.{LaneContent, fresh_lane, lane_through, received_of, rib_left}
+use Rattle.rs_floor.specs.Lane.{LaneContent, fresh_lane, lane_through, received_of}
 use Rattle.rs_floor.specs.Laws.{DrainedSchedulesAgree}
 use Rattle.rs_floor.specs.Schedule.{at_start, after_turns}
 use Rattle.rs_floor.specs.Steps.{HoldReceived, IsEnd}

@@ -8,8 +8,8 @@ use Rattle.rs_session.specs.Change.{Change}
 use Rattle.rs_session.specs.FileChanges.{changes_in}
 use Rattle.rs_session.specs.declared.peer.PeerId.{PeerId}
 use Rattle.rs_table.specs.Codes.{tables_code}
-use Rattle.rs_table.specs.Content.{TablesContent}
-use Rattle.rs_floor.specs.Lane.{LaneContent, fresh_lane, rib_left}
+use Rattle.rs_table.specs.Content.{TablesContent, rib_left}
+use Rattle.rs_floor.specs.Lane.{LaneContent, fresh_lane}
 use Rattle.rs_floor.specs.Schedule.{at_start, after_turns}
 use Rattle.rs_floor.specs.declared.counts.Counts.{Counts}
 use Rattle.rs_floor.specs.declared.turn.Turn.{Turn}

@@ -8,8 +8,7 @@ use Rattle.rs_session.specs.FileChanges.{changes_in}
 use Rattle.rs_session.specs.Stage.{Stage, to_read, changes_left}
 use Rattle.rs_session.specs.declared.peer.PeerId.{PeerId}
 use Rattle.rs_session.specs.declared.word.Word.{Word}
-use Rattle.rs_table.specs.Content.{RibContent}
-use Rattle.rs_table.specs.Left.{is_close, left}
+use Rattle.rs_table.specs.Left.{is_close}
 use Rattle.rs_floor.specs.Schedule.{at_start, after_turn, after_turns}
 use Rattle.rs_floor.specs.declared.counts.Counts.{Counts}
 use Rattle.rs_floor.specs.declared.turn.Turn.{Turn}
@@ -46,7 +45,3 @@ lane_through turns peer lane = record lane { counts = after_turns lane.capacity 
 -- the changes that were received
 abbrev pub received_of : LaneContent → List Change
 received_of lane = take lane.counts.received lane.recorded
-
--- what tables hold of a peer of which they took these changes
-abbrev pub rib_left : List Change → RibContent
-rib_left changes = record { routes = left changes; closed = list_any is_close changes }

@@ -2,9 +2,8 @@
 use Rattle.std.specs.Prelude.{◌≡◌, ℕ, List, map, length, slice_get, Some}
 use Rattle.rs_choice.specs.Plan.{Plan}
 use Rattle.rs_session.specs.Change.{Change}
-use Rattle.rs_table.specs.Content.{TablesContent}
+use Rattle.rs_table.specs.Content.{TablesContent, rib_left}
 use Rattle.rs_floor.specs.FloorContent.{FloorContent, IsReplayed, recorded_by}
-use Rattle.rs_floor.specs.Lane.{rib_left}
 use Rattle.rs_floor.specs.declared.counts.Counts.{Counts}
 use Rattle.rs_floor.specs.declared.turn.Turn.{Turn}
 

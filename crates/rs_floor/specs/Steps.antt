@@ -1,7 +1,7 @@
 -- Tables beside the lanes of all peers.
 use Rattle.std.specs.Prelude.{◌≡◌, ℕ, List, Some, length, slice_get}
-use Rattle.rs_table.specs.Content.{TablesContent, rib_of}
-use Rattle.rs_floor.specs.Lane.{LaneContent, lane_through, received_of, rib_left}
+use Rattle.rs_table.specs.Content.{TablesContent, rib_of, rib_left}
+use Rattle.rs_floor.specs.Lane.{LaneContent, lane_through, received_of}
 use Rattle.rs_floor.specs.declared.counts.Counts.{Counts}
 use Rattle.rs_floor.specs.declared.turn.Turn.{Turn}
 
