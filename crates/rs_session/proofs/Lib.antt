@@ -1,6 +1,5 @@
 mod EffectLemmas
 mod FrontLemmas
-mod GivenLemmas
 mod LawLemmas
 pub mod PrefixLemmas
 pub mod FileChangesLemmas

@@ -1,1 +1,0 @@
-//! The router: what it sends to each shard.

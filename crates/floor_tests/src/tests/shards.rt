@@ -1,1 +1,0 @@
-//! Shards on threads: the tables that they hold.

@@ -1,1 +1,0 @@
-//! Workers on threads: what they send of a file.

@@ -1,0 +1,67 @@
+"""Runs the built program on exchanges and judges what comes by the slow reading."""
+
+import multiprocessing
+import os
+import subprocess
+import sys
+import tempfile
+
+import slow_reading
+
+
+def text_of(address):
+    return ".".join(str(it) for it in address.to_bytes(4, "big"))
+
+
+def configuration(server, peers, names):
+    """The TOML text of an exchange whose peers' files have these names."""
+    lines = ["[server]", f"as = {server.asn}", f'address = "{text_of(server.address)}"', f'id = "{text_of(server.id)}"']
+    if server.subnet:
+        lines.append(f'subnet = "{text_of(server.subnet[0])}/{server.subnet[1]}"')
+    for peer, name in zip(peers, names):
+        lines += ["[[peer]]", f'name = "{peer.name}"', f"as = {peer.asn}", f'address = "{text_of(peer.address)}"', f'id = "{text_of(peer.id)}"']
+        lines += [f"preference = {peer.preference}", f"refuse_from = {list(peer.refuse_from)}".replace("'", '"'), f'file = "{name}"']
+    return "\n".join(lines) + "\n"
+
+
+class Bench:
+    """A folder to run the program in."""
+
+    def __init__(self, program):
+        self.program = os.path.realpath(program)
+        self.folder = tempfile.TemporaryDirectory()
+        os.mkdir(f"{self.folder.name}/tables")
+
+    def put(self, name, octets):
+        with open(f"{self.folder.name}/{name}", "wb") as it:
+            it.write(octets)
+
+    def judge(self, server, peers, files, time=0, words=(), errors="rfc4271"):
+        """None where the program gives what the slow reading gives, else what differs. `files` has a (name, octets) for each peer."""
+        for name, octets in files:
+            self.put(name, octets)
+        self.put("exchange.toml", configuration(server, peers, [name for name, _ in files]).encode())
+        line = [self.program, "--config", "exchange.toml", "--out", "tables", "--time", str(time), *words]
+        ran = subprocess.run(line, cwd=self.folder.name, capture_output=True)
+        report, dumps = slow_reading.outcome(server, peers, [octets for _, octets in files], time, errors)
+        if ran.returncode or ran.stderr:
+            return f"status {ran.returncode}: {ran.stderr.decode(errors='replace')}"
+        if ran.stdout.decode() != report:
+            return f"the report is\n{ran.stdout.decode()}and not\n{report}"
+        for name, octets in dumps.items():
+            with open(f"{self.folder.name}/tables/{name}.mrt", "rb") as it:
+                if it.read() != octets:
+                    return f"the table of {name} is another"
+        return None
+
+
+def judge_all(judge, tasks):
+    """Judges tasks side by side, `judge(task)` giving None or what differs; prints the count and ends the process."""
+    passed = failed = 0
+    with multiprocessing.Pool() as pool:
+        for task, why in zip(tasks, pool.imap(judge, tasks, chunksize=16)):
+            passed, failed = (passed + 1, failed) if why is None else (passed, failed + 1)
+            if why is not None and failed <= 10:
+                print(f"{task}: {why}")
+    print(f"{passed} passed, {failed} failed")
+    sys.exit(1 if failed or not passed else 0)

@@ -1,0 +1,382 @@
+"""A slow reading of recorded sessions, to judge the program by: written from the standards and the formats alone, one definition after another, each over whole
+lists. Nothing here is fast, and nothing is taken from the program.
+
+RFC 6396 (records, dumps), RFC 4271 (messages, faults, decision), RFC 7606 (faults handled otherwise), RFC 1997 (communities), RFC 7947 (one table a client).
+"""
+
+from collections import namedtuple
+
+Server = namedtuple("Server", "asn address id subnet")  # subnet: (address, length) or None
+Peer = namedtuple("Peer", "name asn address id preference refuse_from")
+Record = namedtuple("Record", "time type subtype body")
+Change = namedtuple("Change", "time kind prefix attributes reason")  # kind: announce, withdraw, down, close
+Route = namedtuple("Route", "time attributes")
+Fault = namedtuple("Fault", "code subcode")
+
+
+def number(octets):
+    return int.from_bytes(octets, "big")
+
+
+# ---- records (RFC 6396, sections 2, 3 and 4.4)
+
+
+def records(file):
+    """The whole records at the front of a file, and how it ends: end, M1 or M2."""
+    found, place = [], 0
+    while len(file) - place >= 12:
+        length = number(file[place + 8 : place + 12])
+        if len(file) - place - 12 < length:
+            return found, "mrt M2"
+        header = file[place : place + 12]
+        body = file[place + 12 : place + 12 + length]
+        found.append(Record(number(header[0:4]), number(header[4:6]), number(header[6:8]), body))
+        place += 12 + length
+    return found, "end" if place == len(file) else "mrt M1"
+
+
+def entry(record):
+    """What a record is: ("other",), ("fault", reason), ("message", asn, address, octets) or ("state", asn, address, old, new)."""
+    body = record.body
+    if record.type not in (16, 17):
+        return ("other",)
+    if record.type == 17:
+        if len(body) < 4:
+            return ("fault", "mrt M4")
+        body = body[4:]
+    if record.subtype not in (4, 5):
+        return ("other",)
+    if len(body) < 12:
+        return ("fault", "mrt M3")
+    if number(body[10:12]) != 1:
+        return ("other",)
+    if len(body) < (20 if record.subtype == 4 else 24):
+        return ("fault", "mrt M3")
+    whose = number(body[0:4]), number(body[12:16])
+    if record.subtype == 4:
+        return ("message", *whose, body[20:])
+    return ("state", *whose, number(body[20:22]), number(body[22:24]))
+
+
+# ---- messages (RFC 4271, sections 4 and 6; RFC 7606, sections 2 to 7)
+
+
+def prefixes(field):
+    """The prefixes that a field lists, bits behind the length cleared; None where it is no list."""
+    found, place = [], 0
+    while place < len(field):
+        length = field[place]
+        size = (length + 7) // 8
+        if length > 32 or len(field) - place - 1 < size:
+            return None
+        address = number(field[place + 1 : place + 1 + size] + bytes(4 - size))
+        found.append((address >> (32 - length) << (32 - length), length))
+        place += 1 + size
+    return found
+
+
+def section(field):
+    """The attributes of a section as (flags, type, value), and whether a rest follows them that is no attribute."""
+    items, place = [], 0
+    while place < len(field):
+        head = 4 if field[place] & 0x10 else 3
+        if len(field) - place < head:
+            return items, True
+        length = number(field[place + 2 : place + head])
+        if len(field) - place - head < length:
+            return items, True
+        items.append((field[place], field[place + 1], field[place + head : place + head + length]))
+        place += head + length
+    return items, False
+
+
+def segments(value):
+    """The segments of an AS_PATH as (type, AS numbers); None where it has none such."""
+    found, place = [], 0
+    while place < len(value):
+        if len(value) - place < 2:
+            return None
+        kind, count = value[place], value[place + 1]
+        end = place + 2 + 4 * count
+        if kind not in (1, 2) or count == 0 or end > len(value):
+            return None
+        found.append((kind, [number(value[at : at + 4]) for at in range(place + 2, end, 4)]))
+        place = end
+    return found
+
+
+# Optional and Transitive of each type that is recognized, and whether its length and its value are good.
+RECOGNIZED = {
+    1: (0x40, lambda v: len(v) == 1, lambda v: v[0] <= 2),
+    2: (0x40, lambda v: True, lambda v: segments(v) is not None),
+    3: (0x40, lambda v: len(v) == 4, lambda v: 0 < v[0] < 224),
+    4: (0x80, lambda v: len(v) == 4, lambda v: True),
+    6: (0x40, lambda v: len(v) == 0, lambda v: True),
+    7: (0xC0, lambda v: len(v) == 8, lambda v: True),
+    8: (0xC0, lambda v: len(v) > 0 and len(v) % 4 == 0, lambda v: True),
+}
+UNCHECKED = (5, 14, 15, 17, 18)
+VALUE_FAULT = {1: 6, 2: 11, 3: 8}
+
+
+def fault_of(item):
+    """The fault of one attribute by itself (RFC 4271, section 6.3)."""
+    flags, kind, value = item
+    if kind in UNCHECKED:
+        return None
+    if kind not in RECOGNIZED:
+        return None if flags & 0x80 else Fault(3, 2)
+    wanted, is_length, is_value = RECOGNIZED[kind]
+    if flags & 0xC0 != wanted:
+        return Fault(3, 4)
+    if not is_length(value):
+        return Fault(3, 5)
+    return None if is_value(value) else Fault(3, VALUE_FAULT[kind])
+
+
+def closes_by_rfc_7606(items, place):
+    """Whether the attribute at a place closes the session though faults are handled as RFC 7606 says, and by which fault."""
+    flags, kind, _ = items[place]
+    if kind in (it[1] for it in items[:place]):
+        return Fault(3, 1) if kind in (14, 15) else None
+    is_recognized = kind in RECOGNIZED or kind in UNCHECKED
+    return None if is_recognized or flags & 0x80 else Fault(3, 2)
+
+
+def withdraws_by_rfc_7606(items, place):
+    """Whether the attribute at a place has its UPDATE treated as a withdrawal."""
+    kind = items[place][1]
+    if kind in (it[1] for it in items[:place]) or kind not in RECOGNIZED:
+        return False
+    fault = fault_of(items[place])
+    return fault is not None and not (kind in (6, 7) and fault == Fault(3, 5))
+
+
+def is_kept(items, place):
+    """Whether the attribute at a place is kept with the route."""
+    flags, kind, _ = items[place]
+    if kind in UNCHECKED or kind in (it[1] for it in items[:place]) or fault_of(items[place]):
+        return False
+    return kind in RECOGNIZED or bool(flags & 0x40)
+
+
+def header_fault(octets):
+    if len(octets) < 19:
+        return Fault(1, 2)
+    if octets[:16] != b"\xff" * 16:
+        return Fault(1, 1)
+    length, kind = number(octets[16:18]), octets[18]
+    if not 19 <= length <= 4096 or length != len(octets):
+        return Fault(1, 2)
+    if not 1 <= kind <= 5:
+        return Fault(1, 3)
+    least = {1: 29, 2: 23, 3: 21, 4: 19, 5: 19}[kind]
+    if length < least or (kind == 4 and length > least):
+        return Fault(1, 2)
+    return None
+
+
+def update(octets, errors):
+    """A Fault, or (withdrawn prefixes, kept attributes, NLRI, whether it is treated as a withdrawal)."""
+    body = octets[19:]
+    if number(body[0:2]) + 23 > len(octets):
+        return Fault(3, 1)
+    withdrawn, body = body[2 : 2 + number(body[0:2])], body[2 + number(body[0:2]) :]
+    if len(withdrawn) + number(body[0:2]) + 23 > len(octets):
+        return Fault(3, 1)
+    attributes, nlri = body[2 : 2 + number(body[0:2])], body[2 + number(body[0:2]) :]
+    items, has_rest = section(attributes)
+    is_treated = False
+    for place, item in enumerate(items):
+        if errors == "rfc7606":
+            fault = closes_by_rfc_7606(items, place)
+            is_treated = is_treated or withdraws_by_rfc_7606(items, place)
+        elif item[1] in (it[1] for it in items[:place]):
+            fault = Fault(3, 1)
+        else:
+            fault = fault_of(item)
+        if fault:
+            return fault
+    if has_rest:
+        return Fault(3, 1)
+    if nlri and not {1, 2, 3} <= {it[1] for it in items}:
+        if errors != "rfc7606":
+            return Fault(3, 3)
+        is_treated = True
+    lists = prefixes(withdrawn), prefixes(nlri)
+    if None in lists:
+        return Fault(3, 10)
+    kept = {it[1]: it for place, it in enumerate(items) if is_kept(items, place)}
+    return lists[0], kept, lists[1], is_treated
+
+
+# ---- the changes of one peer (RFC 4271, section 3.1)
+
+
+def is_multicast(prefix):
+    return prefix[1] >= 4 and prefix[0] >> 28 == 0b1110
+
+
+def changes_of(record, peer, errors):
+    """What a record says of a peer: None where it is passed over, else a list of changes, of which a close is the last."""
+    read = entry(record)
+    if read[0] == "fault":
+        return [Change(record.time, "close", None, None, read[1])]
+    if read[0] == "other" or read[1:3] != (peer.asn, peer.address):
+        return None
+    down = [Change(record.time, "down", None, None, None)]
+    if read[0] == "state":
+        return down if read[3] == 6 and read[4] != 6 else []
+    octets = read[3]
+    fault = header_fault(octets)
+    said = fault or (update(octets, errors) if octets[18] == 2 else None)
+    if isinstance(said, Fault):
+        return [Change(record.time, "close", None, None, f"bgp {said.code}/{said.subcode}")]
+    if said is None:
+        return down if octets[18] == 3 else []
+    withdrawn, kept, nlri, is_treated = said
+    kind = "withdraw" if is_treated else "announce"
+    found = [Change(record.time, "withdraw", it, None, None) for it in withdrawn if it not in nlri]
+    found += [Change(record.time, kind, it, None if is_treated else kept, None) for it in nlri]
+    return [it for it in found if not is_multicast(it.prefix)]
+
+
+def session(file, peer, errors):
+    """All changes that a file says of a peer, the close the last, and how many records are passed over."""
+    found, passed = [], 0
+    whole, end = records(file)
+    for record in whole:
+        said = changes_of(record, peer, errors)
+        if said is None:
+            passed += 1
+            continue
+        found += said
+        if said and said[-1].kind == "close":
+            return found, passed
+    return found + [Change(0, "close", None, None, end)], passed
+
+
+def left(changes):
+    """The routes that a peer's changes leave, by prefix: those announced at a place with no later change on the prefix and no later loss."""
+    if any(it.kind == "close" and it.reason != "end" for it in changes):
+        return {}
+    routes = {}
+    for place, it in enumerate(changes):
+        later = changes[place + 1 :]
+        if it.kind == "announce" and not any(after.kind == "down" or after.prefix == it.prefix for after in later):
+            routes[it.prefix] = Route(it.time, it.attributes)
+    return routes
+
+
+# ---- the table of a client (RFC 4271, section 9.1; RFC 7947, section 2.3)
+
+
+def path(route):
+    return segments(route.attributes[2][2])
+
+
+def communities(route):
+    value = route.attributes[8][2] if 8 in route.attributes else b""
+    return {number(value[at : at + 4]) for at in range(0, len(value), 4)}
+
+
+def is_eligible(server, peer, route):
+    next_hop = number(route.attributes[3][2])
+    if any(server.asn in numbers for _, numbers in path(route)) or next_hop == server.address:
+        return False
+    if server.subnet is None or next_hop == peer.address:
+        return True
+    address, length = server.subnet
+    return next_hop >> (32 - length) == address >> (32 - length)
+
+
+def is_permitted(server, client, peer, route):
+    def has(high, low):
+        return high < 65536 and low < 65536 and high * 65536 + low in communities(route)
+
+    if peer.name in client.refuse_from or has(0, client.asn):
+        return False
+    return has(server.asn, client.asn) or not has(0, server.asn)
+
+
+def path_length(route):
+    return sum(1 if kind == 1 else len(numbers) for kind, numbers in path(route))
+
+
+def neighbour(peer, route):
+    return path(route)[0][1][0] if path(route) and path(route)[0][0] == 2 else peer.asn
+
+
+def med(route):
+    return number(route.attributes[4][2]) if 4 in route.attributes else 0
+
+
+def best(candidates):
+    """Of candidates (peer, route) the one that six eliminations leave, each from the whole set that the one before left; None where there is none."""
+    steps = [
+        lambda one, other: one[0].preference > other[0].preference,
+        lambda one, other: path_length(one[1]) < path_length(other[1]),
+        lambda one, other: one[1].attributes[1][2] < other[1].attributes[1][2],
+        lambda one, other: neighbour(*one) == neighbour(*other) and med(one[1]) < med(other[1]),
+        lambda one, other: one[0].id < other[0].id,
+        lambda one, other: one[0].address < other[0].address,
+    ]
+    for beats in steps:
+        candidates = [it for it in candidates if not any(beats(other, it) for other in candidates)]
+    return candidates[0] if candidates else None
+
+
+def table(server, peers, ribs, client):
+    """The rows of a client: (prefix, number of the sender, route) in the order of the prefixes."""
+    rows = []
+    for prefix in sorted({it for rib in ribs for it in rib}):
+        candidates = [
+            (peer, rib[prefix])
+            for peer, rib in zip(peers, ribs)
+            if peer is not client and prefix in rib and is_eligible(server, peer, rib[prefix]) and is_permitted(server, client, peer, rib[prefix])
+        ]
+        chosen = best(candidates)
+        if chosen:
+            rows.append((prefix, peers.index(chosen[0]), chosen[1]))
+    return rows
+
+
+# ---- dumps and report (RFC 6396, section 4.3)
+
+
+def written(attributes):
+    octets = b""
+    for kind in sorted(attributes):
+        flags, _, value = attributes[kind]
+        shown = RECOGNIZED[kind][0] | (flags & 0x20 if kind in (7, 8) else 0) if kind in RECOGNIZED else 0xE0
+        is_long = len(value) > 255
+        octets += bytes([shown | (0x10 if is_long else 0), kind]) + len(value).to_bytes(2 if is_long else 1, "big") + value
+    return octets
+
+
+def spelled(time, subtype, body):
+    return time.to_bytes(4, "big") + bytes([0, 13, 0, subtype]) + len(body).to_bytes(4, "big") + body
+
+
+def dump(server, peers, client, rows, time):
+    index = server.id.to_bytes(4, "big") + len(client.name).to_bytes(2, "big") + client.name.encode() + len(peers).to_bytes(2, "big")
+    for peer in peers:
+        index += b"\x02" + peer.id.to_bytes(4, "big") + peer.address.to_bytes(4, "big") + peer.asn.to_bytes(4, "big")
+    octets = spelled(time, 1, index)
+    for place, ((address, length), sender, route) in enumerate(rows):
+        body = place.to_bytes(4, "big") + bytes([length]) + address.to_bytes(4, "big")[: (length + 7) // 8] + b"\x00\x01"
+        body += sender.to_bytes(2, "big") + route.time.to_bytes(4, "big")
+        body += len(written(route.attributes)).to_bytes(2, "big") + written(route.attributes)
+        octets += spelled(time, 2, body)
+    return octets
+
+
+def outcome(server, peers, files, time=0, errors="rfc4271"):
+    """The report of a run, and each client's dump by name."""
+    sessions = [session(file, peer, errors) for peer, file in zip(peers, files)]
+    ribs = [left(changes) for changes, _ in sessions]
+    tables = [table(server, peers, ribs, client) for client in peers]
+    report = [f"peer {peer.name} changes {len(changes)} passed {passed} close {changes[-1].reason}" for peer, (changes, passed) in zip(peers, sessions)]
+    report += [f"table {client.name} rows {len(rows)}" for client, rows in zip(peers, tables)]
+    dumps = {client.name: dump(server, peers, client, rows, time) for client, rows in zip(peers, tables)}
+    return "".join(f"{line}\n" for line in report), dumps
