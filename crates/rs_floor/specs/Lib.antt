@@ -9,5 +9,6 @@ pub mod FloorContent
 pub mod Lane
 pub mod LaneView
 pub mod Laws
+pub mod Outcome
 pub mod Schedule
 pub mod Steps

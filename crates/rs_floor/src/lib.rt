@@ -2,7 +2,8 @@
 //! any order that a schedule gives.
 //!
 //! Reading order: `turn` (one step of a schedule), `counts` and `lane` (one peer's session and ring), `opening` (of all peers), `steps`
-//! (their turns), `schedule` (a whole schedule in one thread), `floor` (its end), `fault`, `laws` (of the definitions).
+//! (their turns), `schedule` (a whole schedule in one thread), `floor` (its end), `outcome` (how a run on threads ended), `fault`,
+//! `laws` (of the definitions).
 #![tactic(auto)]
 
 mod counts;
@@ -11,6 +12,7 @@ mod floor;
 mod lane;
 mod laws;
 mod opening;
+mod outcome;
 mod schedule;
 mod steps;
 mod turn;
@@ -18,5 +20,6 @@ mod turn;
 pub use fault::FloorRefused;
 pub use floor::Floor;
 pub use laws::drained_schedules_agree;
+pub use outcome::verdict;
 pub use schedule::replay;
 pub use turn::Turn;

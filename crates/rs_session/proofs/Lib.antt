@@ -1,5 +1,6 @@
 mod EffectLemmas
 mod FrontLemmas
+mod GivenLemmas
 mod LawLemmas
 pub mod PrefixLemmas
 pub mod FileChangesLemmas

@@ -2,13 +2,16 @@
 use Rattle.std.specs.Prelude.{◌≡◌, ℕ, ◌+◌, ◌≤◌, Bool, true, false, List, [], ◌∷◌, ◌++◌, length, Option, Some}
 use Rattle.std.specs.List.{list_any}
 use Rattle.rs_mrt.specs.Entry.{front_of}
-use Rattle.rs_mrt.specs.Record.{MrtRecord}
+use Rattle.rs_mrt.specs.Reader.{ReadEnd}
+use Rattle.rs_mrt.specs.Record.{MrtRecord, records_of}
+use Rattle.rs_mrt.specs.RecordReading.{MayCome, unread}
 use Rattle.rs_mrt.specs.declared.fault.SourceFault.{SourceFault}
 use Rattle.rs_mrt.specs.declared.fault.SourceFault.TheVariants as faults
 use Rattle.rs_session.specs.Change.{Change, ChangeBody, Announced, Withdrawn, Lost, Closed}
 use Rattle.rs_session.specs.Effect.{effect_of}
 use Rattle.rs_session.specs.FileChanges.{changes_of, close_at, changes_in_by}
-use Rattle.rs_session.specs.Stage.{Comes, Stage, May}
+use Rattle.rs_session.specs.Given.{IsRead, has_end}
+use Rattle.rs_session.specs.Stage.{Comes, Stage, May, fresh}
 use Rattle.rs_update.specs.declared.errors.Errors.{Errors}
 use Rattle.rs_session.specs.declared.peer.PeerId.{PeerId}
 use Rattle.rs_session.specs.declared.word.Reason.{Reason}
@@ -58,3 +61,21 @@ FrontSuffices = (errors : Errors) (peer : PeerId) (r : MrtRecord) → effect_of 
 -- there is always something that may come, if only no change
 abbrev pub SomethingMayCome : {S : Type 0} → Comes S → (S → Option MrtRecord) → Stage S → Type 0
 SomethingMayCome comes shows stage = (changes : List Change) × (passed : ℕ) × May comes shows stage changes passed
+
+-- whatever a session over a reader may say in all, from the first octet on, is what a file says that the reader may give, or that a read failed
+abbrev pub GivesFileOrFails : {R : Type 0} → (R → List ℕ → ReadEnd → Type 0) → R → Type 0
+GivesFileOrFails gives reader =
+    (errors : Errors) (peer : PeerId) (changes : List Change) (passed : ℕ)
+    → May (MayCome gives) (λ r. r.shown) (fresh (unread reader) peer errors) changes passed → IsRead gives errors peer reader changes passed
+
+-- the changes close once, as the last one, and say that a read failed
+pub record ClosesByRead (changes : List Change) : Type 0 where
+  pub before : List Change
+  pub splits : changes ≡ before ++ close_at 0 reasons.Read ∷ []
+  pub none_before : has_close before ≡ false
+
+-- where no record ends the session, a failed read does
+abbrev pub FailedReadCloses : Type 0
+FailedReadCloses =
+    (errors : Errors) (peer : PeerId) (octets : List ℕ) → has_end errors peer octets ≡ false
+    → ClosesByRead (changes_of errors peer (records_of octets) (Some faults.Read))

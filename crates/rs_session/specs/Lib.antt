@@ -1,6 +1,8 @@
 pub use Rattle.rs_mrt.specs.Entry
 pub use Rattle.rs_mrt.specs.Fault
+pub use Rattle.rs_mrt.specs.Reader
 pub use Rattle.rs_mrt.specs.Record
+pub use Rattle.rs_mrt.specs.RecordReading
 pub use Rattle.rs_mrt.specs.Source
 pub use Rattle.rs_update.specs.IpPrefix
 pub use Rattle.rs_update.specs.Message
@@ -13,6 +15,7 @@ pub mod Counts
 pub mod Effect
 pub mod EffectView
 pub mod FileChanges
+pub mod Given
 pub mod Laws
 pub mod Peer
 pub mod PendingView

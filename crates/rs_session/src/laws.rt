@@ -1,9 +1,9 @@
 //! What holds of the definitions that the contracts cite: each law is the contract of a function that does nothing.
 
-ghost use Rattle.rs_session.specs.Laws.{ClosesOnce, SaysNoMoreThanOctets, FrontSuffices, SomethingMayCome};
+ghost use Rattle.rs_session.specs.Laws.{ClosesOnce, SaysNoMoreThanOctets, FrontSuffices, SomethingMayCome, GivesFileOrFails, FailedReadCloses};
 
 use crate::session::Session;
-use rs_mrt::{Source, front_of_a_record_says_the_same};
+use rs_mrt::{Read, Source, front_of_a_record_says_the_same};
 
 /// Whatever the records, a session says exactly one close, as its last change, and never for want of memory.
 pub fn a_session_closes_once()
@@ -25,4 +25,17 @@ pub fn the_front_of_a_record_suffices()
 /// There is always something that may come: what a session gives is a beginning of something that its source may show.
 pub fn something_may_come<S: Source>(_session: &Session<S>)
     ensures { SomethingMayCome S.comes S.shows _session.now }
+{}
+
+/// A session over a `RecordReader` says what a file says which the reader may give, the file being read no further than the record that
+/// ends the session; or else, behind the changes of the whole records that came, that a read failed.
+pub fn a_reader_gives_a_file_or_fails<R: Read>(_reader: &R)
+    ensures { GivesFileOrFails R.gives _reader.now }
+{
+    front_of_a_record_says_the_same();
+}
+
+/// Where no record that came ends the session, a failed read closes it, as the last change.
+pub fn a_failed_read_closes_last()
+    ensures { FailedReadCloses }
 {}

@@ -15,7 +15,8 @@ mod withdrawn;
 mod word;
 
 pub use laws::{
-    a_file_says_no_more_changes_than_octets, a_session_closes_once, something_may_come,
+    a_failed_read_closes_last, a_file_says_no_more_changes_than_octets,
+    a_reader_gives_a_file_or_fails, a_session_closes_once, something_may_come,
     the_front_of_a_record_suffices,
 };
 pub use peer::PeerId;

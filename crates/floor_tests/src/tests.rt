@@ -1,0 +1,7 @@
+//! Workers, the router and shards on threads of their own, and whole runs.
+
+mod recordings;
+mod routers;
+mod serves;
+mod shards;
+mod workers;

@@ -1,0 +1,1 @@
+//! The router: what it sends to each shard.

@@ -1,0 +1,1 @@
+//! Shards on threads: the tables that they hold.

@@ -1,0 +1,1 @@
+//! Workers on threads: what they send of a file.

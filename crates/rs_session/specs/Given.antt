@@ -1,0 +1,90 @@
+-- Recorded files as readers give them (RFC 6396, section 2). Our choices: a session reads no further than the record that ends it, and takes no
+-- more than 2^50 octets of a reader.
+use Rattle.std.specs.Prelude.{◌≡◌, ◌<◌, ◌≤◌, ◌⊎◌, ℕ, Bool, true, false, List, [], ◌++◌, length, take, slice_get, Some}
+use Rattle.std.specs.List.{list_any}
+use Rattle.rs_mrt.specs.Reader.{ReadEnd, FileEnds, ReadFails}
+use Rattle.rs_mrt.specs.Record.{records_of}
+use Rattle.rs_mrt.specs.RecordReading.{read_limit}
+use Rattle.rs_mrt.specs.declared.fault.SourceFault.TheVariants as faults
+use Rattle.rs_session.specs.Change.{Change}
+use Rattle.rs_session.specs.Effect.{effect_of}
+use Rattle.rs_session.specs.FileChanges.{ends, changes_of, passed_of, changes_in_by, passed_in_by}
+use Rattle.rs_session.specs.declared.peer.PeerId.{PeerId}
+use Rattle.rs_update.specs.declared.errors.Errors.{Errors}
+
+-- whether a record of these octets ends the session of a peer
+abbrev pub has_end : Errors → PeerId → List ℕ → Bool
+has_end errors peer octets = list_any (λ r. ends (effect_of errors peer r)) (records_of octets)
+
+module _ {R : Type 0} (gives : R → List ℕ → ReadEnd → Type 0) (errors : Errors) where
+  -- ---- one reader
+
+  -- the reader may give this file, and then its end
+  pub record IsGivenWhole (reader : R) (file : List ℕ) : Type 0 where
+    pub given : gives reader file FileEnds
+    pub fits : length file < read_limit
+
+  -- the reader may give this file first, and a record of it ends the session of the peer: what comes behind it isn't read
+  pub record IsGivenToClose (peer : PeerId) (reader : R) (file : List ℕ) : Type 0 where
+    pub later : List ℕ
+    pub end : ReadEnd
+    pub given : gives reader (file ++ later) end
+    pub fits : length file ≤ read_limit
+    pub closes : has_end errors peer file ≡ true
+
+  -- the reader may give this file as far as the session of the peer reads
+  abbrev pub IsGiven : PeerId → R → List ℕ → Type 0
+  IsGiven peer reader file = IsGivenWhole reader file ⊎ IsGivenToClose peer reader file
+
+  -- these octets may come while the session of the peer is open, and then a read fails, or no more octets are taken
+  pub record FailsBehind (peer : PeerId) (reader : R) (came : List ℕ) : Type 0 where
+    pub later : List ℕ
+    pub end : ReadEnd
+    pub given : gives reader (came ++ later) end
+    pub fails : ((later ≡ []) × (end ≡ ReadFails)) ⊎ (length came ≡ read_limit)
+    pub no_end : has_end errors peer came ≡ false
+
+  abbrev pub MayFail : PeerId → R → Type 0
+  MayFail peer reader = (came : List ℕ) × FailsBehind peer reader came
+
+  -- ---- what a session says in all
+
+  -- these are the changes that a given file says, and so many of its records are passed over
+  pub record SaysGiven (peer : PeerId) (reader : R) (changes : List Change) (passed : ℕ) : Type 0 where
+    pub file : List ℕ
+    pub given : IsGiven peer reader file
+    pub says : changes ≡ changes_in_by errors peer file
+    pub counts : passed ≡ passed_in_by errors peer file
+
+  -- these are the changes of the whole records that came before a failed read, which closes the session
+  pub record SaysFailed (peer : PeerId) (reader : R) (changes : List Change) (passed : ℕ) : Type 0 where
+    pub came : List ℕ
+    pub fails : FailsBehind peer reader came
+    pub says : changes ≡ changes_of errors peer (records_of came) (Some faults.Read)
+    pub counts : passed ≡ passed_of errors peer (records_of came)
+
+  -- a session over a reader says what a given file says, or that a read failed
+  abbrev pub IsRead : PeerId → R → List Change → ℕ → Type 0
+  IsRead peer reader changes passed = SaysGiven peer reader changes passed ⊎ SaysFailed peer reader changes passed
+
+  -- ---- a reader for each peer
+
+  -- each reader may give its peer's file
+  pub record AreGiven (peers : List PeerId) (readers : List R) (files : List (List ℕ)) : Type 0 where
+    pub as_many : length files ≡ length readers
+    pub each : (place : ℕ) (peer : PeerId) (reader : R) (file : List ℕ)
+        → slice_get peers place ≡ Some peer → slice_get readers place ≡ Some reader → slice_get files place ≡ Some file → IsGiven peer reader file
+
+  -- this holds of files that the readers may give
+  abbrev pub OverGivenFiles : List PeerId → List R → (List (List ℕ) → Type 0) → Type 0
+  OverGivenFiles peers readers Holds = (files : List (List ℕ)) × AreGiven peers readers files × Holds files
+
+  -- the reader at this place may fail, and those before it may give files
+  pub record MayFailAt (peers : List PeerId) (readers : List R) (place : ℕ) : Type 0 where
+    pub peer : PeerId
+    pub reader : R
+    pub files : List (List ℕ)
+    pub peer_is : slice_get peers place ≡ Some peer
+    pub reader_is : slice_get readers place ≡ Some reader
+    pub fails : MayFail peer reader
+    pub before : AreGiven (take place peers) (take place readers) files
