@@ -1,0 +1,5 @@
+pub mod Cut
+pub mod Items
+pub mod Delivery
+pub mod Routing
+pub mod Laws
