@@ -68,6 +68,7 @@ impl<T: Closing> Receiver<T> {
     /// Answers None where no item is there; then nothing changed.
     pub fn try_receive(&mut self) -> Option<Numbered<T>>
         ensures number { IfSome result (λ given. given.number ≡ length self.old.received) }
+        ensures below { IfSome result (λ given. given.number < T.LIMIT) }
         ensures received { IfSome result (λ given. self.new.received ≡ self.old.received ++ given.item ∷ []) }
         // Nothing follows a closing item.
         ensures open { IfSome result (λ given. has_close T.closes self.old.received ≡ false) }
