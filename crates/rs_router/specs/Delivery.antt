@@ -1,5 +1,5 @@
 -- One item more for the shards that get it.
-use Rattle.std.specs.Prelude.{◌≡◌, ◌<◌, ◌^◌, ◌++◌, ◌∷◌, [], ℕ, false, All, List, length, map, slice_get, if◌then◌else◌}
+use Rattle.std.specs.Prelude.{◌≡◌, ◌<◌, ◌^◌, ◌++◌, ◌∷◌, [], ℕ, false, List, length, map, slice_get, Some, if◌then◌else◌}
 use Rattle.std.specs.Option.{option_map}
 use Rattle.rs_ring.specs.Ends.{Sending}
 use Rattle.rs_ring.specs.Items.{has_close}
@@ -23,7 +23,7 @@ SameSenders before after = map (λ sender. sender.ring) after ≡ map (λ sender
 
 -- each shard may be sent one item more: it wasn't sent the last one, and its ring is below its limit
 abbrev pub CanSend : List (Sending Routed) → Type 0
-CanSend senders = All (λ sender. (has_close is_last sender.sent ≡ false) × (length sender.sent < 2 ^ 60)) senders
+CanSend senders = (shard : ℕ) (sender : Sending Routed) → slice_get senders shard ≡ Some sender → (has_close is_last sender.sent ≡ false) × (length sender.sent < 2 ^ 60)
 
 -- an item of which each shard gets one
 abbrev pub item_of : Shared → Routed

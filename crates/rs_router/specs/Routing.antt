@@ -1,5 +1,5 @@
 -- The changes of all peers, as they go from their rings to the shards.
-use Rattle.std.specs.Prelude.{◌≡◌, ◌≤◌, ◌^◌, ◌++◌, ◌∷◌, [], ℕ, Bool, true, false, List, length, map, sum, slice_get, Some}
+use Rattle.std.specs.Prelude.{◌≡◌, ◌≤◌, ◌^◌, ◌++◌, ◌∷◌, [], ℕ, Bool, true, false, List, length, map, sum_by, slice_get, Some}
 use Rattle.std.specs.List.{list_all, list_any}
 use Rattle.rs_ring.specs.Ends.{Receiving}
 use Rattle.rs_session.specs.Change.{change_of, is_close}
@@ -20,6 +20,10 @@ SameReceivers before after = map (λ receiver. receiver.ring) after ≡ map (λ 
 -- whether a list of changes closes
 abbrev pub is_closed : List Word → Bool
 is_closed received = list_any (λ word. is_close word.body) received
+
+-- whether each peer's session closed
+abbrev pub all_closed : List (Receiving Word) → Bool
+all_closed receivers = list_all (λ receiver. is_closed receiver.received) receivers
 
 -- its last change closes, and none before it does
 pub record EndsClosed (received : List Word) : Type 0 where
@@ -59,6 +63,6 @@ pub record IsRouted (received : List (List Word)) (sent : List (List Routed)) : 
   pub cuts : AreCuts received sent
   pub known : AreKnown (length received) sent
   pub unended : (shard : ℕ) (items : List Routed) → slice_get sent shard ≡ Some items → list_any is_last items ≡ false
-  pub fits : (shard : ℕ) (items : List Routed) → slice_get sent shard ≡ Some items → length items ≤ sum (map length received)
+  pub fits : (shard : ℕ) (items : List Routed) → slice_get sent shard ≡ Some items → length items ≤ sum_by length received
   pub below : (peer : ℕ) (words : List Word) → slice_get received peer ≡ Some words → length words ≤ 2 ^ 51
   pub at_end : (peer : ℕ) (words : List Word) → slice_get received peer ≡ Some words → is_closed words ≡ true → EndsClosed words

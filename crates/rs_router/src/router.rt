@@ -1,11 +1,9 @@
 //! Routes the changes of all peers.
 
 ghost use Rattle.std.specs.Prelude.{◌≡◌, ◌≤◌, ◌<◌, [], ℕ, true, All, length, map};
-ghost use Rattle.std.specs.List.{list_all};
-ghost use Rattle.rs_ring.specs.Items.{has_close};
 ghost use Rattle.rs_router.specs.Cut.{IsShardCount};
 ghost use Rattle.rs_router.specs.Delivery.{sent_lists, SameSenders};
-ghost use Rattle.rs_router.specs.Routing.{AreClosed, AreCuts, AreKnown, EndLast, IsRouted, is_closed, received_lists, SameReceivers};
+ghost use Rattle.rs_router.specs.Routing.{AreClosed, AreCuts, AreKnown, EndLast, IsRouted, all_closed, received_lists, SameReceivers};
 
 use crate::delivery::{Shared, deliver, send_to_all};
 use crate::routed::Routed;
@@ -45,13 +43,13 @@ fn route_until_closed<R: Wait>(rt: &R, from: &mut [Receiver<Word>], to: &mut [Se
     requires peers { length from.old ≤ 256 }
     requires routed { IsRouted (received_lists from.old) (sent_lists to.old) }
     ensures routed { IsRouted (received_lists from.new) (sent_lists to.new) }
-    ensures closed { list_all is_closed (received_lists from.new) ≡ true }
+    ensures closed { all_closed from.new ≡ true }
     ensures receivers { SameReceivers from.old from.new }
     ensures senders { SameSenders to.old to.new }
 {
     for _ in rt.forever() {
         let moved = route_round(rt, from, to);
-        if from.iter().all(|receiver| receiver.closed()) {
+        if all_closed(from) {
             return;
         }
         if !moved {
@@ -59,6 +57,13 @@ fn route_until_closed<R: Wait>(rt: &R, from: &mut [Receiver<Word>], to: &mut [Se
         }
     }
     unreachable!()
+}
+
+// Whether each peer's session closed.
+fn all_closed(from: &[Receiver<Word>]) -> bool
+    ensures { result ≡ all_closed from.now }
+{
+    from.iter().all(|receiver| receiver.closed())
 }
 
 // Gives each peer a turn. Answers whether any change came.

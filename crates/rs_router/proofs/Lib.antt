@@ -1,0 +1,3 @@
+mod CutLemmas
+mod PlaceLemmas
+mod RoutingLemmas
