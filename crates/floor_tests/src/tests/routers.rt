@@ -1,1 +1,302 @@
 //! The router: what it sends to each shard.
+
+ghost use Rattle.std.specs.Prelude.{◌≡◌, [], All};
+
+use super::recordings::{add_announcement, address_of, asn_of};
+use rs_ring::{Closing, Numbered, Receiver, Sender, ring};
+use rs_router::{MAX_SHARDS, Routed, route, shard_of};
+use rs_session::{Body, PeerId, Reason, Session, Word};
+use rs_update::{Attributes, Prefix};
+use std::alloc::Global;
+use std::sync::{Arc, Wait};
+use std::test::*;
+use std::thread;
+use std::thread::Threads;
+
+#[test]
+fn the_shard_of_a_prefix_is_the_first_octet_of_its_address_modulo_their_number(rt: HostRuntime) {
+    // 198.51.100.0/24, 203.0.113.0/24, 0.0.0.0/0 and 255.255.255.255/32.
+    for (address, len, shards, shard) in [
+        (0xC633_6400, 24, 3, 0),
+        (0xCB00_7100, 24, 3, 2),
+        (0xC633_6400, 24, 16, 6),
+        (0xCB00_7100, 24, 16, 11),
+        (0xC633_6400, 24, 1, 0),
+        (0, 0, 1, 0),
+        (0, 0, 3, 0),
+        (0, 0, 16, 0),
+        (0xFFFF_FFFF, 32, 16, 15),
+        (0xFFFF_FFFF, 32, 2, 1),
+    ] {
+        let found = shard_at(address, len, shards);
+        assert_eq!(rt; found, Some(shard), "of {address:x}/{len} in {shards}");
+    }
+}
+
+// The shard of the prefix of so many bits of an address.
+fn shard_at(address: u32, len: u8, shards: usize) -> Option<usize> {
+    let prefix = Prefix::new(address, len)?;
+    if !(1..=MAX_SHARDS).contains(&shards) {
+        return None;
+    }
+    Some(shard_of(prefix, shards))
+}
+
+// A change, on a prefix of eight bits by its first octet or on none.
+#[derive(Clone, Copy, Debug, PartialEq, Eq)]
+enum Change {
+    Announce(u8),
+    Withdraw(u8),
+    Down,
+    Close(Reason),
+}
+
+use Change::{Announce, Close, Down, Withdraw};
+
+const FAULT: Reason = Reason::Bgp {
+    code: 3,
+    subcode: 6,
+};
+
+// What two peers say.
+const FIRST: [Change; 8] = [
+    Announce(198),
+    Announce(203),
+    Announce(1),
+    Withdraw(198),
+    Down,
+    Announce(0),
+    Withdraw(1),
+    Close(Reason::EndOfFile),
+];
+
+const SECOND: [Change; 3] = [Announce(203), Down, Close(FAULT)];
+
+// What each of three shards gets of them: 198 and 0 are in shard 0, 1 in shard 1, 203 in shard 2. A change has its place as its time.
+const FIRST_CUT: [&[(u32, Change)]; 3] = [
+    &[
+        (0, Announce(198)),
+        (3, Withdraw(198)),
+        (4, Down),
+        (5, Announce(0)),
+        (7, Close(Reason::EndOfFile)),
+    ],
+    &[
+        (2, Announce(1)),
+        (4, Down),
+        (6, Withdraw(1)),
+        (7, Close(Reason::EndOfFile)),
+    ],
+    &[(1, Announce(203)), (4, Down), (7, Close(Reason::EndOfFile))],
+];
+
+const SECOND_CUT: [&[(u32, Change)]; 3] = [
+    &[(1, Down), (2, Close(FAULT))],
+    &[(1, Down), (2, Close(FAULT))],
+    &[(0, Announce(203)), (1, Down), (2, Close(FAULT))],
+];
+
+// The attributes of some route.
+fn some_route(alloc: Global) -> Option<Arc<Attributes>> {
+    let mut file = Vec::new(alloc);
+    add_announcement(&mut file, 0, 100, &[24, 198, 51, 100]).ok()?;
+    let id = PeerId {
+        address: address_of(0),
+        asn: asn_of(0),
+    };
+    let mut session = Session::new(alloc, &file, id);
+    let word = session.next_word().ok()??;
+    match word.body {
+        Body::Announce(_, route) => Some(route),
+        _ => None,
+    }
+}
+
+// The change as it goes through a ring.
+fn word_of(route: &Arc<Attributes>, time: u32, change: Change) -> Option<Word> {
+    let body = match change {
+        Announce(first) => Body::Announce(prefix_at(first)?, route.clone().ok()?),
+        Withdraw(first) => Body::Withdraw(prefix_at(first)?),
+        Down => Body::Down,
+        Close(reason) => Body::Close(reason),
+    };
+    Some(Word { time, body })
+}
+
+// The prefix of eight bits with this first octet.
+fn prefix_at(first: u8) -> Option<Prefix> {
+    Prefix::new(u32::from_be_bytes([first, 0, 0, 0]), 8)
+}
+
+// An item of a shard's ring: the number of the peer, and the change with its time. None for the last one.
+fn told(item: &Routed) -> Option<(usize, u32, Change)> {
+    let Routed::Word { peer, word } = item else {
+        return None;
+    };
+    let change = match &word.body {
+        Body::Announce(prefix, _) => Announce(first_of(prefix)),
+        Body::Withdraw(prefix) => Withdraw(first_of(prefix)),
+        Body::Down => Down,
+        Body::Close(reason) => Close(*reason),
+    };
+    Some((*peer, word.time, change))
+}
+
+// The first octet of its address.
+fn first_of(prefix: &Prefix) -> u8 {
+    let [first, ..] = prefix.address().to_be_bytes();
+    first
+}
+
+// The ends of the rings of two peers and three shards that the router doesn't hold.
+#[derive(Drop)]
+struct Outside {
+    peers: [Sender<Word>; 2],
+    shards: [Receiver<Routed>; 3],
+}
+
+// What was received of each shard, of each peer.
+#[derive(Drop)]
+struct Received {
+    cuts: [[Vec<(u32, Change)>; 2]; 3],
+    // How many last items came.
+    ended: usize,
+}
+
+impl Received {
+    // Nothing.
+    fn new(alloc: Global) -> Received {
+        Received {
+            cuts: [
+                [Vec::new(alloc), Vec::new(alloc)],
+                [Vec::new(alloc), Vec::new(alloc)],
+                [Vec::new(alloc), Vec::new(alloc)],
+            ],
+            ended: 0,
+        }
+    }
+
+    // Takes an item of a shard: none may come of another peer.
+    fn take(&mut self, shard: usize, item: &Routed) -> Option<()> {
+        let Some((peer, time, change)) = told(item) else {
+            self.ended = self.ended.saturating_add(1);
+            return Some(());
+        };
+        let cut = self.cuts.get_mut(shard)?.get_mut(peer)?;
+        cut.push((time, change)).ok()
+    }
+}
+
+// Sends a change, where there is room. Answers whether it was sent.
+fn send(sender: &mut Sender<Word>, word: Word) -> bool {
+    sender.sent() < Word::LIMIT && sender.try_send(word).is_ok()
+}
+
+// Receives what waits for a shard.
+fn receive_from(outside: &mut Outside, shard: usize, received: &mut Received) -> Option<()> {
+    for _ in 0..64 {
+        let Some(Numbered { item, .. }) = outside.shards.get_mut(shard)?.try_receive() else {
+            return Some(());
+        };
+        received.take(shard, &item)?;
+    }
+    Some(())
+}
+
+// Sends the changes of both peers as there is room, and receives what comes for the shards, until each one was sent the last item.
+fn feed(
+    rt: &impl Wait,
+    alloc: Global,
+    outside: Outside,
+    route: &Arc<Attributes>,
+) -> Option<Received> {
+    let mut outside = outside;
+    let mut received = Received::new(alloc);
+    let mut places = [0usize, 0];
+    for _ in rt.forever() {
+        for (peer, changes) in [FIRST.as_slice(), SECOND.as_slice()].iter().enumerate() {
+            let place = places.get_mut(peer)?;
+            if let Some(change) = changes.get(*place) {
+                let word = word_of(route, u32::try_from(*place).ok()?, *change)?;
+                if send(outside.peers.get_mut(peer)?, word) {
+                    *place = place.saturating_add(1);
+                }
+            }
+        }
+        for shard in 0..3 {
+            receive_from(&mut outside, shard, &mut received)?;
+        }
+        if received.ended >= 3 {
+            return Some(received);
+        }
+        thread::yield_now();
+    }
+    unreachable!()
+}
+
+// Routes what two peers say to three shards.
+fn route_all(rt: &impl Wait, from: [Receiver<Word>; 2], to: [Sender<Routed>; 3])
+    requires received { All (λ receiver. receiver.received ≡ []) from }
+    requires sent { All (λ sender. sender.sent ≡ []) to }
+{
+    let mut from = from;
+    let mut to = to;
+    route(rt, &mut from, &mut to);
+}
+
+// What the shards get through rings of this capacity, the router being in a thread of its own.
+fn through<R: Threads + Wait + Sync>(rt: &R, alloc: Global, capacity: usize) -> Option<Received> {
+    let attributes = some_route(alloc)?;
+    let shared = &attributes;
+    let Ok((first, from_first)) = ring::<Word>(alloc, capacity) else {
+        return None;
+    };
+    let Ok((second, from_second)) = ring::<Word>(alloc, capacity) else {
+        return None;
+    };
+    let Ok((to_none, none)) = ring::<Routed>(alloc, capacity) else {
+        return None;
+    };
+    let Ok((to_one, one)) = ring::<Routed>(alloc, capacity) else {
+        return None;
+    };
+    let Ok((to_two, two)) = ring::<Routed>(alloc, capacity) else {
+        return None;
+    };
+    let from = [from_first, from_second];
+    let to = [to_none, to_one, to_two];
+    let outside = Outside {
+        peers: [first, second],
+        shards: [none, one, two],
+    };
+    let (_routed, received) = thread::join(
+        rt,
+        move || -> ()
+            requires { All (λ receiver. receiver.received ≡ []) from × All (λ sender. sender.sent ≡ []) to }
+        { route_all(rt, from, to) },
+        move || -> Option<Received> { feed(rt, alloc, outside, shared) },
+    );
+    received
+}
+
+#[test]
+fn each_shard_gets_the_cut_of_what_each_peer_says(rt: HostRuntime) {
+    for capacity in [1, 2, 64] {
+        let Some(received) = through(&rt, rt.alloc(), capacity) else {
+            panic!(rt; "out of memory through {capacity}");
+        };
+        for shard in 0..3 {
+            let [first, second] = &received.cuts[shard];
+            assert_eq!(rt;
+                first.as_slice(),
+                FIRST_CUT[shard],
+                "{shard}, through {capacity}"
+            );
+            assert_eq!(rt;
+                second.as_slice(),
+                SECOND_CUT[shard],
+                "{shard}, through {capacity}"
+            );
+        }
+    }
+}
