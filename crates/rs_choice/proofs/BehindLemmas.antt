@@ -6,7 +6,6 @@ use Rattle.std.specs.Option.{option_map}
 use Rattle.std.proofs.lemmas.Bool.Decides.{nat_tests}
 use Rattle.std.proofs.lemmas.List.Elements.{filter-append}
 use Rattle.rs_choice.specs.declared.candidate.Standing.{Standing}
-use Rattle.rs_choice.specs.declared.step.Step.TheVariants as steps
 use Rattle.rs_choice.specs.Clients.{is_sent_to, eligible_among, peer_or_own}
 use Rattle.rs_choice.specs.Comparison.{IsAhead}
 use Rattle.rs_choice.specs.Decision.{SentRoute, origin_code, remaining, choice, standing_of}

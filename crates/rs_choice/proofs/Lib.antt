@@ -18,3 +18,4 @@ pub mod PlanLemmas
 pub mod PolicyLemmas
 pub mod ScanLemmas
 pub mod ShareLemmas
+pub mod StayLemmas

@@ -15,5 +15,6 @@ pub mod Naturality
 pub mod Plan
 pub mod Policy
 pub mod Refusal
+pub mod RouteChanges
 pub mod Scan
 pub mod Sharing

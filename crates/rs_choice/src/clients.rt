@@ -55,7 +55,7 @@ impl Exchange {
 
     // What is decided among all eligible routes. The groups are those of some other decision before and of this one after: so their
     // arrays are filled once for all clients.
-    fn share(&self, held: &[HeldRoute], groups: &mut NeighbourGroups) -> Shared
+    pub(crate) fn share(&self, held: &[HeldRoute], groups: &mut NeighbourGroups) -> Shared
         requires judged { All (IsJudged self.now) held.now }
         requires bound { length held.now ≤ MAX_PEERS }
         ensures { IsShared self.now held.now result }
@@ -79,7 +79,7 @@ impl Exchange {
     }
 
     // The number of the peer whose route a client gets, or its own number where it gets none.
-    fn choose_for(
+    pub(crate) fn choose_for(
         &self,
         held: &[HeldRoute],
         shared: &Shared,

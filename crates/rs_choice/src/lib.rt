@@ -23,6 +23,7 @@ mod neighbour_groups;
 mod places;
 mod plan;
 mod policy;
+mod route_change;
 mod scan;
 mod step;
 
@@ -38,3 +39,4 @@ pub use laws::{
     those_behind_are_no_matter,
 };
 pub use plan::{Local, MAX_NAME_LEN, MAX_PEERS, PeerSpec};
+pub use route_change::RouteChange;

@@ -1,4 +1,5 @@
 pub mod CellsLemmas
+pub mod ChangeLemmas
 pub mod CloseLemmas
 pub mod DecisionLemmas
 pub mod ExampleLemmas

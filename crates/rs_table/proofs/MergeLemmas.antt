@@ -1,6 +1,6 @@
 -- Tables that hold different prefixes, made one.
-use Rattle.std.proofs.Common.{◌≡◌, ◌≢◌, ℕ, zero, suc, ◌+◌, ◌<◌, ◌≤◌, Bool, true, false, cond, ◌||◌, List, [], ◌∷◌, length, map, get_or, Option, Some, None, All, AllPairs, slice_get, refl, sym, ap, subst, ◌∙◌, arith, inl, inr}
-use Rattle.std.specs.List.{AllByRecursion, list_any}
+use Rattle.std.proofs.Common.{◌≡◌, ℕ, zero, suc, ◌+◌, ◌<◌, ◌≤◌, Bool, false, List, [], ◌∷◌, length, map, get_or, Option, Some, None, AllPairs, slice_get, refl, sym, ap, subst, ◌∙◌, arith, inl, inr}
+use Rattle.std.specs.List.{AllByRecursion}
 use Rattle.std.specs.List.Sorted.{IsStrictlySortedBy}
 use Rattle.std.specs.FinMap as fin
 use Rattle.std.specs.Option.{option_or, is_some}
@@ -11,7 +11,7 @@ use Rattle.rs_update.specs.IpPrefix.{IpPrefix}
 use Rattle.rs_update.specs.PrefixOrder.{prefix_cmp}
 use Rattle.rs_choice.specs.Plan.{Plan}
 use Rattle.rs_choice.specs.declared.held_route.HeldRoute.{HeldRoute}
-use Rattle.rs_table.specs.Cell.{CellContent, IsCell, IsRow, route_at, routes_in, route_of_held}
+use Rattle.rs_table.specs.Cell.{CellContent, IsCell, IsRow, route_at, route_of_held}
 use Rattle.rs_table.specs.Cells.{Entries, AreCells, AreJoined, cell_at, routes_at, routes_of, routes_from}
 use Rattle.rs_table.specs.Content.{RibContent, TablesContent, nothing_held, rib_of}
 use Rattle.rs_table.specs.Left.{RouteLeft, same_prefix}

@@ -11,6 +11,7 @@ use Rattle.rs_choice.specs.Eligibility.{is_eligible}
 use Rattle.rs_choice.specs.Held.{sent_of_held, IsJudged}
 use Rattle.rs_choice.specs.Policy.{is_permitted}
 use Rattle.rs_choice.specs.Plan.{Plan}
+use Rattle.rs_choice.specs.RouteChanges.{IsAt}
 use Rattle.rs_table.specs.Left.{RouteLeft}
 use Rattle.rs_table.specs.Table.{PeerRoute, peer_route, sent_route}
 
@@ -84,6 +85,19 @@ route_unless_own routes client peer = if peer == client then None else option_ma
 
 abbrev pub stored_best : CellContent → ℕ → Option PeerRoute
 stored_best cell client = option_and_then (route_unless_own (routes_in cell) client) (slice_get cell.bests client)
+
+-- held routes ascend by peer
+abbrev pub IsAscending : List HeldRoute → Type 0
+IsAscending held = (to : ℕ) × IsRow 0 to (map route_of_held held)
+
+-- a route was put at a place
+abbrev pub IsPut : List HeldRoute → HeldRoute → Option ℕ → Type 0
+IsPut held one new = (place : ℕ) × (new ≡ Some place) × (slice_get held place ≡ Some one)
+
+-- the route that a change took from a peer is at the place of that peer's; where it took none, none of that peer stands there
+abbrev pub IsTaken : List HeldRoute → ℕ → Option HeldRoute → Type 0
+IsTaken held peer (Some one) = slice_get held (place_of (λ one. one.peer) held peer) ≡ Some one
+IsTaken held peer None = IsAt held (place_of (λ one. one.peer) held peer) peer → ⊥
 
 -- routes that a plan's tables hold on a prefix: at most one of each peer, and what is held of each one is true of it
 pub record AreHeld (plan : Plan) (held : List HeldRoute) : Type 0 where

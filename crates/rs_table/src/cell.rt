@@ -2,17 +2,19 @@
 //!
 //! A cell is made whole, with room for a route of every peer, so that no later change of it takes memory.
 
-ghost use Rattle.std.specs.Prelude.{◌≡◌, ◌<◌, ◌≤◌, ◌∷◌, [], IfOk, IsTrue, IsFalse, length, vec_capacity};
+ghost use Rattle.std.specs.Prelude.{◌≡◌, ◌<◌, ◌≤◌, ◌↔◌, ◌∷◌, [], IfOk, IsTrue, IsFalse, None, length, vec_capacity};
 ghost use Rattle.std.specs.Option.{option_map};
 ghost use Rattle.rs_choice.specs.Held.{IsJudged};
-ghost use Rattle.rs_table.specs.Cell.{place_of, route_at, route_of_held, routes_in, stored_best, with_one, with_route, without_one, without_route, AreHeld, IsCell};
+ghost use Rattle.rs_choice.specs.RouteChanges.{IsAt, IsChange, IsKnown};
+ghost use Rattle.rs_table.specs.Cell.{place_of, route_at, route_of_held, routes_in, stored_best, with_one, with_route, without_one, without_route, AreHeld, IsAscending, IsCell, IsPut, IsTaken};
 ghost use Rattle.rs_table.specs.RouteView.{peer_route_of};
 ghost use Rattle.rs_table.specs.Table.{peer_route};
 
 use crate::route::Route;
-use rs_choice::{Exchange, HeldRoute};
+use rs_choice::{Exchange, HeldRoute, RouteChange};
 use std::alloc::{AllocError, Global};
 use std::marker::Model;
+use std::mem::replace;
 
 // The routes on a prefix, in ascending order of their peers, and for each client the number of the peer whose route it gets: its own
 // number where it gets none, since no client gets a route of its own.
@@ -60,8 +62,8 @@ impl Cell {
         ensures routes { routes_in self.new ≡ with_route (routes_in self.old) (route_of_held route) }
         ensures cell { IsCell plan.now self.new }
     {
-        put(&mut self.held, route);
-        self.decide(plan);
+        let change = put(&mut self.held, route);
+        self.decide_after(plan, &change);
     }
 
     // Removes a peer's route, if it has one; answers whether a route is left.
@@ -71,13 +73,11 @@ impl Cell {
         ensures some { IsTrue result → IsCell plan.now self.new }
         ensures none { IsFalse result → routes_in self.new ≡ [] }
     {
-        let is_gone = take_out(&mut self.held, peer);
+        let change = take_out(&mut self.held, peer);
         if self.held.is_empty() {
             return false;
         }
-        if is_gone {
-            self.decide(plan);
-        }
+        self.decide_after(plan, &change);
         true
     }
 
@@ -91,6 +91,20 @@ impl Cell {
     {
         let _peers = plan.count();
         plan.choose_for_all(&self.held, &mut self.bests);
+    }
+
+    // Decides anew after a change, for the clients to which it may be of matter.
+    fn decide_after(&mut self, plan: &Exchange, change: &RouteChange)
+        requires held { AreHeld plan.now self.old.held }
+        requires some { 0 < length self.old.held }
+        requires count { length self.old.bests ≡ length plan.now.peers }
+        requires known { IsKnown plan.now self.old.held change.now }
+        requires change { IsChange plan.now self.old.held change.now self.old.bests }
+        ensures held { self.new.held ≡ self.old.held }
+        ensures cell { IsCell plan.now self.new }
+    {
+        let _peers = plan.count();
+        plan.choose_after(&self.held, change, &mut self.bests);
     }
 
     // The route of a peer.
@@ -123,37 +137,65 @@ impl Cell {
 }
 
 // Puts a route in the place of any that its peer has, where there is room for all routes.
-fn put(held: &mut Vec<HeldRoute>, route: HeldRoute)
-    requires { length (with_one (λ one. one.peer) held.old.items route) ≤ vec_capacity held.old }
+fn put(held: &mut Vec<HeldRoute>, route: HeldRoute) -> RouteChange
+    requires room { length (with_one (λ one. one.peer) held.old.items route) ≤ vec_capacity held.old }
     ensures held { held.new.items ≡ with_one (λ one. one.peer) held.old.items route }
+    ensures peer { result.peer ≡ route.peer }
+    ensures old { IsTaken held.old.items route.peer result.old }
+    ensures new { IsPut held.new.items route result.new }
     ensures capacity { vec_capacity held.old ≤ vec_capacity held.new }
 {
-    let place = place(held, route.peer);
-    if place < held.len() && held[place].peer == route.peer {
-        held[place] = route;
+    let peer = usize::from(route.peer);
+    let place = place(held, peer);
+    let old = if is_at(held, place, peer) {
+        Some(replace(&mut held[place], route))
     } else {
         let _inserted = held.insert(place, route);
+        None
+    };
+    RouteChange {
+        peer,
+        old,
+        new: Some(place),
     }
 }
 
-// Removes a peer's route, if it has one; answers whether it had.
-fn take_out(held: &mut Vec<HeldRoute>, peer: usize) -> bool
+// Removes a peer's route, if it has one.
+fn take_out(held: &mut Vec<HeldRoute>, peer: usize) -> RouteChange
+    requires { IsAscending held.old.items }
     ensures held { held.new.items ≡ without_one (λ one. one.peer) held.old.items peer }
-    ensures same { IsFalse result → held.new.items ≡ held.old.items }
+    ensures peer { result.peer ≡ peer }
+    ensures old { IsTaken held.old.items peer result.old }
+    ensures new { result.new ≡ None }
     ensures capacity { vec_capacity held.new ≡ vec_capacity held.old }
 {
-    let before = held.len();
-    held.retain(|route| usize::from(route.peer) != peer);
-    held.len() < before
+    let place = place(held, peer);
+    let old = if is_at(held, place, peer) {
+        Some(held.remove(place))
+    } else {
+        None
+    };
+    RouteChange {
+        peer,
+        old,
+        new: None,
+    }
+}
+
+// Whether the route at a place, if there is one, is a peer's.
+fn is_at(held: &[HeldRoute], place: usize, peer: usize) -> bool
+    ensures { IsTrue result ↔ IsAt held.now place peer }
+{
+    place < held.len() && usize::from(held[place].peer) == peer
 }
 
 // How many routes stand before that of a peer, or before the place where it would stand.
-fn place(held: &[HeldRoute], peer: u8) -> usize
+fn place(held: &[HeldRoute], peer: usize) -> usize
     ensures place { result ≡ place_of (λ one. one.peer) held.now peer }
     ensures within { result ≤ length held.now }
 {
     for place in 0..held.len() {
-        if held[place].peer >= peer {
+        if usize::from(held[place].peer) >= peer {
             return place;
         }
     }

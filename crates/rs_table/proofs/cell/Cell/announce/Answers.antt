@@ -1,27 +1,41 @@
 use Rattle.std.proofs.Common.{◌<◌, ◌∙◌, ap, sym, refl, subst, arith, length, map}
 use Rattle.rs_table.specs.Cell.{IsCell, route_of_held, with_route}
 use Rattle.rs_table.specs.CellView.{cell_view}
+use Rattle.rs_table.proofs.ChangeLemmas.{put-change, put-known}
 use Rattle.rs_table.proofs.HeldLemmas.{few-held, held-with, routes-with}
 use Rattle.rs_table.proofs.MemberLemmas.{with-some}
 use Rattle.rs_table.proofs.cell.Cell.announce.Goals as goal
 
-pub put-requires : goal.put-requires
-put-requires c =
+pub put-change-requires : goal.put-change-requires
+put-change-requires c =
     let plan = c.args.plan.now in
     let cell : IsCell plan (cell_view c.self.inside) = subst (IsCell plan) (sym c.self.view_is) c.requires.cell in
     omega (arith, few-held plan _ (held-with plan c.self.inside.held.items _ c.args.route cell.held c.requires.judged refl), c.self.invariant, cell.count)
 
-pub decide-requires-clause-held : goal.decide-requires-clause-held
-decide-requires-clause-held c =
+pub decide_after-requires-clause-held : goal.decide_after-requires-clause-held
+decide_after-requires-clause-held c =
     let plan = c.args.plan.now in
     let cell : IsCell plan (cell_view c.self.inside) = subst (IsCell plan) (sym c.self.view_is) c.requires.cell in
-    held-with plan c.self.inside.held.items c.put.new.held.items c.args.route cell.held c.requires.judged c.put.ensures.held
+    held-with plan c.self.inside.held.items c.put-change.new.held.items c.args.route cell.held c.requires.judged c.put-change.ensures.held
 
-pub decide-requires-clause-some : goal.decide-requires-clause-some
-decide-requires-clause-some c = subst (λ held. 0 < length held) (sym c.put.ensures.held) (with-some (λ one. one.peer) c.self.inside.held.items c.args.route)
+pub decide_after-requires-clause-known : goal.decide_after-requires-clause-known
+decide_after-requires-clause-known c =
+    let plan = c.args.plan.now in
+    let cell : IsCell plan (cell_view c.self.inside) = subst (IsCell plan) (sym c.self.view_is) c.requires.cell in
+    put-known plan (cell_view c.self.inside) cell c.put-change.new.held.items c.put-change.result c.args.route c.args.route.peer c.put-change.ensures.old c.put-change.ensures.new
+
+pub decide_after-requires-clause-change : goal.decide_after-requires-clause-change
+decide_after-requires-clause-change c =
+    let plan = c.args.plan.now in
+    let cell : IsCell plan (cell_view c.self.inside) = subst (IsCell plan) (sym c.self.view_is) c.requires.cell in
+    put-change plan (cell_view c.self.inside) cell c.put-change.new.held.items c.put-change.result c.args.route c.requires.judged c.put-change.ensures.held c.put-change.ensures.peer
+    c.put-change.ensures.old c.put-change.ensures.new
+
+pub decide_after-requires-clause-some : goal.decide_after-requires-clause-some
+decide_after-requires-clause-some c = subst (λ held. 0 < length held) (sym c.put-change.ensures.held) (with-some (λ one. one.peer) c.self.inside.held.items c.args.route)
 
 pub returns-clause-routes : goal.returns-clause-routes
 returns-clause-routes c =
-    ap (map route_of_held) c.decide.ensures.held
-    ∙ routes-with c.self.inside.held.items c.put.new.held.items c.args.route c.put.ensures.held
+    ap (map route_of_held) c.decide_after.ensures.held
+    ∙ routes-with c.self.inside.held.items c.put-change.new.held.items c.args.route c.put-change.ensures.held
     ∙ ap (λ cell. with_route (map route_of_held cell.held) (route_of_held c.args.route)) c.self.view_is

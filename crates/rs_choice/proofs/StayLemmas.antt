@@ -1,0 +1,184 @@
+-- Clients to which a change of one peer's route is of no matter get what they got.
+use Rattle.std.proofs.Common.{◌≡◌, ◌≢◌, ◌∙◌, sym, ap, subst, refl, ℕ, ◌+◌, ◌<◌, ◌≤◌, arith, below_more, set, Bool, true, false, cond, not, ◌==◌, inl, inr, List, [], ◌∷◌, ◌++◌, length, map, Option, Some}
+use Rattle.std.specs.Prelude.{filter, IsTrue, slice_get, slice_index_or}
+use Rattle.std.specs.List.{All, Contains}
+use Rattle.std.specs.Option.{option_map}
+use Rattle.std.proofs.lemmas.Bool.Decides.{eqb_tells}
+use Rattle.std.proofs.lemmas.List.{get_or-set_other, get_or-set_same}
+use Rattle.std.proofs.lemmas.Option.{get_or_from_slice_get, slice_get_within}
+use Rattle.rs_choice.specs.declared.held_route.HeldRoute.{HeldRoute}
+use Rattle.rs_choice.specs.declared.route_change.RouteChange.{RouteChange}
+use Rattle.rs_choice.specs.Candidacy.{is_candidate}
+use Rattle.rs_choice.specs.Clients.{is_sent_to, best_peer_for, eligible_among, peer_or_own}
+use Rattle.rs_choice.specs.Comparison.{IsAhead}
+use Rattle.rs_choice.specs.Decision.{SentRoute, standing_of}
+use Rattle.rs_choice.specs.Eligibility.{is_eligible}
+use Rattle.rs_choice.specs.Held.{sent_of_held, IsJudged}
+use Rattle.rs_choice.specs.Laws.{IsNoMatterTo}
+use Rattle.rs_choice.specs.Naturality.{filter-map}
+use Rattle.rs_choice.specs.Plan.{Plan}
+use Rattle.rs_choice.specs.RouteChanges.{of_others, IsChange, IsOneOf, IsUntouched}
+use Rattle.rs_choice.proofs.BehindLemmas.{others_are_no_matter}
+use Rattle.rs_choice.proofs.ChosenLemmas.{mem_map}
+use Rattle.rs_choice.proofs.LawLemmas.{choice_cases, contains-mem, mem-contains}
+use Rattle.rs_choice.proofs.Members.{Mem, mem-filter, mem_of-filter}
+
+-- ---- lists
+
+append-assoc : {M : Type 0} (xs ys zs : List M) → (xs ++ ys) ++ zs ≡ xs ++ (ys ++ zs)
+append-assoc [] ys zs = refl
+append-assoc (x ∷ xs) ys zs = ap (λ rest. x ∷ rest) (append-assoc xs ys zs)
+
+-- members of two lists after one another, where those of the second are of a third
+mem_widen : {M : Type 0} (first some others : List M) (x : M) → ((y : M) → Mem some y → Mem others y) → Mem (first ++ some) x → Mem (first ++ others) x
+mem_widen [] some others x wider h = wider x h
+mem_widen (y ∷ ys) some others x wider (inl same) = inl same
+mem_widen (y ∷ ys) some others x wider (inr h) = inr (mem_widen ys some others x wider h)
+
+-- who is made of one of a list
+mem_of-map : {X Y : Type 0} (f : X → Y) (xs : List X) (y : Y) → Mem (map f xs) y → (x : X) × Mem xs x × (f x ≡ y)
+mem_of-map f [] y h = absurd h
+mem_of-map f (x ∷ xs) y (inl same) = (x, inl refl, same)
+mem_of-map f (x ∷ xs) y (inr h) = let found = mem_of-map f xs y h in (found.0, inr found.1, found.2)
+
+pub contains_at : {X : Type 0} (xs : List X) (place : ℕ) (x : X) → slice_get xs place ≡ Some x → Contains xs x
+contains_at xs place x at = (place, slice_get_within xs place x at, get_or_from_slice_get xs place x x at)
+
+all_mem : {X : Type 0} (P : X → Type 0) (xs : List X) (x : X) → All P xs → Mem xs x → P x
+all_mem P xs x all h = let at = mem-contains xs x h in subst P at.2 (all at.0 x at.1)
+
+-- as the first of numbers are found, and the later ones stay
+pub found_more : (items : List ℕ) (is : ℕ → ℕ) (n x : ℕ) → n < length items → x ≡ is n → ((k : ℕ) → k < n → slice_index_or items k 0 ≡ is k) →
+    (k : ℕ) → k < n + 1 → slice_index_or (set items n x) k 0 ≡ is k
+found_more items is n x within found first =
+    below_more (λ k. slice_index_or (set items n x) k 0 ≡ is k) n
+    (λ k below. get_or-set_other items n k x 0 (λ same. absurd (omega (arith, below, same))) ∙ first k below)
+    (get_or-set_same items n x 0 within ∙ found)
+
+pub later_stay : (items was : List ℕ) (n x : ℕ) → ((k : ℕ) → n ≤ k → slice_index_or items k 0 ≡ slice_index_or was k 0) →
+    (k : ℕ) → n + 1 ≤ k → slice_index_or (set items n x) k 0 ≡ slice_index_or was k 0
+later_stay items was n x later k above =
+    get_or-set_other items n k x 0 (λ same. absurd (omega (arith, above, same))) ∙ later k (omega (arith, above))
+
+-- ---- routes that are of no matter go
+
+no_matter_wider : (plan : Plan) (client : ℕ) (some others : List SentRoute) (one : SentRoute) → ((x : SentRoute) → Mem some x → Mem others x) →
+    IsNoMatterTo plan client some one → IsNoMatterTo plan client others one
+no_matter_wider plan client some others one wider (inl ineligible) = inl ineligible
+no_matter_wider plan client some others one wider (inr (inl refused)) = inr (inl refused)
+no_matter_wider plan client some others one wider (inr (inr found)) =
+    inr (inr (found.0, mem-contains others found.0 (wider found.0 (contains-mem some found.0 found.1)), found.2, found.3, found.4))
+
+one_less : (plan : Plan) (client : ℕ) (q : SentRoute → Bool) (first xs : List SentRoute) (x : SentRoute) (b : Bool) → q x ≡ b →
+    ((one : SentRoute) → Mem (x ∷ xs) one → q one ≡ false → IsNoMatterTo plan client (first ++ cond b (x ∷ filter q xs) (filter q xs)) one) →
+    ((first : List SentRoute) → ((one : SentRoute) → Mem xs one → q one ≡ false → IsNoMatterTo plan client (first ++ filter q xs) one) →
+    best_peer_for plan client (first ++ xs) ≡ best_peer_for plan client (first ++ filter q xs)) →
+    best_peer_for plan client (first ++ x ∷ xs) ≡ best_peer_for plan client (first ++ cond b (x ∷ filter q xs) (filter q xs))
+one_less plan client q first xs x true e nothing later =
+    ap (best_peer_for plan client) (sym (append-assoc first (x ∷ []) xs))
+    ∙ later (first ++ x ∷ []) (λ one member out. subst (λ list. IsNoMatterTo plan client list one) (sym (append-assoc first (x ∷ []) (filter q xs))) (nothing one (inr member) out))
+    ∙ ap (best_peer_for plan client) (append-assoc first (x ∷ []) (filter q xs))
+one_less plan client q first xs x false e nothing later =
+    others_are_no_matter plan client first xs x
+    (no_matter_wider plan client (first ++ filter q xs) (first ++ xs) x
+    (λ y. mem_widen first (filter q xs) xs y (λ z h. (mem-filter q xs z h).0))
+    (nothing x (inl refl) e))
+    ∙ later first (λ one member out. nothing one (inr member) out)
+
+-- a client gets the same without all routes that a test leaves out, where they are of no matter beside the others
+without_those : (plan : Plan) (client : ℕ) (q : SentRoute → Bool) (first later : List SentRoute) →
+    ((one : SentRoute) → Mem later one → q one ≡ false → IsNoMatterTo plan client (first ++ filter q later) one) →
+    best_peer_for plan client (first ++ later) ≡ best_peer_for plan client (first ++ filter q later)
+without_those plan client q first [] nothing = refl
+without_those plan client q first (x ∷ xs) nothing =
+    one_less plan client q first xs x (q x) refl nothing (λ first. without_those plan client q first xs)
+
+-- ---- a change
+
+module _ (plan : Plan) (held : List HeldRoute) (change : RouteChange) (bests : List ℕ) (is : IsChange plan held change bests) (client : ℕ) (known : client < length plan.peers) where
+  abbrev best : ℕ
+  best = best_peer_for plan client (map sent_of_held is.before)
+
+  abbrev of_other : SentRoute → Bool
+  of_other sent = not (sent.peer == change.peer)
+
+  abbrev kept : List SentRoute
+  kept = filter of_other (map sent_of_held is.before)
+
+  -- the routes of others, before and after
+  same_others : filter of_other (map sent_of_held held) ≡ kept
+  same_others =
+      filter-map sent_of_held of_other held ∙ sym (ap (map sent_of_held) is.others) ∙ sym (filter-map sent_of_held of_other is.before)
+
+  of_no_other : (sent : SentRoute) → of_other sent ≡ false → sent.peer ≡ change.peer
+  of_no_other sent e = elim (eqb_tells sent.peer change.peer) [ inl same ↦ same.1 | inr apart ↦ absurd (cc (e, apart.0)) ]
+
+  is_other : (peer : ℕ) → peer ≢ change.peer → not (peer == change.peer) ≡ true
+  is_other peer apart = elim (eqb_tells peer change.peer) [ inl same ↦ absurd (apart same.1) | inr other ↦ ap not other.0 ]
+
+  -- what is known of the route that a client got
+  got : best ≢ client → (r : HeldRoute) × Mem is.before r × (r.peer ≡ best) × IsTrue (is_eligible plan r.peer r.attributes.value) × IsTrue (is_sent_to plan client (sent_of_held r))
+  got apart =
+      let p = λ (sent : SentRoute). is_eligible plan sent.peer sent.attributes in
+      elim (choice_cases (standing_of plan) (filter (is_sent_to plan client) (eligible_among plan (map sent_of_held is.before)))) [
+        | inl none ↦ absurd (apart (ap (λ (found : Option SentRoute). peer_or_own (option_map (λ (sent : SentRoute). sent.peer) found) client) none.0))
+        | inr found ↦
+            let permitted = mem-filter (is_sent_to plan client) (eligible_among plan (map sent_of_held is.before)) found.0 found.2.member.member in
+            let eligible = mem-filter p (map sent_of_held is.before) found.0 permitted.0 in
+            let from = mem_of-map sent_of_held is.before found.0 eligible.0 in
+            let peer : found.0.peer ≡ best = sym (ap (λ (found : Option SentRoute). peer_or_own (option_map (λ (sent : SentRoute). sent.peer) found) client) found.1) in (
+              from.0,
+              from.1,
+              ap (λ (sent : SentRoute). sent.peer) from.2 ∙ peer,
+              ap p from.2 ∙ eligible.1,
+              ap (is_sent_to plan client) from.2 ∙ permitted.1,
+            )
+      ]
+
+  -- a route of a change that is of no matter beside those that are held is so beside those of others
+  no_matter : (one : HeldRoute) → All (IsJudged plan) held → IsJudged plan one → IsOneOf held change one → IsUntouched plan held change client best → IsNoMatterTo plan client kept (sent_of_held one)
+  no_matter one all judged is_one (inl none) = elim (none one is_one) [
+    | inl ineligible ↦ inl (sym judged.eligible ∙ ineligible)
+    | inr refused ↦ inr (inl refused)
+  ]
+  no_matter one all judged is_one (inr behind) = go (is_candidate one.candidacy) refl
+    where
+      go : (b : Bool) → is_candidate one.candidacy ≡ b → IsNoMatterTo plan client kept (sent_of_held one)
+      go false e = inl (sym judged.eligible ∙ e)
+      go true e =
+          let r = got behind.0 in
+          let found = behind.2 one is_one e in
+          let other = found.0 in
+          let judged_other = all_mem (IsJudged plan) held other all (contains-mem held other found.1) in
+          let is_others : Mem (of_others change.peer held) other =
+          mem_of-filter (λ (one : HeldRoute). not (one.peer == change.peer)) held other (is_other other.peer (λ same. behind.1 (sym found.2 ∙ same))) (contains-mem held other found.1) in
+          let was_others : Mem (of_others change.peer is.before) other = subst (λ list. Mem list other) (sym is.others) is_others in
+          let was : Mem is.before other = (mem-filter (λ (one : HeldRoute). not (one.peer == change.peer)) is.before other was_others).0 in
+          let same : r.0 ≡ other = is.apart r.0 other (mem-contains is.before r.0 r.1) (mem-contains is.before other was) (r.2 ∙ sym found.2) in
+          let eligible : IsTrue (is_eligible plan other.peer other.attributes.value) = subst (λ (o : HeldRoute). IsTrue (is_eligible plan o.peer o.attributes.value)) same r.3 in
+          let permitted : IsTrue (is_sent_to plan client (sent_of_held other)) = subst (λ (o : HeldRoute). IsTrue (is_sent_to plan client (sent_of_held o))) same r.4 in
+          let candidate : IsTrue (is_candidate other.candidacy) = judged_other.eligible ∙ eligible in
+          let ahead : IsAhead (standing_of plan (sent_of_held other)) (standing_of plan (sent_of_held one)) =
+          rw (← judged_other.standing candidate, ← judged.standing e) found.3 in
+          let kept_other : Mem kept (sent_of_held other) =
+          subst (λ list. Mem list (sent_of_held other)) (sym (filter-map sent_of_held of_other is.before)) (mem_map sent_of_held (of_others change.peer is.before) other was_others) in
+          inr (inr (sent_of_held other, mem-contains kept (sent_of_held other) kept_other, eligible, permitted, ahead))
+
+  pub stays : All (IsJudged plan) held → IsUntouched plan held change client best → best ≡ best_peer_for plan client (map sent_of_held held)
+  stays all untouched =
+      without_those plan client of_other [] (map sent_of_held is.before) (λ sent member out.
+      let from = mem_of-map sent_of_held is.before sent member in
+      let peer : from.0.peer ≡ change.peer = ap (λ (sent : SentRoute). sent.peer) from.2 ∙ of_no_other sent out in
+      subst (IsNoMatterTo plan client kept) from.2
+      (no_matter from.0 all (all_mem (IsJudged plan) is.before from.0 is.judged from.1) (inl (is.old from.0 (mem-contains is.before from.0 from.1) peer)) untouched))
+      ∙ ap (best_peer_for plan client) (sym same_others)
+      ∙ sym (without_those plan client of_other [] (map sent_of_held held) (λ sent member out.
+      let from = mem_of-map sent_of_held held sent member in
+      let peer : from.0.peer ≡ change.peer = ap (λ (sent : SentRoute). sent.peer) from.2 ∙ of_no_other sent out in
+      subst (λ list. IsNoMatterTo plan client list sent) (sym same_others)
+      (subst (IsNoMatterTo plan client kept) from.2
+      (no_matter from.0 all (all_mem (IsJudged plan) held from.0 all from.1) (inr (is.new from.0 (mem-contains held from.0 from.1) peer)) untouched))))
+
+  pub stays_there : All (IsJudged plan) held → IsUntouched plan held change client (slice_index_or bests client 0) →
+      slice_index_or bests client 0 ≡ best_peer_for plan client (map sent_of_held held)
+  stays_there all untouched = is.best client known ∙ stays all (subst (IsUntouched plan held change client) (is.best client known) untouched)

@@ -1,0 +1,37 @@
+use Rattle.std.proofs.Common.{◌≡◌, ◌∙◌, sym, ap, subst, inl, inr, arith, length, Some, None, Option}
+use Rattle.std.specs.Option.{option_and_then}
+use Rattle.std.specs.Prelude.{IfSome, IsTrue, slice_get, ◌<◌}
+use Rattle.std.proofs.lemmas.Option.{slice_get_read}
+use Rattle.rs_choice.specs.declared.held_route.HeldRoute.{HeldRoute}
+use Rattle.rs_choice.specs.Candidacy.{is_candidate}
+use Rattle.rs_choice.specs.Comparison.{IsAhead}
+use Rattle.rs_choice.specs.Held.{held_standing}
+use Rattle.rs_choice.proofs.exchange.Exchange.are_behind.Goals as goal
+use Rattle.rs_choice.proofs.exchange.Exchange.are_behind.Goals.{in-None, in-Some, in-None-new, in-Some-new}
+
+none_is_no_some : {X : Type 0} (found : Option X) (one : X) → found ≡ None → found ≡ Some one → ⊥
+none_is_no_some None one none some = absurd (cc (some))
+none_is_no_some (Some x) one none some = absurd (cc (none))
+
+same_some : {X : Type 0} (found : Option X) (one other : X) → found ≡ Some one → found ≡ Some other → one ≡ other
+same_some found one other h k = let e : Some one ≡ Some other = sym h ∙ k in cc (e)
+
+pub returns-then-old_is_behind : goal.returns-then-old_is_behind
+returns-then-old_is_behind c = λ new_true one is_one candidate.
+    let held = c.args.held.now in
+    let behind = λ (one : HeldRoute). IsTrue (is_candidate one.candidacy) → IsAhead c.args.standing.now (held_standing c.args.self.now one) in
+    elim is_one [
+      | inl old ↦ elim c.match-change.branch [
+        | in-None w ↦ absurd (none_is_no_some c.args.change.now.old one w.in-None.is old)
+        | in-Some w ↦ subst behind (same_some c.args.change.now.old _ one w.in-Some.is old) (w.is_behind-old_is_behind.ensures (sym w.old_is_behind-is ∙ c.if-old_is_behind.true)) candidate
+      ]
+      | inr new ↦ elim c.match-change-2.branch [
+        | in-None-new w ↦ absurd (none_is_no_some (option_and_then (slice_get held) c.args.change.now.new) one (ap (option_and_then (slice_get held)) w.in-None-new.is) new)
+        | in-Some-new w ↦
+            let other = w.index-held-place.result in
+            let within : w.in-Some-new.place < length held = subst (λ place. IfSome place (λ place. place < length held)) w.in-Some-new.is c.requires.known.new in
+            let at : slice_get held w.in-Some-new.place ≡ Some other = slice_get_read held (length held) w.in-Some-new.place other (omega arith) within w.index-held-place.is in
+            let is : slice_get held w.in-Some-new.place ≡ Some one = sym (ap (option_and_then (slice_get held)) w.in-Some-new.is) ∙ new in
+            subst behind (same_some (slice_get held w.in-Some-new.place) other one at is) (w.is_behind-new_is_behind.ensures (sym w.new_is_behind-is ∙ new_true)) candidate
+      ]
+    ]

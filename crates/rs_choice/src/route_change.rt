@@ -1,0 +1,215 @@
+//! What a change of one peer's route makes of the decisions on a prefix: few clients can get another route by it.
+//!
+//! A client gets what it got where neither the route that went nor the one that came is a candidate of it, or where the route that it
+//! got is another peer's and ahead of both by preference, path length and origin: the steps after these never see them. For all other
+//! clients there is a decision anew.
+
+ghost use Rattle.std.specs.Prelude.{◌≡◌, ◌≢◌, ◌<◌, ◌≤◌, ◌↔◌, ◌&&◌, ◌||◌, not, IfSome, IsTrue, IsFalse, Some, length, map, slice_get, slice_index_or};
+ghost use Rattle.std.specs.List.{All};
+ghost use Rattle.rs_choice.specs.declared.held_route.HeldRoute.{HeldRoute};
+ghost use Rattle.rs_choice.specs.Candidacy.{is_candidate};
+ghost use Rattle.rs_choice.specs.Clients.{is_sent_to, AreBest};
+ghost use Rattle.rs_choice.specs.Comparison.{IsAhead};
+ghost use Rattle.rs_choice.specs.Held.{held_standing, sent_of_held, IsJudged};
+ghost use Rattle.rs_choice.specs.RouteChanges.{AreBehind, AreBehindAll, AreNoCandidates, IsAt, IsChange, IsFirstTouched, IsKnown, IsUntouched, KnowsBest};
+
+use crate::candidate::Standing;
+use crate::exchange::Exchange;
+use crate::held_route::HeldRoute;
+use crate::neighbour_groups::NeighbourGroups;
+use crate::plan::MAX_PEERS;
+
+/// A change of the route that one peer has left on a prefix.
+#[derive(Drop)]
+pub struct RouteChange {
+    /// The number of the peer.
+    pub peer: usize,
+    /// The route that went, if there was one.
+    pub old: Option<HeldRoute>,
+    /// The place, among the routes that are held now, of the one that came, if one did.
+    pub new: Option<usize>,
+}
+
+// Whether the route of a peer is known to be ahead of both routes of a change.
+#[derive(Clone, Copy)]
+pub(crate) struct KnownBest {
+    peer: usize,
+    is_ahead: bool,
+}
+
+impl Exchange {
+    /// Writes the same as `choose_for_all`, where each client's peer stands that it had before a change of one peer's route. There is a decision anew
+    /// for those clients alone to which the change may be of matter. It takes no memory.
+    pub fn choose_after(&self, held: &[HeldRoute], change: &RouteChange, bests: &mut Vec<u8>)
+        requires judged { All (IsJudged self.now) held.now }
+        requires bound { length held.now ≤ MAX_PEERS }
+        requires count { length bests.old.items ≡ length self.now.peers }
+        requires known { IsKnown self.now held.now change.now }
+        requires change { IsChange self.now held.now change.now bests.old.items }
+        ensures count { length bests.new.items ≡ length self.now.peers }
+        ensures best { AreBest self.now (map sent_of_held held.now) bests.new.items }
+    {
+        let Some(first) = self.first_touched(held, change, bests) else {
+            return;
+        };
+        let mut groups = NeighbourGroups::new();
+        let shared = self.share(held, &mut groups);
+        let mut known = KnownBest {
+            peer: change.peer,
+            is_ahead: false,
+        };
+        for client in first..self.count() {
+            if self.is_touched(held, change, client, bests[client], &mut known) {
+                bests[client] = self.choose_for(held, &shared, client, &mut groups);
+            }
+        }
+    }
+
+    // The first client to which a change may be of matter.
+    fn first_touched(&self, held: &[HeldRoute], change: &RouteChange, bests: &[u8]) -> Option<usize>
+        requires judged { All (IsJudged self.now) held.now }
+        requires count { length bests.now ≡ length self.now.peers }
+        requires known { IsKnown self.now held.now change.now }
+        ensures { IsFirstTouched self.now held.now change.now bests.now result }
+    {
+        let mut known = KnownBest {
+            peer: change.peer,
+            is_ahead: false,
+        };
+        for client in 0..self.count() {
+            if self.is_touched(held, change, client, bests[client], &mut known) {
+                return Some(client);
+            }
+        }
+        None
+    }
+
+    // Whether a change may be of matter to a client that got the route of a peer.
+    fn is_touched(
+        &self,
+        held: &[HeldRoute],
+        change: &RouteChange,
+        client: usize,
+        best: u8,
+        known: &mut KnownBest,
+    ) -> bool
+        requires judged { All (IsJudged self.now) held.now }
+        requires known { IsKnown self.now held.now change.now }
+        requires client_known { client < length self.now.peers }
+        requires knows { KnowsBest self.now held.now change.now known.old }
+        ensures knows { KnowsBest self.now held.now change.now known.new }
+        ensures untouched { IsFalse result → IsUntouched self.now held.now change.now client best }
+    {
+        let best = usize::from(best);
+        if best != client && known.peer == best && known.is_ahead {
+            return false;
+        }
+        if !self.reaches(held, change, client) {
+            return false;
+        }
+        *known = self.know(held, change, best, *known);
+        best == client || !known.is_ahead
+    }
+
+    // Whether the route of a peer is ahead of both routes of a change: it is looked up where something else is known.
+    fn know(
+        &self,
+        held: &[HeldRoute],
+        change: &RouteChange,
+        peer: usize,
+        known: KnownBest,
+    ) -> KnownBest
+        requires judged { All (IsJudged self.now) held.now }
+        requires known { IsKnown self.now held.now change.now }
+        requires knows { KnowsBest self.now held.now change.now known }
+        ensures peer { result.peer ≡ peer }
+        ensures knows { KnowsBest self.now held.now change.now result }
+    {
+        if known.peer == peer {
+            return known;
+        }
+        KnownBest {
+            peer,
+            is_ahead: self.is_ahead(held, change, peer),
+        }
+    }
+
+    // Whether one of the routes of a change is a candidate of a client.
+    fn reaches(&self, held: &[HeldRoute], change: &RouteChange, client: usize) -> bool
+        requires judged { All (IsJudged self.now) held.now }
+        requires known { IsKnown self.now held.now change.now }
+        requires client_known { client < length self.now.peers }
+        ensures { IsFalse result → AreNoCandidates self.now held.now change.now client }
+    {
+        let old_reaches = match &change.old {
+            None => false,
+            Some(old) => self.is_candidate(client, old),
+        };
+        let new_reaches = match change.new {
+            None => false,
+            Some(place) => self.is_candidate(client, &held[place]),
+        };
+        old_reaches || new_reaches
+    }
+
+    // Whether a held route is a candidate of a client.
+    fn is_candidate(&self, client: usize, one: &HeldRoute) -> bool
+        requires client_known { client < length self.now.peers }
+        requires judged { IsJudged self.now one.now }
+        ensures { result ≡ (is_candidate one.now.candidacy && is_sent_to self.now client (sent_of_held one.now)) }
+    {
+        one.candidacy.is_eligible() && self.permits_held(client, one)
+    }
+
+    // Whether the route of a peer is ahead of both routes of a change, and not one of them.
+    fn is_ahead(&self, held: &[HeldRoute], change: &RouteChange, peer: usize) -> bool
+        requires judged { All (IsJudged self.now) held.now }
+        requires known { IsKnown self.now held.now change.now }
+        ensures { IsTrue result → (peer ≢ change.now.peer) × AreBehind self.now held.now change.now peer }
+    {
+        if peer == change.peer {
+            return false;
+        }
+        let Some(place) = place_from(held, peer) else {
+            return false;
+        };
+        self.are_behind(held, change, &self.held_standing(&held[place]))
+    }
+
+    // Whether something is ahead of both routes of a change, if they may be candidates.
+    fn are_behind(&self, held: &[HeldRoute], change: &RouteChange, standing: &Standing) -> bool
+        requires judged { All (IsJudged self.now) held.now }
+        requires known { IsKnown self.now held.now change.now }
+        ensures { IsTrue result → AreBehindAll self.now held.now change.now standing.now }
+    {
+        let old_is_behind = match &change.old {
+            None => true,
+            Some(old) => self.is_behind(old, standing),
+        };
+        let new_is_behind = match change.new {
+            None => true,
+            Some(place) => self.is_behind(&held[place], standing),
+        };
+        old_is_behind && new_is_behind
+    }
+
+    // Whether a route is no candidate of any client, or something is ahead of it.
+    fn is_behind(&self, one: &HeldRoute, standing: &Standing) -> bool
+        requires { one.now.peer < length self.now.peers }
+        ensures { IsTrue result → IsTrue (is_candidate one.now.candidacy) → IsAhead standing.now (held_standing self.now one.now) }
+    {
+        !one.candidacy.is_eligible() || standing.is_ahead_of(&self.held_standing(one))
+    }
+}
+
+// The place of the route of a peer.
+fn place_from(held: &[HeldRoute], peer: usize) -> Option<usize>
+    ensures { IfSome result (λ place. IsAt held.now place peer) }
+{
+    for place in 0..held.len() {
+        if usize::from(held[place].peer) == peer {
+            return Some(place);
+        }
+    }
+    None
+}
