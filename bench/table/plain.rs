@@ -1,7 +1,7 @@
 //! Plain tables with the same structures as `rs_table`: an ordered map from prefix to a cell, held routes of 24 octets sorted by peer, one octet for each client. It
 //! decides as `rs_choice` does. What decisions ask of a route by itself is found when it comes, and stands beside it. One
 //! pass by neighbour groups chooses among all eligible routes, and that choice is shared by the clients to which the few routes on which it rests are permitted; each
-//! other client has a pass of its own. It is the baseline of the ratio.
+//! other client has a pass of its own. After a change only the clients are decided anew that it may touch. It is the baseline of the ratio.
 //!
 //! usage: plain FILE PEERS PREFIXES SENDERS
 #[path = "../update/plain.rs"]
@@ -214,7 +214,8 @@ impl Plan {
         })
     }
 
-    fn decide(&self, held: &[Held], bests: &mut [u8]) {
+    // What all clients share: the places of the routes on which the choice rests, and the peer that is chosen.
+    fn share(&self, held: &[Held]) -> (Groups, usize, Option<u8>) {
         let mut groups = self.groups(held, |_| true);
         let first = self.first(held, &groups);
         // The choice rests on the chosen route, and on those that keep out another one of their neighbour AS.
@@ -226,17 +227,65 @@ impl Plan {
                 len += 1;
             }
         }
-        let weighing = &groups.places[..len];
         let shared = first.map(|place| held[usize::from(place)].peer);
-        for client in 0..self.peers.len() {
-            let peer = if weighing.iter().all(|place| self.permits_held(client, &held[usize::from(*place)])) {
-                shared
-            } else {
-                let own = self.groups(held, |route| self.permits_held(client, route));
-                self.first(held, &own).map(|place| held[usize::from(place)].peer)
-            };
-            bests[client] = peer.unwrap_or(client as u8);
+        (groups, len, shared)
+    }
+
+    fn choose_for(&self, held: &[Held], weighing: &[u8], shared: Option<u8>, client: usize) -> u8 {
+        let peer = if weighing.iter().all(|place| self.permits_held(client, &held[usize::from(*place)])) {
+            shared
+        } else {
+            let own = self.groups(held, |route| self.permits_held(client, route));
+            self.first(held, &own).map(|place| held[usize::from(place)].peer)
+        };
+        peer.unwrap_or(client as u8)
+    }
+
+    // Decides anew for the clients to which a change of one peer's route may be of matter.
+    fn decide_after(&self, held: &[Held], change: &Change, bests: &mut [u8]) {
+        let mut known = (change.peer, false);
+        let peers = self.peers.len();
+        let Some(first) = (0..peers).find(|client| self.is_touched(held, change, *client, bests[*client], &mut known)) else { return };
+        let (groups, len, shared) = self.share(held);
+        for client in first..peers {
+            if self.is_touched(held, change, client, bests[client], &mut known) {
+                bests[client] = self.choose_for(held, &groups.places[..len], shared, client);
+            }
         }
+    }
+
+    // Whether it may be of matter to a client that got the route of a peer. Of one peer it is known whether its route is ahead of both.
+    #[inline(always)]
+    fn is_touched(&self, held: &[Held], change: &Change, client: usize, best: u8, known: &mut (u8, bool)) -> bool {
+        if usize::from(best) != client && *known == (best, true) {
+            return false;
+        }
+        if !change.both(held).any(|route| route.candidacy.is_eligible() && self.permits_held(client, route)) {
+            return false;
+        }
+        if known.0 != best {
+            *known = (best, self.is_ahead(held, change, best));
+        }
+        usize::from(best) == client || !known.1
+    }
+
+    fn is_ahead(&self, held: &[Held], change: &Change, peer: u8) -> bool {
+        let Some(one) = held.iter().find(|route| route.peer == peer) else { return false };
+        let one = self.standing(one);
+        peer != change.peer && change.both(held).all(|route| !route.candidacy.is_eligible() || one.front() < self.standing(route).front())
+    }
+}
+
+// A change of one peer's route: the one that went, and the place of the one that came.
+struct Change {
+    peer: u8,
+    old: Option<Held>,
+    new: Option<usize>,
+}
+
+impl Change {
+    fn both<'a>(&'a self, held: &'a [Held]) -> impl Iterator<Item = &'a Held> {
+        self.old.iter().chain(self.new.map(|place| &held[place]))
     }
 }
 
@@ -249,24 +298,25 @@ impl Tables {
     fn announce(&mut self, peer: usize, prefix: (u32, u8), time: u32, attributes: Arc<Attributes>) {
         let peers = self.plan.peers.len();
         let route = self.plan.hold(peer, time, attributes);
-        let cell = self.cells.entry(prefix).or_insert_with(|| Cell { held: Vec::with_capacity(peers), bests: vec![0; peers] });
-        let place = cell.held.iter().position(|held| held.peer >= route.peer).unwrap_or(cell.held.len());
-        if place < cell.held.len() && cell.held[place].peer == route.peer {
-            cell.held[place] = route;
+        let cell = self.cells.entry(prefix).or_insert_with(|| Cell { held: Vec::with_capacity(peers), bests: (0..peers).map(|client| client as u8).collect() });
+        let peer = route.peer;
+        let place = cell.held.iter().position(|held| held.peer >= peer).unwrap_or(cell.held.len());
+        let old = if place < cell.held.len() && cell.held[place].peer == peer {
+            Some(std::mem::replace(&mut cell.held[place], route))
         } else {
             cell.held.insert(place, route);
-        }
-        self.plan.decide(&cell.held, &mut cell.bests);
+            None
+        };
+        self.plan.decide_after(&cell.held, &Change { peer, old, new: Some(place) }, &mut cell.bests);
     }
 
     fn withdraw(&mut self, peer: usize, prefix: (u32, u8)) {
         let Some(cell) = self.cells.get_mut(&prefix) else { return };
-        let before = cell.held.len();
-        cell.held.retain(|route| usize::from(route.peer) != peer);
+        let old = cell.held.iter().position(|route| usize::from(route.peer) == peer).map(|place| cell.held.remove(place));
         if cell.held.is_empty() {
             self.cells.remove(&prefix);
-        } else if cell.held.len() < before {
-            self.plan.decide(&cell.held, &mut cell.bests);
+        } else {
+            self.plan.decide_after(&cell.held, &Change { peer: peer as u8, old, new: None }, &mut cell.bests);
         }
     }
 
