@@ -1,6 +1,6 @@
 -- What is written of the attributes of a section without fault is read as the same attributes.
-use Rattle.std.proofs.Common.{◌≡◌, ℕ, ◌<◌, Bool, true, false, List, [], Option, Some, None, refl, sym, ap, ◌∙◌, arith, inl, inr}
-use Rattle.std.specs.Prelude.{option_and_then, is_some, if◌then◌else◌}
+use Rattle.std.proofs.Common.{◌≡◌, ℕ, ◌<◌, Bool, true, false, List, [], ◌∷◌, map, Option, Some, None, refl, sym, ap, ◌∙◌, arith, inl, inr}
+use Rattle.std.specs.Prelude.{option_and_then, filter, is_some, if◌then◌else◌}
 use Rattle.std.specs.List.{filter_map, range_with_len, flat_map, AllByRecursion}
 use Rattle.std.specs.Option.{option_map}
 use Rattle.std.proofs.lemmas.Bool.{cases_Bool}
@@ -11,9 +11,10 @@ use Rattle.rs_update.specs.declared.values.Aggregator.{Aggregator}
 use Rattle.rs_update.specs.AttributeType.{type_of, is_unrecognized, is_transitive, is_partial}
 use Rattle.rs_update.specs.Gathered.{look, aggregator_of, community_list_of, is_passed_on, passed_on_of, passed_on_in, others_of, attributes_from, attributes_of}
 use Rattle.rs_update.specs.Laws.{WrittenIsRead}
-use Rattle.rs_update.specs.Parts.{parts_of}
+use Rattle.rs_update.specs.Parts.{AreOctets, parts_of}
 use Rattle.rs_update.specs.PathAttributes.{PathAttributes, CommunityList, PassedOn}
-use Rattle.rs_update.specs.Section.{Item, FitsItsLength, item_at, items_of, rest_of, first_item_fault}
+use Rattle.rs_update.specs.Section.{Item, FitsItsLength, item_at, items_of, rest_of, section_fault, first_item_fault}
+use Rattle.rs_update.specs.Shapes.{passed_on_from}
 use Rattle.rs_update.specs.Spelling.{well_known, optional_transitive, spelled_item, written, written_items}
 use Rattle.rs_update.proofs.BoundLemmas.{written-shorter}
 use Rattle.rs_update.proofs.KeptLemmas.{kept_as, kept_in, written_items-kept}
@@ -57,6 +58,19 @@ passes_again types.Unrecognized item is =
       | inr dropped ↦ rw (dropped, is) refl
     ]
 
+passed-filter : (make : ℕ → Option Item) (kinds : List ℕ) → map passed_on_of (filter is_passed_on (filter_map make kinds)) ≡ filter_map (λ kind. option_and_then passes (make kind)) kinds
+passed-filter make [] = refl
+passed-filter make (kind ∷ kinds) =
+    let later = passed-filter make kinds in
+    elim (cases_Option (make kind)) [
+      | inl none ↦ rw none later
+      | inr some ↦
+          elim (cases_Bool (is_passed_on some.0)) [
+            | inl passed ↦ rw (some.1, passed) (ap (λ (others : List PassedOn). passed_on_of some.0 ∷ others) later)
+            | inr dropped ↦ rw (some.1, dropped) later
+          ]
+    ]
+
 -- ---- the attributes as they are written
 
 module _ (items : List Item) (sound : AreSound items) where
@@ -96,6 +110,14 @@ module _ (items : List Item) (sound : AreSound items) where
   others_again : others_of again ≡ others_of items
   unfolding others_of
   others_again = filter_map-same (passed_on_in again) (passed_on_in items) (range_with_len 0 256) (All-range (λ k. passed_on_in again k ≡ passed_on_in items k) 0 256 256 refl (λ k le lt. passed_on_again k lt))
+
+  -- those that are passed on, in ascending type
+  pub passed_in_order : map passed_on_of (filter is_passed_on again) ≡ others_of items
+  unfolding others_of again
+  passed_in_order =
+      passed-filter (kept_in items) (range_with_len 0 256)
+      ∙ filter_map-same (λ kind. option_and_then passes (kept_in items kind)) (passed_on_in items) (range_with_len 0 256)
+      (All-range (λ k. option_and_then passes (kept_in items k) ≡ passed_on_in items k) 0 256 256 refl (λ k le lt. sym (ap (option_and_then passes) (look_again k lt)) ∙ passed_on_again k lt))
 
   is_some-map : {X : Type 0} (found : Option X) → is_some found ≡ is_some (option_map (λ x. true) found)
   is_some-map None = refl
@@ -145,3 +167,17 @@ written_is_read section attributes fit faultless e =
       ap attributes_of are ∙ same ∙ ap (λ (a : PathAttributes). Some a) made.are,
       written-shorter section attributes fit faultless e,
     )
+
+-- the attributes that are passed on stand in ascending type
+pub written-others : (section : List ℕ) (attributes : PathAttributes) → AreOctets section → section_fault section ≡ None → attributes_of (items_of section) ≡ Some attributes
+    → passed_on_from (written attributes) ≡ attributes.others
+unfolding written again
+written-others section attributes fit faultless e =
+    let items = items_of section in
+    let sound = sound_section section fit faultless in
+    let made = made_of items attributes e in
+    let kept : written_items attributes ≡ again items sound =
+    ap written_items (sym made.are) ∙ written_items-kept items sound made.origin made.path made.next_hop made.has_origin made.has_path made.has_next_hop in
+    let octets : written attributes ≡ flat_map spelled_item (again items sound) = ap (flat_map spelled_item) kept in
+    let are : items_of (written attributes) ≡ again items sound = ap (λ (p : List Item × List ℕ). p.0) (ap (parts_of item_at) octets ∙ read_again items sound) in
+    ap (λ (xs : List Item). map passed_on_of (filter is_passed_on xs)) are ∙ passed_in_order items sound ∙ ap (λ (a : PathAttributes). a.others) made.are

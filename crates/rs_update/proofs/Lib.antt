@@ -14,9 +14,10 @@ pub mod OrderLemmas
 pub mod OthersLemmas
 pub mod PartsLemmas
 pub mod PathExamples
-pub mod PathLemmas
 pub mod PathWalkLemmas
+pub mod PlaceLemmas
 pub mod PrefixLemmas
+pub mod ProgressLemmas
 pub mod ReceivedLemmas
 pub mod RoomLemmas
 pub mod SectionExamples
@@ -26,5 +27,6 @@ pub mod SoundLemmas
 pub mod SpelledParts
 pub mod SplitLemmas
 pub mod TreatingLemmas
+pub mod ViewLemmas
 pub mod WholeLemmas
 pub mod WrittenLemmas

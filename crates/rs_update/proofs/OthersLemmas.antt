@@ -9,12 +9,12 @@ use Rattle.std.proofs.lemmas.List.Elements.{filter_map-append}
 use Rattle.std.proofs.lemmas.List.Folds.{find-append}
 use Rattle.std.proofs.Math.Numerals.{one-add}
 use Rattle.std.proofs.Math.Seq.{take-append_seam, drop-append_seam}
-use Rattle.rs_update.specs.declared.attributes.Unrecognized.{Unrecognized}
+use Rattle.rs_update.specs.declared.item.Item.{Item as ItemThere}
 use Rattle.rs_update.specs.Found.{inserted}
 use Rattle.rs_update.specs.Gathered.{look, is_passed_on, passed_on_of, passed_on_in, others_of}
 use Rattle.rs_update.specs.PathAttributes.{PassedOn}
 use Rattle.rs_update.specs.Section.{Item, has_type}
-use Rattle.rs_update.specs.Shapes.{other_of}
+use Rattle.rs_update.specs.Items.{passed_of}
 use Rattle.rs_update.proofs.KindLemmas.{cases_Option, some_same, kind_of_found, All-range, range-split, filter_map-same, filter_map-none}
 
 -- ---- one attribute more
@@ -161,9 +161,9 @@ take_while-map p f (x ∷ xs) =
       | inr fails ↦ rw fails refl
     ]
 
-pub map-inserted : (others : List Unrecognized) (other : Unrecognized) → map other_of (insert others (length (take_while (λ first. nat_lt first.kind other.kind) others)) other) ≡ inserted (other_of other) (map other_of others)
+pub map-inserted : (others : List ItemThere) (other : ItemThere) → map passed_of (insert others (length (take_while (λ first. nat_lt first.kind other.kind) others)) other) ≡ inserted (passed_of other) (map passed_of others)
 map-inserted others other =
-    let taken = take_while-map (λ first. nat_lt first.kind other.kind) other_of others in
-    let place : length (take_while (λ first. nat_lt first.kind other.kind) (map other_of others)) ≡ length (take_while (λ first. nat_lt first.kind other.kind) others) = ap length taken ∙ length-map (take_while (λ first. nat_lt first.kind other.kind) others) other_of in
+    let taken = take_while-map (λ first. nat_lt first.kind other.kind) passed_of others in
+    let place : length (take_while (λ first. nat_lt first.kind other.kind) (map passed_of others)) ≡ length (take_while (λ first. nat_lt first.kind other.kind) others) = ap length taken ∙ length-map (take_while (λ first. nat_lt first.kind other.kind) others) passed_of in
     let n = length (take_while (λ first. nat_lt first.kind other.kind) others) in
-    map-append other_of (take n others) (other ∷ drop n others) ∙ sym (rw (place, take-map other_of n others, drop-map other_of n others) refl)
+    map-append passed_of (take n others) (other ∷ drop n others) ∙ sym (rw (place, take-map passed_of n others, drop-map passed_of n others) refl)

@@ -1,5 +1,5 @@
 -- What a segment of an AS_PATH is spelled as is read as that segment, and what is read is spelled so.
-use Rattle.std.proofs.Common.{◌≡◌, ℕ, zero, suc, ◌+◌, ◌*◌, ◌/◌, ◌%◌, ◌^◌, ◌<◌, ◌≤◌, Bool, true, false, cond, ltb, eqb, List, [], ◌∷◌, ◌++◌, length, take, drop, Option, Some, None, refl, sym, ap, ◌∙◌, arith, inl, inr, ◌⊎◌}
+use Rattle.std.proofs.Common.{◌≡◌, ℕ, zero, suc, ◌+◌, ◌-◌, ◌*◌, ◌/◌, ◌%◌, ◌^◌, ◌<◌, ◌≤◌, Bool, true, false, cond, ltb, eqb, List, [], ◌∷◌, ◌++◌, length, take, drop, Option, Some, None, refl, sym, ap, ◌∙◌, arith, inl, inr, ◌⊎◌}
 use Rattle.std.specs.List.{AllByRecursion}
 use Rattle.std.proofs.lemmas.Bool.{cases_Bool, ltb-false, le-ltb, ne_eqb, eqb-true, eqb-false}
 use Rattle.std.proofs.lemmas.List.{drop_at, take-append-drop, get_or-drop, length-append, length-drop}
@@ -156,3 +156,14 @@ segment_reads = record {
   found = λ octets segment rest are e. let found = segment_at-found octets (segment, rest) are e in (spelled_segment segment, found.0, (refl, found.1));
   only = λ front rest segment spells. rw spells.0 (segment_at-spelled segment rest spells.1);
 }
+
+-- ---- numbers, one by one
+
+pub numbers_at-step : (count : ℕ) (octets : List ℕ) → (count ≡ 0 → ⊥) → numbers_at count octets ≡ big_number 4 octets ∷ numbers_at (count - 1) (drop 4 octets)
+unfolding numbers_at
+numbers_at-step zero octets some = absurd (some refl)
+numbers_at-step (suc count) octets some = let less : suc count - 1 ≡ count = omega arith in rw less refl
+
+pub numbers_at-none : (count : ℕ) (octets : List ℕ) → count ≡ 0 → numbers_at count octets ≡ []
+unfolding numbers_at
+numbers_at-none count octets none = rw none refl

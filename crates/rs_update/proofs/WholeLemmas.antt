@@ -5,16 +5,14 @@ use Rattle.std.specs.List.{filter_map, range_with_len, list_any, flat_map, AllBy
 use Rattle.std.specs.Option.{option_map}
 use Rattle.std.proofs.lemmas.Bool.{cases_Bool}
 use Rattle.std.proofs.lemmas.List.Elements.{All-from_recursion}
-use Rattle.rs_update.specs.declared.attributes.Unrecognized.{Unrecognized}
 use Rattle.rs_update.specs.declared.item.Item.{Item as ItemThere}
 use Rattle.rs_update.specs.declared.values.Aggregator.{Aggregator}
 use Rattle.rs_update.specs.declared.values.Origin.{Origin}
 use Rattle.rs_update.specs.Found.{found_in, has_mandatory, spelled_found}
 use Rattle.rs_update.specs.Gathered.{look, is_passed_on, passed_on_of, passed_on_in, others_of, attributes_from, attributes_of}
-use Rattle.rs_update.specs.Items.{item_of}
+use Rattle.rs_update.specs.Items.{item_of, passed_of}
 use Rattle.rs_update.specs.PathAttributes.{PathAttributes, PathSegment, CommunityList, PassedOn}
 use Rattle.rs_update.specs.Section.{Item}
-use Rattle.rs_update.specs.Shapes.{other_of}
 use Rattle.rs_update.specs.Spelling.{written, spelled_item}
 use Rattle.rs_update.proofs.KeptLemmas.{written_items-kept}
 use Rattle.rs_update.proofs.KindLemmas.{cases_Option, some_same, All-range, filter_map-none}
@@ -91,7 +89,7 @@ passed_from items kind other e =
           ]
     ]
 
-pub others_short : (items : List Item) (others : List Unrecognized) → AreSound items → map other_of others ≡ others_of items → All (λ other. length other.value.items < 65536) others
+pub others_short : (items : List Item) (others : List ItemThere) → AreSound items → map passed_of others ≡ others_of items → All (λ other. length other.value.now < 65536) others
 unfolding others_of
 others_short items others sound is =
     let each : AllByRecursion (λ (o : PassedOn). length o.value < 65536) (others_of items) =
@@ -99,7 +97,7 @@ others_short items others sound is =
     (All-range (λ k. (o : PassedOn) → passed_on_in items k ≡ Some o → length o.value < 65536) 0 256 256 refl
     (λ k le lt o e. let from = passed_from items k o e in let value : o.value ≡ from.0.value = ap (λ (p : PassedOn). p.value) from.2 in rw value (found_short items k from.0 sound from.1)))
     in
-    All-from_recursion (λ (other : Unrecognized). length other.value.items < 65536) others (All-of_map (λ (o : PassedOn). length o.value < 65536) other_of others (subst (AllByRecursion (λ (o : PassedOn). length o.value < 65536)) (sym is) each))
+    All-from_recursion (λ (other : ItemThere). length other.value.now < 65536) others (All-of_map (λ (o : PassedOn). length o.value < 65536) passed_of others (subst (AllByRecursion (λ (o : PassedOn). length o.value < 65536)) (sym is) each))
 
 -- ---- the attributes as a whole
 

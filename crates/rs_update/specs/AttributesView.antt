@@ -1,25 +1,35 @@
--- What callers see of the attributes of a route.
-use Rattle.std.specs.Prelude.{◌≡◌, ℕ, ◌<◌, ◌≤◌, List, length, Some, None, map}
+-- What callers see of the attributes of a route: a few numbers, and the written form that all else is read from.
+use Rattle.std.specs.Prelude.{◌≡◌, ℕ, ◌<◌, ◌≤◌, List, [], length, drop, Option, Some, None}
 use Rattle.std.specs.Option.{option_map}
 use Rattle.rs_update.specs.declared.attributes.Attributes.TheInside.{Inside}
 use Rattle.rs_update.specs.PathAttributes.{PathAttributes}
-use Rattle.rs_update.specs.AsPath.{segment_of, path_length_of, first_as_of}
-use Rattle.rs_update.specs.Gathered.{attributes_of}
+use Rattle.rs_update.specs.AsPath.{path_length_of, first_as_of}
+use Rattle.rs_update.specs.Gathered.{community_list_of, attributes_of}
 use Rattle.rs_update.specs.Parts.{AreOctets}
-use Rattle.rs_update.specs.Section.{items_of, section_fault}
+use Rattle.rs_update.specs.PathSegments.{segments_of}
+use Rattle.rs_update.specs.Section.{Item, item_at, items_of, section_fault}
+use Rattle.rs_update.specs.Shapes.{passed_on_from}
 use Rattle.rs_update.specs.Spelling.{written}
-use Rattle.rs_update.specs.Shapes.{communities_of, other_of}
+
+-- the attribute that begins at a place of a section
+abbrev pub item_from : List ℕ → ℕ → Option Item
+item_from section place = option_map (λ split. split.0) (item_at (drop place section))
+
+-- its value, empty where none begins there
+abbrev pub value_of : Option Item → List ℕ
+value_of None = []
+value_of (Some item) = item.value
 
 abbrev pub view_of : Inside → PathAttributes
 view_of fields = record {
   origin = fields.origin;
-  path = map segment_of fields.path.items;
+  path = (segments_of (value_of (item_from fields.spelling.items fields.path_place))).0;
   next_hop = fields.next_hop;
   med = fields.med;
   atomic = fields.atomic;
   aggregator = fields.aggregator;
-  communities = option_map communities_of fields.communities;
-  others = map other_of fields.others.items;
+  communities = option_map community_list_of (item_from fields.spelling.items fields.communities_place);
+  others = passed_on_from fields.spelling.items;
 }
 
 -- the attributes are those of a section without fault that fits a message, and what is kept beside them agrees with them

@@ -2,6 +2,8 @@
 use Rattle.std.specs.Prelude.{ℕ, List}
 use Rattle.std.specs.Borrow.{Bor}
 use Rattle.rs_update.specs.declared.item.Item.{Item as ItemThere}
+use Rattle.rs_update.specs.Gathered.{passed_on_of}
+use Rattle.rs_update.specs.PathAttributes.{PassedOn}
 use Rattle.rs_update.specs.Section.{Item}
 
 abbrev pub item_of : ItemThere → Item
@@ -10,3 +12,7 @@ item_of item = record { flags = item.flags.octet; kind = item.kind; value = item
 -- an attribute and the octets behind it
 abbrev pub split_of : ItemThere × Bor (List ℕ) → Item × List ℕ
 split_of split = (item_of split.0, split.1.now)
+
+-- an attribute that is passed on, by what callers see of it
+abbrev pub passed_of : ItemThere → PassedOn
+passed_of item = passed_on_of (item_of item)

@@ -1,10 +1,10 @@
--- Segments of an AS_PATH that are kept, by what they are.
+-- Segments of an AS_PATH where they stand, by what they are.
 use Rattle.std.specs.Prelude.{ℕ, List}
 use Rattle.std.specs.Borrow.{Bor}
-use Rattle.rs_update.specs.declared.as_path.Segment.{Segment}
-use Rattle.rs_update.specs.AsPath.{segment_of}
+use Rattle.rs_update.specs.declared.as_path.SegmentView.{SegmentView}
 use Rattle.rs_update.specs.PathAttributes.{PathSegment}
+use Rattle.rs_update.specs.Shapes.{segment_in}
 
 -- a segment and the octets behind it
-abbrev pub segment_split_of : Segment × Bor (List ℕ) → PathSegment × List ℕ
-segment_split_of split = (segment_of split.0, split.1.now)
+abbrev pub segment_split_of : SegmentView × Bor (List ℕ) → PathSegment × List ℕ
+segment_split_of split = (segment_in split.0, split.1.now)

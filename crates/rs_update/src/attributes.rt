@@ -1,68 +1,109 @@
 //! The path attributes that a route keeps (RFC 4271, section 5; RFC 6793; RFC 1997).
 
-ghost use Rattle.std.specs.Prelude.{◌≡◌, ◌<◌, ◌≤◌, length, map, None, Some};
+ghost use Rattle.std.specs.Prelude.{◌≡◌, ◌<◌, ◌≤◌, length, None, Some};
 ghost use Rattle.std.specs.Option.{option_map};
-ghost use Rattle.rs_update.specs.AsPath.{segment_of, path_length_of, neighbour_of, holds_as_in};
-ghost use Rattle.rs_update.specs.Shapes.{communities_of, other_of};
+ghost use Rattle.rs_update.specs.AsPath.{path_length_of, neighbour_of, holds_as_in};
+ghost use Rattle.rs_update.specs.AttributesView.{item_from as item_from_spec, value_of};
+ghost use Rattle.rs_update.specs.Items.{item_of};
+ghost use Rattle.rs_update.specs.Shapes.{numbers_in, segments_in, communities_of, others_in};
 ghost use Rattle.rs_update.specs.Community.{has_community_in, has_community_of_in, has_value, has_value_of};
 ghost use Rattle.rs_update.specs.Gathered.{attributes_of};
 ghost use Rattle.rs_update.specs.Section.{items_of, section_fault};
 ghost use Rattle.rs_update.specs.Spelling.{written};
 
-use crate::as_path::{Segment, holds_as};
+use crate::as_path::{Segments, holds_as};
+use crate::item::{Item, is_passed_on, split_item};
+use crate::number_list::{NUMBER_LEN, Numbers};
 use crate::values::{Aggregator, Origin};
 use std::marker::Model;
 
 // The numbers that half a community can hold.
 const HALF: u32 = 65536;
 
-/// COMMUNITIES (RFC 1997): at least one value of four octets, in the order received.
-#[derive(Debug, Drop)]
-pub struct Communities {
+/// COMMUNITIES (RFC 1997) where it stands in the written form: at least one value of four octets, in the order received.
+#[derive(Clone, Copy, Debug)]
+pub struct Communities<'a> {
     /// Whether the Partial bit stood when it was received.
     pub partial: bool,
     /// The values: the high half is an AS number, the low half is that AS's own.
-    pub values: Vec<u32>,
+    pub values: Numbers<'a>,
 }
 
-impl Communities {
+impl Communities<'_> {
     // Whether the value of the two halves is listed.
-    fn holds(&self, high: u32, low: u32) -> bool
-        ensures { result ≡ has_value self.now.values.items high low }
+    fn holds(self, high: u32, low: u32) -> bool
+        ensures { result ≡ has_value (numbers_in self.entry.values) high low }
     {
-        high < HALF && low < HALF && self.values.contains(&(high * HALF + low))
+        high < HALF && low < HALF && self.values.contains(high * HALF + low)
     }
 
     // Whether a value of this high half is listed.
-    fn holds_of(&self, high: u32) -> bool
-        ensures { result ≡ has_value_of self.now.values.items high }
+    fn holds_of(self, high: u32) -> bool
+        ensures { result ≡ has_value_of (numbers_in self.entry.values) high }
     {
-        self.values.iter().any(|value| *value / HALF == high)
+        let mut rest = self.values;
+        while let Some(value) = rest.next() {
+            if value / HALF == high {
+                return true;
+            }
+        }
+        false
     }
 }
 
-/// An optional transitive attribute that this crate doesn't recognize: it is passed on (RFC 4271, section 5).
-#[derive(Debug, Drop)]
-pub struct Unrecognized {
+/// An optional transitive attribute that this crate doesn't recognize, where it stands in the written form: it is passed on (RFC 4271,
+/// section 5).
+#[derive(Clone, Copy, Debug)]
+pub struct Unrecognized<'a> {
     /// The attribute's type.
     pub kind: u8,
     /// The octets of its value.
-    pub value: Vec<u8>,
+    pub value: &'a [u8],
 }
 
-/// The path attributes of one UPDATE, as read: made by `read_message` alone.
+/// The unrecognized optional transitive attributes of a route: an iterator over them, in ascending type, that takes no memory.
+#[derive(Clone, Copy, Debug)]
+pub struct Others<'a> {
+    octets: &'a [u8],
+}
+
+impl<'a> Iterator for Others<'a> {
+    ghost use Rattle.std.specs.Iterator.{YieldsFirstBy, item_count};
+    ghost use Rattle.rs_update.specs.Shapes.{other_of, others_in};
+
+    type Item = Unrecognized<'a>;
+
+    ghost next_gives = { YieldsFirstBy other_of others_in };
+
+    ghost remaining = { item_count others_in };
+
+    fn next(&mut self) -> Option<Unrecognized<'a>> {
+        while let Some(front) = split_item(self.octets) {
+            self.octets = front.1;
+            if is_passed_on(front.0) {
+                return Some(Unrecognized {
+                    kind: front.0.kind,
+                    value: front.0.value,
+                });
+            }
+        }
+        None
+    }
+}
+
+/// The path attributes of one UPDATE, as read: made by `read_message` alone. Their written form is all that they keep in memory of their
+/// own; beside it stand the numbers that decisions ask for, and where AS_PATH and COMMUNITIES begin in it.
 #[derive(Debug, Drop)]
 pub struct Attributes {
     pub(crate) origin: Origin,
-    pub(crate) path: Vec<Segment>,
-    pub(crate) next_hop: u32,
-    pub(crate) med: Option<u32>,
     pub(crate) atomic: bool,
-    pub(crate) aggregator: Option<Aggregator>,
-    pub(crate) communities: Option<Communities>,
-    pub(crate) others: Vec<Unrecognized>,
+    pub(crate) path_place: u16,
+    pub(crate) communities_place: u16,
+    pub(crate) next_hop: u32,
     pub(crate) path_length: u32,
+    pub(crate) med: Option<u32>,
     pub(crate) neighbour: Option<u32>,
+    pub(crate) aggregator: Option<Aggregator>,
     pub(crate) spelling: Vec<u8>,
 }
 
@@ -87,10 +128,12 @@ impl Attributes {
     }
 
     /// The segments of AS_PATH, in order; none where it is empty.
-    pub fn path(&self) -> &[Segment]
-        ensures { map segment_of result.now ≡ self.now.path }
+    pub fn path(&self) -> Segments<'_>
+        ensures { segments_in result ≡ self.now.path }
     {
-        self.path.as_slice()
+        Segments {
+            octets: value_from(&self.spelling, self.path_place),
+        }
     }
 
     /// NEXT_HOP, an IPv4 address in host order.
@@ -122,17 +165,26 @@ impl Attributes {
     }
 
     /// COMMUNITIES, where it was received.
-    pub fn communities(&self) -> Option<&Communities>
-        ensures { option_map (λ list. communities_of list.now) result ≡ self.now.communities }
+    pub fn communities(&self) -> Option<Communities<'_>>
+        ensures { option_map communities_of result ≡ self.now.communities }
     {
-        self.communities.as_ref()
+        let item = item_from(&self.spelling, self.communities_place)?;
+        Some(Communities {
+            partial: item.flags.is_partial(),
+            values: Numbers {
+                count: item.value.len() / NUMBER_LEN,
+                octets: item.value,
+            },
+        })
     }
 
     /// The unrecognized optional transitive attributes, in ascending type.
-    pub fn others(&self) -> &[Unrecognized]
-        ensures { map other_of result.now ≡ self.now.others }
+    pub fn others(&self) -> Others<'_>
+        ensures { others_in result ≡ self.now.others }
     {
-        &self.others
+        Others {
+            octets: &self.spelling,
+        }
     }
 
     /// How many AS numbers AS_PATH has, an AS_SET counting 1 (RFC 4271, section 9.1.2.2, a): below 65,536, since a message is short.
@@ -165,21 +217,21 @@ impl Attributes {
         ensures faultless { section_fault (written self.now) ≡ None }
         ensures same { attributes_of (items_of (written self.now)) ≡ Some self.now }
     {
-        &self.spelling
+        self.spelling.as_slice()
     }
 
     /// Whether the AS number `asn` stands in AS_PATH, in a segment of either kind.
     pub fn holds_as(&self, asn: u32) -> bool
         ensures { result ≡ holds_as_in self.now.path asn }
     {
-        holds_as(&self.path, asn)
+        holds_as(value_from(&self.spelling, self.path_place), asn)
     }
 
     /// Whether the community (`high`, `low`) was received: the value `high` * 65,536 + `low`; no route has one with a half above 65,535.
     pub fn has_community(&self, high: u32, low: u32) -> bool
         ensures { result ≡ has_community_in self.now.communities high low }
     {
-        match &self.communities {
+        match self.communities() {
             None => false,
             Some(list) => list.holds(high, low),
         }
@@ -189,9 +241,30 @@ impl Attributes {
     pub fn has_community_of(&self, high: u32) -> bool
         ensures { result ≡ has_community_of_in self.now.communities high }
     {
-        match &self.communities {
+        match self.communities() {
             None => false,
             Some(list) => list.holds_of(high),
         }
+    }
+}
+
+// The attribute that begins at a place of a section.
+fn item_from(section: &[u8], place: u16) -> Option<Item<'_>>
+    ensures { option_map item_of result ≡ item_from_spec section.now place }
+{
+    let place = usize::from(place);
+    if section.len() < place {
+        return None;
+    }
+    Some(split_item(&section[place..])?.0)
+}
+
+// Its value, empty where none begins there.
+fn value_from(section: &[u8], place: u16) -> &[u8]
+    ensures { result.now ≡ value_of (item_from_spec section.now place) }
+{
+    match item_from(section, place) {
+        None => &[],
+        Some(item) => item.value,
     }
 }

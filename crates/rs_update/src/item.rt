@@ -2,11 +2,14 @@
 //!
 //! Extended Length may stand with a value of any length.
 
-ghost use Rattle.std.specs.Prelude.{◌≡◌};
+ghost use Rattle.std.specs.Prelude.{◌≡◌, ◌≤◌, length};
 ghost use Rattle.std.specs.Option.{option_map};
-ghost use Rattle.rs_update.specs.Section.{item_at, item_with, long_item_at, short_item_at};
-ghost use Rattle.rs_update.specs.Items.{split_of};
+ghost use Rattle.rs_update.specs.AttributesView.{item_from};
+ghost use Rattle.rs_update.specs.Gathered.{look, is_passed_on as is_passed_on_item};
+ghost use Rattle.rs_update.specs.Section.{item_at, items_of, item_with, long_item_at, short_item_at};
+ghost use Rattle.rs_update.specs.Items.{item_of, split_of};
 
+use crate::attribute_type::AttributeType;
 use crate::flags::Flags;
 use byteorder::{BigEndian, ByteOrder};
 
@@ -73,4 +76,29 @@ fn split_value(flags: Flags, kind: u8, count: usize, octets: &[u8]) -> Option<(I
     }
     let (value, behind) = octets.split_at(count);
     Some((Item { flags, kind, value }, behind))
+}
+
+/// Whether an attribute is passed on without being recognized (RFC 4271, section 5).
+pub(crate) fn is_passed_on(item: Item<'_>) -> bool
+    ensures { result ≡ is_passed_on_item (item_of item.entry) }
+{
+    match AttributeType::of(item.kind) {
+        AttributeType::Unrecognized => item.flags.is_transitive(),
+        _ => false,
+    }
+}
+
+/// Where the first attribute of a type begins in a section, or where its attributes end.
+pub(crate) fn place_of(section: &[u8], kind: u8) -> u16
+    requires { length section.now ≤ 4073 }
+    ensures { item_from section.now result ≡ look kind (items_of section.now) }
+{
+    let mut rest = section;
+    while let Some(front) = split_item(rest) {
+        if front.0.kind == kind {
+            break;
+        }
+        rest = front.1;
+    }
+    (section.len() - rest.len()) as u16
 }

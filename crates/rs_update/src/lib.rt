@@ -1,7 +1,7 @@
 //! Messages of BGP-4 as a route server reads them: RFC 4271, with AS numbers of four octets (RFC 6793) and communities (RFC 1997).
 //!
 //! To read in this order: `prefix` (an address prefix, and the fields that list them), `fault` (what can be wrong, by code and subcode),
-//! `attribute_type`, `flags` and `item` (one path attribute, and what its flags must say), `as_path` and `values` (values of attributes),
+//! `attribute_type`, `flags` and `item` (one path attribute, and what its flags must say), `number_list`, `as_path` and `values` (values of attributes),
 //! `section` (the first fault of a section of attributes), `attributes` (what a route keeps of them), `gather` (how that is read),
 //! `handling` and `treating` (what RFC 7606 does in place of a fault), `header`, `update` and `message` (a message by its type, and its first
 //! fault), `spelling` (attributes as they are written), `laws`
@@ -21,6 +21,7 @@ mod header;
 mod item;
 mod laws;
 mod message;
+mod number_list;
 mod prefix;
 mod readers;
 mod section;
@@ -29,8 +30,8 @@ mod treating;
 mod update;
 mod values;
 
-pub use as_path::Segment;
-pub use attributes::{Attributes, Communities, Unrecognized};
+pub use as_path::{Segment, SegmentView, Segments};
+pub use attributes::{Attributes, Communities, Others, Unrecognized};
 pub use errors::Errors;
 pub use fault::{HeaderFault, MessageFault, UpdateFault};
 pub use header::MessageType;
@@ -44,6 +45,7 @@ pub use laws::{
     without_a_fault_both_standards_agree,
 };
 pub use message::{Message, Update, read_message, read_message_by};
+pub use number_list::Numbers;
 pub use prefix::Prefix;
 pub use spelling::write_attributes;
 pub use values::{Aggregator, Origin};

@@ -4,12 +4,11 @@ ghost use Rattle.std.specs.Prelude.{◌≡◌, ◌+◌, ◌≤◌, ◌<◌, ◌+
 ghost use Rattle.std.specs.Option.{ForSome, option_map};
 ghost use Rattle.rs_update.specs.AttributeType.{is_extended};
 ghost use Rattle.rs_update.specs.Found.{found_of, recognized_of, spelled_kept, IsPlain, IsSpellable, AreSpellable, spelled_others, spelled_found};
-ghost use Rattle.rs_update.specs.Items.{item_of};
-ghost use Rattle.rs_update.specs.Shapes.{other_of};
+ghost use Rattle.rs_update.specs.Items.{item_of, passed_of};
 ghost use Rattle.rs_update.specs.Spelling.{written, written_flags, spelled_item};
 
 use crate::attribute_type::AttributeType;
-use crate::attributes::{Attributes, Unrecognized};
+use crate::attributes::Attributes;
 use crate::found::Found;
 use crate::item::Item;
 use byteorder::{BigEndian, ByteOrder};
@@ -47,11 +46,11 @@ pub(crate) fn spell(
     alloc: Global,
     size: usize,
     found: &Found<'_>,
-    others: &[Unrecognized],
+    others: &[Item<'_>],
 ) -> Result<Vec<u8>, AllocError>
     requires found_short { AreSpellable found.now }
-    requires others_short { All (λ other. length other.value.items < 65536) others.now }
-    ensures { IfOk result (λ spelling. spelling.items ≡ spelled_found (found_of found.now) (map other_of others.now)) }
+    requires others_short { All (λ other. length other.value.now < 65536) others.now }
+    ensures { IfOk result (λ spelling. spelling.items ≡ spelled_found (found_of found.now) (map passed_of others.now)) }
 {
     let mut out = Vec::with_capacity(alloc, size)?;
     push_others(&mut out, others, true)?;
@@ -114,9 +113,9 @@ fn optional_transitive(partial: bool) -> u8
 }
 
 // Appends unrecognized attributes, those of type 0 or all others: the Partial bit is set (RFC 4271, section 5).
-fn push_others(out: &mut Vec<u8>, others: &[Unrecognized], zero: bool) -> Result<(), AllocError>
-    requires { All (λ other. length other.value.items < 65536) others.now }
-    ensures { OnOk result (out.new.items ≡ out.old.items ++ spelled_others zero (map other_of others.now)) }
+fn push_others(out: &mut Vec<u8>, others: &[Item<'_>], zero: bool) -> Result<(), AllocError>
+    requires { All (λ other. length other.value.now < 65536) others.now }
+    ensures { OnOk result (out.new.items ≡ out.old.items ++ spelled_others zero (map passed_of others.now)) }
 {
     for other in others {
         let wanted = if zero {
@@ -125,7 +124,7 @@ fn push_others(out: &mut Vec<u8>, others: &[Unrecognized], zero: bool) -> Result
             other.kind != 0
         };
         if wanted {
-            push_item(out, OPTIONAL_TRANSITIVE_PARTIAL, other.kind, &other.value)?;
+            push_item(out, OPTIONAL_TRANSITIVE_PARTIAL, other.kind, other.value)?;
         }
     }
     Ok(())

@@ -9,8 +9,8 @@ mod updates;
 mod written_forms;
 
 use rs_update::{
-    Aggregator, Attributes, Errors, HeaderFault, Message, MessageFault, Origin, Prefix, Update,
-    UpdateFault, read_message, read_message_by, write_attributes,
+    Aggregator, Attributes, Errors, HeaderFault, Message, MessageFault, Origin, Prefix, Segment,
+    Update, UpdateFault, read_message, read_message_by, write_attributes,
 };
 use std::alloc::{AllocError, Global};
 use std::test::Fail;

@@ -22,7 +22,8 @@ fn attributes_of_one_route(rt: HostRuntime) -> Result<(), Fail> {
         )?,
     )?;
     assert_eq!(rt; attributes.origin(), Origin::Egp);
-    assert_eq!(rt; attributes.path().len(), 2);
+    let mut path = attributes.path();
+    assert!(rt; path.next().is_some() && path.next().is_some() && path.next().is_none());
     assert!(rt;
         attributes.holds_as(64504) && attributes.holds_as(65010) && !attributes.holds_as(64501)
     );
@@ -42,13 +43,14 @@ fn attributes_of_one_route(rt: HostRuntime) -> Result<(), Fail> {
     assert!(rt; attributes.has_community_of(64500) && attributes.has_community_of(65000));
     assert!(rt; !attributes.has_community_of(64502) && !attributes.has_community_of(1));
     let communities = attributes.communities().ok_or("communities")?;
+    assert_eq!(rt; communities.values.len(), 2);
     assert_eq!(rt;
-        communities.values.as_slice(),
+        communities.values.to_vec(alloc)?.as_slice(),
         [0xFBF4_FBF6, 0xFDE8_0001].as_slice()
     );
     assert!(rt; !communities.partial);
-    let other = attributes.others().first().ok_or("another attribute")?;
-    assert_eq!(rt; (other.kind, other.value.as_slice()), (32, [7].as_slice()));
+    let other = attributes.others().next().ok_or("another attribute")?;
+    assert_eq!(rt; (other.kind, other.value), (32, [7].as_slice()));
     Ok(())
 }
 
@@ -61,8 +63,28 @@ fn what_was_not_received_is_not_there(rt: HostRuntime) -> Result<(), Fail> {
     assert_eq!(rt; attributes.aggregator(), None);
     assert!(rt; !attributes.atomic() && !attributes.has_community(0, 0));
     assert!(rt; !attributes.has_community_of(0));
-    assert!(rt; attributes.communities().is_none() && attributes.others().is_empty());
+    assert!(rt; attributes.communities().is_none() && attributes.others().next().is_none());
     assert_eq!(rt; attributes.written_len(), 20);
+    Ok(())
+}
+
+#[test]
+fn segments_are_copied_in_order(rt: HostRuntime) -> Result<(), Fail> {
+    let alloc = rt.alloc();
+    let path = "400210 0102 0000FBF7 0000FBF8 0201 0000FDF2";
+    let attributes = attributes_of(alloc, &octets(alloc, &[ORIGIN, path, NEXT_HOP])?)?;
+    let mut segments = attributes.path();
+    let first = segments.next().ok_or("a set")?.to_segment(alloc)?;
+    let second = segments.next().ok_or("a sequence")?.to_segment(alloc)?;
+    assert!(rt; segments.next().is_none());
+    let Segment::Set(members) = first else {
+        return Err(Fail::from("no set"));
+    };
+    let Segment::Sequence(hops) = second else {
+        return Err(Fail::from("no sequence"));
+    };
+    assert_eq!(rt; members.as_slice(), [64503, 64504].as_slice());
+    assert_eq!(rt; hops.as_slice(), [65010].as_slice());
     Ok(())
 }
 

@@ -1,6 +1,10 @@
-use Rattle.std.proofs.Common.{◌≡◌, map, take}
-use Rattle.rs_update.specs.AsPath.{segment_of, path_length_of}
+use Rattle.std.proofs.Common.{◌≡◌, ◌+◌, length}
+use Rattle.rs_update.specs.AsPath.{path_length_of}
+use Rattle.rs_update.specs.PathSegments.{segments_of}
 use Rattle.rs_update.proofs.as_path.path_length.Given as goal
 
-abbrev pub invariant-loop-segment : goal.invariant-loop-segment
-invariant-loop-segment l = l.hops ≡ path_length_of (map segment_of (take l.segment-index l.path))
+abbrev pub invariant-loop-front : goal.invariant-loop-front
+invariant-loop-front l = l.hops + path_length_of (segments_of l.rest).0 ≡ path_length_of (segments_of l.value).0
+
+abbrev pub decreases-loop-front : goal.decreases-loop-front
+decreases-loop-front l = length l.rest

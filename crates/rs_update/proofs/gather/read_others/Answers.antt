@@ -4,7 +4,7 @@ use Rattle.rs_update.specs.Found.{inserted}
 use Rattle.rs_update.specs.Gathered.{others_of, passed_on_of}
 use Rattle.rs_update.specs.Items.{item_of, split_of}
 use Rattle.rs_update.specs.Section.{Item, item_at, items_of, has_type, first_item_fault}
-use Rattle.rs_update.specs.Shapes.{other_of}
+use Rattle.rs_update.specs.Items.{passed_of}
 use Rattle.rs_update.proofs.ItemLemmas.{item_at-takes}
 use Rattle.rs_update.proofs.FoundLemmas.{items_of-step, items_of-end}
 use Rattle.rs_update.proofs.OthersLemmas.{others-nothing, others-skip, others-insert}
@@ -14,7 +14,7 @@ use Rattle.rs_update.proofs.gather.read_others.Goals as goal
 use Rattle.rs_update.proofs.gather.read_others.Goals.{then-is_passed_on+in_ok-insert_other, else-is_passed_on}
 
 pub loop-front-init : goal.loop-front-init
-loop-front-init c = ([], refl, ap (map other_of) c.new-others.ensures.items ∙ sym others-nothing, λ place. omega (arith, c.type_inv.section place))
+loop-front-init c = ([], refl, ap (map passed_of) c.new-others.ensures.items ∙ sym others-nothing, λ place. omega (arith, c.type_inv.section place))
 
 pub loop-front-smaller : goal.loop-front-smaller
 loop-front-smaller c = item_at-takes c.loop-front.rest.now (split_of c.in-Some.front) (sym c.in-Some.ensures)

@@ -1,0 +1,18 @@
+use Rattle.std.proofs.Common.{sym}
+use Rattle.rs_update.specs.Segments.{segment_split_of}
+use Rattle.rs_update.specs.Shapes.{segments_in}
+use Rattle.rs_update.proofs.PathWalkLemmas.{segments-step, segments-end}
+use Rattle.rs_update.proofs.ProgressLemmas.{one_less}
+use Rattle.rs_update.proofs.as_path.SegmentsIterator.next.Goals as goal
+
+pub returns-in_err-front-clause-steps : goal.returns-in_err-front-clause-steps
+returns-in_err-front-clause-steps c =
+    let none = segments-end c.args.self.now.octets.now (sym c.in_err-front.ensures) in
+    rw c.from_residual.ensures (none, none)
+
+pub returns-clause-steps : goal.returns-clause-steps
+returns-clause-steps c = segments-step c.args.self.now.octets.now (segment_split_of c.in_ok-front.front) (sym c.in_ok-front.ensures)
+
+pub returns-clause-goes : goal.returns-clause-goes
+returns-clause-goes c =
+    one_less segments_in _ _ _ _ (segments-step c.args.self.now.octets.now (segment_split_of c.in_ok-front.front) (sym c.in_ok-front.ensures))
