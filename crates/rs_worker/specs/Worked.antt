@@ -1,0 +1,60 @@
+-- What a worker sends of a session, and what it tells of that.
+use Rattle.std.specs.Prelude.{◌≡◌, ℕ, ◌+◌, ◌≤◌, Bool, true, false, List, [], ◌∷◌, ◌++◌, length, map, Option, Some, None, IfSome}
+use Rattle.rs_mrt.specs.Record.{MrtRecord}
+use Rattle.rs_ring.specs.Ends.{Ring, Sent}
+use Rattle.rs_ring.specs.Items.{has_close}
+use Rattle.rs_session.specs.Change.{Change, change_of, closing_word, is_close}
+use Rattle.rs_session.specs.FileChanges.{close_at}
+use Rattle.rs_session.specs.Stage.{Comes, Stage, May, KeepsBehind, IsOver}
+use Rattle.rs_session.specs.declared.word.Body.{Body}
+use Rattle.rs_session.specs.declared.word.Body.TheVariants.{Announce, Withdraw, Down, Close}
+use Rattle.rs_session.specs.declared.word.Reason.{Reason}
+use Rattle.rs_session.specs.declared.word.Reason.TheVariants as reasons
+use Rattle.rs_session.specs.declared.word.Word.{Word}
+use Rattle.rs_worker.specs.declared.work.WorkerEnd.{WorkerEnd}
+
+-- these changes, the close being the last one, may be all that a session says, and so many records passed over
+abbrev pub Saying : Type 1
+Saying = List Change → ℕ → Type 0
+
+-- just these are said
+abbrev pub just : List Change → ℕ → Saying
+just whole total = λ changes passed. (changes ≡ whole) × (passed ≡ total)
+
+-- whether memory was refused to the reader of a session
+abbrev pub is_memory : Reason → Bool
+is_memory reasons.Memory = true
+is_memory reasons.EndOfFile = false
+is_memory (reasons.Bgp code subcode) = false
+is_memory (reasons.Mrt number) = false
+is_memory reasons.Read = false
+
+-- whether one of the words closes the session
+abbrev pub closes_any : List Word → Bool
+closes_any words = has_close (λ word. is_close word.body) words
+
+-- the changes are a beginning of what the session may say, without its close, and a close that tells of the want of memory
+pub record IsCutShort (may : Saying) (changes : List Change) (passed : ℕ) : Type 0 where
+  pub given : List Change
+  pub rest : List Change
+  pub total : ℕ
+  pub said : may (given ++ rest) total
+  pub unfinished : 1 ≤ length rest
+  pub splits : changes ≡ given ++ close_at 0 reasons.Memory ∷ []
+  pub passed_within : passed ≤ total
+
+-- the words sent: some that don't close, and then the close for this reason; they are all that the session may say, or cut short
+pub record HasSent (may : Saying) (sent : List Word) (reason : Reason) (passed : ℕ) : Type 0 where
+  pub before : List Word
+  pub time : ℕ
+  pub splits : sent ≡ before ++ closing_word time reason ∷ []
+  pub unclosed : closes_any before ≡ false
+  pub whole : is_memory reason ≡ false → may (map change_of sent) passed
+  pub cut_short : is_memory reason ≡ true → IsCutShort may (map change_of sent) passed
+
+-- what a worker answers: it tells how many words it sent and why the last one closes, and its token, where one came, shows them
+pub record HasWorked (may : Saying) (ring : Ring) (end : WorkerEnd) : Type 0 where
+  pub sent : List Word
+  pub said : HasSent may sent end.reason end.passed
+  pub counted : end.changes ≡ length sent
+  pub token : IfSome end.finished (λ (token : Sent Word). token ≡ record { ring = ring; sent = sent })

@@ -1,0 +1,14 @@
+//! Workers: each reads the recorded session of one peer and sends its changes through a ring, on a thread of its own.
+//!
+//! Reading order: `gate` (what a run shows as it passes), `waiting` (how a thread waits for another one), `sending` (one change after
+//! another), `work` (a whole session).
+#![tactic(auto)]
+
+mod gate;
+mod sending;
+mod waiting;
+mod work;
+
+pub use gate::{Gate, Open};
+pub use waiting::Patience;
+pub use work::{WorkerEnd, worker, worker_by, worker_over};
