@@ -1,0 +1,3 @@
+mod TakeLemmas
+mod SentLemmas
+mod FileLemmas

@@ -1,13 +1,9 @@
 -- What a worker sends of a session, and what it tells of that.
-use Rattle.std.specs.Prelude.{◌≡◌, ℕ, ◌+◌, ◌≤◌, Bool, true, false, List, [], ◌∷◌, ◌++◌, length, map, Option, Some, None, IfSome}
-use Rattle.rs_mrt.specs.Record.{MrtRecord}
+use Rattle.std.specs.Prelude.{◌≡◌, ℕ, ◌≤◌, Bool, true, false, List, [], ◌∷◌, ◌++◌, length, map, IfSome}
 use Rattle.rs_ring.specs.Ends.{Ring, Sent}
 use Rattle.rs_ring.specs.Items.{has_close}
 use Rattle.rs_session.specs.Change.{Change, change_of, closing_word, is_close}
 use Rattle.rs_session.specs.FileChanges.{close_at}
-use Rattle.rs_session.specs.Stage.{Comes, Stage, May, KeepsBehind, IsOver}
-use Rattle.rs_session.specs.declared.word.Body.{Body}
-use Rattle.rs_session.specs.declared.word.Body.TheVariants.{Announce, Withdraw, Down, Close}
 use Rattle.rs_session.specs.declared.word.Reason.{Reason}
 use Rattle.rs_session.specs.declared.word.Reason.TheVariants as reasons
 use Rattle.rs_session.specs.declared.word.Word.{Word}

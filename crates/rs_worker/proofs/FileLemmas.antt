@@ -1,0 +1,46 @@
+-- A worker over the records of a file.
+use Rattle.std.proofs.Common.{◌∙◌, refl, ℕ, arith, List, ◌++◌, None, map}
+use Rattle.rs_mrt.specs.Record.{reading_of}
+use Rattle.rs_ring.specs.Ends.{Ring}
+use Rattle.rs_mrt.specs.Source.{IsLeft}
+use Rattle.rs_session.specs.Change.{Change, change_of}
+use Rattle.rs_session.specs.FileChanges.{changes_in, passed_in, default_standard}
+use Rattle.rs_session.specs.Stage.{May, fresh}
+use Rattle.rs_session.specs.declared.peer.PeerId.{PeerId}
+use Rattle.rs_worker.specs.Worked.{Saying, HasWorked, just}
+use Rattle.rs_worker.specs.declared.work.WorkerEnd.{WorkerEnd}
+
+-- what is sent of a session is sent of any other that may say the same
+has_worked-said : (may other : Saying) → ((changes : List Change) (passed : ℕ) → may changes passed → other changes passed) → (ring : Ring) (end : WorkerEnd) → HasWorked may ring end → HasWorked other ring end
+has_worked-said may other says ring end h = record {
+  sent = h.sent;
+  said = record {
+    before = h.said.before;
+    time = h.said.time;
+    splits = h.said.splits;
+    unclosed = h.said.unclosed;
+    whole = λ reason. says (map change_of h.sent) end.passed (h.said.whole reason);
+    cut_short = λ reason.
+      let cut = h.said.cut_short reason in record {
+        given = cut.given;
+        rest = cut.rest;
+        total = cut.total;
+        said = says (cut.given ++ cut.rest) cut.total cut.said;
+        unfinished = cut.unfinished;
+        splits = cut.splits;
+        passed_within = cut.passed_within;
+      };
+  };
+  counted = h.counted;
+  token = h.token;
+}
+
+-- only what the file says may come
+file_says : (peer : PeerId) (file : List ℕ) (changes : List Change) (passed : ℕ) → May (λ s later end. IsLeft s later end) (λ s. s.shown) (fresh (reading_of None file) peer default_standard) changes passed → just (changes_in peer file) (passed_in peer file) changes passed
+file_says peer file changes passed m =
+    let same = m.may_read.read ∙ m.may_read.come.0 in
+    (m.left ∙ rw (same, m.may_read.come.1) refl, m.counted ∙ rw same (omega arith))
+
+pub has_worked-file : (peer : PeerId) (file : List ℕ) (ring : Ring) (end : WorkerEnd) → HasWorked (May (λ s later end. IsLeft s later end) (λ s. s.shown) (fresh (reading_of None file) peer default_standard)) ring end → HasWorked (just (changes_in peer file) (passed_in peer file)) ring end
+has_worked-file peer file ring end h =
+    has_worked-said (May (λ s later end. IsLeft s later end) (λ s. s.shown) (fresh (reading_of None file) peer default_standard)) (just (changes_in peer file) (passed_in peer file)) (file_says peer file) ring end h
