@@ -21,15 +21,15 @@ has_worked-said may other says ring end h = record {
     unclosed = h.said.unclosed;
     whole = λ reason. says (map change_of h.sent) end.passed (h.said.whole reason);
     cut_short = λ reason.
-      let cut = h.said.cut_short reason in record {
-        given = cut.given;
-        rest = cut.rest;
-        total = cut.total;
-        said = says (cut.given ++ cut.rest) cut.total cut.said;
-        unfinished = cut.unfinished;
-        splits = cut.splits;
-        passed_within = cut.passed_within;
-      };
+        let cut = h.said.cut_short reason in record {
+          given = cut.given;
+          rest = cut.rest;
+          total = cut.total;
+          said = says (cut.given ++ cut.rest) cut.total cut.said;
+          unfinished = cut.unfinished;
+          splits = cut.splits;
+          passed_within = cut.passed_within;
+        };
   };
   counted = h.counted;
   token = h.token;

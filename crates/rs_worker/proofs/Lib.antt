@@ -1,3 +1,4 @@
 mod TakeLemmas
 mod SentLemmas
 mod FileLemmas
+mod CrewLemmas

@@ -30,13 +30,13 @@ module _ {S : Type 0} (comes : Comes S) (shows : S → Option MrtRecord) where
     unclosed = open_yet;
     whole = λ other. rw (map-append change_of before (word ∷ [])) (begun (change_of word ∷ []) new.passed (ends.last other));
     cut_short = λ memory.
-      let refused = ends.refused memory in record {
-        given = map change_of before;
-        rest = refused.1.rest;
-        total = refused.1.total;
-        said = begun refused.1.rest refused.1.total refused.1.may_come;
-        unfinished = refused.1.some_rest;
-        splits = map-append change_of before (word ∷ []) ∙ ap (λ (last : Word). map change_of before ++ change_of last ∷ []) refused.0;
-        passed_within = refused.1.passed_within;
-      };
+        let refused = ends.refused memory in record {
+          given = map change_of before;
+          rest = refused.1.rest;
+          total = refused.1.total;
+          said = begun refused.1.rest refused.1.total refused.1.may_come;
+          unfinished = refused.1.some_rest;
+          splits = map-append change_of before (word ∷ []) ∙ ap (λ (last : Word). map change_of before ++ change_of last ∷ []) refused.0;
+          passed_within = refused.1.passed_within;
+        };
   }

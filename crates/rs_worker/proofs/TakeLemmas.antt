@@ -57,7 +57,7 @@ module _ {S : Type 0} (comes : Comes S) (shows : S → Option MrtRecord) (law : 
   ends_well stage front time passed reason unclosed m =
       let closes = law stage.errors stage.peer m.records m.end in
       let whole : front ++ close_at time reason ∷ [] ≡ (stage.waiting ++ closes.before) ++ close_at closes.time closes.reason ∷ [] =
-        rw unclosed at m.left ∙ ap (λ cs. stage.waiting ++ cs) closes.splits ∙ sym (append_assoc stage.waiting closes.before (close_at closes.time closes.reason ∷ [])) in
+      rw unclosed at m.left ∙ ap (λ cs. stage.waiting ++ cs) closes.splits ∙ sym (append_assoc stage.waiting closes.before (close_at closes.time closes.reason ∷ [])) in
       let same = same_reason time closes.time reason closes.reason (same_last front (stage.waiting ++ closes.before) (close_at time reason) (close_at closes.time closes.reason) whole) in
       ap is_memory same ∙ never_memory m.end closes.reason closes.recorded
 

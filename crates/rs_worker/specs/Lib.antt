@@ -5,3 +5,4 @@ pub use Rattle.rs_session.specs.FileChanges
 pub use Rattle.rs_session.specs.Stage
 pub mod Worked
 pub mod Steps
+pub mod Crew

@@ -4,11 +4,13 @@
 //! another), `work` (a whole session).
 #![tactic(auto)]
 
+mod crew;
 mod gate;
 mod sending;
 mod waiting;
 mod work;
 
+pub use crew::{Job, Joined, WorkerOf, join_workers, start_workers};
 pub use gate::{Gate, Open};
 pub use waiting::Patience;
 pub use work::{WorkerEnd, worker, worker_by, worker_over};

@@ -39,7 +39,8 @@ impl Patience {
             self.backoff.snooze();
             return;
         }
-        self.parker.park_timeout(rt, Duration::from_micros(self.sleep));
+        self.parker
+            .park_timeout(rt, Duration::from_micros(self.sleep));
         self.sleep = self.sleep.saturating_mul(2).min(LONGEST_SLEEP);
     }
 

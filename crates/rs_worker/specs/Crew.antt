@@ -1,0 +1,42 @@
+-- The workers of all peers.
+use Rattle.std.specs.Prelude.{◌≡◌, ℕ, List}
+use Rattle.std.specs.Prelude.{Option, Some, true, length, slice_get}
+use Rattle.rs_mrt.specs.Record.{MrtRecord}
+use Rattle.rs_ring.specs.Ends.{Ring, Receiving}
+use Rattle.rs_session.specs.Stage.{Comes, May, fresh}
+use Rattle.rs_session.specs.declared.word.Word.{Word}
+use Rattle.rs_session.specs.declared.peer.PeerId.{PeerId}
+use Rattle.rs_update.specs.declared.errors.Errors.{Errors}
+use Rattle.rs_worker.specs.Worked.{Saying, HasSent}
+use Rattle.rs_worker.specs.declared.crew.Job.{Job}
+use Rattle.rs_worker.specs.declared.crew.Joined.{Joined}
+use Rattle.rs_worker.specs.declared.crew.WorkerOf.{WorkerOf}
+
+-- what a worker is charged with: whose records it reads, how it handles faults, and through which ring it sends
+pub record Charge (S : Type 0) : Type 0 where
+  pub source : S
+  pub peer : PeerId
+  pub errors : Errors
+  pub ring : Ring
+
+abbrev pub charge_of : {S : Type 0} → Errors → Job S → Charge S
+charge_of errors job = record { source = job.source; peer = job.id; errors = errors; ring = job.out.ring }
+
+abbrev pub charged : {S : Type 0} → WorkerOf S → Charge S
+charged promise = record { source = promise.source.value; peer = promise.id; errors = promise.errors; ring = promise.out.value.ring }
+
+-- what the session may say with which a worker is charged
+abbrev pub said_by : {S : Type 0} → Comes S → (S → Option MrtRecord) → Charge S → Saying
+said_by comes shows charge = May comes shows (fresh charge.source charge.peer charge.errors)
+
+-- what was received is all that was sent, and so many changes
+pub record HasSettled (may : Saying) (received : List Word) (end : Joined) : Type 0 where
+  pub said : HasSent may received end.reason end.passed
+  pub counted : end.changes ≡ length received
+
+-- each worker that settled sent what its peer's receiver received
+abbrev pub AllSettled : {S : Type 0} → Comes S → (S → Option MrtRecord) → List (Charge S) → List (Receiving Word) → List Joined → Type 0
+AllSettled {S = S} comes shows charges from ends =
+    (peer : ℕ) (charge : Charge S) (receiver : Receiving Word) (end : Joined) →
+    slice_get charges peer ≡ Some charge → slice_get from peer ≡ Some receiver → slice_get ends peer ≡ Some end →
+    end.settled ≡ true → HasSettled (said_by comes shows charge) receiver.received end
