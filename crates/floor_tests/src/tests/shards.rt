@@ -1,1 +1,208 @@
 //! Shards on threads: the tables that they hold.
+
+ghost use Rattle.std.specs.Prelude.{◌≡◌, [], ℕ};
+ghost use Rattle.rs_table.specs.Content.{nothing_held, rib_of};
+
+use super::recordings::{add_announcement, address_of, asn_of, exchange};
+use rs_ring::{Closing, SendRefused, Sender, ring};
+use rs_router::Routed;
+use rs_session::{Body, PeerId, Reason, Session, Word};
+use rs_shard::{ShardEnd, shard_worker};
+use rs_table::Tables;
+use rs_update::{Attributes, Prefix};
+use rs_worker::Gate;
+use std::alloc::Global;
+use std::sync::atomic::{AtomicU64, Ordering};
+use std::sync::{Arc, Wait};
+use std::test::*;
+use std::thread;
+use std::thread::Threads;
+
+// A change of a peer, on a prefix of eight bits by its first octet or on none.
+#[derive(Clone, Copy)]
+enum Change {
+    Announce(usize, u8),
+    Withdraw(usize, u8),
+    Down(usize),
+    Close(usize, Reason),
+}
+
+use Change::{Announce, Close, Down, Withdraw};
+
+// What the shard is sent of three peers before the last item. A change has its place as its time. One follows its peer's close, and one
+// is of a peer that isn't there.
+const CHANGES: [Change; 12] = [
+    Announce(0, 10),
+    Announce(1, 10),
+    Announce(0, 20),
+    Withdraw(0, 20),
+    Close(0, Reason::EndOfFile),
+    Withdraw(0, 10),
+    Announce(7, 30),
+    Announce(1, 40),
+    Down(1),
+    Announce(1, 50),
+    Announce(2, 60),
+    Close(
+        2,
+        Reason::Bgp {
+            code: 3,
+            subcode: 6,
+        },
+    ),
+];
+
+// Counts the items that a shard is about to handle, and those that come out of order or of another shard.
+#[derive(Drop)]
+struct Passes {
+    items: AtomicU64,
+    strays: AtomicU64,
+}
+
+impl Passes {
+    fn new() -> Passes {
+        Passes {
+            items: AtomicU64::new(0),
+            strays: AtomicU64::new(0),
+        }
+    }
+}
+
+impl Gate for Passes {
+    fn pass(&self, _peer: usize, _number: u64) {
+        self.strays.fetch_add(1, Ordering::SeqCst);
+    }
+
+    fn shard_pass(&self, shard: usize, number: u64) {
+        if self.items.fetch_add(1, Ordering::SeqCst) != number || shard != 3 {
+            self.strays.fetch_add(1, Ordering::SeqCst);
+        }
+    }
+}
+
+// The attributes of a route of a peer.
+fn route_of(alloc: Global, peer: u32) -> Option<Arc<Attributes>> {
+    let mut file = Vec::new(alloc);
+    add_announcement(&mut file, peer, 100, &[8, 10]).ok()?;
+    let id = PeerId {
+        address: address_of(peer),
+        asn: asn_of(peer),
+    };
+    let mut session = Session::new(alloc, &file, id);
+    let word = session.next_word().ok()??;
+    match word.body {
+        Body::Announce(_, route) => Some(route),
+        _ => None,
+    }
+}
+
+// The prefix of eight bits with this first octet.
+fn prefix_at(first: u8) -> Option<Prefix> {
+    Prefix::new(u32::from_be_bytes([first, 0, 0, 0]), 8)
+}
+
+// The change as it goes through a ring.
+fn item_of(route: &Arc<Attributes>, time: u32, change: Change) -> Option<Routed> {
+    let (peer, body) = match change {
+        Announce(peer, first) => (peer, Body::Announce(prefix_at(first)?, route.clone().ok()?)),
+        Withdraw(peer, first) => (peer, Body::Withdraw(prefix_at(first)?)),
+        Down(peer) => (peer, Body::Down),
+        Close(peer, reason) => (peer, Body::Close(reason)),
+    };
+    Some(Routed::Word {
+        peer,
+        word: Word { time, body },
+    })
+}
+
+// Sends an item, once there is room. Answers whether it was sent.
+fn send(rt: &impl Wait, sender: &mut Sender<Routed>, item: Routed) -> bool {
+    let mut item = item;
+    for _ in rt.forever() {
+        if sender.sent() >= Routed::LIMIT {
+            return false;
+        }
+        match sender.try_send(item) {
+            Ok(_) => return true,
+            Err(SendRefused::Closed(_)) => return false,
+            Err(SendRefused::Full(back)) => item = back,
+        }
+        thread::yield_now();
+    }
+    unreachable!()
+}
+
+// Sends all changes, and the last item. Answers whether they were sent.
+fn send_all(rt: &impl Wait, sender: Sender<Routed>, route: &Arc<Attributes>) -> bool {
+    let mut sender = sender;
+    let mut time = 0u32;
+    for change in CHANGES.iter() {
+        let Some(item) = item_of(route, time, *change) else {
+            return false;
+        };
+        if !send(rt, &mut sender, item) {
+            return false;
+        }
+        time = time.wrapping_add(1);
+    }
+    send(rt, &mut sender, Routed::Last)
+}
+
+// What the shard of number 3 holds of all changes, which come through a ring of this capacity from another thread.
+fn held<R: Threads + Wait + Sync>(
+    rt: &R,
+    alloc: Global,
+    capacity: usize,
+    gate: &Passes,
+) -> Option<Tables> {
+    let route = route_of(alloc, 0)?;
+    let shared = &route;
+    let tables = Tables::new(alloc, exchange(alloc, 3)?).ok()?;
+    let Ok((sender, from)) = ring::<Routed>(alloc, capacity) else {
+        return None;
+    };
+    let (sent, end) = thread::join(
+        rt,
+        move || -> bool { send_all(rt, sender, shared) },
+        move || -> ShardEnd
+            requires { (from.received ≡ []) × ((peer : ℕ) → rib_of tables peer ≡ nothing_held) }
+        { shard_worker(rt, 3, tables, from, gate) },
+    );
+    if !sent {
+        return None;
+    }
+    end.tables
+}
+
+// Whose route a client gets on a prefix, and when it was announced.
+fn best(tables: &Tables, client: usize, first: u8) -> Option<(usize, u32)> {
+    let route = tables.best(client, prefix_at(first)?)?;
+    Some((route.peer, route.time))
+}
+
+#[test]
+fn a_shard_holds_what_each_peer_has_left_up_to_its_close(rt: HostRuntime) {
+    for capacity in [1, 64] {
+        let gate = Passes::new();
+        let Some(tables) = held(&rt, rt.alloc(), capacity, &gate) else {
+            panic!(rt; "out of memory through {capacity}");
+        };
+        for (client, first, route) in [
+            (2, 10, Some((0, 0))),
+            (0, 10, None),
+            (2, 20, None),
+            (2, 30, None),
+            (2, 40, None),
+            (2, 50, Some((1, 9))),
+            (0, 60, None),
+        ] {
+            let found = best(&tables, client, first);
+            assert_eq!(rt; found, route, "{first} for {client} through {capacity}");
+        }
+        for (peer, closed) in [(0, true), (1, false), (2, true)] {
+            assert_eq!(rt; tables.is_closed(peer), closed, "{peer} through {capacity}");
+        }
+        assert_eq!(rt; gate.items.load(Ordering::SeqCst), 13);
+        assert_eq!(rt; gate.strays.load(Ordering::SeqCst), 0);
+    }
+}

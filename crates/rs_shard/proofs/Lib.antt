@@ -1,0 +1,6 @@
+mod CloseLemmas
+mod CrewLemmas
+mod ListLemmas
+mod MergingLemmas
+mod RunLemmas
+mod TakingLemmas

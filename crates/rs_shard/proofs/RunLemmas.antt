@@ -1,0 +1,91 @@
+-- What shards hold that took all that was sent to them.
+use Rattle.std.proofs.Common.{◌≡◌, ◌∙◌, sym, ap, subst, refl, ℕ, arith, inl, inr, Bool, true, false, ◌||◌, List, [], ◌∷◌, ◌++◌, length, map, Some}
+use Rattle.std.specs.Prelude.{slice_get}
+use Rattle.std.proofs.lemmas.List.{map-append}
+use Rattle.std.proofs.lemmas.List.Elements.{filter-append}
+use Rattle.std.proofs.lemmas.Option.{slice_get_within}
+use Rattle.rs_choice.specs.Plan.{Plan}
+use Rattle.rs_session.specs.Change.{Change, body_of, change_of}
+use Rattle.rs_session.specs.Change as session
+use Rattle.rs_session.specs.declared.word.Body.{Body}
+use Rattle.rs_session.specs.declared.word.Body.TheVariants.{Announce, Withdraw, Down, Close}
+use Rattle.rs_session.specs.declared.word.Word.{Word}
+use Rattle.rs_table.specs.Content.{TablesContent, rib_left}
+use Rattle.rs_table.specs.Left.{HasNoClose, body_closes}
+use Rattle.rs_router.specs.Cut.{IsShardCount, cut, gets}
+use Rattle.rs_router.specs.Routing.{EndsClosed, is_closed}
+use Rattle.rs_router.specs.declared.routed.Routed.{Routed}
+use Rattle.rs_shard.specs.Crew.{Charge}
+use Rattle.rs_shard.specs.Held.{HoldReceived, through_close}
+use Rattle.rs_shard.specs.Laws.{AreShardsOf, IsOfPlan, IsRun, IsShardOf}
+use Rattle.rs_shard.proofs.ListLemmas.{there-or_past}
+use Rattle.rs_shard.proofs.CloseLemmas.{through-open, through-one}
+
+-- a word closes where its change does
+closes-same : (body : Body) → body_closes (body_of body) ≡ session.is_close body
+closes-same (Announce prefix attributes) = refl
+closes-same (Withdraw prefix) = refl
+closes-same Down = refl
+closes-same (Close reason) = refl
+
+-- the cut of words without a close has none
+open-cut : (shards shard : ℕ) (words : List Word) → is_closed words ≡ false → HasNoClose (cut shards shard (map change_of words))
+open-cut shards shard [] none = refl
+open-cut shards shard (word ∷ words) none = cases (gets shards shard (change_of word)) (session.is_close word.body) refl (closes-same word.body) none (open-cut shards shard words)
+  where
+    cases : (kept closes : Bool) → gets shards shard (change_of word) ≡ kept → body_closes (body_of word.body) ≡ closes → (closes || is_closed words) ≡ false
+        → (is_closed words ≡ false → HasNoClose (cut shards shard (map change_of words))) → HasNoClose (cut shards shard (change_of word ∷ map change_of words))
+    cases kept true e is none rest = absurd cc
+    cases true false e is none rest = rw (e, is) (rest none)
+    cases false false e is none rest = rw e (rest none)
+
+through-one_cut : (shards shard : ℕ) (change : Change) → through_close (cut shards shard (change ∷ [])) ≡ cut shards shard (change ∷ [])
+through-one_cut shards shard change = cases (gets shards shard change) refl
+  where
+    cases : (kept : Bool) → gets shards shard change ≡ kept → through_close (cut shards shard (change ∷ [])) ≡ cut shards shard (change ∷ [])
+    cases true e = rw e (through-one change)
+    cases false e = rw e refl
+
+-- in the cut of words that close at their end nothing follows a close
+through-cut : (shards shard : ℕ) (words : List Word) → EndsClosed words → through_close (cut shards shard (map change_of words)) ≡ cut shards shard (map change_of words)
+through-cut shards shard words ends =
+    let splits : cut shards shard (map change_of words) ≡ cut shards shard (map change_of ends.earlier) ++ cut shards shard (change_of ends.close ∷ []) =
+    ap (λ (ws : List Word). cut shards shard (map change_of ws)) ends.is
+    ∙ ap (cut shards shard) (map-append change_of ends.earlier (ends.close ∷ []))
+    ∙ filter-append (gets shards shard) (map change_of ends.earlier) (change_of ends.close ∷ []) in
+    ap through_close splits
+    ∙ through-open (cut shards shard (map change_of ends.earlier)) (cut shards shard (change_of ends.close ∷ [])) (open-cut shards shard ends.earlier ends.until_then)
+    ∙ ap (λ (cs : List Change). cut shards shard (map change_of ends.earlier) ++ cs) (through-one_cut shards shard (change_of ends.close))
+    ∙ sym splits
+
+-- the shards of a run
+module _ (plan : Plan) (received : List (List Word)) (sent : List (List Routed)) (charges : List Charge) (parts : List TablesContent) (run : IsRun plan received sent charges parts) where
+  as_many : length parts ≡ length sent
+  as_many = run.hold.count ∙ run.shards
+
+  one-shard : (shard : ℕ) (part : TablesContent) (charge : Charge) (items : List Routed) → slice_get parts shard ≡ Some part → slice_get charges shard ≡ Some charge → slice_get sent shard ≡ Some items
+      → IsShardOf plan received (length parts) shard part
+  one-shard shard part charge items at at_charge at_sent =
+      let held : HoldReceived charge.tables items part = run.hold.each shard charge items part at_charge at_sent at in
+      let of_plan : IsOfPlan plan charge.tables = run.charged shard charge at_charge in
+      record {
+        of_plan = record { plan_is = held.plan ∙ of_plan.plan_is; count = held.count ∙ of_plan.count };
+        ribs = λ peer words there.
+            held.ribs peer (omega (arith, slice_get_within received peer words there, run.peers, of_plan.count))
+            ∙ ap (λ (cs : List Change). rib_left (through_close cs)) (run.cuts peer shard words items there at_sent)
+            ∙ ap rib_left (through-cut (length sent) shard words (run.closed peer words there))
+            ∙ ap (λ (n : ℕ). rib_left (cut n shard (map change_of words))) (sym as_many);
+      }
+
+  pub run-whole : AreShardsOf plan received parts
+  run-whole = record {
+    counted = subst IsShardCount (sym as_many) run.counted;
+    peers = run.peers;
+    each = λ shard part at. elim (there-or_past charges shard) [
+      | inl charge ↦ elim (there-or_past sent shard) [
+        | inl items ↦ one-shard shard part charge.0 items.0 at charge.1 items.1
+        | inr past ↦ absurd (omega (arith, as_many, past, slice_get_within parts shard part at))
+      ]
+      | inr past ↦ absurd (omega (arith, run.hold.count, past, slice_get_within parts shard part at))
+    ];
+  }

@@ -1,0 +1,117 @@
+-- What tables hold of the items that they took, with one item more.
+use Rattle.std.proofs.Common.{◌≡◌, ◌≢◌, ◌∙◌, sym, ap, subst, refl, ℕ, ◌<◌, ◌≤◌, arith, inl, inr, Bool, true, false, List, [], ◌∷◌, ◌++◌, append-nil, length, Option, Some, None, Result, Ok, Err}
+use Rattle.std.specs.Prelude.{if◌then◌else◌, ◌==◌, OnOk}
+use Rattle.std.specs.List.{filter_map, list_any}
+use Rattle.std.proofs.lemmas.List.Elements.{filter_map-append}
+use Rattle.std.proofs.lemmas.Bool.{ne_eqb}
+use Rattle.std.proofs.lemmas.Bool.Decides.{eqb_tells}
+use Rattle.rs_session.specs.Change.{Change, change_of}
+use Rattle.rs_session.specs.declared.word.Word.{Word}
+use Rattle.rs_table.specs.Content.{RibContent, TablesContent, rib_of, rib_left, nothing_held}
+use Rattle.rs_table.specs.Left.{BecomeBy, is_close}
+use Rattle.rs_router.specs.Items.{change_from, of_peer}
+use Rattle.rs_router.specs.declared.routed.Routed.{Routed}
+use Rattle.rs_router.specs.declared.routed.Routed.TheVariants as routed
+use Rattle.rs_shard.specs.Held.{HoldReceived, Takes, through_close}
+use Rattle.rs_shard.proofs.CloseLemmas.{rib_left-nothing, rib_left-more, through-closed, through-more, through-none, any-through}
+
+-- one item more of the peer's, of another peer's, and of none's
+of_peer-gives : (peer : ℕ) (items : List Routed) (item : Routed) (change : Change) → change_from peer item ≡ Some change → of_peer peer (items ++ item ∷ []) ≡ of_peer peer items ++ change ∷ []
+of_peer-gives peer items item change e = filter_map-append (change_from peer) items (item ∷ []) ∙ ap (λ cs. of_peer peer items ++ cs) (one (change_from peer item) e)
+  where
+    one : (o : Option Change) → o ≡ Some change → filter_map (λ (x : Option Change). x) (o ∷ []) ≡ change ∷ []
+    one (Some c) e = let same : c ≡ change = cc in ap (λ c. c ∷ []) same
+    one None e = absurd cc
+
+of_peer-skips : (peer : ℕ) (items : List Routed) (item : Routed) → change_from peer item ≡ None → of_peer peer (items ++ item ∷ []) ≡ of_peer peer items
+of_peer-skips peer items item e = filter_map-append (change_from peer) items (item ∷ []) ∙ ap (λ cs. of_peer peer items ++ cs) (one (change_from peer item) e) ∙ append-nil (of_peer peer items)
+  where
+    one : (o : Option Change) → o ≡ None → filter_map (λ (x : Option Change). x) (o ∷ []) ≡ []
+    one (Some c) e = absurd cc
+    one None e = refl
+
+if_true : {X : Type 0} (b : Bool) (x y : X) → b ≡ true → (if b then x else y) ≡ x
+if_true true x y e = refl
+if_true false x y e = absurd cc
+
+if_false : {X : Type 0} (b : Bool) (x y : X) → b ≡ false → (if b then x else y) ≡ y
+if_false true x y e = absurd cc
+if_false false x y e = refl
+
+equal_itself : (n : ℕ) → (n == n) ≡ true
+equal_itself n = elim (eqb_tells n n) [ inl told ↦ told.0 | inr told ↦ absurd (told.1 refl) ]
+
+own : (peer : ℕ) (items : List Routed) (word : Word) → of_peer peer (items ++ routed.Word peer word ∷ []) ≡ of_peer peer items ++ change_of word ∷ []
+own peer items word = of_peer-gives peer items (routed.Word peer word) (change_of word) (if_true (peer == peer) (Some (change_of word)) None (equal_itself peer))
+
+others : (peer other : ℕ) (items : List Routed) (word : Word) → other ≢ peer → of_peer other (items ++ routed.Word peer word ∷ []) ≡ of_peer other items
+others peer other items word apart = of_peer-skips other items (routed.Word peer word) (if_false (peer == other) (Some (change_of word)) None (ne_eqb peer other (λ e. apart (sym e))))
+
+-- tables that took nothing yet
+pub held-nothing : (new : TablesContent) → ((peer : ℕ) → rib_of new peer ≡ nothing_held) → HoldReceived new [] new
+held-nothing new empty = record { plan = refl; count = refl; ribs = λ peer below. empty peer ∙ sym rib_left-nothing }
+
+-- the last item changes nothing
+pub took-last : (tables : TablesContent) → Takes routed.Last tables tables
+took-last tables new items held = record {
+  plan = held.plan;
+  count = held.count;
+  ribs = λ peer below. held.ribs peer below ∙ ap (λ cs. rib_left (through_close cs)) (sym (of_peer-skips peer items routed.Last refl));
+}
+
+-- nor does a change of a peer that isn't there
+pub took-unknown : (tables : TablesContent) (peer : ℕ) (word : Word) → length tables.ribs ≤ peer → Takes (routed.Word peer word) tables tables
+took-unknown tables peer word past new items held = record {
+  plan = held.plan;
+  count = held.count;
+  ribs = λ other below.
+      held.ribs other below ∙ ap (λ cs. rib_left (through_close cs)) (sym (others peer other items word (λ e. absurd (omega (arith, past, below, held.count, e)))));
+}
+
+-- nor one of a peer whose session closed
+pub took-closed : (tables : TablesContent) (peer : ℕ) (word : Word) → (rib_of tables peer).closed ≡ true → Takes (routed.Word peer word) tables tables
+took-closed tables peer word closed new items held = record {
+  plan = held.plan;
+  count = held.count;
+  ribs = λ other below. elim (eqb_tells other peer) [
+    | inl told ↦ here other below told.1
+    | inr told ↦ held.ribs other below ∙ ap (λ cs. rib_left (through_close cs)) (sym (others peer other items word told.1))
+  ];
+}
+  where
+    here : (other : ℕ) → other < length new.ribs → other ≡ peer → rib_of tables other ≡ rib_left (through_close (of_peer other (items ++ routed.Word peer word ∷ [])))
+    here other below same =
+        let at_peer : rib_of tables peer ≡ rib_left (through_close (of_peer peer items)) = subst (λ (n : ℕ). rib_of tables n ≡ rib_left (through_close (of_peer n items))) same (held.ribs other below) in
+        let has_closed : list_any is_close (of_peer peer items) ≡ true = sym (any-through (of_peer peer items)) ∙ sym (ap (λ (rib : RibContent). rib.closed) at_peer) ∙ closed in
+        let kept : rib_of tables peer ≡ rib_left (through_close (of_peer peer (items ++ routed.Word peer word ∷ []))) =
+        at_peer ∙ ap rib_left (sym (through-closed (of_peer peer items) (change_of word ∷ []) has_closed)) ∙ ap (λ cs. rib_left (through_close cs)) (sym (own peer items word)) in
+        subst (λ (n : ℕ). rib_of tables n ≡ rib_left (through_close (of_peer n (items ++ routed.Word peer word ∷ [])))) (sym same) kept
+
+-- a change of a peer whose session is open
+pub took-change : (before after : TablesContent) (peer : ℕ) (word : Word) → (rib_of before peer).closed ≡ false
+    → BecomeBy (rib_of before peer).routes (change_of word) (rib_of after peer).routes → (rib_of after peer).closed ≡ is_close (change_of word)
+    → ((other : ℕ) → other ≢ peer → rib_of after other ≡ rib_of before other) → after.plan ≡ before.plan → length after.ribs ≡ length before.ribs
+    → Takes (routed.Word peer word) before after
+took-change before after peer word unclosed become closes stay plan count new items held = record {
+  plan = plan ∙ held.plan;
+  count = count ∙ held.count;
+  ribs = λ other below. elim (eqb_tells other peer) [
+    | inl told ↦ here other below told.1
+    | inr told ↦ stay other told.1 ∙ held.ribs other below ∙ ap (λ cs. rib_left (through_close cs)) (sym (others peer other items word told.1))
+  ];
+}
+  where
+    here : (other : ℕ) → other < length new.ribs → other ≡ peer → rib_of after other ≡ rib_left (through_close (of_peer other (items ++ routed.Word peer word ∷ [])))
+    here other below same =
+        let at_peer : rib_of before peer ≡ rib_left (through_close (of_peer peer items)) = subst (λ (n : ℕ). rib_of before n ≡ rib_left (through_close (of_peer n items))) same (held.ribs other below) in
+        let open_yet : list_any is_close (of_peer peer items) ≡ false = sym (any-through (of_peer peer items)) ∙ sym (ap (λ (rib : RibContent). rib.closed) at_peer) ∙ unclosed in
+        let whole : rib_of before peer ≡ rib_left (of_peer peer items) = at_peer ∙ ap rib_left (through-none (of_peer peer items) open_yet) in
+        let more : rib_of after peer ≡ rib_left (of_peer peer items ++ change_of word ∷ []) = rib_left-more (of_peer peer items) (change_of word) (rib_of before peer) (rib_of after peer) whole open_yet become closes in
+        let taken : rib_of after peer ≡ rib_left (through_close (of_peer peer (items ++ routed.Word peer word ∷ []))) =
+        more ∙ ap rib_left (sym (through-more (of_peer peer items) (change_of word) open_yet)) ∙ ap (λ cs. rib_left (through_close cs)) (sym (own peer items word)) in
+        subst (λ (n : ℕ). rib_of after n ≡ rib_left (through_close (of_peer n (items ++ routed.Word peer word ∷ [])))) (sym same) taken
+
+-- what follows from two facts of a success holds of it
+pub ok-both : {A E : Type 0} (result : Result A E) (P Q R : Type 0) → OnOk result P → OnOk result Q → (P → Q → R) → OnOk result R
+ok-both (Ok value) P Q R p q h = h p q
+ok-both (Err fault) P Q R p q h = tt

@@ -1,0 +1,11 @@
+-- Tables that took some items took one more.
+use Rattle.std.proofs.Common.{subst, Option}
+use Rattle.std.specs.Prelude.{IfSome}
+use Rattle.rs_table.specs.Content.{TablesContent}
+use Rattle.rs_shard.specs.Held.{HoldReceived}
+use Rattle.rs_shard.proofs.taking.after_item.Goals as goal
+
+pub returns-in-Ok : goal.returns-in-Ok
+returns-in-Ok c before items held =
+    let P : Option TablesContent → Type 0 = λ tables. IfSome tables (HoldReceived before items) in
+    c.in-Ok.ensures before items (subst P c.in_ok-tables.was held)
