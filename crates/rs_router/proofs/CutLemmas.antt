@@ -1,5 +1,5 @@
 -- What the cuts of a list leave.
-use Rattle.std.proofs.Common.{◌≡◌, ◌≢◌, ◌∙◌, sym, ap, refl, ℕ, inl, inr, Bool, true, false, ◌||◌, ◌&&◌, List, [], ◌∷◌, ◌++◌, filter, Option, Some, None}
+use Rattle.std.proofs.Common.{◌≡◌, ◌≢◌, ◌∙◌, sym, ap, refl, ℕ, inl, inr, Bool, true, false, ◌||◌, List, [], ◌∷◌, ◌++◌, filter, Option, Some, None}
 use Rattle.std.specs.Prelude.{◌==◌}
 use Rattle.std.specs.List.{list_all, list_any}
 use Rattle.std.specs.FinMap.{get}
@@ -8,7 +8,7 @@ use Rattle.std.specs.Cmp.{Equal-is}
 use Rattle.std.specs.Ordering.{nat_cmp, ordering_then}
 use Rattle.std.specs.declared.cmp.Ordering.{Ordering}
 use Rattle.std.specs.declared.cmp.Ordering.TheVariants.{Less, Equal, Greater}
-use Rattle.std.proofs.lemmas.Bool.{cases_Bool}
+use Rattle.std.proofs.lemmas.Bool.{and_parts, cases_Bool}
 use Rattle.std.proofs.lemmas.Bool.Decides.{eqb_tells}
 use Rattle.std.proofs.lemmas.List.Folds.{list_all-append}
 use Rattle.rs_update.specs.IpPrefix.{IpPrefix}
@@ -97,18 +97,10 @@ all-filter : {X : Type 0} (keeps : X → Bool) (xs : List X) → list_all keeps 
 all-filter keeps [] = refl
 all-filter keeps (x ∷ xs) = elim (cases_Bool (keeps x)) [ inl stays ↦ rw (stays, stays) (all-filter keeps xs) | inr goes ↦ rw goes (all-filter keeps xs) ]
 
-first_passes : (a b : Bool) → (a && b) ≡ true → a ≡ true
-first_passes true b e = refl
-first_passes false b e = absurd (cc e)
-
-second_passes : (a b : Bool) → (a && b) ≡ true → b ≡ true
-second_passes true b e = e
-second_passes false b e = absurd (cc e)
-
 member_passes : {X : Type 0} (p : X → Bool) (xs earlier later : List X) (x : X) → list_all p xs ≡ true → xs ≡ earlier ++ x ∷ later → p x ≡ true
 member_passes p xs earlier later x all is =
     let both = sym (list_all-append p earlier (x ∷ later)) ∙ sym (ap (list_all p) is) ∙ all in
-    first_passes (p x) (list_all p later) (second_passes (list_all p earlier) _ both)
+    (and_parts (p x) (list_all p later) (and_parts (list_all p earlier) _ both).1).0
 
 same_option : {X : Type 0} (o p : Option X) → ((x : X) → o ≡ Some x → p ≡ Some x) → ((x : X) → p ≡ Some x → o ≡ Some x) → o ≡ p
 same_option None None there back = refl

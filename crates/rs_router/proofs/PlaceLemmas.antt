@@ -1,9 +1,10 @@
 -- Lists, place by place.
-use Rattle.std.proofs.Common.{◌≡◌, ◌≢◌, ◌∙◌, sym, ap, subst, refl, ℕ, ◌+◌, ◌<◌, ◌⊎◌, suc, zero, arith, inl, inr, Bool, true, false, ◌&&◌, List, [], ◌∷◌, length, map, Option, Some, None}
+use Rattle.std.proofs.Common.{◌≡◌, ◌≢◌, ◌∙◌, sym, ap, subst, refl, ℕ, ◌+◌, ◌<◌, ◌⊎◌, suc, zero, arith, inl, inr, Bool, true, List, [], ◌∷◌, length, map, Option, Some, None}
 use Rattle.std.specs.Prelude.{slice_get, slice_set, All}
 use Rattle.std.specs.List.{list_all}
 use Rattle.std.specs.Option.{option_map}
 use Rattle.std.proofs.Math.Numerals.{add-one}
+use Rattle.std.proofs.lemmas.Bool.{and_parts}
 use Rattle.std.proofs.lemmas.Bool.Decides.{eqb_tells}
 
 -- ---- one place of a list changes
@@ -69,18 +70,10 @@ all-get P [] at x all e = absurd cc
 all-get P (y ∷ ys) zero x all e = let found : y ≡ x = cc in subst P found (all 0 x (omega arith))
 all-get P (y ∷ ys) (suc at) x all e = all-get P ys at x (λ k d below. all (suc k) d (omega arith)) e
 
-first_passes : (a b : Bool) → (a && b) ≡ true → a ≡ true
-first_passes true b e = refl
-first_passes false b e = absurd (cc e)
-
-second_passes : (a b : Bool) → (a && b) ≡ true → b ≡ true
-second_passes true b e = e
-second_passes false b e = absurd (cc e)
-
 pub list_all-get : {X : Type 0} (p : X → Bool) (xs : List X) (at : ℕ) (x : X) → list_all p xs ≡ true → slice_get xs at ≡ Some x → p x ≡ true
 list_all-get p [] at x all e = absurd cc
-list_all-get p (y ∷ ys) zero x all e = let found : y ≡ x = cc in ap p (sym found) ∙ first_passes (p y) (list_all p ys) all
-list_all-get p (y ∷ ys) (suc at) x all e = list_all-get p ys at x (second_passes (p y) (list_all p ys) all) e
+list_all-get p (y ∷ ys) zero x all e = let found : y ≡ x = cc in ap p (sym found) ∙ (and_parts (p y) (list_all p ys) all).0
+list_all-get p (y ∷ ys) (suc at) x all e = list_all-get p ys at x (and_parts (p y) (list_all p ys) all).1 e
 
 -- ---- f of each element from a place on
 

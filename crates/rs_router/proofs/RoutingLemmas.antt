@@ -5,7 +5,7 @@ use Rattle.std.specs.List.{list_all, list_any}
 use Rattle.std.specs.Option.{option_map}
 use Rattle.std.proofs.lemmas.Bool.{cases_Bool, ne_eqb}
 use Rattle.std.proofs.lemmas.Bool.Decides.{Decides-ltb}
-use Rattle.std.proofs.lemmas.List.{length-append, length-map, map-append}
+use Rattle.std.proofs.lemmas.List.{append-nil, length-append, length-map, map-append}
 use Rattle.std.proofs.lemmas.List.Elements.{filter-append, filter_map-append}
 use Rattle.std.proofs.lemmas.List.Folds.{list_all-append, list_any-append}
 use Rattle.std.proofs.lemmas.List.Sums.{sum_by-cons}
@@ -81,10 +81,6 @@ of_peer-own peer before word =
 of_peer-other : (other peer : ℕ) (before : List Routed) (word : Word) → other ≢ peer → of_peer other (before ++ items.Word peer word ∷ []) ≡ of_peer other before
 of_peer-other other peer before word apart =
     filter_map-append (change_from other) before (items.Word peer word ∷ []) ∙ ap (λ (cs : List Change). of_peer other before ++ cs) (rw (ne_eqb peer other (λ e. apart (sym e))) refl) ∙ append-nil (of_peer other before)
-  where
-    append-nil : {X : Type 0} (xs : List X) → xs ++ [] ≡ xs
-    append-nil [] = refl
-    append-nil (x ∷ xs) = ap (λ ys. x ∷ ys) (append-nil xs)
 
 cut-more : (shards shard : ℕ) (words : List Word) (word : Word) → cut shards shard (map change_of (words ++ word ∷ [])) ≡ cut shards shard (map change_of words) ++ cut shards shard (change_of word ∷ [])
 cut-more shards shard words word =
@@ -105,10 +101,6 @@ own_cut shards shard peer words word before is =
           ∙ ap (λ (cs : List Change). cut shards shard (map change_of words) ++ cs) (sym (rw passed refl))
           ∙ sym (cut-more shards shard words word)
     ]
-  where
-    append-nil : {X : Type 0} (xs : List X) → xs ++ [] ≡ xs
-    append-nil [] = refl
-    append-nil (x ∷ xs) = ap (λ ys. x ∷ ys) (append-nil xs)
 
 other_cut : (shards shard other peer : ℕ) (word : Word) (before : List Routed) → other ≢ peer → of_peer other (with_word shards peer word shard before) ≡ of_peer other before
 other_cut shards shard other peer word before apart =
@@ -229,10 +221,6 @@ module _ (received : List (List Word)) (before after : List (List Routed)) (rout
 
   of_peer-last : (peer : ℕ) (xs : List Routed) → of_peer peer (xs ++ items.Last ∷ []) ≡ of_peer peer xs
   of_peer-last peer xs = filter_map-append (change_from peer) xs (items.Last ∷ []) ∙ append-nil (of_peer peer xs)
-    where
-      append-nil : {X : Type 0} (xs : List X) → xs ++ [] ≡ xs
-      append-nil [] = refl
-      append-nil (x ∷ xs) = ap (λ ys. x ∷ ys) (append-nil xs)
 
   pub cuts_last : AreCuts received after
   cuts_last peer shard words sent at_peer at_shard =

@@ -1,19 +1,17 @@
 //! Hands one item to the shards that get it.
 
-ghost use Rattle.std.specs.Prelude.{◌≡◌, ◌<◌, ◌++◌, ◌∷◌, [], ℕ, false, length, slice_get};
-ghost use Rattle.std.specs.Option.{option_map};
+ghost use Rattle.std.specs.Prelude.{◌≡◌, ◌<◌, ◌^◌, ◌++◌, ◌∷◌, [], false, length};
 ghost use Rattle.rs_ring.specs.Items.{has_close};
 ghost use Rattle.rs_router.specs.Cut as cut;
 ghost use Rattle.rs_router.specs.Items.{is_last};
 ghost use Rattle.rs_router.specs.Delivery.{item_of, sent_lists, CanSend, Delivered, IsSentToAll, SameSenders};
-ghost use Rattle.rs_router.specs.declared.routed.Routed.TheVariants.{Word};
 
 use crate::routed::Routed;
 use crate::shard::shard_of;
 use rs_ring::{SendRefused, Sender};
 use rs_session::{Body, Reason, Word};
+use rs_worker::Patience;
 use std::sync::Wait;
-use std::thread;
 
 // An item of which each shard gets one.
 #[derive(Clone, Copy)]
@@ -90,18 +88,33 @@ pub(crate) fn send_to_all<R: Wait>(rt: &R, to: &mut [Sender<Routed>], shared: Sh
 // Sends an item, once there is room.
 fn offer<R: Wait>(rt: &R, sender: &mut Sender<Routed>, item: Routed)
     requires open { has_close is_last sender.old.sent ≡ false }
-    requires few { length sender.old.sent < 1152921504606846976 }
+    requires few { length sender.old.sent < 2 ^ 60 }
+    ensures sent { sender.new.sent ≡ sender.old.sent ++ item ∷ [] }
+    ensures same { sender.new.ring ≡ sender.old.ring }
+{
+    match sender.try_send(item) {
+        Ok(_) => {}
+        Err(SendRefused::Closed(_)) => unreachable!(),
+        Err(SendRefused::Full(refused)) => offer_again(rt, sender, refused),
+    }
+}
+
+// Sends an item that found no room, once there is room.
+fn offer_again<R: Wait>(rt: &R, sender: &mut Sender<Routed>, item: Routed)
+    requires open { has_close is_last sender.old.sent ≡ false }
+    requires few { length sender.old.sent < 2 ^ 60 }
     ensures sent { sender.new.sent ≡ sender.old.sent ++ item ∷ [] }
     ensures same { sender.new.ring ≡ sender.old.ring }
 {
     let mut item = item;
+    let mut patience = Patience::new();
     for _ in rt.forever() {
+        patience.wait(rt);
         match sender.try_send(item) {
             Ok(_) => return,
             Err(SendRefused::Closed(_)) => unreachable!(),
             Err(SendRefused::Full(refused)) => item = refused,
         }
-        thread::yield_now();
     }
     unreachable!()
 }

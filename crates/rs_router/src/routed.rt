@@ -1,6 +1,5 @@
 //! What a shard is sent.
 
-ghost use Rattle.std.specs.Prelude.{◌≡◌};
 ghost use Rattle.rs_router.specs.Items.{is_last};
 
 use rs_ring::Closing;

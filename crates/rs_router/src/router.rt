@@ -1,6 +1,6 @@
 //! Routes the changes of all peers.
 
-ghost use Rattle.std.specs.Prelude.{◌≡◌, ◌≤◌, ◌<◌, [], ℕ, true, All, length, map};
+ghost use Rattle.std.specs.Prelude.{◌≡◌, ◌≤◌, ◌<◌, [], true, All, length};
 ghost use Rattle.rs_router.specs.Cut.{IsShardCount};
 ghost use Rattle.rs_router.specs.Delivery.{sent_lists, SameSenders};
 ghost use Rattle.rs_router.specs.Routing.{AreClosed, AreCuts, AreKnown, EndLast, IsRouted, all_closed, received_lists, SameReceivers};
@@ -9,8 +9,8 @@ use crate::delivery::{Shared, deliver, send_to_all};
 use crate::routed::Routed;
 use rs_ring::{Numbered, Receiver, Sender};
 use rs_session::Word;
+use rs_worker::Patience;
 use std::sync::Wait;
-use std::thread;
 
 // How many changes of one peer are taken before the next peer's turn.
 const TURN: usize = 64;
@@ -47,13 +47,16 @@ fn route_until_closed<R: Wait>(rt: &R, from: &mut [Receiver<Word>], to: &mut [Se
     ensures receivers { SameReceivers from.old from.new }
     ensures senders { SameSenders to.old to.new }
 {
+    let mut patience = Patience::new();
     for _ in rt.forever() {
         let moved = route_round(rt, from, to);
         if all_closed(from) {
             return;
         }
-        if !moved {
-            thread::yield_now();
+        if moved {
+            patience.reset();
+        } else {
+            patience.wait(rt);
         }
     }
     unreachable!()
