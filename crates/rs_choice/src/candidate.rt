@@ -18,21 +18,21 @@ pub struct Candidate<'a> {
 
 /// What the decision process asks of a candidate.
 #[derive(Clone, Copy, Debug, PartialEq, Eq)]
-pub(crate) struct Standing {
-    // The configured preference of the sending peer: more is better.
-    pub(crate) preference: u32,
-    // AS numbers in AS_PATH, an AS_SET counting 1.
-    pub(crate) path_length: u32,
-    // ORIGIN: lower is better.
-    pub(crate) origin: Origin,
-    // The neighbour AS.
-    pub(crate) neighbour: u32,
-    // MULTI_EXIT_DISC, 0 where it is missing.
-    pub(crate) med: u32,
-    // The BGP Identifier of the sending peer.
-    pub(crate) id: u32,
-    // The address of the sending peer.
-    pub(crate) address: u32,
+pub struct Standing {
+    /// The configured preference of the sending peer: more is better.
+    pub preference: u32,
+    /// AS numbers in AS_PATH, an AS_SET counting 1.
+    pub path_length: u32,
+    /// ORIGIN: lower is better.
+    pub origin: Origin,
+    /// The neighbour AS.
+    pub neighbour: u32,
+    /// MULTI_EXIT_DISC, 0 where it is missing.
+    pub med: u32,
+    /// The BGP Identifier of the sending peer.
+    pub id: u32,
+    /// The address of the sending peer.
+    pub address: u32,
 }
 
 // A candidate by its place in a list, and its standing.
@@ -55,8 +55,8 @@ impl Placed {
 }
 
 impl Exchange {
-    // What the decision process asks of a candidate.
-    pub(crate) fn standing(&self, candidate: &Candidate) -> Standing
+    /// What the decision process asks of a candidate. It takes no memory.
+    pub fn standing(&self, candidate: &Candidate) -> Standing
         requires { candidate.now.peer < length self.now.peers }
         ensures { result ≡ standing_of self.now (sent_route_of candidate.now) }
     {

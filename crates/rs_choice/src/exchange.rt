@@ -76,8 +76,8 @@ impl Exchange {
         &self.peers[number]
     }
 
-    // Whether a client refuses all routes of a peer, by the peer's name.
-    pub(crate) fn refuses(&self, client: usize, peer: usize) -> bool
+    /// Whether the peer of number `client` refuses all routes of the peer of number `peer`, by that peer's name.
+    pub fn refuses(&self, client: usize, peer: usize) -> bool
         requires client_known { client < length self.now.peers }
         requires peer_known { peer < length self.now.peers }
         ensures { IsRefusal self.now.peers client peer result }

@@ -28,7 +28,7 @@ mod scan;
 mod step;
 
 pub use candidacy::Candidacy;
-pub use candidate::Candidate;
+pub use candidate::{Candidate, Standing};
 pub use exchange::Exchange;
 pub use fault::PlanFault;
 pub use held_route::HeldRoute;
@@ -40,3 +40,4 @@ pub use laws::{
 };
 pub use plan::{Local, MAX_NAME_LEN, MAX_PEERS, PeerSpec};
 pub use route_change::RouteChange;
+pub use step::Step;

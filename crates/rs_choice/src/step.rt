@@ -10,7 +10,7 @@ use crate::candidate::Standing;
 
 /// A step of the decision process: it removes each candidate that another one of the set beats.
 #[derive(Clone, Copy, Debug, PartialEq, Eq)]
-pub(crate) enum Step {
+pub enum Step {
     /// A higher preference of the sending peer (section 9.1.1).
     Preference,
     /// Fewer AS numbers in AS_PATH, an AS_SET counting 1 (section 9.1.2.2, a).
@@ -26,8 +26,8 @@ pub(crate) enum Step {
 }
 
 impl Step {
-    // Whether one candidate removes another at this step.
-    pub(crate) fn beats(self, one: &Standing, other: &Standing) -> bool
+    /// Whether one candidate removes another at this step. It takes no memory.
+    pub fn beats(self, one: &Standing, other: &Standing) -> bool
         ensures { result ≡ spec.beats self one.now other.now }
     {
         match self {

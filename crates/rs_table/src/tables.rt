@@ -128,8 +128,8 @@ impl Tables {
         self.cells.get(&prefix)?.best(client)
     }
 
-    // The route that a peer has left on a prefix.
-    pub(crate) fn route(&self, peer: usize, prefix: Prefix) -> Option<Route<'_>>
+    /// The route that the peer of number `peer` has left on a prefix, eligible or not; none where it has none. It takes no memory.
+    pub fn route(&self, peer: usize, prefix: Prefix) -> Option<Route<'_>>
         requires { peer < length self.now.plan.peers }
         ensures { option_map peer_route_of result ≡ route_from self.now prefix peer }
     {
@@ -162,8 +162,8 @@ impl Tables {
         *self.closed.allocator()
     }
 
-    // The plan.
-    pub(crate) fn plan(&self) -> &Exchange
+    /// The exchange whose tables they are.
+    pub fn plan(&self) -> &Exchange
         ensures { result.now ≡ self.now.plan }
     {
         &self.plan
