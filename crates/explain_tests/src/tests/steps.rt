@@ -1,0 +1,102 @@
+//! At which of the six steps a route loses, and to whom.
+
+use super::*;
+
+// Attributes with ORIGIN IGP and NEXT_HOP 192.0.2.11: the path 64501, ..
+const SHORT: &str = "40010100 4002060201 0000FBF5 400304C000020B";
+
+// .. with the ORIGIN EGP, ..
+const EGP: &str = "40010101 4002060201 0000FBF5 400304C000020B";
+
+// .. 64501 65010, ..
+const LONG: &str = "40010100 40020A0202 0000FBF5 0000FDF2 400304C000020B";
+
+// .. 64501 with a MED of 5, and 64503 with a MED of 10.
+const MED_5: &str = "40010100 4002060201 0000FBF5 400304C000020B 800404 00000005";
+
+const BY_64503_MED_10: &str = "40010100 4002060201 0000FBF7 400304C000020B 800404 0000000A";
+
+// The tables after a, c and d announced 203.0.113.0/24.
+fn announced(rt: &impl Abort, alloc: Global, rows: &[Row], of_a: &str, of_c: &str, of_d: &str) -> Tables {
+    let mut tables = tables(alloc, rows).expect(rt, "tables");
+    for (peer, route) in [(A, of_a), (C, of_c), (D, of_d)] {
+        announce(rt, &mut tables, (peer, 100), documentation(), attributes(alloc, route));
+    }
+    tables
+}
+
+// The step at which the route of a peer loses with b, and to whom.
+fn loses(rt: &impl Abort, alloc: Global, tables: &Tables, peer: usize) -> Option<(Step, usize)> {
+    match explained(rt, alloc, tables, B, peer) {
+        Explanation::Lost(removal) => {
+            assert_eq!(rt; removal.loser.peer, peer);
+            Some((removal.step, removal.rival.peer))
+        }
+        _ => None,
+    }
+}
+
+#[test]
+fn each_step_is_named(rt: HostRuntime) {
+    let alloc = rt.alloc();
+    let mut preferred = FOUR;
+    preferred[3].preference = 200;
+    // One identifier: then the lower address goes first.
+    let mut alike = FOUR;
+    alike[2].id = 11;
+    alike[3].id = 11;
+    let worked: [(&[Row], &str, &str, &str, Option<(Step, usize)>, Option<(Step, usize)>); 6] = [
+        (preferred.as_slice(), SHORT, LONG, LONG, Some((Step::Preference, D)), Some((Step::Preference, D))),
+        (FOUR.as_slice(), LONG, SHORT, EGP, Some((Step::PathLength, C)), None),
+        (FOUR.as_slice(), EGP, SHORT, LONG, Some((Step::Origin, C)), None),
+        (FOUR.as_slice(), MED_5, SHORT, LONG, Some((Step::Med, C)), None),
+        (FOUR.as_slice(), SHORT, SHORT, LONG, None, Some((Step::Identifier, A))),
+        (alike.as_slice(), SHORT, SHORT, SHORT, None, Some((Step::Address, A))),
+    ];
+    for (rows, of_a, of_c, of_d, a, c) in worked {
+        let tables = announced(&rt, alloc, rows, of_a, of_c, of_d);
+        assert_eq!(rt; loses(&rt, alloc, &tables, A), a, "{of_a}, {of_c}, {of_d}");
+        assert_eq!(rt; loses(&rt, alloc, &tables, C), c, "{of_a}, {of_c}, {of_d}");
+    }
+}
+
+#[test]
+fn values_of_both_are_told(rt: HostRuntime) {
+    let alloc = rt.alloc();
+    let tables = announced(&rt, alloc, &FOUR, LONG, SHORT, SHORT);
+    let Explanation::Lost(removal) = explained(&rt, alloc, &tables, B, A) else {
+        assert!(rt; false, "a loses");
+        return;
+    };
+    assert_eq!(rt; removal.loser.standing.path_length, 2);
+    assert_eq!(rt; removal.rival.standing.path_length, 1);
+    assert_eq!(rt; removal.rival.peer, C);
+}
+
+#[test]
+fn the_best_one_is_told_with_all_that_it_beat(rt: HostRuntime) {
+    let alloc = rt.alloc();
+    let tables = announced(&rt, alloc, &FOUR, LONG, SHORT, SHORT);
+    let Explanation::Best(beaten) = explained(&rt, alloc, &tables, B, C) else {
+        assert!(rt; false, "c is best");
+        return;
+    };
+    let others: &[usize] = &[A, D];
+    assert_eq!(rt; beaten.as_slice(), others);
+}
+
+// MED is compared within one neighbour AS: d removes c there, though a, of another neighbour AS, is what b gets.
+#[test]
+fn a_route_may_lose_by_med_to_one_that_is_not_the_best(rt: HostRuntime) {
+    let alloc = rt.alloc();
+    let of_d = "40010100 4002060201 0000FBF7 400304C000020B";
+    let tables = announced(&rt, alloc, &FOUR, SHORT, BY_64503_MED_10, of_d);
+    let others: &[usize] = &[C, D];
+    let Explanation::Best(beaten) = explained(&rt, alloc, &tables, B, A) else {
+        assert!(rt; false, "a is best");
+        return;
+    };
+    assert_eq!(rt; beaten.as_slice(), others);
+    assert_eq!(rt; loses(&rt, alloc, &tables, C), Some((Step::Med, D)));
+    assert_eq!(rt; loses(&rt, alloc, &tables, D), Some((Step::Identifier, A)));
+}

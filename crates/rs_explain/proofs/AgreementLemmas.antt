@@ -1,0 +1,118 @@
+-- Explanations and answers.
+use Rattle.std.proofs.Common.{◌≡◌, ap, refl, ℕ, ◌<◌, ◌==◌, Bool, true, false, not, cond, [], ◌∷◌, length, get_or, inl, inr}
+use Rattle.std.specs.Prelude.{Option, None, Some, MatchOption, slice_get, ◌&&◌}
+use Rattle.std.specs.Option.{option_map, option_or, option_and_then}
+use Rattle.std.specs.FinMap.{get}
+use Rattle.std.proofs.lemmas.Bool.{cases_Bool}
+use Rattle.std.proofs.lemmas.Option.{slice_get-get_or}
+use Rattle.rs_update.specs.IpPrefix.{IpPrefix}
+use Rattle.rs_update.specs.AsPath.{holds_as_in}
+use Rattle.rs_update.specs.Community.{has_community_in}
+use Rattle.rs_update.specs.PathAttributes.{PathAttributes}
+use Rattle.rs_choice.specs.Eligibility.{is_eligible, is_on_exchange}
+use Rattle.rs_choice.specs.Plan.{Plan}
+use Rattle.rs_choice.specs.Policy.{is_permitted}
+use Rattle.rs_choice.specs.Refusal.{refuses}
+use Rattle.rs_table.specs.declared.why.Why.{Why}
+use Rattle.rs_table.specs.declared.why.Why.TheVariants as answers
+use Rattle.rs_table.specs.Left.{RouteLeft}
+use Rattle.rs_table.specs.Content.{TablesContent, rib_of}
+use Rattle.rs_table.specs.Table.{PeerRoute, peer_route, best_of, is_from, why_left, why_of}
+use Rattle.rs_explain.specs.declared.condition.Condition.{Condition}
+use Rattle.rs_explain.specs.declared.refusal.Refusal.{Refusal}
+use Rattle.rs_explain.specs.declared.explanation.Explanation.{Explanation}
+use Rattle.rs_explain.specs.declared.explanation.Explanation.TheVariants.{Own, Absent, Ineligible, Refused, Best, Lost}
+use Rattle.rs_explain.specs.Reasons.{first_answer, failed_condition, refusal_of}
+use Rattle.rs_explain.specs.Explanations.{answer_of, reason_of, IsDecided, IsExplanation}
+use Rattle.rs_explain.proofs.ReasonLemmas.{nobody}
+
+abbrev pub is_none : {A : Type 0} → Option A → Bool
+is_none None = true
+is_none (Some a) = false
+
+by_conditions : {C : Type 0} (h n o : Bool) (a b c : C) → (not h && (not n && o)) ≡ is_none (first_answer ((h, a) ∷ (n, b) ∷ (not o, c) ∷ []))
+by_conditions true n o a b c = refl
+by_conditions false true o a b c = refl
+by_conditions false false true a b c = refl
+by_conditions false false false a b c = refl
+
+-- a route is eligible where it fails no condition
+pub eligible_unless : (plan : Plan) (number : ℕ) (attributes : PathAttributes) → number < length plan.peers →
+    is_eligible plan number attributes ≡ is_none (failed_condition plan number attributes)
+eligible_unless plan number attributes known =
+    let sender = get_or plan.peers number nobody in
+    let at_sender : slice_get plan.peers number ≡ Some sender = slice_get-get_or plan.peers number nobody known in
+    rw at_sender (by_conditions (holds_as_in attributes.path plan.local.asn) (attributes.next_hop == plan.local.address)
+    (is_on_exchange plan.local.subnet sender.address attributes.next_hop) _ _ _)
+
+by_rules : {C : Type 0} (n a b c : Bool) (x y z : C) →
+    cond n false (cond a false (cond b true (cond c false true)))
+    ≡ is_none (option_and_then (λ (r : Option C). r) (first_answer ((n, Some x) ∷ (a, Some y) ∷ (b, None) ∷ (c, Some z) ∷ [])))
+by_rules true a b c x y z = refl
+by_rules false true b c x y z = refl
+by_rules false false true c x y z = refl
+by_rules false false false true x y z = refl
+by_rules false false false false x y z = refl
+
+-- a route of another peer is permitted where no rule refuses it
+pub permitted_unless : (plan : Plan) (client number : ℕ) (attributes : PathAttributes) → client < length plan.peers → number < length plan.peers →
+    (client == number) ≡ false → is_permitted plan client number attributes ≡ is_none (refusal_of plan client number attributes)
+permitted_unless plan client number attributes client_known known differ =
+    let receiver = get_or plan.peers client nobody in
+    let sender = get_or plan.peers number nobody in
+    let at_receiver : slice_get plan.peers client ≡ Some receiver = slice_get-get_or plan.peers client nobody client_known in
+    let at_sender : slice_get plan.peers number ≡ Some sender = slice_get-get_or plan.peers number nobody known in
+    rw (at_receiver, at_sender, differ) (by_rules (refuses receiver sender) (has_community_in attributes.communities 0 receiver.asn)
+    (has_community_in attributes.communities plan.local.asn receiver.asn) (has_community_in attributes.communities 0 plan.local.asn) _ _ _)
+
+agree_left : (explanation : Explanation) (decided : Type 0) (last : Why) (f : Option Condition) (r : Option Refusal) (eligible permitted : Bool) →
+    eligible ≡ is_none f → permitted ≡ is_none r → (decided → answer_of explanation ≡ last) →
+    MatchOption (option_or (option_map (λ condition. Ineligible condition) f) (option_map (λ refusal. Refused refusal) r)) decided (λ reason. explanation ≡ reason) →
+    answer_of explanation ≡ cond (not eligible) answers.Ineligible (cond (not permitted) answers.Refused last)
+agree_left explanation decided last (Some condition) r eligible permitted e p says h = rw e (ap answer_of h)
+agree_left explanation decided last None (Some refusal) eligible permitted e p says h = rw (e, p) (ap answer_of h)
+agree_left explanation decided last None None eligible permitted e p says h = rw (e, p) (says h)
+
+agree_decided : (tables : TablesContent) (client peer : ℕ) (prefix : IpPrefix) (explanation : Explanation) → IsDecided tables client peer prefix explanation →
+    answer_of explanation ≡ cond (is_from peer (best_of tables client prefix)) answers.Best answers.Lost
+agree_decided tables client peer prefix Own h = absurd h
+agree_decided tables client peer prefix Absent h = absurd h
+agree_decided tables client peer prefix (Ineligible condition) h = absurd h
+agree_decided tables client peer prefix (Refused refusal) h = absurd h
+agree_decided tables client peer prefix (Best beaten) h = rw h.0 refl
+agree_decided tables client peer prefix (Lost removal) h = let gets = h.gets in let another = h.another in rw (gets, another) refl
+
+module _ (tables : TablesContent) (client peer : ℕ) (prefix : IpPrefix) (explanation : Explanation) (client_known : client < length tables.plan.peers) (known : peer < length tables.plan.peers) where
+  agree_other : (left : Option RouteLeft) → (client == peer) ≡ false →
+      MatchOption (reason_of tables.plan client peer (option_map (peer_route peer) left)) (IsDecided tables client peer prefix explanation) (λ reason. explanation ≡ reason) →
+      answer_of explanation ≡ why_left tables client peer prefix left
+  agree_other None differ h = ap answer_of h
+  agree_other (Some route) differ h =
+      agree_left explanation (IsDecided tables client peer prefix explanation) (cond (is_from peer (best_of tables client prefix)) answers.Best answers.Lost)
+      (failed_condition tables.plan peer route.attributes) (refusal_of tables.plan client peer route.attributes)
+      (is_eligible tables.plan peer route.attributes) (is_permitted tables.plan client peer route.attributes)
+      (eligible_unless tables.plan peer route.attributes known) (permitted_unless tables.plan client peer route.attributes client_known known differ)
+      (agree_decided tables client peer prefix explanation) h
+
+  pub agrees : IsExplanation tables client peer prefix explanation → answer_of explanation ≡ why_of tables client peer prefix
+  agrees h =
+      elim (cases_Bool (client == peer)) [
+        | inl same ↦ let own : explanation ≡ Own = rw same at h in rw same (ap answer_of own)
+        | inr differ ↦ rw differ (agree_other (get (rib_of tables peer).routes prefix) differ (rw differ at h))
+      ]
+
+-- no reason keeps a route from being a candidate where it fails no condition and no rule refuses it
+pub no_reason : (plan : Plan) (client peer : ℕ) (left : Option RouteLeft) (route : PeerRoute) → Some route ≡ option_map (peer_route peer) left →
+    failed_condition plan peer route.attributes ≡ None → refusal_of plan client peer route.attributes ≡ None →
+    reason_of plan client peer (option_map (peer_route peer) left) ≡ None
+no_reason plan client peer None route is fails refuses = absurd (cc)
+no_reason plan client peer (Some left) route is fails refuses =
+    let same : route ≡ peer_route peer left = cc in
+    let fails_none : failed_condition plan peer left.attributes ≡ None = rw same at fails in
+    let refuses_none : refusal_of plan client peer left.attributes ≡ None = rw same at refuses in
+    rw (fails_none, refuses_none) refl
+
+pub explained : (tables : TablesContent) (client peer one : ℕ) (prefix : IpPrefix) (explanation : Explanation) → (client == peer) ≡ false → one ≡ peer →
+    reason_of tables.plan client peer (option_map (peer_route peer) (get (rib_of tables peer).routes prefix)) ≡ None →
+    IsDecided tables client one prefix explanation → IsExplanation tables client peer prefix explanation
+explained tables client peer one prefix explanation differ same none decided = rw (differ, none) (rw same at decided)

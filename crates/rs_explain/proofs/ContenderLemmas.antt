@@ -1,0 +1,117 @@
+-- The candidates of a client for a prefix, peer after peer.
+use Rattle.std.proofs.Common.{◌≡◌, ◌∙◌, sym, ap, subst, refl, ℕ, ◌<◌, ◌+◌, true, false, cond, List, [], ◌∷◌, ◌++◌, length, map, drop, drop-cons, add-one, append_assoc, below_more}
+use Rattle.std.proofs.lemmas.List.Elements.{Contains-append_left, Contains-push}
+use Rattle.std.specs.Prelude.{filter, Option, None, Some, ◌&&◌}
+use Rattle.std.specs.List.{cons_option, enumerate_from, filter_map, Contains}
+use Rattle.std.specs.Option.{option_map}
+use Rattle.std.specs.FinMap.{get}
+use Rattle.rs_update.specs.IpPrefix.{IpPrefix}
+use Rattle.rs_choice.specs.Eligibility.{is_eligible}
+use Rattle.rs_choice.specs.Plan.{Plan}
+use Rattle.rs_choice.specs.Policy.{is_permitted}
+use Rattle.rs_table.specs.Left.{RouteLeft}
+use Rattle.rs_table.specs.Content.{RibContent, TablesContent, nothing_held, rib_of}
+use Rattle.rs_table.specs.Table.{PeerRoute, peer_route}
+use Rattle.rs_explain.specs.declared.contender.Contender.{Contender}
+use Rattle.rs_explain.specs.Contenders.{contender_of, contender_if, contender_from}
+
+-- those of the peers from one number on
+abbrev pub contenders_in : Plan → ℕ → IpPrefix → ℕ → List RibContent → List Contender
+contenders_in plan client prefix first ribs =
+    map (contender_of plan)
+    (filter (λ route. is_permitted plan client route.peer route.attributes)
+    (filter (λ route. is_eligible plan route.peer route.attributes)
+    (filter_map (λ (peer, rib). option_map (peer_route peer) (get rib.routes prefix)) (enumerate_from first ribs))))
+
+one_more : (plan : Plan) (client : ℕ) (first : ℕ) (left : Option RouteLeft) (later : List PeerRoute) →
+    map (contender_of plan)
+    (filter (λ route. is_permitted plan client route.peer route.attributes)
+    (filter (λ route. is_eligible plan route.peer route.attributes) (cons_option (option_map (peer_route first) left) later)))
+    ≡ cons_option (contender_if plan client (option_map (peer_route first) left))
+    (map (contender_of plan)
+    (filter (λ route. is_permitted plan client route.peer route.attributes)
+    (filter (λ route. is_eligible plan route.peer route.attributes) later)))
+one_more plan client first None later = refl
+one_more plan client first (Some route) later =
+    elim (is_eligible plan first route.attributes) as (λ e. map (contender_of plan)
+    (filter (λ route. is_permitted plan client route.peer route.attributes)
+    (cond e (peer_route first route ∷ filter (λ route. is_eligible plan route.peer route.attributes) later) (filter (λ route. is_eligible plan route.peer route.attributes) later)))
+    ≡ cons_option (cond (e && is_permitted plan client first route.attributes) (Some (contender_of plan (peer_route first route))) None)
+    (map (contender_of plan)
+    (filter (λ route. is_permitted plan client route.peer route.attributes)
+    (filter (λ route. is_eligible plan route.peer route.attributes) later)))) [
+      | true ↦ elim (is_permitted plan client first route.attributes) as (λ p. map (contender_of plan)
+          (cond p (peer_route first route ∷ filter (λ route. is_permitted plan client route.peer route.attributes) (filter (λ route. is_eligible plan route.peer route.attributes) later))
+          (filter (λ route. is_permitted plan client route.peer route.attributes) (filter (λ route. is_eligible plan route.peer route.attributes) later)))
+          ≡ cons_option (cond p (Some (contender_of plan (peer_route first route))) None)
+          (map (contender_of plan)
+          (filter (λ route. is_permitted plan client route.peer route.attributes)
+          (filter (λ route. is_eligible plan route.peer route.attributes) later)))) [ true ↦ refl | false ↦ refl ]
+      | false ↦ refl
+    ]
+
+-- the peer at a number comes first of the rest
+pub contenders_in-more : (tables : TablesContent) (client : ℕ) (prefix : IpPrefix) (peer : ℕ) → peer < length tables.ribs →
+    contenders_in tables.plan client prefix peer (drop peer tables.ribs)
+    ≡ cons_option (contender_from tables client prefix peer) (contenders_in tables.plan client prefix (peer + 1) (drop (peer + 1) tables.ribs))
+contenders_in-more tables client prefix peer within =
+    let rest : drop peer tables.ribs ≡ rib_of tables peer ∷ drop (peer + 1) tables.ribs = rw (add-one, drop-cons tables.ribs peer nothing_held) refl in
+    ap (contenders_in tables.plan client prefix peer) rest
+    ∙ one_more tables.plan client peer (get (rib_of tables peer).routes prefix)
+    (filter_map (λ (peer, rib). option_map (peer_route peer) (get rib.routes prefix)) (enumerate_from (peer + 1) (drop (peer + 1) tables.ribs)))
+
+-- a route that policy refuses is no candidate
+pub none_refused : (plan : Plan) (client peer : ℕ) (left : Option RouteLeft) (route : PeerRoute) → Some route ≡ option_map (peer_route peer) left →
+    is_permitted plan client peer route.attributes ≡ false → None ≡ contender_if plan client (option_map (peer_route peer) left)
+none_refused plan client peer None route is refuses = absurd (cc)
+none_refused plan client peer (Some left) route is refuses =
+    let same : route ≡ peer_route peer left = cc in
+    let refused : is_permitted plan client peer left.attributes ≡ false = rw same at refuses in
+    rw refused (elim (is_eligible plan peer left.attributes) as (λ e. None ≡ cond (e && false) (Some (contender_of plan (peer_route peer left))) None) [ true ↦ refl | false ↦ refl ])
+
+-- and one that is eligible and permitted is
+pub some_permitted : (plan : Plan) (client peer : ℕ) (left : Option RouteLeft) (route : PeerRoute) → Some route ≡ option_map (peer_route peer) left →
+    is_eligible plan peer route.attributes ≡ true → is_permitted plan client peer route.attributes ≡ true →
+    (route.peer ≡ peer) × (contender_if plan client (option_map (peer_route peer) left) ≡ Some (contender_of plan route))
+some_permitted plan client peer None route is eligible permitted = absurd (cc)
+some_permitted plan client peer (Some left) route is eligible permitted =
+    let same : route ≡ peer_route peer left = cc in
+    let yes : is_eligible plan peer left.attributes ≡ true = rw same at eligible in
+    let sent : is_permitted plan client peer left.attributes ≡ true = rw same at permitted in
+    (ap (λ (route : PeerRoute). route.peer) same, rw (yes, sent) (ap (λ (route : PeerRoute). Some (contender_of plan route)) (sym same)))
+
+-- one that is made of a peer's route is found from that peer
+pub made_from : (tables : TablesContent) (client : ℕ) (prefix : IpPrefix) (peer : ℕ) (one made : Contender) → one ≡ made → made.peer ≡ peer →
+    contender_from tables client prefix peer ≡ Some made → contender_from tables client prefix one.peer ≡ Some one
+made_from tables client prefix peer one made same own found =
+    ap (contender_from tables client prefix) (ap (λ (one : Contender). one.peer) same ∙ own) ∙ found ∙ ap (λ (one : Contender). Some one) (sym same)
+
+-- ---- one peer more
+
+pub next_listed : (items all rest total : List Contender) (one : Contender) → items ++ all ≡ total → all ≡ one ∷ rest → (items ++ one ∷ []) ++ rest ≡ total
+next_listed items all rest total one listed e = append_assoc items (one ∷ []) rest ∙ ap (λ (later : List Contender). items ++ later) (sym e) ∙ listed
+
+module _ (tables : TablesContent) (client : ℕ) (prefix : IpPrefix) where
+  abbrev pub HasBelow : ℕ → List Contender → Type 0
+  HasBelow i items = (peer : ℕ) → peer < i → (one : Contender) → contender_from tables client prefix peer ≡ Some one → Contains items one
+
+  pub next_has : (items : List Contender) (i : ℕ) (one : Contender) → contender_from tables client prefix i ≡ Some one → HasBelow i items → HasBelow (i + 1) (items ++ one ∷ [])
+  next_has items i one found has =
+      below_more (λ peer. (x : Contender) → contender_from tables client prefix peer ≡ Some x → Contains (items ++ one ∷ []) x) i
+      (λ peer below x is. Contains-append_left items (one ∷ []) x (has peer below x is))
+      (λ x is. let same : one ≡ x = some_same one x (sym found ∙ is) in subst (λ (x : Contender). Contains (items ++ one ∷ []) x) same (Contains-push items one))
+    where
+      some_same : (one x : Contender) → Some one ≡ Some x → one ≡ x
+      some_same one x e = cc
+
+  pub same_has : (items : List Contender) (i : ℕ) → contender_from tables client prefix i ≡ None → HasBelow i items → HasBelow (i + 1) items
+  same_has items i none has =
+      below_more (λ peer. (x : Contender) → contender_from tables client prefix peer ≡ Some x → Contains items x) i has (λ x is. absurd (never x (sym none ∙ is)))
+    where
+      never : (x : Contender) → None ≡ Some x → ⊥
+      never x e = absurd (cc)
+
+-- the route that a peer has left is the peer's
+pub route_peer : (peer : ℕ) (left : Option RouteLeft) (route : PeerRoute) → Some route ≡ option_map (peer_route peer) left → route.peer ≡ peer
+route_peer peer None route is = absurd (cc)
+route_peer peer (Some left) route is = let same : route ≡ peer_route peer left = cc in ap (λ (route : PeerRoute). route.peer) same

@@ -1,0 +1,7 @@
+pub mod Members
+pub mod ReasonLemmas
+pub mod RemovalLemmas
+pub mod ContenderLemmas
+pub mod BestLemmas
+pub mod AgreementLemmas
+pub mod RivalLemmas

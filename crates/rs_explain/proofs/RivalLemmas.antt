@@ -1,0 +1,62 @@
+-- The rival that is named is a candidate, and beats the loser.
+use Rattle.std.proofs.Common.{◌≡◌, ◌∙◌, ap, ℕ, Bool, true, false, List, ◌∷◌, inl, inr}
+use Rattle.std.specs.Prelude.{Option, None, Some, MatchOption, IsTrue, ◌==◌, if◌then◌else◌}
+use Rattle.std.specs.List.{Contains}
+use Rattle.std.specs.Option.{option_map, option_or}
+use Rattle.std.specs.FinMap.{get}
+use Rattle.rs_update.specs.IpPrefix.{IpPrefix}
+use Rattle.rs_choice.specs.declared.step.Step.{Step}
+use Rattle.rs_choice.specs.Decision.{beats, remaining}
+use Rattle.rs_choice.specs.Naturality.{choice-Contains}
+use Rattle.rs_table.specs.Left.{RouteLeft}
+use Rattle.rs_table.specs.Content.{TablesContent, rib_of}
+use Rattle.rs_table.specs.Table.{PeerRoute, peer_route, candidates_of, best_of}
+use Rattle.rs_explain.specs.declared.condition.Condition.{Condition}
+use Rattle.rs_explain.specs.declared.refusal.Refusal.{Refusal}
+use Rattle.rs_explain.specs.declared.removal.Removal.{Removal}
+use Rattle.rs_explain.specs.declared.explanation.Explanation.TheVariants.{Own, Ineligible, Refused, Lost}
+use Rattle.rs_explain.specs.Contenders.{contender_of, contenders_of, standing_in}
+use Rattle.rs_explain.specs.Explanations.{reason_of, IsLoss, IsExplanation}
+use Rattle.rs_explain.specs.Reasons.{failed_condition, refusal_of}
+use Rattle.rs_explain.proofs.Members.{Mem, contains-mem, mem-contains, mem-find, mem-map}
+use Rattle.rs_explain.proofs.RemovalLemmas.{mem-remaining, beaten_by}
+use Rattle.rs_explain.proofs.BestLemmas.{best_contender}
+
+loss_reasons : (decided : Type 0) (removal : Removal) (f : Option Condition) (r : Option Refusal) →
+    MatchOption (option_or (option_map (λ condition. Ineligible condition) f) (option_map (λ refusal. Refused refusal) r)) decided (λ reason. Lost removal ≡ reason) → decided
+loss_reasons decided removal (Some condition) r h = absurd (cc (h))
+loss_reasons decided removal None (Some refusal) h = absurd (cc (h))
+loss_reasons decided removal None None h = h
+
+module _ (tables : TablesContent) (client peer : ℕ) (prefix : IpPrefix) (removal : Removal) where
+  loss_left : (left : Option RouteLeft) → MatchOption (reason_of tables.plan client peer (option_map (peer_route peer) left)) (IsLoss tables client peer prefix removal) (λ reason. Lost removal ≡ reason) →
+      IsLoss tables client peer prefix removal
+  loss_left None h = absurd (cc (h))
+  loss_left (Some route) h = loss_reasons (IsLoss tables client peer prefix removal) removal (failed_condition tables.plan peer route.attributes) (refusal_of tables.plan client peer route.attributes) h
+
+  loss_if : (own : Bool) → MatchOption (if own then Some Own else reason_of tables.plan client peer (option_map (peer_route peer) (get (rib_of tables peer).routes prefix)))
+      (IsLoss tables client peer prefix removal) (λ reason. Lost removal ≡ reason) → IsLoss tables client peer prefix removal
+  loss_if true h = absurd (cc (h))
+  loss_if false h = loss_left (get (rib_of tables peer).routes prefix) h
+
+  pub loss_of : IsExplanation tables client peer prefix (Lost removal) → IsLoss tables client peer prefix removal
+  loss_of h = loss_if (client == peer) h
+
+  rival_among : (before : List Step) (best : PeerRoute) → best_of tables client prefix ≡ Some best →
+      Mem (contender_of tables.plan best ∷ remaining standing_in before (contenders_of tables client prefix)) removal.rival → Mem (contenders_of tables client prefix) removal.rival
+  rival_among before best is (inl same) =
+      rw (← same) (contains-mem (contenders_of tables client prefix) (contender_of tables.plan best)
+      (choice-Contains standing_in (contenders_of tables client prefix) (contender_of tables.plan best) (best_contender tables client prefix ∙ ap (option_map (contender_of tables.plan)) is)))
+  rival_among before best is (inr later) = mem-remaining before (contenders_of tables client prefix) removal.rival later
+
+  pub rival_is_candidate : IsExplanation tables client peer prefix (Lost removal) →
+      ((route : PeerRoute) × Contains (candidates_of tables client prefix) route × (contender_of tables.plan route ≡ removal.rival))
+      × IsTrue (beats removal.step removal.rival.standing removal.loser.standing)
+  rival_is_candidate h =
+      let loss = loss_of h in
+      let steps = loss.steps in
+      let found = mem-find (beaten_by removal.step loss.loser) (contender_of tables.plan loss.best ∷ remaining standing_in steps.before (contenders_of tables client prefix)) removal.rival steps.rival in
+      let among : Mem (contenders_of tables client prefix) removal.rival = rival_among steps.before loss.best loss.gets found.0 in
+      let made = mem-map (contender_of tables.plan) (candidates_of tables client prefix) removal.rival among in
+      let removed = steps.removed in
+      ((made.0, mem-contains (candidates_of tables client prefix) made.0 made.1, made.2), rw removed found.1)

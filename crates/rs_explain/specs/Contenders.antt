@@ -1,0 +1,35 @@
+-- The candidates of a client for a prefix, by what the decision process asks of them (RFC 4271, sections 9.1.1 and 9.1.2.2).
+use Rattle.std.specs.Prelude.{◌≡◌, ℕ, List, map, Option, None, Some, ◌&&◌, if◌then◌else◌, slice_get}
+use Rattle.rs_update.specs.IpPrefix.{IpPrefix}
+use Rattle.rs_choice.specs.declared.candidate.Standing.{Standing}
+use Rattle.rs_choice.specs.Decision.{standing_of}
+use Rattle.rs_choice.specs.Eligibility.{is_eligible}
+use Rattle.rs_choice.specs.Plan.{Peer, Plan}
+use Rattle.rs_choice.specs.Policy.{is_permitted}
+use Rattle.rs_table.specs.Content.{TablesContent}
+use Rattle.rs_table.specs.Table.{PeerRoute, sent_route, route_from, candidates_of}
+use Rattle.rs_explain.specs.declared.contender.Contender.{Contender}
+
+-- a route by its peer and what the decision process asks of it
+abbrev pub contender_of : Plan → PeerRoute → Contender
+contender_of plan route = record { peer = route.peer; standing = standing_of plan (sent_route route) }
+
+abbrev pub standing_in : Contender → Standing
+standing_in one = one.standing
+
+-- the candidates of a client for a prefix
+abbrev pub contenders_of : TablesContent → ℕ → IpPrefix → List Contender
+contenders_of tables client prefix = map (contender_of tables.plan) (candidates_of tables client prefix)
+
+-- a peer's route on a prefix, where it is a candidate of a client
+abbrev pub contender_if : Plan → ℕ → Option PeerRoute → Option Contender
+contender_if plan client None = None
+contender_if plan client (Some route) =
+    if is_eligible plan route.peer route.attributes && is_permitted plan client route.peer route.attributes then Some (contender_of plan route) else None
+
+abbrev pub contender_from : TablesContent → ℕ → IpPrefix → ℕ → Option Contender
+contender_from tables client prefix peer = contender_if tables.plan client (route_from tables prefix peer)
+
+-- its peer is one of the plan, and its address is that peer's
+abbrev pub HasOwnAddress : Plan → Contender → Type 0
+HasOwnAddress plan one = (sender : Peer) × (slice_get plan.peers one.peer ≡ Some sender) × (one.standing.address ≡ sender.address)

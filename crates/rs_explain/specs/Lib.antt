@@ -1,0 +1,5 @@
+pub mod Contenders
+pub mod Explanations
+pub mod Laws
+pub mod Reasons
+pub mod Removals

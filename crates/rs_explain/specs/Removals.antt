@@ -1,0 +1,21 @@
+-- How the decision process removes a candidate (RFC 4271, sections 9.1.1 and 9.1.2.2).
+use Rattle.std.specs.Prelude.{◌≡◌, List, ◌∷◌, ◌++◌, Option, Some}
+use Rattle.std.specs.List.{find, Contains}
+use Rattle.rs_choice.specs.declared.step.Step.{Step}
+use Rattle.rs_choice.specs.Decision.{beats, remaining}
+use Rattle.rs_explain.specs.declared.contender.Contender.{Contender}
+use Rattle.rs_explain.specs.declared.removal.Removal.{Removal}
+use Rattle.rs_explain.specs.Contenders.{standing_in}
+
+-- who beats a candidate at a step: the best one of all, or else the first of the set that does
+abbrev pub rival_of : Step → Contender → List Contender → Contender → Option Contender
+rival_of step best set loser = find (λ other. beats step other.standing loser.standing) (best ∷ set)
+
+-- steps remove a candidate of a set: it is in what the steps before the one that is named leave of the set, and there it is beaten
+pub record IsRemoval (steps : List Step) (set : List Contender) (best loser : Contender) (removal : Removal) : Type 0 where
+  pub before : List Step
+  pub after : List Step
+  pub order : steps ≡ before ++ removal.step ∷ after
+  pub removed : removal.loser ≡ loser
+  pub reaches : Contains (remaining standing_in before set) loser
+  pub rival : rival_of removal.step best (remaining standing_in before set) loser ≡ Some removal.rival

@@ -1,0 +1,41 @@
+//! The conditions of eligibility, one by one (RFC 4271, section 9.1.2; the second and third are our choice).
+
+ghost use Rattle.std.specs.Prelude.{◌≡◌, ◌<◌, length};
+ghost use Rattle.rs_explain.specs.Reasons.{failed_condition};
+
+use rs_choice::Exchange;
+use rs_update::Attributes;
+
+/// A condition of eligibility that a route fails.
+#[derive(Clone, Copy, Debug, PartialEq, Eq)]
+pub enum Condition {
+    /// The server's AS, which is given, is in its AS_PATH.
+    OwnAs(u32),
+    /// Its NEXT_HOP, which is given, is the server's address.
+    ServerAsNextHop(u32),
+    /// Its NEXT_HOP, which is given, is neither the sender's address nor inside the subnet of the exchange.
+    NextHopOffExchange(u32),
+}
+
+// The first condition of eligibility that a route of a peer fails; none of an eligible route.
+pub(crate) fn failed_condition(
+    plan: &Exchange,
+    peer: usize,
+    attributes: &Attributes,
+) -> Option<Condition>
+    requires { peer < length plan.now.peers }
+    ensures { result ≡ failed_condition plan.now peer attributes.now }
+{
+    let local = plan.local();
+    let next_hop = attributes.next_hop();
+    let _sender = plan.peer(peer);
+    if attributes.holds_as(local.asn) {
+        Some(Condition::OwnAs(local.asn))
+    } else if next_hop == local.address {
+        Some(Condition::ServerAsNextHop(next_hop))
+    } else if !plan.eligible(peer, attributes) {
+        Some(Condition::NextHopOffExchange(next_hop))
+    } else {
+        None
+    }
+}

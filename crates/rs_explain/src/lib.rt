@@ -1,0 +1,22 @@
+//! Why a client of a route server has a peer's route on a prefix, or not, with the reason: the condition that fails, the rule that
+//! refuses, or the step of the decision process and the route that beats it there.
+//!
+//! Standards: RFC 4271, section 9.1 (eligible routes, decision process); RFC 7947, section 2.3 (export policy).
+//!
+//! Reading order: `condition`, `refusal`, `contender` (the candidates of a client), `removal` (the step that removes one),
+//! `explanation`, `laws`.
+#![tactic(auto)]
+
+mod condition;
+mod contender;
+mod explanation;
+mod laws;
+mod refusal;
+mod removal;
+
+pub use condition::Condition;
+pub use contender::Contender;
+pub use explanation::{Explanation, explain};
+pub use laws::{an_explanation_agrees_with_why, the_rival_is_a_candidate};
+pub use refusal::Refusal;
+pub use removal::Removal;
