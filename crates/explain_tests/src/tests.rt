@@ -175,7 +175,13 @@ fn announce(
 }
 
 // Why a client has a peer's route on 203.0.113.0/24, or not; `why` says the same.
-fn explained(rt: &impl Abort, alloc: Global, tables: &Tables, client: usize, peer: usize) -> Explanation {
+fn explained(
+    rt: &impl Abort,
+    alloc: Global,
+    tables: &Tables,
+    client: usize,
+    peer: usize,
+) -> Explanation {
     assert!(rt; client < tables.count());
     assert!(rt; peer < tables.count());
     let prefix = documentation().expect(rt, "a prefix");

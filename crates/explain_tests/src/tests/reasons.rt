@@ -27,7 +27,13 @@ fn the_first_condition_that_fails_is_named(rt: HostRuntime) {
     let alloc = rt.alloc();
     for (route, condition) in ROUTES {
         let mut tables = tables(alloc, &FOUR).expect(&rt, "tables");
-        announce(&rt, &mut tables, (A, 100), documentation(), attributes(alloc, route));
+        announce(
+            &rt,
+            &mut tables,
+            (A, 100),
+            documentation(),
+            attributes(alloc, route),
+        );
         let explanation = explained(&rt, alloc, &tables, B, A);
         match condition {
             Some(condition) => {
@@ -66,15 +72,31 @@ const COMMUNITIES: &[(&str, Option<Refusal>)] = &[
 fn the_rule_that_refuses_is_named(rt: HostRuntime) {
     let alloc = rt.alloc();
     for (communities, refusal) in COMMUNITIES {
-        let text = format!(in alloc; "40010100 4002060201 0000FBF5 400304C000020B {communities}").expect(&rt, "a text");
+        let text = format!(in alloc;
+            "40010100 4002060201 0000FBF5 400304C000020B {communities}"
+        ).expect(&rt, "a text");
         let mut tables = tables(alloc, &FOUR).expect(&rt, "tables");
-        announce(&rt, &mut tables, (A, 100), documentation(), attributes(alloc, &text));
+        announce(
+            &rt,
+            &mut tables,
+            (A, 100),
+            documentation(),
+            attributes(alloc, text.as_str()),
+        );
         let explanation = explained(&rt, alloc, &tables, B, A);
         match refusal {
             Some(refusal) => {
-                assert_eq!(rt; explanation, Explanation::Refused(*refusal), "{communities}");
+                assert_eq!(rt;
+                    explanation,
+                    Explanation::Refused(*refusal),
+                    "{communities}"
+                );
             }
-            None => assert_eq!(rt; explanation, Explanation::Best(Vec::new(alloc)), "{communities}"),
+            None => assert_eq!(rt;
+                explanation,
+                Explanation::Best(Vec::new(alloc)),
+                "{communities}"
+            ),
         }
     }
 }
@@ -85,8 +107,17 @@ fn a_name_refuses_before_communities(rt: HostRuntime) {
     let mut rows = FOUR;
     rows[1].refused = "a";
     let mut tables = tables(alloc, &rows).expect(&rt, "tables");
-    let route = attributes(alloc, "40010100 4002060201 0000FBF5 400304C000020B C00804 0000FBF6");
+    let route = attributes(
+        alloc,
+        "40010100 4002060201 0000FBF5 400304C000020B C00804 0000FBF6",
+    );
     announce(&rt, &mut tables, (A, 100), documentation(), route);
-    assert_eq!(rt; explained(&rt, alloc, &tables, B, A), Explanation::Refused(Refusal::ByName));
-    assert_eq!(rt; explained(&rt, alloc, &tables, C, A), Explanation::Best(Vec::new(alloc)));
+    assert_eq!(rt;
+        explained(&rt, alloc, &tables, B, A),
+        Explanation::Refused(Refusal::ByName)
+    );
+    assert_eq!(rt;
+        explained(&rt, alloc, &tables, C, A),
+        Explanation::Best(Vec::new(alloc))
+    );
 }

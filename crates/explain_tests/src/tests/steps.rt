@@ -17,10 +17,23 @@ const MED_5: &str = "40010100 4002060201 0000FBF5 400304C000020B 800404 00000005
 const BY_64503_MED_10: &str = "40010100 4002060201 0000FBF7 400304C000020B 800404 0000000A";
 
 // The tables after a, c and d announced 203.0.113.0/24.
-fn announced(rt: &impl Abort, alloc: Global, rows: &[Row], of_a: &str, of_c: &str, of_d: &str) -> Tables {
+fn announced(
+    rt: &impl Abort,
+    alloc: Global,
+    rows: &[Row],
+    of_a: &str,
+    of_c: &str,
+    of_d: &str,
+) -> Tables {
     let mut tables = tables(alloc, rows).expect(rt, "tables");
     for (peer, route) in [(A, of_a), (C, of_c), (D, of_d)] {
-        announce(rt, &mut tables, (peer, 100), documentation(), attributes(alloc, route));
+        announce(
+            rt,
+            &mut tables,
+            (peer, 100),
+            documentation(),
+            attributes(alloc, route),
+        );
     }
     tables
 }
@@ -36,28 +49,56 @@ fn loses(rt: &impl Abort, alloc: Global, tables: &Tables, peer: usize) -> Option
     }
 }
 
+// What b is told of the routes of a and c.
+fn are_told(
+    rt: &impl Abort,
+    alloc: Global,
+    rows: &[Row],
+    routes: (&str, &str, &str),
+    of_a: Option<(Step, usize)>,
+    of_c: Option<(Step, usize)>,
+) {
+    let tables = announced(rt, alloc, rows, routes.0, routes.1, routes.2);
+    assert_eq!(rt; loses(rt, alloc, &tables, A), of_a);
+    assert_eq!(rt; loses(rt, alloc, &tables, C), of_c);
+}
+
 #[test]
-fn each_step_is_named(rt: HostRuntime) {
+fn the_preference_goes_first(rt: HostRuntime) {
+    let mut rows = FOUR;
+    rows[3].preference = 200;
+    let by_d = Some((Step::Preference, D));
+    are_told(&rt, rt.alloc(), &rows, (SHORT, LONG, LONG), by_d, by_d);
+}
+
+#[test]
+fn the_steps_among_equals_are_named(rt: HostRuntime) {
     let alloc = rt.alloc();
-    let mut preferred = FOUR;
-    preferred[3].preference = 200;
-    // One identifier: then the lower address goes first.
-    let mut alike = FOUR;
-    alike[2].id = 11;
-    alike[3].id = 11;
-    let worked: [(&[Row], &str, &str, &str, Option<(Step, usize)>, Option<(Step, usize)>); 6] = [
-        (preferred.as_slice(), SHORT, LONG, LONG, Some((Step::Preference, D)), Some((Step::Preference, D))),
-        (FOUR.as_slice(), LONG, SHORT, EGP, Some((Step::PathLength, C)), None),
-        (FOUR.as_slice(), EGP, SHORT, LONG, Some((Step::Origin, C)), None),
-        (FOUR.as_slice(), MED_5, SHORT, LONG, Some((Step::Med, C)), None),
-        (FOUR.as_slice(), SHORT, SHORT, LONG, None, Some((Step::Identifier, A))),
-        (alike.as_slice(), SHORT, SHORT, SHORT, None, Some((Step::Address, A))),
-    ];
-    for (rows, of_a, of_c, of_d, a, c) in worked {
-        let tables = announced(&rt, alloc, rows, of_a, of_c, of_d);
-        assert_eq!(rt; loses(&rt, alloc, &tables, A), a, "{of_a}, {of_c}, {of_d}");
-        assert_eq!(rt; loses(&rt, alloc, &tables, C), c, "{of_a}, {of_c}, {of_d}");
-    }
+    let longer = Some((Step::PathLength, C));
+    are_told(&rt, alloc, &FOUR, (LONG, SHORT, EGP), longer, None);
+    let higher_origin = Some((Step::Origin, C));
+    are_told(&rt, alloc, &FOUR, (EGP, SHORT, LONG), higher_origin, None);
+    let higher_med = Some((Step::Med, C));
+    are_told(&rt, alloc, &FOUR, (MED_5, SHORT, LONG), higher_med, None);
+    let higher_identifier = Some((Step::Identifier, A));
+    are_told(
+        &rt,
+        alloc,
+        &FOUR,
+        (SHORT, SHORT, LONG),
+        None,
+        higher_identifier,
+    );
+}
+
+// Of one identifier the lower address goes first.
+#[test]
+fn the_address_goes_last(rt: HostRuntime) {
+    let mut rows = FOUR;
+    rows[2].id = 11;
+    rows[3].id = 11;
+    let by_a = Some((Step::Address, A));
+    are_told(&rt, rt.alloc(), &rows, (SHORT, SHORT, SHORT), None, by_a);
 }
 
 #[test]
