@@ -1,10 +1,18 @@
--- The types of path attributes and the flags that each must have (RFC 4271, sections 4.3 and 5; RFC 1997; RFC 4760; RFC 6793).
-use Rattle.std.specs.Prelude.{ℕ, Bool, true, false, not, ◌&&◌, ◌==◌, if◌then◌else◌}
+-- The types of path attributes, a row each (RFC 4271, sections 4.3, 5 and 6.3; RFC 1997; RFC 4760; RFC 6793; RFC 7606).
+use Rattle.std.specs.Prelude.{ℕ, ◌%◌, Bool, true, false, not, ◌&&◌, ◌==◌, if◌then◌else◌}
 use Rattle.std.specs.Prelude.{bit_and}
 use Rattle.rs_update.specs.declared.attribute_type.AttributeType.{AttributeType}
 use Rattle.rs_update.specs.declared.attribute_type.AttributeType.TheVariants.{Origin, AsPath, NextHop, MultiExitDisc, LocalPref, AtomicAggregate, Aggregator, Communities, MpReachNlri, MpUnreachNlri, As4Path, As4Aggregator, Unrecognized}
+use Rattle.rs_update.specs.declared.attribute_type.Lengths.{Lengths}
+use Rattle.rs_update.specs.declared.attribute_type.Lengths.TheVariants.{Exactly, Fours, AnyLength}
+use Rattle.rs_update.specs.declared.attribute_type.Row.{Row}
+use Rattle.rs_update.specs.declared.attribute_type.ValueTest.{ValueTest}
+use Rattle.rs_update.specs.declared.attribute_type.ValueTest.TheVariants.{OriginCode, Segments, HostAddress, AnyValue}
 use Rattle.rs_update.specs.declared.attribute_type.WantedFlags.{WantedFlags}
 use Rattle.rs_update.specs.declared.attribute_type.WantedFlags.TheVariants.{WellKnown, OptionalNonTransitive, OptionalTransitive, Optional, Any}
+use Rattle.rs_update.specs.declared.fault.UpdateFault.TheVariants.{MalformedAttributeList}
+use Rattle.rs_update.specs.declared.handling.Handling.{Handling}
+use Rattle.rs_update.specs.declared.handling.Handling.TheVariants.{AttributeDiscard, TreatAsWithdraw, SessionReset}
 
 -- the type with a number
 abbrev pub type_of : ℕ → AttributeType
@@ -23,20 +31,31 @@ type_of number =
     else if number == 18 then As4Aggregator
     else Unrecognized
 
+-- a row: what the flags must say, how many octets a value has, what a value must be, and what RFC 7606 does where the length is at fault (section 7) and where the
+-- type stood earlier, even where that one was discarded (section 3, g)
+abbrev pub row : WantedFlags → Lengths → ValueTest → Handling → Handling → Row
+row flags lengths value at_length again = record { flags = flags; lengths = lengths; value = value; at_length = at_length; again = again }
+
+abbrev RESET : Handling
+RESET = SessionReset MalformedAttributeList
+
+abbrev pub row_of : AttributeType → Row
+row_of Origin = row WellKnown (Exactly 1) OriginCode TreatAsWithdraw AttributeDiscard
+row_of AsPath = row WellKnown AnyLength Segments TreatAsWithdraw AttributeDiscard
+row_of NextHop = row WellKnown (Exactly 4) HostAddress TreatAsWithdraw AttributeDiscard
+row_of MultiExitDisc = row OptionalNonTransitive (Exactly 4) AnyValue TreatAsWithdraw AttributeDiscard
+row_of LocalPref = row Any AnyLength AnyValue TreatAsWithdraw AttributeDiscard
+row_of AtomicAggregate = row WellKnown (Exactly 0) AnyValue AttributeDiscard AttributeDiscard
+row_of Aggregator = row OptionalTransitive (Exactly 8) AnyValue AttributeDiscard AttributeDiscard
+row_of Communities = row OptionalTransitive Fours AnyValue TreatAsWithdraw AttributeDiscard
+row_of MpReachNlri = row Any AnyLength AnyValue TreatAsWithdraw RESET
+row_of MpUnreachNlri = row Any AnyLength AnyValue TreatAsWithdraw RESET
+row_of As4Path = row Any AnyLength AnyValue TreatAsWithdraw AttributeDiscard
+row_of As4Aggregator = row Any AnyLength AnyValue TreatAsWithdraw AttributeDiscard
+row_of Unrecognized = row Optional AnyLength AnyValue TreatAsWithdraw AttributeDiscard
+
 abbrev pub flags_of : AttributeType → WantedFlags
-flags_of Origin = WellKnown
-flags_of AsPath = WellKnown
-flags_of NextHop = WellKnown
-flags_of MultiExitDisc = OptionalNonTransitive
-flags_of LocalPref = Any
-flags_of AtomicAggregate = WellKnown
-flags_of Aggregator = OptionalTransitive
-flags_of Communities = OptionalTransitive
-flags_of MpReachNlri = Any
-flags_of MpUnreachNlri = Any
-flags_of As4Path = Any
-flags_of As4Aggregator = Any
-flags_of Unrecognized = Optional
+flags_of kind = (row_of kind).flags
 
 abbrev pub is_unrecognized : AttributeType → Bool
 is_unrecognized Unrecognized = true
@@ -62,3 +81,9 @@ suits OptionalNonTransitive flags = is_optional flags && not (is_transitive flag
 suits OptionalTransitive flags = is_optional flags && is_transitive flags
 suits Optional flags = is_optional flags
 suits Any flags = true
+
+-- how many octets a value may have; numbers of four octets are one at least
+abbrev pub admits : Lengths → ℕ → Bool
+admits (Exactly wanted) count = count == wanted
+admits Fours count = not (count == 0) && (count % 4 == 0)
+admits AnyLength count = true

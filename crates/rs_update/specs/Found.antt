@@ -3,10 +3,11 @@ use Rattle.std.specs.Prelude.{◌≡◌, ℕ, ◌+◌, ◌<◌, Bool, true, fals
 use Rattle.std.specs.List.{list_any, flat_map}
 use Rattle.std.specs.Option.{ForSome, option_or, option_map}
 use Rattle.rs_update.specs.declared.attribute_type.AttributeType.{AttributeType}
-use Rattle.rs_update.specs.declared.attribute_type.AttributeType.TheVariants as types
+use Rattle.rs_update.specs.declared.attribute_type.WantedFlags.{WantedFlags}
+use Rattle.rs_update.specs.declared.attribute_type.WantedFlags.TheVariants.{WellKnown, OptionalNonTransitive, OptionalTransitive, Optional, Any}
 use Rattle.rs_update.specs.declared.found.Found.{Found}
 use Rattle.rs_update.specs.declared.item.Item.{Item as ItemThere}
-use Rattle.rs_update.specs.AttributeType.{type_of, is_partial, is_extended}
+use Rattle.rs_update.specs.AttributeType.{type_of, row_of, is_partial, is_extended}
 use Rattle.rs_update.specs.Gathered.{look, is_passed_on}
 use Rattle.rs_update.specs.Items.{item_of}
 use Rattle.rs_update.specs.PathAttributes.{PassedOn}
@@ -70,16 +71,16 @@ found_before earlier later = record {
 abbrev pub inserted : PassedOn → List PassedOn → List PassedOn
 inserted other others = insert others (length (take_while (λ first. nat_lt first.kind other.kind) others)) other
 
--- a recognized attribute as it is written: its value as received, its flags those of its type
+-- a recognized attribute as it is written: its value as received, its flags those of its type; one whose flags are not looked at is dropped
+abbrev pub recognized_by : WantedFlags → Item → Option Item
+recognized_by WellKnown item = Some (well_known item.kind item.value)
+recognized_by OptionalNonTransitive item = Some (optional_non_transitive item.kind item.value)
+recognized_by OptionalTransitive item = Some (optional_transitive (is_partial item.flags) item.kind item.value)
+recognized_by Optional item = None
+recognized_by Any item = None
+
 abbrev pub recognized_as : AttributeType → Item → Option Item
-recognized_as types.Origin item = Some (well_known item.kind item.value)
-recognized_as types.AsPath item = Some (well_known item.kind item.value)
-recognized_as types.NextHop item = Some (well_known item.kind item.value)
-recognized_as types.MultiExitDisc item = Some (optional_non_transitive item.kind item.value)
-recognized_as types.AtomicAggregate item = Some (well_known item.kind item.value)
-recognized_as types.Aggregator item = Some (optional_transitive (is_partial item.flags) item.kind item.value)
-recognized_as types.Communities item = Some (optional_transitive (is_partial item.flags) item.kind item.value)
-recognized_as other item = None
+recognized_as kind item = recognized_by (row_of kind).flags item
 
 abbrev pub recognized_of : Item → Option Item
 recognized_of item = recognized_as (type_of item.kind) item

@@ -2,12 +2,11 @@
 use Rattle.std.specs.Prelude.{ℕ, Bool, true, false, ◌==◌, List, [], ◌∷◌, ◌++◌, length, Option, Some, None, if◌then◌else◌}
 use Rattle.std.specs.List.{flat_map}
 use Rattle.rs_update.specs.declared.attribute_type.AttributeType.{AttributeType}
-use Rattle.rs_update.specs.declared.attribute_type.AttributeType.TheVariants as types
 use Rattle.rs_update.specs.declared.fault.UpdateFault.{UpdateFault}
 use Rattle.rs_update.specs.declared.fault.UpdateFault.TheVariants.{MalformedAttributeList, UnrecognizedWellKnown, AttributeLength}
 use Rattle.rs_update.specs.declared.handling.Handling.{Handling}
 use Rattle.rs_update.specs.declared.handling.Handling.TheVariants.{Keep, AttributeDiscard, TreatAsWithdraw, SessionReset}
-use Rattle.rs_update.specs.AttributeType.{type_of}
+use Rattle.rs_update.specs.AttributeType.{type_of, row_of}
 use Rattle.rs_update.specs.Section.{Item, has_type, items_of, rest_of, own_fault_of}
 use Rattle.rs_update.specs.Spelling.{spelled_item}
 
@@ -20,18 +19,15 @@ stronger TreatAsWithdraw (SessionReset fault) = SessionReset fault
 stronger TreatAsWithdraw later = TreatAsWithdraw
 stronger (SessionReset fault) later = SessionReset fault
 
--- a type that stood earlier, even where that one was discarded: MP_REACH_NLRI and MP_UNREACH_NLRI reset, all others are discarded (section 3, g)
+-- a type that stood earlier, even where that one was discarded (section 3, g)
 abbrev pub handling_again : AttributeType → Handling
-handling_again types.MpReachNlri = SessionReset MalformedAttributeList
-handling_again types.MpUnreachNlri = SessionReset MalformedAttributeList
-handling_again kind = AttributeDiscard
+handling_again kind = (row_of kind).again
 
--- the fault of an attribute by itself: one that is not recognized, though it says that it is well-known, resets; ATOMIC_AGGREGATE and AGGREGATOR of a wrong length are
--- discarded (sections 7.6 and 7.7); all else is treated as withdrawn, also where nothing is announced (our choice)
+-- the fault of an attribute by itself: one that is not recognized, though it says that it is well-known, resets; a wrong length is handled as its
+-- type asks; all else is treated as withdrawn, also where nothing is announced (our choice)
 abbrev pub handling_of_fault : AttributeType → UpdateFault → Handling
 handling_of_fault kind UnrecognizedWellKnown = SessionReset UnrecognizedWellKnown
-handling_of_fault types.AtomicAggregate AttributeLength = AttributeDiscard
-handling_of_fault types.Aggregator AttributeLength = AttributeDiscard
+handling_of_fault kind AttributeLength = (row_of kind).at_length
 handling_of_fault kind fault = TreatAsWithdraw
 
 abbrev pub handling_of_own : AttributeType → Option UpdateFault → Handling

@@ -1,14 +1,15 @@
 -- A section of path attributes, and its first fault (RFC 4271, sections 4.3, 5 and 6.3; RFC 6793; RFC 1997).
-use Rattle.std.specs.Prelude.{◌≡◌, ℕ, ◌+◌, ◌*◌, ◌%◌, ◌<◌, Bool, true, false, not, ◌&&◌, ◌==◌, nat_lt, List, [], ◌∷◌, ◌++◌, length, take, drop, Option, Some, None, is_some, if◌then◌else◌}
+use Rattle.std.specs.Prelude.{◌≡◌, ℕ, ◌+◌, ◌*◌, ◌%◌, ◌<◌, Bool, false, not, ◌&&◌, ◌==◌, nat_lt, List, [], ◌∷◌, ◌++◌, length, take, drop, Option, Some, None, is_some, if◌then◌else◌}
 use Rattle.std.specs.List.{list_any}
 use Rattle.byteorder.specs.Endian.{big_bytes}
 use Rattle.rs_update.specs.declared.attribute_type.AttributeType.{AttributeType}
-use Rattle.rs_update.specs.declared.attribute_type.AttributeType.TheVariants as types
+use Rattle.rs_update.specs.declared.attribute_type.ValueTest.{ValueTest}
+use Rattle.rs_update.specs.declared.attribute_type.ValueTest.TheVariants.{OriginCode, Segments, HostAddress, AnyValue}
 use Rattle.rs_update.specs.declared.fault.UpdateFault.{UpdateFault}
 use Rattle.rs_update.specs.declared.fault.UpdateFault.TheVariants.{MalformedAttributeList, UnrecognizedWellKnown, AttributeFlags, AttributeLength, InvalidOrigin, InvalidNextHop, MalformedAsPath}
 use Rattle.rs_update.specs.declared.values.Origin.{Origin}
 use Rattle.rs_update.specs.declared.values.Origin.TheVariants.{Igp, Egp, Incomplete}
-use Rattle.rs_update.specs.AttributeType.{type_of, flags_of, suits, is_unrecognized, is_optional, is_extended}
+use Rattle.rs_update.specs.AttributeType.{type_of, row_of, flags_of, suits, admits, is_unrecognized, is_optional, is_extended}
 use Rattle.rs_update.specs.Fault.{first_fault, or_else}
 use Rattle.rs_update.specs.Parts.{parts_of}
 use Rattle.rs_update.specs.PathSegments.{segments_of}
@@ -58,21 +59,9 @@ items_of section = (parts_of item_at section).0
 abbrev pub rest_of : List ℕ → List ℕ
 rest_of section = (parts_of item_at section).1
 
--- what the length of a value must be; the types that are dropped may have any, and an AS_PATH is tested as a value
+-- what the length of a value must be, by its type
 abbrev pub suits_length : AttributeType → ℕ → Bool
-suits_length types.Origin count = count == 1
-suits_length types.AsPath count = true
-suits_length types.NextHop count = count == 4
-suits_length types.MultiExitDisc count = count == 4
-suits_length types.LocalPref count = true
-suits_length types.AtomicAggregate count = count == 0
-suits_length types.Aggregator count = count == 8
-suits_length types.Communities count = not (count == 0) && (count % 4 == 0)
-suits_length types.MpReachNlri count = true
-suits_length types.MpUnreachNlri count = true
-suits_length types.As4Path count = true
-suits_length types.As4Aggregator count = true
-suits_length types.Unrecognized count = true
+suits_length kind count = admits (row_of kind).lengths count
 
 -- the code of an origin (section 4.3)
 abbrev pub origin_of : ℕ → Option Origin
@@ -93,20 +82,14 @@ abbrev pub is_path : List ℕ → Bool
 is_path value = length (segments_of value).1 == 0
 
 -- what is wrong with a value of a length that suits its type
+abbrev pub tests_by : ValueTest → List ℕ → List (Bool × UpdateFault)
+tests_by OriginCode value = (not (is_origin value), InvalidOrigin) ∷ []
+tests_by Segments value = (not (is_path value), MalformedAsPath) ∷ []
+tests_by HostAddress value = (not (is_next_hop value), InvalidNextHop) ∷ []
+tests_by AnyValue value = []
+
 abbrev pub value_tests : AttributeType → List ℕ → List (Bool × UpdateFault)
-value_tests types.Origin value = (not (is_origin value), InvalidOrigin) ∷ []
-value_tests types.AsPath value = (not (is_path value), MalformedAsPath) ∷ []
-value_tests types.NextHop value = (not (is_next_hop value), InvalidNextHop) ∷ []
-value_tests types.MultiExitDisc value = []
-value_tests types.LocalPref value = []
-value_tests types.AtomicAggregate value = []
-value_tests types.Aggregator value = []
-value_tests types.Communities value = []
-value_tests types.MpReachNlri value = []
-value_tests types.MpUnreachNlri value = []
-value_tests types.As4Path value = []
-value_tests types.As4Aggregator value = []
-value_tests types.Unrecognized value = []
+value_tests kind value = tests_by (row_of kind).value value
 
 -- the tests of one attribute, in their order
 abbrev pub tests_of : AttributeType → ℕ → List ℕ → List (Bool × UpdateFault)

@@ -1,13 +1,15 @@
-//! The types of path attributes, and the flags that each must have (RFC 4271, sections 4.3 and 5; RFC 1997; RFC 4760; RFC 6793).
+//! The types of path attributes, a row each: what an attribute must be, and what is done with it (RFC 4271, sections 4.3, 5 and 6.3;
+//! RFC 1997; RFC 4760; RFC 6793; RFC 7606).
 
 ghost use Rattle.std.specs.Prelude.{◌≡◌, if◌then◌else◌};
-ghost use Rattle.rs_update.specs.AttributeType.{type_of, flags_of, suits, is_unrecognized};
+ghost use Rattle.rs_update.specs.AttributeType.{type_of, row, row_of, suits, admits, is_unrecognized};
 ghost use Rattle.rs_update.specs.Fault.{first_fault};
-ghost use Rattle.rs_update.specs.Section.{suits_length, value_tests};
+ghost use Rattle.rs_update.specs.Section.{tests_by};
 
 use crate::as_path::is_path;
 use crate::fault::UpdateFault;
 use crate::flags::Flags;
+use crate::handling::Handling;
 use crate::values::{is_next_hop, is_origin};
 
 /// The type of a path attribute.
@@ -41,7 +43,8 @@ pub(crate) enum AttributeType {
     Unrecognized,
 }
 
-/// What the flags of an attribute must say.
+/// What the flags of an attribute must say, and so what a route keeps of it: what is well-known, non-transitive or transitive is kept and
+/// written as such, what is optional of either kind is passed on where it is transitive, and what isn't looked at is dropped.
 #[derive(Clone, Copy, Debug, PartialEq, Eq)]
 pub(crate) enum WantedFlags {
     /// Well-known: Optional 0, Transitive 1.
@@ -54,6 +57,71 @@ pub(crate) enum WantedFlags {
     Optional,
     /// Not looked at.
     Any,
+}
+
+/// How many octets a value may have.
+#[derive(Clone, Copy, Debug, PartialEq, Eq)]
+pub(crate) enum Lengths {
+    /// Just so many.
+    Exactly(usize),
+    /// Some numbers of four octets.
+    Fours,
+    /// Not looked at.
+    AnyLength,
+}
+
+/// What a value of such a length must be.
+#[derive(Clone, Copy, Debug, PartialEq, Eq)]
+pub(crate) enum ValueTest {
+    /// The code of an origin.
+    OriginCode,
+    /// Segments, and nothing left over.
+    Segments,
+    /// The address of a host.
+    HostAddress,
+    /// Not looked at.
+    AnyValue,
+}
+
+/// A row of the table of types: what an attribute of a type must be, and what is done with it.
+#[derive(Clone, Copy, Debug, PartialEq, Eq)]
+pub(crate) struct Row {
+    /// What its flags must say.
+    pub(crate) flags: WantedFlags,
+    /// How many octets its value may have.
+    pub(crate) lengths: Lengths,
+    /// What its value must be.
+    pub(crate) value: ValueTest,
+    /// How it is handled by RFC 7606 where its length is at fault (section 7).
+    pub(crate) at_length: Handling,
+    /// How it is handled by RFC 7606 where its type stood earlier (section 3, g).
+    pub(crate) again: Handling,
+}
+
+// How attributes are handled by RFC 7606.
+const TREAT: Handling = Handling::TreatAsWithdraw;
+
+const DISCARD: Handling = Handling::AttributeDiscard;
+
+const RESET: Handling = Handling::SessionReset(UpdateFault::MalformedAttributeList);
+
+// A row by its columns: flags, lengths, value, handling of a length at fault, handling of a type that stood earlier.
+fn columns(
+    flags: WantedFlags,
+    lengths: Lengths,
+    value: ValueTest,
+    at_length: Handling,
+    again: Handling,
+) -> Row
+    ensures { result ≡ row flags lengths value at_length again }
+{
+    Row {
+        flags,
+        lengths,
+        value,
+        at_length,
+        again,
+    }
 }
 
 impl AttributeType {
@@ -78,72 +146,67 @@ impl AttributeType {
         }
     }
 
-    /// What the flags of an attribute of this type must say.
-    pub(crate) fn flags(self) -> WantedFlags
-        ensures { result ≡ flags_of self }
+    /// The row of the type: whoever adds a type adds one here.
+    pub(crate) fn row(self) -> Row
+        ensures { result ≡ row_of self }
     {
+        use Lengths::{AnyLength, Exactly, Fours};
+        use ValueTest::{AnyValue, HostAddress, OriginCode, Segments};
+        use WantedFlags::{Any, Optional, OptionalNonTransitive, OptionalTransitive, WellKnown};
         match self {
-            AttributeType::Origin => WantedFlags::WellKnown,
-            AttributeType::AsPath => WantedFlags::WellKnown,
-            AttributeType::NextHop => WantedFlags::WellKnown,
-            AttributeType::MultiExitDisc => WantedFlags::OptionalNonTransitive,
-            AttributeType::LocalPref => WantedFlags::Any,
-            AttributeType::AtomicAggregate => WantedFlags::WellKnown,
-            AttributeType::Aggregator => WantedFlags::OptionalTransitive,
-            AttributeType::Communities => WantedFlags::OptionalTransitive,
-            AttributeType::MpReachNlri => WantedFlags::Any,
-            AttributeType::MpUnreachNlri => WantedFlags::Any,
-            AttributeType::As4Path => WantedFlags::Any,
-            AttributeType::As4Aggregator => WantedFlags::Any,
-            AttributeType::Unrecognized => WantedFlags::Optional,
+            Self::Origin => columns(WellKnown, Exactly(1), OriginCode, TREAT, DISCARD),
+            Self::AsPath => columns(WellKnown, AnyLength, Segments, TREAT, DISCARD),
+            Self::NextHop => columns(WellKnown, Exactly(4), HostAddress, TREAT, DISCARD),
+            Self::MultiExitDisc => columns(
+                OptionalNonTransitive,
+                Exactly(4),
+                AnyValue,
+                TREAT,
+                DISCARD,
+            ),
+            Self::LocalPref => columns(Any, AnyLength, AnyValue, TREAT, DISCARD),
+            Self::AtomicAggregate => columns(WellKnown, Exactly(0), AnyValue, DISCARD, DISCARD),
+            Self::Aggregator => columns(OptionalTransitive, Exactly(8), AnyValue, DISCARD, DISCARD),
+            Self::Communities => columns(OptionalTransitive, Fours, AnyValue, TREAT, DISCARD),
+            Self::MpReachNlri => columns(Any, AnyLength, AnyValue, TREAT, RESET),
+            Self::MpUnreachNlri => columns(Any, AnyLength, AnyValue, TREAT, RESET),
+            Self::As4Path => columns(Any, AnyLength, AnyValue, TREAT, DISCARD),
+            Self::As4Aggregator => columns(Any, AnyLength, AnyValue, TREAT, DISCARD),
+            Self::Unrecognized => columns(Optional, AnyLength, AnyValue, TREAT, DISCARD),
         }
     }
+
     // Whether no row names the type.
     pub(crate) fn is_unrecognized(self) -> bool
         ensures { result ≡ is_unrecognized self }
     {
         matches!(self, AttributeType::Unrecognized)
     }
+}
 
-    // Whether a value of this type may have `count` octets.
-    pub(crate) fn suits_length(self, count: usize) -> bool
-        ensures { result ≡ suits_length self count }
+impl Lengths {
+    // Whether a value may have `count` octets.
+    pub(crate) fn admit(self, count: usize) -> bool
+        ensures { result ≡ admits self count }
     {
         match self {
-            AttributeType::Origin => count == 1,
-            AttributeType::AsPath => true,
-            AttributeType::NextHop => count == 4,
-            AttributeType::MultiExitDisc => count == 4,
-            AttributeType::LocalPref => true,
-            AttributeType::AtomicAggregate => count == 0,
-            AttributeType::Aggregator => count == 8,
-            AttributeType::Communities => count != 0 && count % 4 == 0,
-            AttributeType::MpReachNlri => true,
-            AttributeType::MpUnreachNlri => true,
-            AttributeType::As4Path => true,
-            AttributeType::As4Aggregator => true,
-            AttributeType::Unrecognized => true,
+            Lengths::Exactly(wanted) => count == wanted,
+            Lengths::Fours => count != 0 && count % 4 == 0,
+            Lengths::AnyLength => true,
         }
     }
+}
 
-    // What is wrong with a value of this type, the length of which suits it.
-    pub(crate) fn value_fault(self, value: &[u8]) -> Option<UpdateFault>
-        ensures { result ≡ first_fault (value_tests self value.now) }
+impl ValueTest {
+    // What is wrong with a value, the length of which suits its type.
+    pub(crate) fn fault(self, value: &[u8]) -> Option<UpdateFault>
+        ensures { result ≡ first_fault (tests_by self value.now) }
     {
         match self {
-            AttributeType::Origin => unless(is_origin(value), UpdateFault::InvalidOrigin),
-            AttributeType::AsPath => unless(is_path(value), UpdateFault::MalformedAsPath),
-            AttributeType::NextHop => unless(is_next_hop(value), UpdateFault::InvalidNextHop),
-            AttributeType::MultiExitDisc => None,
-            AttributeType::LocalPref => None,
-            AttributeType::AtomicAggregate => None,
-            AttributeType::Aggregator => None,
-            AttributeType::Communities => None,
-            AttributeType::MpReachNlri => None,
-            AttributeType::MpUnreachNlri => None,
-            AttributeType::As4Path => None,
-            AttributeType::As4Aggregator => None,
-            AttributeType::Unrecognized => None,
+            ValueTest::OriginCode => unless(is_origin(value), UpdateFault::InvalidOrigin),
+            ValueTest::Segments => unless(is_path(value), UpdateFault::MalformedAsPath),
+            ValueTest::HostAddress => unless(is_next_hop(value), UpdateFault::InvalidNextHop),
+            ValueTest::AnyValue => None,
         }
     }
 }

@@ -53,15 +53,7 @@ impl AttributeType {
     pub(crate) fn handling_again(self) -> Handling
         ensures { result ≡ handling_again self }
     {
-        match self {
-            AttributeType::MpReachNlri => {
-                Handling::SessionReset(UpdateFault::MalformedAttributeList)
-            }
-            AttributeType::MpUnreachNlri => {
-                Handling::SessionReset(UpdateFault::MalformedAttributeList)
-            }
-            _ => Handling::AttributeDiscard,
-        }
+        self.row().again
     }
 
     // How the fault of an attribute of this type is handled (RFC 7606, sections 3 and 7).
@@ -70,11 +62,7 @@ impl AttributeType {
     {
         match fault {
             UpdateFault::UnrecognizedWellKnown => Handling::SessionReset(fault),
-            UpdateFault::AttributeLength => match self {
-                AttributeType::AtomicAggregate => Handling::AttributeDiscard,
-                AttributeType::Aggregator => Handling::AttributeDiscard,
-                _ => Handling::TreatAsWithdraw,
-            },
+            UpdateFault::AttributeLength => self.row().at_length,
             _ => Handling::TreatAsWithdraw,
         }
     }

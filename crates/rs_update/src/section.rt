@@ -53,11 +53,12 @@ pub(crate) fn own_fault(kind: AttributeType, flags: Flags, value: &[u8]) -> Opti
     if kind.is_unrecognized() && !flags.is_optional() {
         return Some(UpdateFault::UnrecognizedWellKnown);
     }
-    if !kind.flags().suits(flags) {
+    let row = kind.row();
+    if !row.flags.suits(flags) {
         return Some(UpdateFault::AttributeFlags);
     }
-    if !kind.suits_length(value.len()) {
+    if !row.lengths.admit(value.len()) {
         return Some(UpdateFault::AttributeLength);
     }
-    kind.value_fault(value)
+    row.value.fault(value)
 }

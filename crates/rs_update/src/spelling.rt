@@ -7,7 +7,7 @@ ghost use Rattle.rs_update.specs.Found.{found_of, recognized_of, spelled_kept, I
 ghost use Rattle.rs_update.specs.Items.{item_of, passed_of};
 ghost use Rattle.rs_update.specs.Spelling.{written, written_flags, spelled_item};
 
-use crate::attribute_type::AttributeType;
+use crate::attribute_type::{AttributeType, WantedFlags};
 use crate::attributes::Attributes;
 use crate::found::Found;
 use crate::item::Item;
@@ -72,30 +72,22 @@ fn push_kept(out: &mut Vec<u8>, item: Option<Item<'_>>) -> Result<(), AllocError
 {
     match item {
         None => Ok(()),
-        Some(item) => match AttributeType::of(item.kind) {
-            AttributeType::Origin => push_item(out, WELL_KNOWN, item.kind, item.value),
-            AttributeType::AsPath => push_item(out, WELL_KNOWN, item.kind, item.value),
-            AttributeType::NextHop => push_item(out, WELL_KNOWN, item.kind, item.value),
-            AttributeType::MultiExitDisc => push_item(
+        Some(item) => match AttributeType::of(item.kind).row().flags {
+            WantedFlags::WellKnown => push_item(out, WELL_KNOWN, item.kind, item.value),
+            WantedFlags::OptionalNonTransitive => push_item(
                 out,
                 OPTIONAL_NON_TRANSITIVE,
                 item.kind,
                 item.value,
             ),
-            AttributeType::AtomicAggregate => push_item(out, WELL_KNOWN, item.kind, item.value),
-            AttributeType::Aggregator => push_item(
+            WantedFlags::OptionalTransitive => push_item(
                 out,
                 optional_transitive(item.flags.is_partial()),
                 item.kind,
                 item.value,
             ),
-            AttributeType::Communities => push_item(
-                out,
-                optional_transitive(item.flags.is_partial()),
-                item.kind,
-                item.value,
-            ),
-            _ => Ok(()),
+            WantedFlags::Optional => Ok(()),
+            WantedFlags::Any => Ok(()),
         },
     }
 }
