@@ -1,9 +1,9 @@
 -- Clients to which a change of one peer's route is of no matter get what they got.
-use Rattle.std.proofs.Common.{◌≡◌, ◌≢◌, ◌∙◌, sym, ap, subst, refl, ℕ, ◌+◌, ◌<◌, ◌≤◌, arith, below_more, set, Bool, true, false, cond, not, ◌==◌, inl, inr, List, [], ◌∷◌, ◌++◌, length, map, Option, Some}
-use Rattle.std.specs.Prelude.{filter, IsTrue, slice_get, slice_index_or}
+use Rattle.std.proofs.Common.{◌≡◌, ◌≢◌, ◌∙◌, sym, ap, subst, refl, ℕ, ◌+◌, ◌<◌, ◌≤◌, arith, below_more, set, Bool, true, false, cond, not, ◌==◌, ◌⊎◌, inl, inr, List, [], ◌∷◌, ◌++◌, length, map, Option, Some}
+use Rattle.std.specs.Prelude.{filter, nat_lt, IsTrue, slice_get, slice_index_or}
 use Rattle.std.specs.List.{All, Contains}
 use Rattle.std.specs.Option.{option_map}
-use Rattle.std.proofs.lemmas.Bool.Decides.{eqb_tells}
+use Rattle.std.proofs.lemmas.Bool.Decides.{eqb_tells, nat_tests}
 use Rattle.std.proofs.lemmas.List.{get_or-set_other, get_or-set_same}
 use Rattle.std.proofs.lemmas.Option.{get_or_from_slice_get, slice_get_within}
 use Rattle.rs_choice.specs.declared.held_route.HeldRoute.{HeldRoute}
@@ -182,3 +182,25 @@ module _ (plan : Plan) (held : List HeldRoute) (change : RouteChange) (bests : L
   pub stays_there : All (IsJudged plan) held → IsUntouched plan held change client (slice_index_or bests client 0) →
       slice_index_or bests client 0 ≡ best_peer_for plan client (map sent_of_held held)
   stays_there all untouched = is.best client known ∙ stays all (subst (IsUntouched plan held change client) (is.best client known) untouched)
+
+either_side : (a b : ℕ) → (a < b) ⊎ (b ≤ a)
+either_side a b = go (nat_lt a b) refl
+  where
+    go : (t : Bool) → nat_lt a b ≡ t → (a < b) ⊎ (b ≤ a)
+    go true e = inl (grind (arith, nat_tests))
+    go false e = inr (grind (arith, nat_tests))
+
+-- where the clients below one are decided, and those up to another one are untouched, all below that one are
+pub further : (plan : Plan) (held : List HeldRoute) (change : RouteChange) (bests : List ℕ) → IsChange plan held change bests → All (IsJudged plan) held →
+    (items : List ℕ) (from next : ℕ) → next ≤ length plan.peers →
+    ((k : ℕ) → k < from → slice_index_or items k 0 ≡ best_peer_for plan k (map sent_of_held held)) →
+    ((k : ℕ) → from ≤ k → slice_index_or items k 0 ≡ slice_index_or bests k 0) →
+    ((k : ℕ) → k < next → from ≤ k → IsUntouched plan held change k (slice_index_or items k 0)) →
+    (k : ℕ) → k < next → slice_index_or items k 0 ≡ best_peer_for plan k (map sent_of_held held)
+further plan held change bests is all items from next within first later untouched k below =
+    elim (either_side k from) [
+      | inl less ↦ first k less
+      | inr above ↦
+          later k above
+          ∙ stays_there plan held change bests is k (omega (arith, below, within)) all (subst (IsUntouched plan held change k) (later k above) (untouched k below above))
+    ]

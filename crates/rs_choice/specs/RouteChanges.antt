@@ -1,5 +1,5 @@
 -- A change of the route that one peer has left on a prefix, and the clients to which it is of no matter (RFC 7947, section 2.3.2.1).
-use Rattle.std.specs.Prelude.{◌≡◌, ◌≢◌, ◌<◌, ◌==◌, ◌⊎◌, ℕ, not, IfSome, IsTrue, IsFalse, List, length, map, filter, Option, None, Some, slice_get, slice_index_or}
+use Rattle.std.specs.Prelude.{◌≡◌, ◌≢◌, ◌<◌, ◌≤◌, ◌==◌, ◌⊎◌, ℕ, not, IfSome, IsTrue, IsFalse, List, length, map, filter, Option, Some, slice_get, slice_index_or}
 use Rattle.std.specs.List.{All, Contains}
 use Rattle.std.specs.Option.{option_and_then}
 use Rattle.rs_choice.specs.declared.candidate.Standing.{Standing}
@@ -79,14 +79,11 @@ abbrev pub IsUntouched : Plan → List HeldRoute → RouteChange → ℕ → ℕ
 IsUntouched plan held change client best =
     AreNoCandidates plan held change client ⊎ ((best ≢ client) × (best ≢ change.peer) × AreBehind plan held change best)
 
--- the clients below a number are untouched
-abbrev pub AreUntouchedBelow : Plan → List HeldRoute → RouteChange → List ℕ → ℕ → Type 0
-AreUntouchedBelow plan held change bests n = (client : ℕ) → client < n → IsUntouched plan held change client (slice_index_or bests client 0)
-
--- the first client that isn't known to be untouched: all are where there is none
-abbrev pub IsFirstTouched : Plan → List HeldRoute → RouteChange → List ℕ → Option ℕ → Type 0
-IsFirstTouched plan held change bests None = AreUntouchedBelow plan held change bests (length plan.peers)
-IsFirstTouched plan held change bests (Some first) = (first < length plan.peers) × AreUntouchedBelow plan held change bests first
+-- the next client, from one on, that isn't known to be untouched: all between are
+pub record IsNextTouched (plan : Plan) (held : List HeldRoute) (change : RouteChange) (bests : List ℕ) (from next : ℕ) : Type 0 where
+  pub after : from ≤ next
+  pub within : next ≤ length plan.peers
+  pub untouched : (client : ℕ) → client < next → from ≤ client → IsUntouched plan held change client (slice_index_or bests client 0)
 
 -- the route of a peer stands at a place
 abbrev pub IsAt : List HeldRoute → ℕ → ℕ → Type 0

@@ -59,15 +59,14 @@ impl Exchange {
     }
 }
 
-// Whether the communities of a route permit it to a client.
+// Whether the communities of a route permit it to a client. A route that is for few clients has (0, server's AS): they are
+// looked through twice for each of the others.
 fn permitted_by_communities(local_asn: u32, client_asn: u32, attributes: &Attributes) -> bool
     ensures { result ≡ permits_by_communities local_asn client_asn attributes.now.communities }
 {
-    if attributes.has_community(0, client_asn) {
-        false
-    } else if attributes.has_community(local_asn, client_asn) {
-        true
+    if attributes.has_community(local_asn, client_asn) {
+        !attributes.has_community(0, client_asn)
     } else {
-        !attributes.has_community(0, local_asn)
+        !attributes.has_community(0, local_asn) && !attributes.has_community(0, client_asn)
     }
 }

@@ -11,7 +11,7 @@ ghost use Rattle.rs_choice.specs.Candidacy.{is_candidate};
 ghost use Rattle.rs_choice.specs.Clients.{is_sent_to, AreBest};
 ghost use Rattle.rs_choice.specs.Comparison.{IsAhead};
 ghost use Rattle.rs_choice.specs.Held.{held_standing, sent_of_held, IsJudged};
-ghost use Rattle.rs_choice.specs.RouteChanges.{AreBehind, AreBehindAll, AreNoCandidates, IsAt, IsChange, IsFirstTouched, IsKnown, IsUntouched, KnowsBest};
+ghost use Rattle.rs_choice.specs.RouteChanges.{AreBehind, AreBehindAll, AreNoCandidates, IsAt, IsChange, IsKnown, IsNextTouched, IsUntouched, KnowsBest};
 
 use crate::candidate::Standing;
 use crate::exchange::Exchange;
@@ -49,42 +49,51 @@ impl Exchange {
         ensures count { length bests.new.items ≡ length self.now.peers }
         ensures best { AreBest self.now (map sent_of_held held.now) bests.new.items }
     {
-        let Some(first) = self.first_touched(held, change, bests) else {
-            return;
-        };
-        let mut groups = NeighbourGroups::new();
-        let shared = self.share(held, &mut groups);
+        let count = self.count();
         let mut known = KnownBest {
             peer: change.peer,
             is_ahead: false,
         };
-        for client in first..self.count() {
-            if self.is_touched(held, change, client, bests[client], &mut known) {
-                bests[client] = self.choose_for(held, &shared, client, &mut groups);
-            }
+        let mut client = self.next_touched(held, change, bests, 0, &mut known);
+        if client == count {
+            return;
+        }
+        let mut groups = NeighbourGroups::new();
+        let shared = self.share(held, &mut groups);
+        while client < count {
+            bests[client] = self.choose_for(held, &shared, client, &mut groups);
+            client = self.next_touched(held, change, bests, client + 1, &mut known);
         }
     }
 
-    // The first client to which a change may be of matter.
-    fn first_touched(&self, held: &[HeldRoute], change: &RouteChange, bests: &[u8]) -> Option<usize>
+    // The first client, from one on, to which a change may be of matter; the count of clients where there is none.
+    fn next_touched(
+        &self,
+        held: &[HeldRoute],
+        change: &RouteChange,
+        bests: &[u8],
+        from: usize,
+        known: &mut KnownBest,
+    ) -> usize
         requires judged { All (IsJudged self.now) held.now }
         requires count { length bests.now ≡ length self.now.peers }
         requires known { IsKnown self.now held.now change.now }
-        ensures { IsFirstTouched self.now held.now change.now bests.now result }
+        requires from { from ≤ length self.now.peers }
+        requires knows { KnowsBest self.now held.now change.now known.old }
+        ensures knows { KnowsBest self.now held.now change.now known.new }
+        ensures next { IsNextTouched self.now held.now change.now bests.now from result }
     {
-        let mut known = KnownBest {
-            peer: change.peer,
-            is_ahead: false,
-        };
-        for client in 0..self.count() {
-            if self.is_touched(held, change, client, bests[client], &mut known) {
-                return Some(client);
+        let count = self.count();
+        for client in from..count {
+            if self.is_touched(held, change, client, bests[client], known) {
+                return client;
             }
         }
-        None
+        count
     }
 
-    // Whether a change may be of matter to a client that got the route of a peer.
+    // Whether a change may be of matter to a client that got the route of a peer. Most clients got that of one peer, of which all is known
+    // but at the first of them: so no more is looked at here.
     fn is_touched(
         &self,
         held: &[HeldRoute],
@@ -100,10 +109,30 @@ impl Exchange {
         ensures knows { KnowsBest self.now held.now change.now known.new }
         ensures untouched { IsFalse result → IsUntouched self.now held.now change.now client best }
     {
-        let best = usize::from(best);
-        if best != client && known.peer == best && known.is_ahead {
+        let peer = usize::from(best);
+        if peer != client && known.peer == peer && known.is_ahead {
             return false;
         }
+        self.is_touched_unless_known(held, change, client, best, known)
+    }
+
+    // The same, where it isn't known that the client's route is ahead.
+    fn is_touched_unless_known(
+        &self,
+        held: &[HeldRoute],
+        change: &RouteChange,
+        client: usize,
+        best: u8,
+        known: &mut KnownBest,
+    ) -> bool
+        requires judged { All (IsJudged self.now) held.now }
+        requires known { IsKnown self.now held.now change.now }
+        requires client_known { client < length self.now.peers }
+        requires knows { KnowsBest self.now held.now change.now known.old }
+        ensures knows { KnowsBest self.now held.now change.now known.new }
+        ensures untouched { IsFalse result → IsUntouched self.now held.now change.now client best }
+    {
+        let best = usize::from(best);
         if !self.reaches(held, change, client) {
             return false;
         }

@@ -1,4 +1,4 @@
-use Rattle.std.proofs.Common.{◌≡◌, ◌<◌, ◌≤◌, ℕ, length, map}
+use Rattle.std.proofs.Common.{◌≡◌, ◌<◌, ◌≤◌, ◌-◌, ℕ, length, map}
 use Rattle.std.specs.Prelude.{slice_index_or}
 use Rattle.rs_choice.specs.Clients.{best_peer_for}
 use Rattle.rs_choice.specs.Held.{sent_of_held}
@@ -9,7 +9,11 @@ use Rattle.rs_choice.proofs.exchange.Exchange.choose_after.Given as goal
 abbrev pub invariant-loop-client : goal.invariant-loop-client
 invariant-loop-client l = record {
   count : length l.bests.items ≡ length l.self.peers;
+  within : l.client ≤ length l.self.peers;
   best : (k : ℕ) → k < l.client → slice_index_or l.bests.items k 0 ≡ best_peer_for l.self k (map sent_of_held l.held);
   later : (k : ℕ) → l.client ≤ k → slice_index_or l.bests.items k 0 ≡ slice_index_or l.fn.bests.items k 0;
   knows : KnowsBest l.self l.held l.change l.known;
 }
+
+abbrev pub decreases-loop-client : goal.decreases-loop-client
+decreases-loop-client l = l.count - l.client

@@ -1,17 +1,17 @@
 use Rattle.std.proofs.Common.{◌≡◌, ◌∙◌, subst, refl, Bool, true, false, not, inr}
 use Rattle.rs_choice.specs.RouteChanges.{AreBehind}
-use Rattle.rs_choice.proofs.exchange.Exchange.is_touched.Goals as goal
+use Rattle.rs_choice.proofs.exchange.Exchange.is_touched_unless_known.Goals as goal
 
 not_false : (b : Bool) → not b ≡ false → b ≡ true
 not_false true e = refl
 not_false false e = absurd (cc (e))
 
-pub returns-else-best-client-2-clause-untouched : goal.returns-else-best-client-2-clause-untouched
-returns-else-best-client-2-clause-untouched c = λ untouched.
+pub returns-else-best-client-clause-untouched : goal.returns-else-best-client-clause-untouched
+returns-else-best-client-clause-untouched c = λ untouched.
     let known = c.know.ensures.knows (not_false c.know.result.is_ahead untouched) in
     let peer : c.know.result.peer ≡ c.args.best = c.know.ensures.peer ∙ c.from-best.ensures in
     inr (
-      (λ same. c.if-best-client-2.false (c.from-best.ensures ∙ same)),
+      (λ same. c.if-best-client.false (c.from-best.ensures ∙ same)),
       (λ same. known.0 (peer ∙ same)),
       subst (AreBehind c.args.self.now c.args.held.now c.args.change.now) peer known.1,
     )
