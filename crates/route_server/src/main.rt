@@ -12,7 +12,7 @@ mod files;
 mod folder_outlet;
 mod overwritten;
 
-use files::{read_file, read_files};
+use files::{open_files, read_file};
 use folder_outlet::FolderOutlet;
 use overwritten::first_overwritten;
 use rs_ended::{Ended, FAILED, MEMORY_LINE, NOT_UTF_8, OUT_OF_MEMORY, OUTPUT_LINE, line, status};
@@ -65,7 +65,7 @@ fn configuration<R: AllocGlobal + Files>(rt: &R, options: &Options) -> Result<Se
     }
 }
 
-// Reads the peers' files, and runs over them: dumps go to the folder of the options, the report to standard output. Where a dump would take the place of a file
+// Opens the peers' files, and runs over them: dumps go to the folder of the options, the report to standard output. Where a dump would take the place of a file
 // that was read, nothing is written.
 fn serve<R: AllocGlobal + Files + Print>(
     rt: &R,
@@ -76,14 +76,13 @@ fn serve<R: AllocGlobal + Files + Print>(
     ensures { IfErr result (λ ended. CanTell ended (Some setup.entry) (Some options.entry)) }
 {
     let alloc = rt.alloc();
-    let octets = read_files(rt, &setup.files)?;
+    let files = open_files(rt, &setup.files)?;
     if let Some(client) = first_overwritten(rt, setup, options)? {
         return Err(Ended::Run(RunFault::Dump(client)));
     }
-    let files: Vec<&[u8]> = octets.iter().map(|file| file.as_slice()).collect(alloc)?;
     let mut outlet = FolderOutlet::new(rt, alloc, &options.out);
     let mut report = IoWriter::new(io::writer(rt));
-    match run(alloc, setup, &files, options, &mut outlet, &mut report) {
+    match run(alloc, setup, files, options, &mut outlet, &mut report) {
         Ok(()) => Ok(()),
         Err(fault) => Err(Ended::Run(fault)),
     }

@@ -36,3 +36,4 @@ status_of Memory = out_of_memory
 status_of (Run run.Memory) = out_of_memory
 status_of (Run (run.Dump client)) = failed
 status_of (Run run.Report) = failed
+status_of (Run (run.Read peer)) = failed

@@ -76,10 +76,19 @@ name_of peers client = unwrap_or (option_map (λ peer. peer.name) (slice_get pee
 abbrev pub dump_path : SetUp → Options → ℕ → Text
 dump_path set_up options client = path_in (string_bytes options.out) (name_of set_up.plan.value.peers client ++ codes ".mrt")
 
+-- a file that can't be read is named
+abbrev pub unread_line : Text → Text
+unread_line path = named (codes "cannot read " ++ one_line path)
+
+-- the path of a peer's recorded file
+abbrev pub file_path : SetUp → ℕ → Text
+file_path set_up peer = unwrap_or (option_map string_bytes (slice_get set_up.files.items peer)) []
+
 abbrev pub run_line : RunFault → SetUp → Options → Text
 run_line run.Memory set_up options = out_of_memory_line
 run_line (run.Dump client) set_up options = named (codes "cannot write " ++ one_line (dump_path set_up options client))
 run_line run.Report set_up options = named (codes "cannot write standard output")
+run_line (run.Read peer) set_up options = unread_line (file_path set_up peer)
 
 -- the line of each way to stop short; help and the refusal of a command line are texts of `clap`
 abbrev pub line_of : Ended → Option (Bor SetUp) → Option (Bor Options) → Text
@@ -87,18 +96,19 @@ line_of (Words (words.Help text)) set_up options = string_bytes text
 line_of (Words (words.Refused text)) set_up options = string_bytes text
 line_of (Words words.Memory) set_up options = out_of_memory_line
 line_of (Setup fault) set_up options = setup_line fault
-line_of (Unread path) set_up options = named (codes "cannot read " ++ one_line (string_bytes path))
+line_of (Unread path) set_up options = unread_line (string_bytes path)
 line_of Memory set_up options = out_of_memory_line
 line_of (Run fault) (Some set_up) (Some options) = run_line fault set_up.now options.now
 line_of (Run fault) set_up options = []
 
--- the client that a run names is one of the plan
-abbrev pub NamesClient : RunFault → SetUp → Type 0
-NamesClient (run.Dump client) set_up = client < length set_up.plan.value.peers
-NamesClient fault set_up = ⊤
+-- the client that a run names is one of the plan, and the peer that it names has a recorded file
+abbrev pub NamesPeer : RunFault → SetUp → Type 0
+NamesPeer (run.Dump client) set_up = client < length set_up.plan.value.peers
+NamesPeer (run.Read peer) set_up = peer < length set_up.files.items
+NamesPeer fault set_up = ⊤
 
 -- of a run that stopped short, the setup and the options are there
 abbrev pub CanTell : Ended → Option (Bor SetUp) → Option (Bor Options) → Type 0
-CanTell (Run fault) (Some set_up) (Some options) = NamesClient fault set_up.now
+CanTell (Run fault) (Some set_up) (Some options) = NamesPeer fault set_up.now
 CanTell (Run fault) set_up options = ⊥
 CanTell ended set_up options = ⊤

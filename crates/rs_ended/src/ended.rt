@@ -57,6 +57,7 @@ pub fn status(ended: &Ended) -> u8
         Ended::Run(RunFault::Memory) => OUT_OF_MEMORY,
         Ended::Run(RunFault::Dump(_)) => FAILED,
         Ended::Run(RunFault::Report) => FAILED,
+        Ended::Run(RunFault::Read(_)) => FAILED,
     }
 }
 

@@ -1,7 +1,7 @@
 //! The line that says why the program stops short.
 
 ghost use Rattle.std.specs.Prelude.{◌≡◌, ◌++◌, ◌<◌, IfOk, OnOk, length, string_bytes};
-ghost use Rattle.rs_ended.specs.Texts.{CanTell, NamesClient, dump_path, escaped, hex_digit, key_line, line_of, one_line, plan_line, run_line, setup_line, shown};
+ghost use Rattle.rs_ended.specs.Texts.{CanTell, NamesPeer, dump_path, escaped, hex_digit, key_line, line_of, one_line, plan_line, run_line, setup_line, shown, unread_line};
 
 use crate::ended::Ended;
 use crate::paths::path_in;
@@ -38,10 +38,7 @@ pub fn line(
         Ended::Words(WordsFault::Refused(text)) => String::from_str(alloc, text),
         Ended::Words(WordsFault::Memory) => String::from_str(alloc, MEMORY_LINE),
         Ended::Setup(fault) => setup_line(alloc, fault),
-        Ended::Unread(path) => {
-            let path = on_one_line(alloc, path)?;
-            format!(in alloc; "route_server: cannot read {path}")
-        }
+        Ended::Unread(path) => unread_line(alloc, path),
         Ended::Memory => String::from_str(alloc, MEMORY_LINE),
         Ended::Run(fault) => match (setup, options) {
             (Some(setup), Some(options)) => run_line(alloc, fault, setup, options),
@@ -93,7 +90,7 @@ fn run_line(
     setup: &Setup,
     options: &Options,
 ) -> Result<String, AllocError>
-    requires { NamesClient fault.now setup.now }
+    requires { NamesPeer fault.now setup.now }
     ensures { IfOk result (λ line. string_bytes line ≡ run_line fault.now setup.now options.now) }
 {
     match fault {
@@ -104,7 +101,16 @@ fn run_line(
             format!(in alloc; "route_server: cannot write {path}")
         }
         RunFault::Report => String::from_str(alloc, "route_server: cannot write standard output"),
+        RunFault::Read(peer) => unread_line(alloc, &setup.files[*peer]),
     }
+}
+
+// Names a file that can't be read.
+fn unread_line(alloc: Global, path: &str) -> Result<String, AllocError>
+    ensures { IfOk result (λ line. string_bytes line ≡ unread_line path.now) }
+{
+    let path = on_one_line(alloc, path)?;
+    format!(in alloc; "route_server: cannot read {path}")
 }
 
 /// The path of a client's dump. Fails where memory is refused.

@@ -1,119 +1,36 @@
--- The session of a recorded file: what is still to come, change by change.
-use Rattle.std.proofs.Common.{◌≡◌, ℕ, ◌+◌, ◌≤◌, Bool, true, false, List, [], ◌∷◌, ◌++◌, Option, Some, None, Ok, Err, refl, sym, ap, ◌∙◌, subst, inl, inr, length, append_assoc, length-append, arith}
+-- The session of a recorded file: what was given and what may still come, change by change.
+use Rattle.std.proofs.Common.{◌≡◌, ◌≢◌, ℕ, ◌+◌, ◌≤◌, ◌<◌, Bool, true, false, List, [], ◌∷◌, ◌++◌, Option, Some, None, Ok, refl, sym, ap, ◌∙◌, subst, inl, inr, length, append_assoc, length-append, arith}
 use Rattle.std.specs.Prelude.{◌||◌, if◌then◌else◌}
 use Rattle.std.specs.List.{list_any}
-use Rattle.rs_mrt.specs.Record.{MrtRecord, Reading}
-use Rattle.rs_mrt.specs.Source.{IsLeft, source_end}
-use Rattle.rs_mrt.specs.declared.fault.SourceFault.{SourceFault}
+use Rattle.std.specs.FinMap.{empty}
+use Rattle.rs_mrt.specs.Reader.{ReadEnd}
+use Rattle.rs_mrt.specs.Record.{MrtRecord, records_of, end_of}
+use Rattle.rs_mrt.specs.Source.{source_end}
+use Rattle.rs_mrt.specs.declared.fault.MrtFault.{MrtFault}
 use Rattle.rs_session.specs.Change.{Change, ChangeBody, Announced, Withdrawn, Lost, Closed, change_of, body_of, is_close}
-use Rattle.rs_session.specs.Laws.{ClosesLast}
-use Rattle.rs_session.specs.Stage.{Stage, May, Says, SaysJust, to_read, changes_left, passed_in_the_end}
+use Rattle.rs_session.specs.FileChanges.{changes_in, passed_in, close_at, default_standard}
+use Rattle.rs_session.specs.Given.{IsRead, MayFail}
+use Rattle.rs_session.specs.Laws.{ClosesOnce, FailedReadCloses, SomethingMayCome, is_closing, may_close, has_close}
+use Rattle.rs_session.specs.Stage.{Comes, Stage, May, Says, Closes, Fewer, most_changes}
+use Rattle.rs_session.specs.declared.peer.PeerId.{PeerId}
 use Rattle.rs_session.specs.declared.word.Body.{Body}
 use Rattle.rs_session.specs.declared.word.Body.TheVariants.{Announce, Withdraw, Down, Close}
 use Rattle.rs_session.specs.declared.word.Word.{Word}
 use Rattle.rs_session.specs.declared.word.Reason.{Reason}
 use Rattle.rs_session.specs.declared.word.Reason.TheVariants as reasons
-use Rattle.std.specs.FinMap.{empty}
 use Rattle.rs_table.specs.Content.{RibContent, nothing_held}
 use Rattle.rs_table.specs.Left as table
-use Rattle.rs_table.specs.Left.{Routes, left, HasNoClose, BecomeBy}
-use Rattle.rs_run.specs.SessionEnd.{reason_or, reason_in}
+use Rattle.rs_table.specs.Left.{Routes, left, BecomeBy}
+use Rattle.rs_run.specs.SessionEnd.{IsOfReader, reason_or, reason_in}
 use Rattle.rs_run.specs.declared.peer_end.PeerEnd.{PeerEnd}
 
--- what a file as a source may give, and shows
-abbrev pub comes : Reading → List MrtRecord → Option SourceFault → Type 0
-comes reading later end = IsLeft reading later end
-
-abbrev pub shows : Reading → Option MrtRecord
-shows reading = reading.shown
-
-abbrev pub records_to_come : Stage Reading → List MrtRecord
-records_to_come stage = to_read stage.held stage.source.shown stage.source.left
-
--- the changes that are still to come
-abbrev pub to_come : Stage Reading → List Change
-to_come stage = changes_left stage (records_to_come stage) (source_end stage.source.end)
-
--- they may come
-pub to_come-may : (stage : Stage Reading) → May comes shows stage (to_come stage) (passed_in_the_end stage (records_to_come stage))
-to_come-may stage = record {
-  records = records_to_come stage;
-  end = source_end stage.source.end;
-  may_read = record { later = stage.source.left; come = (refl, refl); read = refl };
-  left = refl;
-  counted = refl;
-}
-
--- and no others may
-pub to_come-only : (stage : Stage Reading) (changes : List Change) (passed : ℕ) → May comes shows stage changes passed → changes ≡ to_come stage
-to_come-only stage changes passed m =
-    let records-are : m.records ≡ records_to_come stage = m.may_read.read ∙ ap (λ (later : List MrtRecord). to_read stage.held stage.source.shown later) m.may_read.come.0 in
-    m.left ∙ ap (λ (rs : List MrtRecord). changes_left stage rs m.end) records-are ∙ ap (λ (e : Option SourceFault). changes_left stage (records_to_come stage) e) m.may_read.come.1
-
--- at first what the file says
-pub to_come-says : (stage : Stage Reading) (changes : List Change) (passed : ℕ) → SaysJust comes shows stage changes passed → to_come stage ≡ changes
-to_come-says stage changes passed h = ((h (to_come stage) (passed_in_the_end stage (records_to_come stage))).0 (to_come-may stage)).0
-
--- a change that is given was the first to come
-pub to_come-given : (old new : Stage Reading) (word : Word) → Says comes shows old new (Ok (Some word)) → to_come old ≡ change_of word ∷ to_come new
-to_come-given old new word says =
-    sym (to_come-only old (change_of word ∷ to_come new) (passed_in_the_end new (records_to_come new)) (says.0 (to_come new) (passed_in_the_end new (records_to_come new)) (to_come-may new)))
-
--- after a close nothing is to come
-pub to_come-closed : (old new : Stage Reading) (word : Word) → Says comes shows old new (Ok (Some word)) → is_close word.body ≡ true → to_come new ≡ []
-to_come-closed old new word says close = (says.1 close (to_come new) (passed_in_the_end new (records_to_come new)) (to_come-may new)).0
-
--- nothing is given where nothing is to come
-pub to_come-none : (old new : Stage Reading) → Says comes shows old new (Ok None) → to_come old ≡ []
-to_come-none old new says = (says.0 (to_come old) (passed_in_the_end old (records_to_come old)) (to_come-may old)).0
-
--- ---- how many records are passed over
-
-abbrev pub passed_to_come : Stage Reading → ℕ
-passed_to_come stage = passed_in_the_end stage (records_to_come stage)
-
--- just so many in the end
-pub passed_to_come-only : (stage : Stage Reading) (changes : List Change) (passed : ℕ) → May comes shows stage changes passed → passed ≡ passed_to_come stage
-passed_to_come-only stage changes passed m =
-    let records-are : m.records ≡ records_to_come stage = m.may_read.read ∙ ap (λ (later : List MrtRecord). to_read stage.held stage.source.shown later) m.may_read.come.0 in
-    m.counted ∙ ap (λ (rs : List MrtRecord). passed_in_the_end stage rs) records-are
-
--- at first as many as the file passes over
-pub passed_to_come-says : (stage : Stage Reading) (changes : List Change) (passed : ℕ) → SaysJust comes shows stage changes passed → passed_to_come stage ≡ passed
-passed_to_come-says stage changes passed h = ((h (to_come stage) (passed_to_come stage)).0 (to_come-may stage)).1
-
--- a change that is given changes nothing of this
-pub passed_to_come-given : (old new : Stage Reading) (word : Word) → Says comes shows old new (Ok (Some word)) → passed_to_come old ≡ passed_to_come new
-passed_to_come-given old new word says =
-    sym (passed_to_come-only old (change_of word ∷ to_come new) (passed_to_come new) (says.0 (to_come new) (passed_to_come new) (to_come-may new)))
-
--- ---- what a peer has left beside what is to come
-
--- how the session ends, as far as it was read: how many changes were given, and why it closed
-pub record EndSoFar : Type 0 where
-  pub changes : ℕ
-  pub reason : Reason
-
--- these changes were given, the others are to come, and the peer has left what the given ones leave
-pub record IsReading (says : List Change) (total : ℕ) (stage : Stage Reading) (rib : RibContent) (end : EndSoFar) : Type 0 where
-  pub given : List Change
-  pub whole : given ++ to_come stage ≡ says
-  pub routes : left given ≡ rib.routes
-  pub closed : rib.closed ≡ list_any table.is_close given
-  pub over : list_any table.is_close given ≡ true → to_come stage ≡ []
-  pub counted : end.changes ≡ length given
-  pub why : end.reason ≡ reason_in given
-  pub passed : passed_to_come stage ≡ total
+-- ---- closes
 
 same_close : (body : Body) → table.body_closes (body_of body) ≡ is_close body
 same_close (Announce prefix attributes) = refl
 same_close (Withdraw prefix) = refl
 same_close Down = refl
 same_close (Close reason) = refl
-
-or-true : (b c : Bool) → c ≡ true → (b || c) ≡ true
-or-true true c e = refl
-or-true false c e = e
 
 skip : (b rest whole one : Bool) → (b || rest) ≡ false → (rest ≡ false → whole ≡ one) → (b || whole) ≡ one
 skip true rest whole one none h = absurd cc
@@ -127,14 +44,6 @@ or-false false = refl
 any-one_more : (xs : List Change) (x : Change) → list_any table.is_close xs ≡ false → list_any table.is_close (xs ++ x ∷ []) ≡ table.is_close x
 any-one_more [] x none = or-false (table.is_close x)
 any-one_more (y ∷ ys) x none = skip (table.is_close y) (list_any table.is_close ys) (list_any table.is_close (ys ++ x ∷ [])) (table.is_close x) none (any-one_more ys x)
-
-not_closed : (b closed : Bool) (says : List Change) (first : Change) (later : List Change) → (b ≡ true → says ≡ []) → closed ≡ b → says ≡ first ∷ later → closed ≡ false
-not_closed false closed says first later over is some = is
-not_closed true closed says first later over is some = absurd (let e : says ≡ [] = over refl in cc)
-
--- before a change comes the session is open
-pub open-before : (says : List Change) (total : ℕ) (stage : Stage Reading) (rib : RibContent) (end : EndSoFar) (first : Change) (later : List Change) → IsReading says total stage rib end → to_come stage ≡ first ∷ later → rib.closed ≡ false
-open-before says total stage rib end first later r some = not_closed (list_any table.is_close r.given) rib.closed (to_come stage) first later r.over r.closed some
 
 -- ---- the reason
 
@@ -166,76 +75,148 @@ reason-one_more (y ∷ ys) x none =
     let later = or-second (table.is_close y) (list_any table.is_close ys) none in
     reason_or-open (reason_in (ys ++ x ∷ [])) y.body first ∙ reason-one_more ys x later ∙ ap (λ (r : Reason). reason_or r x.body) (sym (reason_or-open (reason_in ys) y.body first))
 
+reason_or-unclosed : (later : Reason) (body : ChangeBody) → is_closing body ≡ false → reason_or later body ≡ later
+reason_or-unclosed later (Announced prefix attributes) open_yet = refl
+reason_or-unclosed later (Withdrawn prefix) open_yet = refl
+reason_or-unclosed later Lost open_yet = refl
+reason_or-unclosed later (Closed reason) open_yet = absurd cc
+
+-- the reason of a close that is the first one, and the last change
+reason-last : (xs : List Change) (time : ℕ) (reason : Reason) → has_close xs ≡ false → reason_in (xs ++ close_at time reason ∷ []) ≡ reason
+reason-last [] time reason none = refl
+reason-last (x ∷ xs) time reason none =
+    let rest : List Change = xs ++ close_at time reason ∷ [] in
+    reason_or-unclosed (reason_in rest) x.body (or-first (is_closing x.body) (has_close xs) none) ∙ reason-last xs time reason (or-second (is_closing x.body) (has_close xs) none)
+
+-- no file says that a read failed
+unread : (end : Option MrtFault) (reason : Reason) → may_close (source_end end) reason ≡ true → reason ≢ reasons.Read
+unread None reason may is = absurd (let bad : may_close None reasons.Read ≡ true = rw is at may in cc)
+unread (Some fault) reason may is = absurd (let bad : may_close (source_end (Some fault)) reasons.Read ≡ true = rw is at may in cc)
+
+file-unread : ClosesOnce → (peer : PeerId) (file : List ℕ) → reason_in (changes_in peer file) ≢ reasons.Read
+file-unread once peer file is =
+    let last = once default_standard peer (records_of file) (source_end (end_of file)) in
+    unread (end_of file) last.reason last.recorded (sym (reason-last last.before last.time last.reason last.none_before) ∙ ap reason_in (sym last.splits) ∙ is)
+
 -- ---- change by change
 
-pub left-nothing : left [] ≡ empty
+-- how the session ends, as far as it was read: how many changes were given, and why it closed
+pub record EndSoFar : Type 0 where
+  pub changes : ℕ
+  pub reason : Reason
+
+left-nothing : left [] ≡ empty
 unfolding left
 left-nothing = refl
 
--- nothing was read yet
-pub reading-fresh : (says : List Change) (total : ℕ) (stage : Stage Reading) (rib : RibContent) → SaysJust comes shows stage says total → rib ≡ nothing_held → IsReading says total stage rib (record { changes = 0; reason = reasons.EndOfFile })
-reading-fresh says total stage rib just nothing = record {
-  given = [];
-  whole = to_come-says stage says total just;
-  routes = left-nothing ∙ sym (ap (λ (r : RibContent). r.routes) nothing);
-  closed = ap (λ (r : RibContent). r.closed) nothing;
-  over = λ bad. absurd cc;
-  counted = refl;
-  why = refl;
-  passed = passed_to_come-says stage says total just;
-}
+-- before the close so many changes may come, after it one more may have come
+few-closed : (given_len most before after start : ℕ) (closes : Bool) → given_len + before ≤ start → after + (if closes then 0 else 1) ≤ before → given_len + 1 + after ≤ start + (if closes then 1 else 0)
+few-closed given_len most before after start true so_far fewer = omega (arith, so_far, fewer)
+few-closed given_len most before after start false so_far fewer = omega (arith, so_far, fewer)
 
--- one change more was given
-pub reading-given : (says : List Change) (total : ℕ) (old new : Stage Reading) (before after : RibContent) (end : EndSoFar) (word : Word) → IsReading says total old before end → Says comes shows old new (Ok (Some word)) → BecomeBy before.routes (change_of word) after.routes → after.closed ≡ table.is_close (change_of word)
-    → IsReading says total new after (record { changes = end.changes + 1; reason = reason_or end.reason (change_of word).body })
-reading-given says total old new before after end word r word-says become closed =
-    let first = to_come-given old new word word-says in
-    let unclosed : before.closed ≡ false = open-before says total old before end (change_of word) (to_come new) r first in
-    let none : list_any table.is_close r.given ≡ false = sym r.closed ∙ unclosed in
-    let more : list_any table.is_close (r.given ++ change_of word ∷ []) ≡ table.is_close (change_of word) = any-one_more r.given (change_of word) none in
-    record {
-      given = r.given ++ change_of word ∷ [];
-      whole = append_assoc r.given (change_of word ∷ []) (to_come new) ∙ ap (λ (cs : List Change). r.given ++ cs) (sym first) ∙ r.whole;
-      routes = become r.given none r.routes;
-      closed = closed ∙ sym more;
-      over = λ e. to_come-closed old new word word-says (sym (same_close word.body) ∙ sym more ∙ e);
-      counted = omega (arith, r.counted, length-append r.given (change_of word ∷ []));
-      why = ap (λ (reason : Reason). reason_or reason (change_of word).body) r.why ∙ sym (reason-one_more r.given (change_of word) none);
-      passed = sym (passed_to_come-given old new word word-says) ∙ r.passed;
-    }
+-- each change that is given leaves fewer to come
+pub few-smaller : (before after : ℕ) (old new closes : Bool) → old ≡ false → new ≡ closes → after + (if closes then 0 else 1) ≤ before → after + (if new then 0 else 1) < before + (if old then 0 else 1)
+few-smaller before after old new true unclosed is fewer = rw (unclosed, is) (omega (arith, fewer))
+few-smaller before after old new false unclosed is fewer = rw (unclosed, is) (omega (arith, fewer))
 
--- as many changes at most as the file says
-pub reading-count : (says : List Change) (total : ℕ) (stage : Stage Reading) (rib : RibContent) (end : EndSoFar) (first : Change) (later : List Change) → IsReading says total stage rib end → to_come stage ≡ first ∷ later → end.changes + 1 ≤ length says
-reading-count says total stage rib end first later r some =
-    omega (arith, r.counted, ap (λ (cs : List Change). length cs) r.whole, length-append r.given (to_come stage), ap (λ (cs : List Change). length cs) some)
+module _ {S : Type 0} (comes : Comes S) (shows : S → Option MrtRecord) (room : S → ℕ) (start : Stage S) where
+  -- these changes were given, before whatever may come, and the peer has left what they leave
+  pub record IsReading (stage : Stage S) (rib : RibContent) (end : EndSoFar) : Type 0 where
+    pub given : List Change
+    pub before : (changes : List Change) (passed : ℕ) → May comes shows stage changes passed → May comes shows start (given ++ changes) passed
+    pub routes : left given ≡ rib.routes
+    pub held : rib.closed ≡ list_any table.is_close given
+    pub closed : stage.closed ≡ list_any table.is_close given
+    pub few : length given + most_changes room shows stage ≤ most_changes room shows start + (if stage.closed then 1 else 0)
+    pub counted : end.changes ≡ length given
+    pub why : end.reason ≡ reason_in given
 
-any-last : (xs : List Change) (x : Change) → table.is_close x ≡ true → list_any table.is_close (xs ++ x ∷ []) ≡ true
-any-last [] x e = rw e refl
-any-last (y ∷ ys) x e = or-true (table.is_close y) (list_any table.is_close (ys ++ x ∷ [])) (any-last ys x e)
+  -- nothing was read yet
+  pub reading-fresh : (rib : RibContent) → start.closed ≡ false → rib ≡ nothing_held → IsReading start rib (record { changes = 0; reason = reasons.EndOfFile })
+  reading-fresh rib unclosed nothing = record {
+    given = [];
+    before = λ changes passed m. m;
+    routes = left-nothing ∙ sym (ap (λ (r : RibContent). r.routes) nothing);
+    held = ap (λ (r : RibContent). r.closed) nothing;
+    closed = unclosed;
+    few = omega arith;
+    counted = refl;
+    why = refl;
+  }
+
+  -- before a change comes the session is open
+  pub open-before : (stage : Stage S) (rib : RibContent) (end : EndSoFar) → IsReading stage rib end → stage.closed ≡ false → rib.closed ≡ false
+  open-before stage rib end r unclosed = r.held ∙ sym r.closed ∙ unclosed
+
+  -- and no more changes were given than may come at first
+  few-open : (stage : Stage S) (rib : RibContent) (end : EndSoFar) (r : IsReading stage rib end) → stage.closed ≡ false → length r.given + most_changes room shows stage ≤ most_changes room shows start
+  few-open stage rib end r unclosed = let few = rw unclosed at r.few in omega (arith, few)
+
+  pub reading-count : (stage : Stage S) (rib : RibContent) (end : EndSoFar) → IsReading stage rib end → stage.closed ≡ false → end.changes ≤ most_changes room shows start
+  reading-count stage rib end r unclosed = omega (arith, few-open stage rib end r unclosed, r.counted)
+
+  -- one change more was given
+  pub reading-given : (old new : Stage S) (before after : RibContent) (end : EndSoFar) (word : Word) → IsReading old before end → Says comes shows old new (Ok (Some word)) → Closes old.closed new.closed (Ok (Some word))
+      → Fewer (most_changes room shows old) (most_changes room shows new) (Ok (Some word)) → BecomeBy before.routes (change_of word) after.routes → after.closed ≡ table.is_close (change_of word)
+      → IsReading new after (record { changes = end.changes + 1; reason = reason_or end.reason (change_of word).body })
+  reading-given old new before after end word r says closes fewer become closed =
+      let none : list_any table.is_close r.given ≡ false = sym r.closed ∙ closes.0 in
+      let more : list_any table.is_close (r.given ++ change_of word ∷ []) ≡ table.is_close (change_of word) = any-one_more r.given (change_of word) none in
+      let few = few-closed (length r.given) 0 (most_changes room shows old) (most_changes room shows new) (most_changes room shows start) (is_close word.body) (few-open old before end r closes.0) fewer in
+      record {
+        given = r.given ++ change_of word ∷ [];
+        before = λ changes passed m. subst (λ (all : List Change). May comes shows start all passed) (sym (append_assoc r.given (change_of word ∷ []) changes)) (r.before (change_of word ∷ changes) passed (says.0 changes passed m));
+        routes = become r.given none r.routes;
+        held = closed ∙ sym more;
+        closed = closes.1 ∙ sym (same_close word.body) ∙ sym more;
+        few = rw (closes.1, length-append r.given (change_of word ∷ [])) few;
+        counted = omega (arith, r.counted, length-append r.given (change_of word ∷ []));
+        why = ap (λ (reason : Reason). reason_or reason (change_of word).body) r.why ∙ sym (reason-one_more r.given (change_of word) none);
+      }
+
+-- where nothing more may come, that may come
+pub may-over : {S : Type 0} (comes : Comes S) (shows : S → Option MrtRecord) (old new : Stage S) → Says comes shows old new (Ok None) → SomethingMayCome comes shows new → May comes shows old [] new.passed
+may-over {S} comes shows old new says some =
+    let may : May comes shows old some.0 some.1 = subst (λ (stage : Stage S). May comes shows stage some.0 some.1) says.1 some.2 in
+    let over = says.0 some.0 some.1 may in
+    subst (λ (all : List Change). May comes shows old all new.passed) over.0 (subst (λ (n : ℕ). May comes shows old some.0 n) (over.1 ∙ sym (ap (λ (stage : Stage S). stage.passed) says.1)) may)
 
 append-nil : (xs : List Change) → xs ++ [] ≡ xs
 append-nil [] = refl
 append-nil (x ∷ xs) = ap (λ (ys : List Change). x ∷ ys) (append-nil xs)
 
--- everything was read: the peer has left what the file's changes leave, and its session closed
-given-whole : (says : List Change) (total : ℕ) (stage : Stage Reading) (rib : RibContent) (end : EndSoFar) (r : IsReading says total stage rib end) → to_come stage ≡ [] → r.given ≡ says
-given-whole says total stage rib end r none = sym (append-nil r.given) ∙ ap (λ (cs : List Change). r.given ++ cs) (sym none) ∙ r.whole
+-- ---- everything was read
 
-pub reading-whole : (says : List Change) (total : ℕ) (stage : Stage Reading) (rib : RibContent) (end : EndSoFar) → IsReading says total stage rib end → to_come stage ≡ [] → (ended : Option SourceFault) → ClosesLast ended says → rib ≡ record { routes = left says; closed = true }
-reading-whole says total stage rib end r none ended last =
-    let all : r.given ≡ says = given-whole says total stage rib end r none in
-    let closes : list_any table.is_close says ≡ true = rw last.splits (any-last last.before _ refl) in
-    let closed : rib.closed ≡ true = r.closed ∙ rw all closes in
-    let routes : rib.routes ≡ left says = sym r.routes ∙ ap left all in
-    ap (λ (held : Routes). record { routes = held; closed = rib.closed }) routes ∙ ap (λ (b : Bool). record { routes = left says; closed = b }) closed
+-- what the changes of a session over a reader leave, and how it ended
+of_reader : {R : Type 0} (gives : R → List ℕ → ReadEnd → Type 0) (peer : PeerId) (reader : R) (given : List Change) (rib : RibContent) (end : PeerEnd) → FailedReadCloses → IsRead gives default_standard peer reader given end.passed
+    → rib ≡ record { routes = left given; closed = true } → end.changes ≡ length given → end.reason ≡ reason_in given → IsOfReader gives peer reader rib end
+of_reader gives peer reader given rib end failed (inl read) rib_is counted why =
+    let says = read.says in
+    let counts = read.counts in
+    let changes : end.changes ≡ length (changes_in peer read.file) = counted ∙ ap (λ (cs : List Change). length cs) says in
+    let reason : end.reason ≡ reason_in (changes_in peer read.file) = why ∙ ap reason_in says in
+    let told : ℕ → ℕ → Reason → PeerEnd = λ n m r. record { changes = n; passed = m; reason = r } in
+    inl (record {
+      file = read.file;
+      given = read.given;
+      rib_is = rib_is ∙ ap (λ (cs : List Change). record { routes = left cs; closed = true }) says;
+      end_is = ap (λ (n : ℕ). told n end.passed end.reason) changes ∙ ap (λ (m : ℕ). told (length (changes_in peer read.file)) m end.reason) counts
+          ∙ ap (told (length (changes_in peer read.file)) (passed_in peer read.file)) reason;
+    })
+of_reader gives peer reader given rib end failed (inr read) rib_is counted why =
+    let last = failed default_standard peer read.came read.fails.no_end in
+    inr (why ∙ ap reason_in (read.says ∙ last.splits) ∙ reason-last last.before 0 reasons.Read last.none_before, (read.came, read.fails))
 
--- .. and the session ended as the file says
-pub reading-end : (says : List Change) (total : ℕ) (stage : Stage Reading) (rib : RibContent) (end : EndSoFar) (passed : ℕ) → IsReading says total stage rib end → to_come stage ≡ [] → ((n : ℕ) → May comes shows stage [] n → passed ≡ n)
-    → let told : PeerEnd = record { changes = end.changes; passed = passed; reason = end.reason } in told ≡ record { changes = length says; passed = total; reason = reason_in says }
-reading-end says total stage rib end passed r none over =
-    let all : r.given ≡ says = given-whole says total stage rib end r none in
-    let P : List Change → Type 0 = λ cs. May comes shows stage cs (passed_to_come stage) in
-    let counted : end.changes ≡ length says = r.counted ∙ ap (λ (cs : List Change). length cs) all in
-    let why : end.reason ≡ reason_in says = r.why ∙ ap reason_in all in
-    let in_all : passed ≡ total = over (passed_to_come stage) (subst P none (to_come-may stage)) ∙ r.passed in
-    cc
+pub reading-end : {S R : Type 0} (comes : Comes S) (shows : S → Option MrtRecord) (room : S → ℕ) (start stage : Stage S) (rib : RibContent) (end : EndSoFar) (gives : R → List ℕ → ReadEnd → Type 0) (peer : PeerId) (reader : R) (passed : ℕ)
+    → IsReading comes shows room start stage rib end → FailedReadCloses → ((changes : List Change) (passed : ℕ) → May comes shows start changes passed → IsRead gives default_standard peer reader changes passed)
+    → stage.closed ≡ true → May comes shows stage [] passed → IsOfReader gives peer reader rib (record { changes = end.changes; passed = passed; reason = end.reason })
+reading-end comes shows room start stage rib end gives peer reader passed r failed read over may =
+    let whole : May comes shows start r.given passed = subst (λ (all : List Change). May comes shows start all passed) (append-nil r.given) (r.before [] passed may) in
+    let closed : rib.closed ≡ true = r.held ∙ sym r.closed ∙ over in
+    of_reader gives peer reader r.given rib (record { changes = end.changes; passed = passed; reason = end.reason }) failed (read r.given passed whole)
+    (ap (λ (held : Routes). record { routes = held; closed = rib.closed }) (sym r.routes) ∙ ap (λ (b : Bool). record { routes = left r.given; closed = b }) closed) r.counted r.why
+
+-- where it ended by a failed read, the reader may fail
+pub of_failed : {R : Type 0} (gives : R → List ℕ → ReadEnd → Type 0) (peer : PeerId) (reader : R) (rib : RibContent) (end : PeerEnd) → ClosesOnce → IsOfReader gives peer reader rib end → end.reason ≡ reasons.Read → MayFail gives default_standard peer reader
+of_failed gives peer reader rib end once (inl read) is = absurd (file-unread once peer read.file (sym (ap (λ (e : PeerEnd). e.reason) read.end_is) ∙ is))
+of_failed gives peer reader rib end once (inr read) is = read.1

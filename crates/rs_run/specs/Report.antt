@@ -5,6 +5,7 @@ use Rattle.std.specs.List.{zip, flat_map, enumerate_from}
 use Rattle.rs_choice.specs.Plan.{Peer, Plan}
 use Rattle.rs_session.specs.declared.word.Reason.{Reason}
 use Rattle.rs_session.specs.declared.word.Reason.TheVariants.{EndOfFile, Bgp, Mrt, Memory, Read}
+use Rattle.rs_table.specs.Content.{TablesContent}
 use Rattle.rs_table.specs.Table.{table_of}
 use Rattle.rs_run.specs.Recorded.{tables_of_files}
 use Rattle.rs_run.specs.SessionEnd.{ends_of_files}
@@ -35,11 +36,13 @@ abbrev pub peer_lines : List Peer → List PeerEnd → List ℕ
 peer_lines peers ends = flat_map peer_line_of (zip peers ends)
 
 -- and then one for each client's table
-abbrev pub table_line_of : Plan → List (List ℕ) → ℕ × Peer → List ℕ
-table_line_of plan files (client, peer) = table_line peer.name (length (table_of (tables_of_files plan files) client))
+abbrev pub table_line_of : TablesContent → ℕ × Peer → List ℕ
+table_line_of tables (client, peer) = table_line peer.name (length (table_of tables client))
+
+-- the report over how the sessions ended, and the tables
+abbrev pub report_of : Plan → List PeerEnd → TablesContent → List ℕ
+report_of plan ends tables = peer_lines plan.peers ends ++ flat_map (table_line_of tables) (enumerate_from 0 plan.peers)
 
 -- the report over what the files say and leave
 abbrev pub report_of_files : Plan → List (List ℕ) → List ℕ
-report_of_files plan files =
-    peer_lines plan.peers (ends_of_files plan files)
-    ++ flat_map (table_line_of plan files) (enumerate_from 0 plan.peers)
+report_of_files plan files = report_of plan (ends_of_files plan files) (tables_of_files plan files)

@@ -1,24 +1,31 @@
 -- What a run keeps and reports. Nothing here is of a standard: all of it is our choice.
-use Rattle.std.specs.Prelude.{◌≡◌, ℕ, ◌+◌, ◌<◌, ◌⊎◌, List, ◌++◌, Option, codes, length, map, take}
+use Rattle.std.specs.Prelude.{◌≡◌, ℕ, ⊤, ◌+◌, ◌<◌, ◌⊎◌, List, ◌++◌, Option, codes, length, map, take}
+use Rattle.rs_dump.specs.Dump.{dumped}
+use Rattle.rs_mrt.specs.Reader.{ReadEnd}
+use Rattle.rs_table.specs.Content.{TablesContent}
 use Rattle.rs_table.specs.Table.{table_of}
 use Rattle.std.specs.List.{enumerate_from}
 use Rattle.rs_choice.specs.Plan.{Peer, Plan}
 use Rattle.rs_run.specs.declared.run_fault.RunFault.{RunFault}
-use Rattle.rs_run.specs.declared.run_fault.RunFault.TheVariants.{Memory, Dump, Report}
+use Rattle.rs_run.specs.declared.run_fault.RunFault.TheVariants.{Memory, Dump, Report, Read}
 use Rattle.rs_run.specs.Outlet.{KeptDump, Grows}
-use Rattle.rs_run.specs.Recorded.{dump_of_files, tables_of_files}
+use Rattle.rs_run.specs.Recorded.{FailsAt, OverFiles, tables_of_files}
 
 -- the name under which a client's dump is kept
 abbrev pub dump_name : List ℕ → List ℕ
 dump_name client = client ++ codes ".mrt"
 
 -- the dump of a client, by its number, as it is kept
-abbrev pub kept_dump_of : Plan → List (List ℕ) → ℕ → ℕ × Peer → KeptDump
-kept_dump_of plan files time (client, peer) = record { name = dump_name peer.name; octets = dump_of_files plan files client time }
+abbrev pub kept_dump_of : Plan → TablesContent → ℕ → ℕ × Peer → KeptDump
+kept_dump_of plan tables time (client, peer) = record { name = dump_name peer.name; octets = dumped plan client (table_of tables client) time }
 
 -- the dumps of all clients, in their order
+abbrev pub dumps_of : Plan → TablesContent → ℕ → List KeptDump
+dumps_of plan tables time = map (kept_dump_of plan tables time) (enumerate_from 0 plan.peers)
+
+-- the same of what the files leave
 abbrev pub dumps_of_files : Plan → List (List ℕ) → ℕ → List KeptDump
-dumps_of_files plan files time = map (kept_dump_of plan files time) (enumerate_from 0 plan.peers)
+dumps_of_files plan files time = dumps_of plan (tables_of_files plan files) time
 
 -- a beginning of these dumps was kept
 abbrev pub GrowsByBeginning : Option (List KeptDump) → Option (List KeptDump) → List KeptDump → Type 0
@@ -37,12 +44,26 @@ abbrev pub IsFaultAt : ℕ → ℕ → ℕ → ℕ → RunFault → Type 0
 IsFaultAt client rows before after Memory = after ≡ before
 IsFaultAt client rows before after (Dump at) = (at ≡ client) × IsDumpFailure before after rows
 IsFaultAt client rows before after Report = ⊥
+IsFaultAt client rows before after (Read peer) = ⊥
 
--- how a run stops before its report
-abbrev pub IsStop : Plan → List (List ℕ) → ℕ → Option (List KeptDump) → Option (List KeptDump) → ℕ → ℕ → RunFault → Type 0
-IsStop plan files time kept later before after Memory = GrowsByBeginning kept later (dumps_of_files plan files time) × (after ≡ before)
-IsStop plan files time kept later before after (Dump client) =
+-- how a run stops at the dumps of these tables
+abbrev pub IsStop : Plan → TablesContent → ℕ → Option (List KeptDump) → Option (List KeptDump) → ℕ → ℕ → RunFault → Type 0
+IsStop plan tables time kept later before after Memory = GrowsByBeginning kept later (dumps_of plan tables time) × (after ≡ before)
+IsStop plan tables time kept later before after (Dump client) =
     (client < length plan.peers)
-    × Grows kept later (take client (dumps_of_files plan files time))
-    × IsDumpFailure before after (length (table_of (tables_of_files plan files) client))
-IsStop plan files time kept later before after Report = ⊥
+    × Grows kept later (take client (dumps_of plan tables time))
+    × IsDumpFailure before after (length (table_of tables client))
+IsStop plan tables time kept later before after Report = ⊥
+IsStop plan tables time kept later before after (Read peer) = ⊥
+
+-- how the reading of sessions stops: memory was refused, or a read failed
+abbrev pub IsReadStop : {R : Type 0} → (R → List ℕ → ReadEnd → Type 0) → Plan → List R → RunFault → Type 0
+IsReadStop gives plan readers Memory = ⊤
+IsReadStop gives plan readers (Dump client) = ⊥
+IsReadStop gives plan readers Report = ⊥
+IsReadStop gives plan readers (Read peer) = FailsAt gives plan readers peer
+
+-- where memory is refused, nothing was kept, or a beginning of the dumps of files that the readers may give
+abbrev pub KeepsBeginning : {R : Type 0} → (R → List ℕ → ReadEnd → Type 0) → Plan → List R → ℕ → Option (List KeptDump) → Option (List KeptDump) → Type 0
+KeepsBeginning gives plan readers time kept later =
+    (later ≡ kept) ⊎ OverFiles gives plan readers (λ files. GrowsByBeginning kept later (dumps_of_files plan files time))

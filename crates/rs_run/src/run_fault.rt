@@ -18,6 +18,9 @@ pub enum RunFault {
     /// The report can't be written; a beginning of it may be out.
     #[error("the report cannot be written")]
     Report,
+    /// The recorded file of the peer of this number can't be read to its end, or has 2^50 octets or more.
+    #[error("the recorded file of peer {0} cannot be read")]
+    Read(usize),
 }
 
 impl From<AllocError> for RunFault {

@@ -1,8 +1,8 @@
-//! Runs over a collector's file: whole, and with each call of the outlet, of a dump's writer and of the report's refused in turn.
+//! Runs over a collector's file: whole, in pieces, and with each call of a reader, of the outlet, of a dump's writer and of the report's refused in turn.
 
 ghost use Rattle.std.specs.Prelude.{◌<◌};
 
-use rs_mrt::{Limits, MemoryWriter};
+use rs_mrt::{Limits, MemoryReader, MemoryWriter, ReadLimits};
 use rs_options::Options;
 use rs_run::{Kept, MemoryOutlet, OutletLimits, RunFault, run};
 use rs_setup::read_setup;
@@ -88,6 +88,17 @@ fn run_with(
     outlet: OutletLimits,
     report: Limits,
 ) -> Result<Ran, Fail> {
+    run_over(rt, time, [ReadLimits::none(); CLIENTS], outlet, report)
+}
+
+// The same, with a reader of each peer's file that gives and fails so.
+fn run_over(
+    rt: &(impl AllocGlobal + Abort),
+    time: u32,
+    limits: [ReadLimits; CLIENTS],
+    outlet: OutletLimits,
+    report: Limits,
+) -> Result<Ran, Fail> {
     let alloc = rt.alloc();
     let setup = read_setup(alloc, EXCHANGE.as_bytes())?;
     let options = Options {
@@ -96,11 +107,20 @@ fn run_with(
         time,
     };
     let collected = hex::decode(alloc, COLLECTED.as_bytes())?;
-    let files: [&[u8]; CLIENTS] = [&collected, &[], &[], &[]];
+    let [first, second, third, fourth] = limits;
+    let readers = Vec::from_array(
+        alloc,
+        [
+            MemoryReader::new(&collected, first),
+            MemoryReader::new(&[], second),
+            MemoryReader::new(&[], third),
+            MemoryReader::new(&[], fourth),
+        ],
+    )?;
     assert_eq!(rt; setup.plan.count(), CLIENTS);
     let mut outlet = MemoryOutlet::new(alloc, outlet);
     let mut report = MemoryWriter::new(alloc, report);
-    let answer = run(alloc, &setup, &files, &options, &mut outlet, &mut report);
+    let answer = run(alloc, &setup, readers, &options, &mut outlet, &mut report);
     Ok(Ran {
         answer,
         outlet,
@@ -129,6 +149,68 @@ fn a_run_keeps_a_dump_for_each_client_and_reports(rt: HostRuntime) -> Result<(),
     check_kept(&rt, ran.outlet.kept(), CLIENTS)?;
     assert_eq!(rt; ran.report.octets(), REPORT.as_bytes());
     Ok(())
+}
+
+#[test]
+fn a_run_over_files_in_pieces_is_the_same(rt: HostRuntime) -> Result<(), Fail> {
+    for piece in [1, 7, 100] {
+        let limits = ReadLimits {
+            piece,
+            ..ReadLimits::none()
+        };
+        let ran = run_over(
+            &rt,
+            0,
+            [limits; CLIENTS],
+            OutletLimits::none(),
+            Limits::none(),
+        )?;
+        assert_eq!(rt; ran.answer, Ok(()), "{piece}");
+        check_kept(&rt, ran.outlet.kept(), CLIENTS)?;
+        assert_eq!(rt; ran.report.octets(), REPORT.as_bytes());
+    }
+    Ok(())
+}
+
+// The limits of a reader that fails after so many octets, which come 40 at a time.
+fn failing_after(octets: usize) -> ReadLimits {
+    ReadLimits {
+        octets_before_failure: Some(octets),
+        piece: 40,
+    }
+}
+
+// A run stopped at a failed read of a peer: nothing is kept, and nothing is reported.
+fn check_unread(
+    rt: &(impl AllocGlobal + Abort),
+    limits: [ReadLimits; CLIENTS],
+    peer: usize,
+) -> Result<(), Fail> {
+    let ran = run_over(rt, 0, limits, OutletLimits::none(), Limits::none())?;
+    assert_eq!(rt; ran.answer, Err(RunFault::Read(peer)));
+    assert!(rt; ran.outlet.kept().is_empty());
+    assert!(rt; ran.report.octets().is_empty());
+    Ok(())
+}
+
+// The file has 506 octets: a call fails at each 40th of them, in records and between them, and where the end of the file would come.
+#[test]
+fn a_failed_read_ends_the_run_and_is_named(rt: HostRuntime) -> Result<(), Fail> {
+    let none = ReadLimits::none();
+    for calls in 0..13 {
+        check_unread(&rt, [failing_after(40 * calls), none, none, none], 0)?;
+    }
+    check_unread(&rt, [failing_after(506), none, none, none], 0)
+}
+
+#[test]
+fn the_first_peer_whose_read_fails_is_named(rt: HostRuntime) -> Result<(), Fail> {
+    let none = ReadLimits::none();
+    let fails = failing_after(0);
+    check_unread(&rt, [none, fails, none, none], 1)?;
+    check_unread(&rt, [none, none, none, fails], 3)?;
+    check_unread(&rt, [none, none, fails, fails], 2)?;
+    check_unread(&rt, [failing_after(100), fails, fails, fails], 0)
 }
 
 // A run stopped at the dump of a client: those before it are kept, and nothing is reported.

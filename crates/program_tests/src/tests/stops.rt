@@ -168,6 +168,9 @@ fn run_ends<R: AllocGlobal + Abort>(
     if let RunFault::Dump(client) = &fault {
         assert!(rt; *client < setup.plan.count());
     }
+    if let RunFault::Read(peer) = &fault {
+        assert!(rt; *peer < setup.files.len());
+    }
     let options = options(alloc, out)?;
     let ended = Ended::Run(fault);
     assert_eq!(rt; status(&ended), code, "{wanted}");
@@ -203,6 +206,18 @@ fn a_run_that_stopped_short_names_what_failed(rt: HostRuntime) -> Result<(), Fai
             "tables",
             2,
             "route_server: cannot write standard output",
+        ),
+        (
+            RunFault::Read(0),
+            "tables",
+            2,
+            "route_server: cannot read a.mrt",
+        ),
+        (
+            RunFault::Read(1),
+            "tables",
+            2,
+            "route_server: cannot read b.mrt",
         ),
     ] {
         run_ends(&rt, fault, out, code, wanted)?;

@@ -1,19 +1,17 @@
-use Rattle.std.proofs.Common.{◌≡◌, ◌++◌, map, take, string_bytes}
+use Rattle.std.proofs.Common.{◌≡◌, ◌++◌, take, string_bytes}
 use Rattle.std.specs.List.{flat_map, enumerate_from}
 use Rattle.rs_run.specs.Outlet.{Grows}
 use Rattle.rs_run.specs.Report.{peer_lines, table_line_of}
-use Rattle.rs_run.specs.Run.{dumps_of_files}
-use Rattle.rs_run.specs.SessionEnd.{ends_of_files}
+use Rattle.rs_run.specs.Run.{dumps_of}
 use Rattle.rs_run.proofs.runner.keep_dumps.Given as goal
 
 -- the dumps of the clients so far are kept, and the report tells of all sessions and of these clients' tables
 abbrev pub invariant-loop-client : goal.invariant-loop-client
 invariant-loop-client g l =
     let O = g.O.Outlet in
-    let plan = l.setup.plan.value in
-    let files = map (λ file. file.now) l.fn.files in
+    let tables = l.sessions.tables in
     record {
-      kept : Grows (O.kept l.fn.outlet) (O.kept l.outlet) (take l.client (dumps_of_files plan files l.options.time));
+      kept : Grows (O.kept l.fn.outlet) (O.kept l.outlet) (take l.client (dumps_of l.plan tables l.time));
       failures : O.failures l.outlet ≡ O.failures l.fn.outlet;
-      report : string_bytes l.text ≡ peer_lines plan.peers (ends_of_files plan files) ++ flat_map (table_line_of plan files) (take l.client (enumerate_from 0 plan.peers));
+      report : string_bytes l.text ≡ peer_lines l.plan.peers l.sessions.ends.items ++ flat_map (table_line_of tables) (take l.client (enumerate_from 0 l.plan.peers));
     }

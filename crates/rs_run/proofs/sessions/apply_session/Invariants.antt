@@ -1,0 +1,19 @@
+use Rattle.std.proofs.Common.{◌≡◌, ◌≢◌, ◌+◌, ℕ}
+use Rattle.std.specs.Prelude.{if◌then◌else◌}
+use Rattle.rs_mrt.specs.RecordReading.{MayCome, room_left, unread}
+use Rattle.rs_session.specs.FileChanges.{default_standard}
+use Rattle.rs_session.specs.Stage.{fresh, most_changes}
+use Rattle.rs_table.specs.Content.{rib_of}
+use Rattle.rs_run.proofs.SessionLemmas.{IsReading}
+use Rattle.rs_run.proofs.sessions.apply_session.Given as goal
+
+abbrev pub invariant-loop-session : goal.invariant-loop-session
+invariant-loop-session g l = record {
+  reading : IsReading (MayCome g.R.Read.gives) (λ r. r.shown) (λ r. room_left r) (fresh (unread l.fn.reader) l.fn.id default_standard) l.session (rib_of l.tables l.peer) (record { changes = l.changes; reason = l.reason });
+  others : (other : ℕ) → other ≢ l.peer → rib_of l.tables other ≡ rib_of l.fn.tables other;
+  plan : l.tables.plan ≡ l.fn.tables.plan;
+}
+
+-- the changes that may still come before the close, and the close
+abbrev pub decreases-loop-session : goal.decreases-loop-session
+decreases-loop-session g l = most_changes (λ r. room_left r) (λ r. r.shown) l.session + (if l.session.closed then 0 else 1)
