@@ -10,7 +10,7 @@ use rs_session::{Body, PeerId, Reason, Session, Word};
 use rs_shard::{ShardEnd, shard_worker};
 use rs_table::Tables;
 use rs_update::{Attributes, Prefix};
-use rs_worker::Gate;
+use rs_worker::{Gate, Open};
 use std::alloc::Global;
 use std::sync::atomic::{AtomicU64, Ordering};
 use std::sync::{Arc, Wait};
@@ -205,4 +205,30 @@ fn a_shard_holds_what_each_peer_has_left_up_to_its_close(rt: HostRuntime) {
         assert_eq!(rt; gate.items.load(Ordering::SeqCst), 13);
         assert_eq!(rt; gate.strays.load(Ordering::SeqCst), 0);
     }
+}
+
+// It holds whichever allocation is refused: then the shard has no tables, or all that it was sent, and in each case it received all items.
+// `tools/refuse_in_tests` refuses each in turn.
+#[test]
+fn refused_memory_ends_the_tables_of_a_shard(rt: HostRuntime) {
+    let alloc = rt.alloc();
+    let (Some(route), Some(plan)) = (route_of(alloc, 0), exchange(alloc, 3)) else {
+        return;
+    };
+    let Ok(tables) = Tables::new(alloc, plan) else {
+        return;
+    };
+    let Ok((sender, from)) = ring::<Routed>(alloc, 16) else {
+        return;
+    };
+    if !send_all(&rt, sender, &route) {
+        return;
+    }
+    let ShardEnd { tables, from } = shard_worker(&rt, 3, tables, from, &Open);
+    assert!(rt; from.closed());
+    let Some(tables) = tables else {
+        return;
+    };
+    assert_eq!(rt; best(&tables, 2, 10), Some((0, 0)));
+    assert_eq!(rt; best(&tables, 2, 50), Some((1, 9)));
 }
