@@ -1,7 +1,13 @@
-//! Schedules in one thread, over recorded files: how far each peer comes, and the tables that are left.
+//! Schedules in one thread, over recorded files: how far each peer comes, and the tables that are left and their dumps.
+
+ghost use Rattle.std.specs.Prelude.{◌<◌, All, IsTrue, length, map};
+ghost use Rattle.rs_table.specs.RouteView.{row_of};
 
 use rs_choice::{Exchange, Local, PeerSpec};
+use rs_dump::write_dump;
 use rs_floor::{Floor, FloorRefused, Turn, replay};
+use rs_mrt::{Limits, MemoryWriter};
+use rs_table::Row;
 use rs_update::Prefix;
 use std::alloc::Global;
 use std::process::Abort;
@@ -59,6 +65,11 @@ const MED_5: &str = "80040400000005";
 const DOCUMENTATION: &str = "18CB0071";
 
 const OTHER: &str = "18C63364";
+
+// The dump of b once a has announced 203.0.113.0/24 at 100, by hand from the standard (RFC 6396, section 4.3).
+const DUMP_OF_B: &str =
+    "00000000 000D 0001 00000023 C0000201 0001 62 0002 02 C000020B C000020B 0000FBF5 02 C000020C C000020C 0000FBF6
+    00000000 000D 0002 00000026 00000000 18CB0071 0001 0000 00000064 0014 40010100 40020602010000FBF5 400304C000020B";
 
 // The exchange of AS 64500 at 192.0.2.1 with these peers.
 fn exchange(alloc: Global, rows: &[Peer]) -> Option<Arc<Exchange>> {
@@ -165,6 +176,35 @@ fn shown(alloc: Global, floor: &Floor, client: usize) -> Option<Vec<(Prefix, usi
     Some(shown)
 }
 
+// Whether all rows are of peers of the plan.
+fn are_known(plan: &Exchange, rows: &[Row]) -> bool
+    ensures { IsTrue result → All (λ row. row.route.peer < length plan.now.peers) (map row_of rows.now) }
+{
+    let count = plan.count();
+    for row in rows {
+        if row.route.peer >= count {
+            return false;
+        }
+    }
+    true
+}
+
+// The octets of a client's dump, at time 0.
+fn dump(
+    rt: &impl Abort,
+    alloc: Global,
+    plan: &Exchange,
+    floor: &Floor,
+    client: usize,
+) -> Option<Vec<u8>> {
+    let rows = floor.tables().rows(client).ok()?;
+    assert!(rt; client < plan.count());
+    assert!(rt; are_known(plan, &rows));
+    let mut out = MemoryWriter::new(alloc, Limits::none());
+    write_dump(alloc, &mut out, plan, client, &rows, 0).ok()?;
+    Some(out.into_octets())
+}
+
 #[test]
 fn a_ring_of_one_change_takes_turns(rt: HostRuntime) {
     let alloc = rt.alloc();
@@ -231,6 +271,9 @@ fn changes_are_in_the_tables_once_they_are_received(rt: HostRuntime) {
         assert_eq!(rt; shown(alloc, &floor, A).expect(&rt, "rows").len(), 0);
         assert_eq!(rt; floor.tables().is_closed(A), taken == 8);
     }
+    let floor = run(&rt, alloc, &plan, &[&a, &[]], 2, &turns).expect(&rt, "a floor");
+    let written = dump(&rt, alloc, &plan, &floor, B).expect(&rt, "a dump");
+    assert_eq!(rt; Some(written), octets(alloc, DUMP_OF_B));
 }
 
 // The files of four peers: by steps 1 to 3 all routes are alike, MED decides between the first two, and the identifier between the last.
@@ -359,7 +402,7 @@ fn turns_by_peer(alloc: Global) -> Option<Vec<Turn>> {
 }
 
 #[test]
-fn drained_schedules_leave_the_same_tables(rt: HostRuntime) {
+fn drained_schedules_give_the_same_dumps(rt: HostRuntime) {
     let alloc = rt.alloc();
     let plan = exchange(alloc, EIGHT).expect(&rt, "an exchange");
     let mut files = Vec::new(alloc);
@@ -376,8 +419,9 @@ fn drained_schedules_leave_the_same_tables(rt: HostRuntime) {
     for peer in 0..8 {
         assert_eq!(rt; counts(&rt, &one, peer), (13, 13));
         assert_eq!(rt; counts(&rt, &other, peer), (13, 13));
-        let rows = shown(alloc, &one, peer).expect(&rt, "rows");
-        assert!(rt; rows.len() > 3);
-        assert_eq!(rt; Some(rows), shown(alloc, &other, peer), "of client {peer}");
+        assert!(rt; shown(alloc, &one, peer).expect(&rt, "rows").len() > 3);
+        let written = dump(&rt, alloc, &plan, &one, peer).expect(&rt, "a dump");
+        let again = dump(&rt, alloc, &plan, &other, peer);
+        assert_eq!(rt; Some(written), again, "of client {peer}");
     }
 }
