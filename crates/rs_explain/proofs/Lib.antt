@@ -5,3 +5,6 @@ pub mod ContenderLemmas
 pub mod BestLemmas
 pub mod AgreementLemmas
 pub mod RivalLemmas
+pub mod SaidLemmas
+pub mod SaidLaws
+pub mod CutLemmas

@@ -1,6 +1,6 @@
 -- Laws of explanations.
-use Rattle.std.specs.Prelude.{◌≡◌, ◌<◌, ℕ, IsTrue, length}
-use Rattle.std.specs.List.{Contains}
+use Rattle.std.specs.Prelude.{◌≡◌, ◌<◌, ℕ, false, IsTrue, List, length}
+use Rattle.std.specs.List.{list_any, Contains}
 use Rattle.rs_update.specs.IpPrefix.{IpPrefix}
 use Rattle.rs_choice.specs.Decision.{beats}
 use Rattle.rs_table.specs.Content.{TablesContent}
@@ -10,6 +10,11 @@ use Rattle.rs_explain.specs.declared.explanation.Explanation.TheVariants.{Lost}
 use Rattle.rs_explain.specs.declared.removal.Removal.{Removal}
 use Rattle.rs_explain.specs.Contenders.{contender_of}
 use Rattle.rs_explain.specs.Explanations.{answer_of, IsExplanation}
+use Rattle.rs_session.specs.Change.{Change}
+use Rattle.rs_table.specs.Left.{drops_routes, Leaves, RouteLeft}
+use Rattle.rs_explain.specs.declared.last_said.Ending.{Ending}
+use Rattle.rs_explain.specs.declared.last_said.LastSaid.TheVariants as said
+use Rattle.rs_explain.specs.LastSaid.{IsSaidLast}
 
 -- an explanation agrees with the answer
 abbrev pub ExplanationAgrees : Type 0
@@ -25,3 +30,20 @@ RivalIsCandidate =
     IsExplanation tables client peer prefix (Lost removal) →
     ((route : PeerRoute) × Contains (candidates_of tables client prefix) route × (contender_of tables.plan route ≡ removal.rival))
     × IsTrue (beats removal.step removal.rival.standing removal.loser.standing)
+
+-- where a list doesn't close but at the end of its file, what it says is announced is left, and announced at that time
+abbrev pub AnnouncedIsLeft : Type 0
+AnnouncedIsLeft =
+    (prefix : IpPrefix) (changes : List Change) (time : ℕ) → IsSaidLast prefix changes (said.Announced time) → list_any drops_routes changes ≡ false →
+    (route : RouteLeft) × (route.time ≡ time) × Leaves changes prefix route
+
+-- what a list says was never announced is not left
+abbrev pub NeverAnnouncedIsNotLeft : Type 0
+NeverAnnouncedIsNotLeft =
+    (prefix : IpPrefix) (changes : List Change) → IsSaidLast prefix changes said.NeverAnnounced → (route : RouteLeft) → Leaves changes prefix route → ⊥
+
+-- nor is what it says was taken away
+abbrev pub EndedIsNotLeft : Type 0
+EndedIsNotLeft =
+    (prefix : IpPrefix) (changes : List Change) (time : ℕ) (ending : Ending) → IsSaidLast prefix changes (said.Ended time ending) →
+    (route : RouteLeft) → Leaves changes prefix route → ⊥

@@ -1,0 +1,175 @@
+-- What is said last of a prefix agrees with the routes that are left.
+use Rattle.std.proofs.Common.{◌≡◌, ◌∙◌, sym, ap, refl, ℕ, Bool, true, false, cond, List, [], ◌∷◌, ◌++◌, inl, inr}
+use Rattle.std.specs.Prelude.{Option, Some, None, ◌||◌}
+use Rattle.std.specs.List.{list_any}
+use Rattle.std.specs.Option.{is_some}
+use Rattle.std.specs.Ordering.{is_eq, nat_cmp, ordering_then}
+use Rattle.std.specs.Cmp.{Equal-is, IsTotalOrder, nat_cmp_total, on_total, then_total, tied_itself}
+use Rattle.std.specs.FinMap.{nat_cmp-IsAntisymmetric}
+use Rattle.std.specs.declared.cmp.Ordering.{Ordering}
+use Rattle.std.specs.declared.cmp.Ordering.TheVariants.{Less, Equal, Greater}
+use Rattle.rs_update.specs.IpPrefix.{IpPrefix}
+use Rattle.rs_update.specs.PathAttributes.{PathAttributes}
+use Rattle.rs_update.specs.PrefixOrder.{prefix_cmp}
+use Rattle.rs_session.specs.declared.word.Reason.{Reason}
+use Rattle.rs_session.specs.Change.{Change, ChangeBody, Announced, Withdrawn, Lost, Closed}
+use Rattle.rs_table.specs.Left.{announcement, drops_routes, is_loss, is_on, reason_drops, same_prefix, Leaves, RouteLeft}
+use Rattle.rs_explain.specs.declared.last_said.Ending.{Ending}
+use Rattle.rs_explain.specs.declared.last_said.EndedBy.{EndedBy}
+use Rattle.rs_explain.specs.declared.last_said.EndedBy.TheVariants as by
+use Rattle.rs_explain.specs.LastSaid.{announces, body_announces, body_ends_by, ends, ends_by, EndRoute, IsAnnouncedLast, KeepRoute}
+use Rattle.rs_explain.proofs.Members.{Mem, list_any-none}
+
+-- ---- one test of two prefixes says that they are equal
+
+then_first : (r s : Ordering) → ordering_then r s ≡ Equal → r ≡ Equal
+then_first Less s e = cc e
+then_first Equal s e = refl
+then_first Greater s e = cc e
+
+then_second : (r s : Ordering) → ordering_then r s ≡ Equal → s ≡ Equal
+then_second Less s e = cc e
+then_second Equal s e = e
+then_second Greater s e = cc e
+
+prefix_total : IsTotalOrder prefix_cmp
+prefix_total = then_total (on_total (λ (p : IpPrefix). p.address) nat_cmp_total) (on_total (λ (p : IpPrefix). p.len) nat_cmp_total)
+
+same_prefix-is : (x y : IpPrefix) → same_prefix x y ≡ true → x ≡ y
+same_prefix-is x y e =
+    let tied : prefix_cmp x y ≡ Equal = (Equal-is (prefix_cmp x y)).0 e in
+    let address : x.address ≡ y.address = nat_cmp-IsAntisymmetric x.address y.address (then_first _ _ tied) in
+    let len : x.len ≡ y.len = nat_cmp-IsAntisymmetric x.len y.len (then_second (nat_cmp x.address y.address) _ tied) in
+    λ i. record { address = address i; len = len i }
+
+same_prefix-itself : (x : IpPrefix) → same_prefix x x ≡ true
+same_prefix-itself x = ap is_eq (tied_itself prefix_total x)
+
+-- ---- one change
+
+module _ (prefix : IpPrefix) where
+  body_of_announcement : (body : ChangeBody) → body_announces prefix body ≡ true → (attributes : PathAttributes) × (body ≡ Announced prefix attributes)
+  body_of_announcement (Announced announced attributes) is =
+      (attributes, ap (λ (announced : IpPrefix). Announced announced attributes) (sym (same_prefix-is prefix announced is)))
+  body_of_announcement (Withdrawn withdrawn) is = absurd (cc)
+  body_of_announcement Lost is = absurd (cc)
+  body_of_announcement (Closed reason) is = absurd (cc)
+
+  none_if : (b : Bool) (by : EndedBy) → is_some (cond b (Some by) None) ≡ false → b ≡ false
+  none_if true by none = absurd (cc)
+  none_if false by none = refl
+
+  body_off : (time : ℕ) (body : ChangeBody) → body_announces prefix body ≡ false → is_some (body_ends_by prefix body) ≡ false → is_on prefix (record { time = time; body = body }) ≡ false
+  body_off time (Announced announced attributes) other keeps = other
+  body_off time (Withdrawn withdrawn) other keeps = none_if (same_prefix prefix withdrawn) by.Withdrawal keeps
+  body_off time Lost other keeps = refl
+  body_off time (Closed reason) other keeps = refl
+
+  body_up : (time : ℕ) (body : ChangeBody) → is_some (body_ends_by prefix body) ≡ false → is_loss (record { time = time; body = body }) ≡ false
+  body_up time (Announced announced attributes) keeps = refl
+  body_up time (Withdrawn withdrawn) keeps = refl
+  body_up time Lost keeps = absurd (cc)
+  body_up time (Closed reason) keeps = refl
+
+  -- a change that takes the route away is on the prefix, or a loss, or drops all routes
+  body_ends : (time : ℕ) (body : ChangeBody) (ended : EndedBy) → body_ends_by prefix body ≡ Some ended → is_on prefix (record { time = time; body = body }) ≡ false →
+      is_loss (record { time = time; body = body }) ≡ false → drops_routes (record { time = time; body = body }) ≡ false → ⊥
+  body_ends time (Announced announced attributes) ended is off up keeps = absurd (cc)
+  body_ends time (Withdrawn withdrawn) ended is off up keeps = some_if (same_prefix prefix withdrawn) by.Withdrawal is off
+    where
+      some_if : (b : Bool) (by : EndedBy) → cond b (Some by) None ≡ Some ended → b ≡ false → ⊥
+      some_if true by is off = absurd (cc)
+      some_if false by is off = absurd (cc)
+  body_ends time Lost ended is off up keeps = absurd (cc)
+  body_ends time (Closed reason) ended is off up keeps = some_if (reason_drops reason) (by.Close reason) is keeps
+    where
+      some_if : (b : Bool) (by : EndedBy) → cond b (Some by) None ≡ Some ended → b ≡ false → ⊥
+      some_if true by is off = absurd (cc)
+      some_if false by is off = absurd (cc)
+
+  -- ---- lists
+
+  or_none : (a b : Bool) → (a || b) ≡ false → (a ≡ false) × (b ≡ false)
+  or_none true b h = absurd (cc)
+  or_none false b h = (refl, h)
+
+  none_on : (later : List Change) → list_any (announces prefix) later ≡ false → KeepRoute prefix later → list_any (is_on prefix) later ≡ false
+  none_on [] other keeps = refl
+  none_on (change ∷ later) other keeps =
+      let others = or_none (announces prefix change) (list_any (announces prefix) later) other in
+      let kept = or_none (ends prefix change) (list_any (ends prefix) later) keeps in
+      rw (body_off change.time change.body others.0 kept.0, none_on later others.1 kept.1) refl
+
+  none_lost : (later : List Change) → KeepRoute prefix later → list_any is_loss later ≡ false
+  none_lost [] keeps = refl
+  none_lost (change ∷ later) keeps =
+      let kept = or_none (ends prefix change) (list_any (ends prefix) later) keeps in
+      rw (body_up change.time change.body kept.0, none_lost later kept.1) refl
+
+  -- what is announced last and not taken away is left
+  pub announced_is_left : (changes : List Change) (time : ℕ) → IsAnnouncedLast prefix changes time (KeepRoute prefix) → list_any drops_routes changes ≡ false →
+      (route : RouteLeft) × (route.time ≡ time) × Leaves changes prefix route
+  announced_is_left changes time said keeps =
+      let is = body_of_announcement said.announcement.body said.announced in
+      let earlier = said.earlier in
+      let later = said.later in (
+        record { time = said.announcement.time; attributes = is.0 },
+        said.at,
+        record {
+          earlier = earlier;
+          later = later;
+          is_announced = said.splits ∙ ap (λ (body : ChangeBody). earlier ++ record { time = said.announcement.time; body = body } ∷ later) is.1;
+          is_last = none_on later said.last said.after;
+          stays_up = none_lost later said.after;
+          keeps_routes = keeps;
+        },
+      )
+
+module _ {M : Type 0} (p : M → Bool) where
+  mem-behind : (xs : List M) (x : M) (ys : List M) → Mem (xs ++ x ∷ ys) x
+  mem-behind [] x ys = inl refl
+  mem-behind (z ∷ xs) x ys = inr (mem-behind xs x ys)
+
+  mem-append_right : (xs ys : List M) (y : M) → Mem ys y → Mem (xs ++ ys) y
+  mem-append_right [] ys y h = h
+  mem-append_right (x ∷ xs) ys y h = inr (mem-append_right xs ys y h)
+
+  head_tail : (x y : M) (xs ys : List M) → x ∷ xs ≡ y ∷ ys → (x ≡ y) × (xs ≡ ys)
+  head_tail x y xs ys e = (cc, cc)
+
+  -- of two ways to split a list, what follows where no test holds follows in the other too, where a test holds
+  pub follows_too : (e e' : List M) (a a' : M) (later later' : List M) → e ++ a ∷ later ≡ e' ++ a' ∷ later' → p a' ≡ true → list_any p later ≡ false →
+      (x : M) → Mem later x → Mem later' x
+  follows_too [] [] a a' later later' same is none x h = rw (← (head_tail a a' later later' same).1) h
+  follows_too [] (y ∷ e') a a' later later' same is none x h =
+      let tail : later ≡ e' ++ a' ∷ later' = (head_tail a y later (e' ++ a' ∷ later') same).1 in
+      let other : p a' ≡ false = list_any-none p later a' none (rw tail (mem-behind e' a' later')) in
+      absurd (cc (is, other))
+  follows_too (y ∷ e) [] a a' later later' same is none x h =
+      rw (← (head_tail y a' (e ++ a ∷ later) later' same).1) (mem-append_right e (a ∷ later) x (inr h))
+  follows_too (y ∷ e) (z ∷ e') a a' later later' same is none x h =
+      follows_too e e' a a' later later' (head_tail y z (e ++ a ∷ later) (e' ++ a' ∷ later') same).1 is none x h
+
+-- what is not announced last, or taken away since, is not left
+module _ (prefix : IpPrefix) where
+  announced_itself : (route : RouteLeft) → announces prefix (announcement prefix route) ≡ true
+  announced_itself route = same_prefix-itself prefix
+
+  pub never_announced : (changes : List Change) → list_any (announces prefix) changes ≡ false → (route : RouteLeft) → Leaves changes prefix route → ⊥
+  never_announced changes none route leaves =
+      let there : Mem changes (announcement prefix route) = rw leaves.is_announced (mem-behind (announces prefix) leaves.earlier (announcement prefix route) leaves.later) in
+      let other : announces prefix (announcement prefix route) ≡ false = list_any-none (announces prefix) changes (announcement prefix route) none there in
+      absurd (cc (announced_itself route, other))
+
+  pub ended_is_gone : (changes : List Change) (time : ℕ) (ending : Ending) → IsAnnouncedLast prefix changes time (EndRoute prefix ending) →
+      (route : RouteLeft) → Leaves changes prefix route → ⊥
+  ended_is_gone changes time ending said route leaves =
+      let ended = said.after in
+      let change = ended.change in
+      let in_later : Mem said.later change = rw ended.splits (mem-behind (announces prefix) ended.before change ended.after) in
+      let follows : Mem leaves.later change =
+      follows_too (announces prefix) said.earlier leaves.earlier said.announcement (announcement prefix route) said.later leaves.later
+      (sym said.splits ∙ leaves.is_announced) (announced_itself route) said.last change in_later in
+      let in_all : Mem changes change = rw leaves.is_announced (mem-append_right (announces prefix) leaves.earlier (announcement prefix route ∷ leaves.later) change (inr follows)) in
+      body_ends prefix change.time change.body ending.by ended.ends.by (list_any-none (is_on prefix) leaves.later change leaves.is_last follows)
+      (list_any-none is_loss leaves.later change leaves.stays_up follows) (list_any-none drops_routes changes change leaves.keeps_routes in_all)
