@@ -1,5 +1,6 @@
 //! Routes on one prefix, their attributes read from octets, in hexadecimal, and why each client has each of them or not.
 
+mod last_said;
 mod reasons;
 mod steps;
 
