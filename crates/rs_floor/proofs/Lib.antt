@@ -6,3 +6,10 @@ mod StepLemmas
 mod HeldLemmas
 mod ReplayLemmas
 mod OpeningLemmas
+mod OpenLemmas
+mod ServedLemmas
+mod AllServedLemmas
+mod RunLemmas
+mod SettleLemmas
+mod FileLemmas
+mod AtHandLemmas

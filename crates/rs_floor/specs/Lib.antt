@@ -9,6 +9,9 @@ pub mod FloorContent
 pub mod Lane
 pub mod LaneView
 pub mod Laws
+pub mod Lines
 pub mod Outcome
+pub mod Run
 pub mod Schedule
+pub mod Served
 pub mod Steps

@@ -43,7 +43,7 @@ pub fn replay(
 }
 
 // Whether a ring may have room for so many changes.
-fn has_room(capacity: usize) -> bool
+pub(crate) fn has_room(capacity: usize) -> bool
     ensures { result ≡ is_capacity capacity }
 {
     (1..=MAX_CAPACITY).contains(&capacity)

@@ -1,0 +1,99 @@
+-- Readers of files that are at hand.
+use mathlib.Core.List.{map-map}
+use Rattle.std.proofs.Common.{◌≡◌, ◌∙◌, sym, ap, subst, ℕ, ◌<◌, arith, inl, inr, List, ◌++◌, length, map, take, drop, append_assoc, Option, Some}
+use Rattle.std.specs.Prelude.{◌⊎◌, slice_get}
+use Rattle.std.specs.List.{zip}
+use Rattle.std.proofs.lemmas.List.{length-map, take-append-drop}
+use Rattle.rs_choice.specs.Plan.{Peer, Plan}
+use Rattle.rs_mrt.specs.Reader.{ReadEnd, FileEnds, ReadFails, MayBeLeft}
+use Rattle.rs_session.specs.Change.{Change}
+use Rattle.rs_session.specs.FileChanges.{changes_in_by, passed_in_by}
+use Rattle.rs_session.specs.Given.{IsGiven, IsGivenToClose}
+use Rattle.rs_session.specs.declared.peer.PeerId.{PeerId}
+use Rattle.rs_update.specs.declared.errors.Errors.{Errors}
+use Rattle.rs_floor.specs.FloorContent.{id_of}
+use Rattle.rs_floor.specs.Laws.{tables_of}
+use Rattle.rs_floor.specs.Served.{ServedContent, IsEndOf, IsServed, IsServedBy, said_by}
+use Rattle.rs_floor.specs.declared.ended.PeerEnd.{PeerEnd}
+use Rattle.rs_floor.proofs.AllServedLemmas.{some-at}
+use Rattle.rs_floor.proofs.FileLemmas.{front-says}
+use Rattle.rs_floor.proofs.ListLemmas.{same-places, get-within}
+use Rattle.rs_floor.proofs.ServedLemmas.{made-at, zip-at, zip-counted}
+
+-- a reader gives the octets that it has at hand, or a beginning of them before a failed read
+abbrev pub at_hand : {R : Type 0} → (R → List ℕ) → R → List ℕ → ReadEnd → Type 0
+at_hand f reader octets end = MayBeLeft (Some (f reader)) octets end
+
+-- two files say the same of a peer
+record SaysSame (errors : Errors) (peer : PeerId) (file whole : List ℕ) : Type 0 where
+  changes : changes_in_by errors peer file ≡ changes_in_by errors peer whole
+  passed : passed_in_by errors peer file ≡ passed_in_by errors peer whole
+
+given-close : {R : Type 0} (f : R → List ℕ) (errors : Errors) (peer : PeerId) (reader : R) (file : List ℕ) → IsGivenToClose (at_hand f) errors peer reader file → SaysSame errors peer file (f reader)
+given-close f errors peer reader file c = by c.end c.given
+  where
+    front : (rest : List ℕ) → file ++ rest ≡ f reader → SaysSame errors peer file (f reader)
+    front rest e =
+        let s = front-says errors peer file rest c.closes in
+        record { changes = sym s.0 ∙ ap (changes_in_by errors peer) e; passed = sym s.1 ∙ ap (passed_in_by errors peer) e }
+
+    by : (end : ReadEnd) → MayBeLeft (Some (f reader)) (file ++ c.later) end → SaysSame errors peer file (f reader)
+    by FileEnds e = front c.later e
+    by ReadFails g =
+        front (c.later ++ drop g.0 (f reader))
+        (sym (append_assoc file c.later (drop g.0 (f reader))) ∙ ap (λ (xs : List ℕ). xs ++ drop g.0 (f reader)) g.1 ∙ take-append-drop g.0 (f reader))
+
+-- what is given of a file at hand says what the file says
+given-whole : {R : Type 0} (f : R → List ℕ) (errors : Errors) (peer : PeerId) (reader : R) (file : List ℕ) → IsGiven (at_hand f) errors peer reader file → SaysSame errors peer file (f reader)
+given-whole f errors peer reader file (inl whole) =
+    let e : file ≡ f reader = whole.given in
+    record { changes = ap (changes_in_by errors peer) e; passed = ap (passed_in_by errors peer) e }
+given-whole f errors peer reader file (inr close) = given-close f errors peer reader file close
+
+module _ {R : Type 0} (f : R → List ℕ) (errors : Errors) (plan : Plan) (readers : List R) (served : ServedContent) (as_many : length readers ≡ length plan.peers) (s : IsServedBy (at_hand f) errors plan readers served) where
+  files-counted : length s.0 ≡ length plan.peers
+  files-counted = s.1.as_many ∙ as_many
+
+  same : (place : ℕ) (peer : Peer) (reader : R) (file : List ℕ) → slice_get plan.peers place ≡ Some peer → slice_get readers place ≡ Some reader → slice_get s.0 place ≡ Some file → SaysSame errors (id_of peer) file (f reader)
+  same place peer reader file ep er ef = given-whole f errors (id_of peer) reader file (s.1.each place (id_of peer) reader file (made-at id_of plan.peers place peer ep) er ef)
+
+  of-zip : (files : List (List ℕ)) → length files ≡ length plan.peers → length (said_by errors plan files) ≡ length plan.peers
+  of-zip files counts = length-map (zip plan.peers files) (λ (peer, file). changes_in_by errors (id_of peer) file) ∙ zip-counted plan.peers files counts
+
+  said-at : (files : List (List ℕ)) (place : ℕ) (peer : Peer) (file : List ℕ) → slice_get plan.peers place ≡ Some peer → slice_get files place ≡ Some file → slice_get (said_by errors plan files) place ≡ Some (changes_in_by errors (id_of peer) file)
+  said-at files place peer file ep ef = made-at (λ (p, o). changes_in_by errors (id_of p) o) (zip plan.peers files) place (peer, file) (zip-at plan.peers files place peer file ep ef)
+
+  said : said_by errors plan s.0 ≡ said_by errors plan (map f readers)
+  said = same-places (said_by errors plan (map f readers)) (said_by errors plan s.0) (of-zip (map f readers) (length-map readers f ∙ as_many) ∙ sym (of-zip s.0 files-counted)) places
+    where
+      places : (place : ℕ) (changes : List Change) → slice_get (said_by errors plan (map f readers)) place ≡ Some changes → slice_get (said_by errors plan s.0) place ≡ Some changes
+      places place changes e =
+          let within : place < length (said_by errors plan (map f readers)) = get-within (said_by errors plan (map f readers)) place changes e in
+          let total : length (said_by errors plan (map f readers)) ≡ length plan.peers = of-zip (map f readers) (length-map readers f ∙ as_many) in
+          let peer = some-at plan.peers place (omega (arith, within, total)) in
+          let reader = some-at readers place (omega (arith, within, total, as_many)) in
+          let file = some-at s.0 place (omega (arith, within, total, files-counted)) in
+          let one = same place peer.0 reader.0 file.0 peer.1 reader.1 file.1 in
+          said-at s.0 place peer.0 file.0 peer.1 file.1 ∙ ap Some one.changes ∙ sym (said-at (map f readers) place peer.0 (f reader.0) peer.1 (made-at f readers place reader.0 reader.1)) ∙ e
+
+  ends : (place : ℕ) (peer : Peer) (whole : List ℕ) (end : PeerEnd) → slice_get plan.peers place ≡ Some peer → slice_get (map f readers) place ≡ Some whole → slice_get served.ends place ≡ Some end → IsEndOf errors (id_of peer) whole end
+  ends place peer whole end ep ew ee =
+      let within : place < length (map f readers) = get-within (map f readers) place whole ew in
+      let reader = some-at readers place (omega (arith, within, length-map readers f)) in
+      let file = some-at s.0 place (omega (arith, within, length-map readers f, as_many, files-counted)) in
+      let one = same place peer reader.0 file.0 ep reader.1 file.1 in
+      let was = s.2.ends_are place peer file.0 end ep file.1 ee in
+      let both : Some (f reader.0) ≡ Some whole = sym (made-at f readers place reader.0 reader.1) ∙ ew in
+      let same_file : f reader.0 ≡ whole = cc in
+      let is : IsEndOf errors (id_of peer) (f reader.0) end = record {
+        before = was.before;
+        time = was.time;
+        changes_are = was.changes_are ∙ ap length one.changes;
+        passed_are = was.passed_are ∙ one.passed;
+        closes = sym one.changes ∙ was.closes;
+      } in
+      subst (λ (w : List ℕ). IsEndOf errors (id_of peer) w end) same_file is
+
+  -- what is served of files at hand is what the files say
+  pub served-at-hand : IsServed errors plan (map f readers) served
+  served-at-hand = record { tables_are = s.2.tables_are ∙ ap (tables_of plan) said; counted = s.2.counted; ends_are = ends }

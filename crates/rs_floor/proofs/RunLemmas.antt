@@ -1,0 +1,127 @@
+-- A run, from the start of its threads to their join.
+use mathlib.Core.List.{IsPrefix, map-map}
+use Rattle.std.proofs.Common.{◌≡◌, ◌∙◌, sym, ap, refl, ℕ, ◌<◌, ◌≤◌, zero, suc, arith, take, Result, Ok, Err, Bool, true, false, List, [], ◌∷◌, ◌++◌, All, AllPairs, length, map, get_or, Some, append-nil, length-append}
+use Rattle.std.specs.Prelude.{slice_get, IfOk}
+use Rattle.std.proofs.lemmas.List.{length-map}
+use Rattle.std.proofs.lemmas.List.Elements.{All-map}
+use Rattle.std.proofs.lemmas.Option.{slice_get-get_or}
+use Rattle.rs_choice.specs.Plan.{Peer, Plan}
+use Rattle.rs_mrt.specs.Reader.{ReadEnd}
+use Rattle.rs_mrt.specs.RecordReading.{RecordReading, MayCome, unread}
+use Rattle.rs_ring.specs.Ends.{Receiving, Sending}
+use Rattle.rs_router.specs.Cut.{IsShardCount}
+use Rattle.rs_router.specs.Routing.{AreClosed, AreCuts, received_lists}
+use Rattle.rs_router.specs.declared.routed.Routed.{Routed}
+use Rattle.rs_session.specs.declared.word.Word.{Word}
+use Rattle.rs_shard.specs.Crew as shards
+use Rattle.rs_shard.specs.Crew.{AllHold}
+use Rattle.rs_shard.specs.Laws.{IsOfPlan, AreShardsOf, IsRun, RunShardsAreWhole, ShardsMerge}
+use Rattle.rs_shard.specs.declared.crew.ShardJob.{ShardJob}
+use Rattle.rs_session.specs.Change.{change_of}
+use Rattle.rs_session.specs.Laws.{FailedReadCloses}
+use Rattle.rs_table.specs.Content.{TablesContent, rib_left}
+use Rattle.rs_update.specs.declared.errors.Errors.{Errors}
+use Rattle.rs_worker.specs.Crew.{AllSettled, Charge, charge_of}
+use Rattle.rs_worker.specs.declared.crew.Job.{Job}
+use Rattle.rs_worker.specs.declared.crew.Joined.{Joined}
+use Rattle.rs_floor.specs.FloorContent.{id_of}
+use Rattle.rs_floor.specs.Lines.{AreLines, AreRings}
+use Rattle.rs_floor.specs.Run.{HasRun, CanMerge, IsAnswer}
+use Rattle.rs_floor.specs.Served.{ServedContent, IsServedBy}
+use Rattle.rs_floor.proofs.AllServedLemmas.{all-at, all-served}
+
+pub none-left : {X : Type 0} (xs : List X) → length xs ≡ 0 → xs ≡ []
+none-left [] e = refl
+none-left (x ∷ xs) e = absurd (omega (arith, e))
+
+-- what was written over the front of a list of that length
+pub take-front : {X : Type 0} (xs later : List X) (n : ℕ) → length xs ≡ n → take n (xs ++ later) ≡ xs
+take-front [] later zero e = refl
+take-front [] later (suc n) e = absurd (omega (arith, e))
+take-front (x ∷ xs) later zero e = absurd (omega (arith, e))
+take-front (x ∷ xs) later (suc n) e = ap (λ zs. x ∷ zs) (take-front xs later n (omega (arith, e)))
+
+-- what follows where the answer is Ok
+pub ok-so : {A E : Type 0} (result : Result A E) (P Q : A → Type 0) → IfOk result P → ((x : A) → P x → Q x) → IfOk result Q
+ok-so (Ok x) P Q p h = h x p
+ok-so (Err fault) P Q p h = tt
+
+-- a beginning that is as long is the whole
+pub prefix-whole : {X : Type 0} (xs ys : List X) → IsPrefix xs ys → length xs ≡ length ys → xs ≡ ys
+prefix-whole xs ys prefix counts =
+    let none : prefix.0 ≡ [] = none-left prefix.0 (omega (arith, ap length prefix.1, length-append xs prefix.0, counts)) in
+    sym (append-nil xs) ∙ ap (λ zs. xs ++ zs) (sym none) ∙ prefix.1
+
+-- where all were started, each is charged with its job
+pub all-charged : {H J C : Type 0} (charged : H → C) (charge : J → C) (handles : List H) (jobs : List J) → IsPrefix (map charged handles) (map charge jobs) → length handles ≡ length jobs → map charged handles ≡ map charge jobs
+all-charged charged charge handles jobs prefix counts =
+    prefix-whole (map charged handles) (map charge jobs) prefix (length-map handles charged ∙ counts ∙ sym (length-map jobs charge))
+
+-- there are no more handles than jobs
+pub prefix-shorter : {H J C : Type 0} (charged : H → C) (charge : J → C) (handles : List H) (jobs : List J) → IsPrefix (map charged handles) (map charge jobs) → length handles ≤ length jobs
+prefix-shorter charged charge handles jobs prefix =
+    omega (arith, ap length prefix.1, length-append (map charged handles) prefix.0, length-map handles charged, length-map jobs charge)
+
+-- and has the ring whose other end is here
+pub rings-of : {H J C Q E : Type 0} (charged : H → C) (charge : J → C) (ring : C → Q) (end : E → Q) (handles : List H) (jobs : List J) (before after : List E)
+    → map charged handles ≡ map charge jobs → map (λ job. ring (charge job)) jobs ≡ map end before → map end after ≡ map end before → map (λ handle. ring (charged handle)) handles ≡ map end after
+rings-of charged charge ring end handles jobs before after same rings kept =
+    sym (map-map ring charged handles) ∙ ap (map ring) same ∙ map-map ring charge jobs ∙ rings ∙ sym kept
+
+pub counted-by : {X Y Z : Type 0} (f : X → Z) (g : Y → Z) (xs : List X) (ys : List Y) → map f xs ≡ map g ys → length xs ≡ length ys
+counted-by f g xs ys same = sym (length-map xs f) ∙ ap length same ∙ length-map ys g
+
+-- all were joined
+pub has-run : {R : Type 0} (gives : R → List ℕ → ReadEnd → Type 0) (workers : List (Charge (RecordReading R))) (of_shards : List shards.Charge) (routed joined : List (Receiving Word)) (sent : List (List Routed))
+    (ends : List Joined) (parts : List TablesContent) (whole : Bool)
+    → AreClosed (received_lists routed) → AreCuts (received_lists routed) sent → map (λ receiver. receiver.received) joined ≡ map (λ receiver. receiver.received) routed
+    → length routed ≡ length workers → length sent ≡ length of_shards → length ends ≡ length workers
+    → AllSettled (MayCome gives) (λ reading. reading.shown) workers joined ends → (whole ≡ true → AllHold of_shards sent parts)
+    → HasRun gives workers of_shards ends parts whole
+has-run gives workers of_shards routed joined sent ends parts whole closed cuts same counted sizes ended settled held = record {
+  receivers = joined;
+  sent = sent;
+  closed = rw same closed;
+  cuts = rw same cuts;
+  counted = counted-by (λ (r : Receiving Word). r.received) (λ (r : Receiving Word). r.received) joined routed same ∙ counted;
+  shared = sizes;
+  joined = ended;
+  settled = settled;
+  held = held;
+}
+
+module _ {R : Type 0} (gives : R → List ℕ → ReadEnd → Type 0) (errors : Errors) (plan : Plan) (readers : List R) (jobs : List (Job (RecordReading R))) (lines : List (Receiving Word))
+    (of_shards : List ShardJob) (senders : List (Sending Routed)) (ends : List Joined) (parts : List TablesContent) (whole : Bool)
+    (are : AreLines gives plan readers jobs lines) (rings : AreRings plan of_shards senders) (run : HasRun gives (map (charge_of errors) jobs) (map shards.charge_of of_shards) ends parts whole) where
+  peers-counted : length jobs ≡ length plan.peers
+  peers-counted = counted-by (λ (job : Job (RecordReading R)). job.id) id_of jobs plan.peers are.peers
+
+  is-run : whole ≡ true → IsRun plan (received_lists run.receivers) run.sent (map shards.charge_of of_shards) parts
+  is-run is = record {
+    counted = rw (run.shared, length-map of_shards shards.charge_of) rings.can.counted;
+    peers = length-map run.receivers (λ (r : Receiving Word). r.received) ∙ run.counted ∙ length-map jobs (charge_of errors) ∙ peers-counted;
+    shards = sym run.shared;
+    charged = all-at (λ (charge : shards.Charge). IsOfPlan plan charge.tables) (map shards.charge_of of_shards) (All-map (λ (charge : shards.Charge). IsOfPlan plan charge.tables) shards.charge_of of_shards rings.tables);
+    closed = run.closed;
+    cuts = run.cuts;
+    hold = run.held is;
+  }
+
+  whole-shards : RunShardsAreWhole → whole ≡ true → AreShardsOf plan (received_lists run.receivers) parts
+  whole-shards law is = law plan (received_lists run.receivers) run.sent (map shards.charge_of of_shards) parts (is-run is)
+
+  -- the shards' tables can be made one
+  pub can-merge : RunShardsAreWhole → ShardsMerge → whole ≡ true → CanMerge (length ends) parts
+  can-merge law merge is =
+      let shards_of = whole-shards law is in
+      record {
+        some = shards_of.counted.0;
+        parts_are = (merge plan (received_lists run.receivers) parts shards_of).0;
+        counted = λ place d below. ap (λ (p : Plan). length p.peers) (shards_of.each place (get_or parts place d) (slice_get-get_or parts place d below)).of_plan.plan_is ∙ sym (run.joined ∙ length-map jobs (charge_of errors) ∙ peers-counted);
+      }
+
+  -- and then they are what the files leave
+  pub run-served : RunShardsAreWhole → ShardsMerge → FailedReadCloses → (served : ServedContent) → IsAnswer ends parts whole served → IsServedBy gives errors plan readers served
+  run-served law merge closes served answer =
+      all-served gives errors plan readers jobs lines of_shards ends parts whole served are closes run answer
+      ((merge plan (received_lists run.receivers) parts (whole-shards law answer.whole_is)).1 served.tables answer.merged answer.one_for_each)

@@ -1,0 +1,105 @@
+-- What files say of each peer whose worker settled well.
+use Rattle.std.proofs.Common.{◌≡◌, ◌∙◌, sym, ap, subst, refl, ℕ, ◌<◌, suc, zero, arith, inl, inr, Bool, true, false, List, [], ◌∷◌, ◌++◌, All, length, map, Option, Some, None}
+use Rattle.std.specs.Prelude.{slice_get}
+use Rattle.std.specs.List.{zip}
+use Rattle.std.specs.Option.{option_map}
+use Rattle.std.proofs.lemmas.List.{length-map, map-append}
+use Rattle.std.proofs.lemmas.Option.{slice_get-map}
+use Rattle.rs_choice.specs.Plan.{Peer, Plan}
+use Rattle.rs_mrt.specs.Reader.{ReadEnd}
+use Rattle.rs_mrt.specs.Record.{records_of}
+use Rattle.rs_mrt.specs.RecordReading.{RecordReading, MayCome, unread}
+use Rattle.rs_mrt.specs.declared.fault.SourceFault.TheVariants as faults
+use Rattle.rs_session.specs.Change.{Change, Closed, change_of, closing_word, is_read}
+use Rattle.rs_session.specs.FileChanges.{changes_in_by, passed_in_by, changes_of, close_at}
+use Rattle.rs_session.specs.Given.{IsGiven, SaysGiven, SaysFailed}
+use Rattle.rs_session.specs.Laws.{GivesFileOrFails, FailedReadCloses, ClosesByRead}
+use Rattle.rs_session.specs.Stage.{May, fresh}
+use Rattle.rs_session.specs.declared.peer.PeerId.{PeerId}
+use Rattle.rs_session.specs.declared.word.Reason.{Reason}
+use Rattle.rs_session.specs.declared.word.Reason.TheVariants as reasons
+use Rattle.rs_session.specs.declared.word.Word.{Word}
+use Rattle.rs_update.specs.declared.errors.Errors.{Errors}
+use Rattle.rs_worker.specs.Crew.{HasSettled}
+use Rattle.rs_worker.specs.Worked.{is_memory}
+use Rattle.rs_worker.specs.declared.crew.Joined.{Joined}
+use Rattle.rs_floor.specs.Run.{IsWell, end_of}
+use Rattle.rs_floor.specs.Served.{IsEndOf}
+
+-- two lists that are one have the same last member
+pub last-same : {X : Type 0} (xs ys : List X) (x y : X) → xs ++ x ∷ [] ≡ ys ++ y ∷ [] → x ≡ y
+last-same [] [] x y e = cc
+last-same [] (b ∷ []) x y e = absurd cc
+last-same [] (b ∷ c ∷ ys) x y e = absurd cc
+last-same (a ∷ []) [] x y e = absurd cc
+last-same (a ∷ c ∷ xs) [] x y e = absurd cc
+last-same (a ∷ xs) (b ∷ ys) x y e = let later : xs ++ x ∷ [] ≡ ys ++ y ∷ [] = cc in last-same xs ys x y later
+
+reason-same : (t u : ℕ) (reason other : Reason) → close_at t reason ≡ close_at u other → reason ≡ other
+reason-same t u reason other e = let bodies : Closed reason ≡ Closed other = ap (λ (c : Change). c.body) e in cc
+
+-- the changes of a worker that settled, the last one being its close
+pub ends-so : {R : Type 0} (gives : R → List ℕ → ReadEnd → Type 0) (errors : Errors) (peer : PeerId) (reader : R) (received : List Word) (end : Joined)
+    → (settled : HasSettled (May (MayCome gives) (λ reading. reading.shown) (fresh (unread reader) peer errors)) received end)
+    → map change_of received ≡ map change_of settled.said.before ++ close_at settled.said.time end.reason ∷ []
+ends-so gives errors peer reader received end settled =
+    ap (map change_of) settled.said.splits ∙ map-append change_of settled.said.before (closing_word settled.said.time end.reason ∷ [])
+
+-- a worker that settled well sent what a file says that its reader may give
+pub says-file : {R : Type 0} (gives : R → List ℕ → ReadEnd → Type 0) (errors : Errors) (peer : PeerId) (reader : R) (received : List Word) (end : Joined)
+    → GivesFileOrFails gives reader → FailedReadCloses
+    → HasSettled (May (MayCome gives) (λ reading. reading.shown) (fresh (unread reader) peer errors)) received end
+    → is_memory end.reason ≡ false → is_read end.reason ≡ false
+    → SaysGiven gives errors peer reader (map change_of received) end.passed
+says-file gives errors peer reader received end file_or_fails closes settled remembers reads =
+    elim (file_or_fails errors peer (map change_of received) end.passed (settled.said.whole remembers)) [ inl given ↦ given | inr failed ↦ absurd (no_read failed) ]
+  where
+    no_read : SaysFailed gives errors peer reader (map change_of received) end.passed → ⊥
+    no_read failed =
+        let close : ClosesByRead (changes_of errors peer (records_of failed.came) (Some faults.Read)) = closes errors peer failed.came failed.fails.no_end in
+        let ends = ends-so gives errors peer reader received end settled in
+        let same : map change_of settled.said.before ++ close_at settled.said.time end.reason ∷ [] ≡ close.before ++ close_at 0 reasons.Read ∷ [] = sym ends ∙ failed.says ∙ close.splits in
+        let last : close_at settled.said.time end.reason ≡ close_at 0 reasons.Read = last-same (map change_of settled.said.before) close.before (close_at settled.said.time end.reason) (close_at 0 reasons.Read) same in
+        let reason : end.reason ≡ reasons.Read = reason-same settled.said.time 0 end.reason reasons.Read last in
+        let read : is_read end.reason ≡ true = ap is_read reason in
+        cc
+
+-- and its end is what that file says
+pub end-of-file : {R : Type 0} (gives : R → List ℕ → ReadEnd → Type 0) (errors : Errors) (peer : PeerId) (reader : R) (received : List Word) (end : Joined)
+    → (settled : HasSettled (May (MayCome gives) (λ reading. reading.shown) (fresh (unread reader) peer errors)) received end)
+    → (given : SaysGiven gives errors peer reader (map change_of received) end.passed)
+    → IsEndOf errors peer given.file (end_of end)
+end-of-file gives errors peer reader received end settled given = record {
+  before = map change_of settled.said.before;
+  time = settled.said.time;
+  changes_are = settled.counted ∙ sym (length-map received change_of) ∙ ap length given.says;
+  passed_are = given.counts;
+  closes = sym given.says ∙ ends-so gives errors peer reader received end settled;
+}
+
+-- a list of what there is at each place
+pub choose : {X : Type 0} (n : ℕ) (P : ℕ → X → Type 0) → ((k : ℕ) → k < n → (x : X) × P k x) → (xs : List X) × (length xs ≡ n) × ((k : ℕ) (x : X) → slice_get xs k ≡ Some x → P k x)
+choose zero P all = ([], refl, λ k x e. absurd cc)
+choose (suc n) P all =
+    let first = all zero (omega arith) in
+    let rest = choose n (λ k x. P (suc k) x) (λ k h. all (suc k) (omega arith)) in
+    (first.0 ∷ rest.0, ap suc rest.1, at first.0 first.1 rest.0 rest.2)
+  where
+    at : (x : _) → P zero x → (xs : List _) → ((k : ℕ) (y : _) → slice_get xs k ≡ Some y → P (suc k) y) → (k : ℕ) (y : _) → slice_get (x ∷ xs) k ≡ Some y → P k y
+    at x here xs later zero y e = let same : x ≡ y = cc in subst (λ z. P zero z) same here
+    at x here xs later (suc k) y e = later k y e
+
+pub zip-at : {X Y : Type 0} (xs : List X) (ys : List Y) (place : ℕ) (x : X) (y : Y) → slice_get xs place ≡ Some x → slice_get ys place ≡ Some y → slice_get (zip xs ys) place ≡ Some (x, y)
+zip-at [] ys place x y at_xs at_ys = absurd cc
+zip-at (a ∷ xs) [] place x y at_xs at_ys = absurd cc
+zip-at (a ∷ xs) (b ∷ ys) zero x y at_xs at_ys = cc
+zip-at (a ∷ xs) (b ∷ ys) (suc place) x y at_xs at_ys = zip-at xs ys place x y at_xs at_ys
+
+pub zip-counted : {X Y : Type 0} (xs : List X) (ys : List Y) → length ys ≡ length xs → length (zip xs ys) ≡ length xs
+zip-counted [] ys same = refl
+zip-counted (x ∷ xs) [] same = absurd (omega (arith, same))
+zip-counted (x ∷ xs) (y ∷ ys) same = ap suc (zip-counted xs ys (omega (arith, same)))
+
+-- what stands at a place of a list that another one's members are made of
+pub made-at : {X Y : Type 0} (f : X → Y) (xs : List X) (place : ℕ) (x : X) → slice_get xs place ≡ Some x → slice_get (map f xs) place ≡ Some (f x)
+made-at f xs place x e = slice_get-map f xs place ∙ ap (option_map f) e

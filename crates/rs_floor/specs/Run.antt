@@ -1,0 +1,54 @@
+-- What a run on threads leaves once all of them were joined.
+use Rattle.std.specs.Prelude.{◌≡◌, ◌<◌, ℕ, Bool, true, false, List, All, AllPairs, map, length}
+use Rattle.rs_mrt.specs.Reader.{ReadEnd}
+use Rattle.rs_mrt.specs.RecordReading.{RecordReading, MayCome}
+use Rattle.rs_ring.specs.Ends.{Receiving}
+use Rattle.rs_router.specs.Routing.{AreClosed, AreCuts, received_lists}
+use Rattle.rs_router.specs.declared.routed.Routed.{Routed}
+use Rattle.rs_session.specs.Change.{is_read}
+use Rattle.rs_session.specs.declared.word.Word.{Word}
+use Rattle.rs_shard.specs.Crew as shards
+use Rattle.rs_shard.specs.Crew.{AllHold}
+use Rattle.rs_table.specs.Content.{TablesContent}
+use Rattle.rs_table.specs.Merge.{AreParts, IsMerged}
+use Rattle.rs_worker.specs.Crew.{AllSettled, Charge}
+use Rattle.rs_worker.specs.Worked.{is_memory}
+use Rattle.rs_worker.specs.declared.crew.Joined.{Joined}
+use Rattle.rs_floor.specs.Served.{ServedContent}
+use Rattle.rs_floor.specs.declared.ended.PeerEnd.{PeerEnd}
+
+-- What all receivers and shards took: each peer's changes up to its close, those of a settled worker being all that it sent; each shard
+-- its cut of them, which its tables hold, unless a shard was refused memory.
+pub record HasRun {R : Type 0} (gives : R → List ℕ → ReadEnd → Type 0) (workers : List (Charge (RecordReading R))) (of_shards : List shards.Charge)
+    (ends : List Joined) (parts : List TablesContent) (whole : Bool) : Type 0 where
+  pub receivers : List (Receiving Word)
+  pub sent : List (List Routed)
+  pub closed : AreClosed (received_lists receivers)
+  pub cuts : AreCuts (received_lists receivers) sent
+  pub counted : length receivers ≡ length workers
+  pub shared : length sent ≡ length of_shards
+  pub joined : length ends ≡ length workers
+  pub settled : AllSettled (MayCome gives) (λ reading. reading.shown) workers receivers ends
+  pub held : whole ≡ true → AllHold of_shards sent parts
+
+-- the parts can be made one, over a plan of so many peers
+pub record CanMerge (peers : ℕ) (parts : List TablesContent) : Type 0 where
+  pub some : 0 < length parts
+  pub parts_are : AllPairs AreParts parts
+  pub counted : All (λ part. length part.plan.peers ≡ peers) parts
+
+-- a peer's worker settled, and was neither refused memory nor did a read fail
+abbrev pub IsWell : Joined → Type 0
+IsWell end = (end.settled ≡ true) × (is_memory end.reason ≡ false) × (is_read end.reason ≡ false)
+
+-- how a peer's session ended, of what is known of its worker
+abbrev pub end_of : Joined → PeerEnd
+end_of end = record { changes = end.changes; passed = end.passed; reason = end.reason }
+
+-- all is well, and the parts are made one
+pub record IsAnswer (ends : List Joined) (parts : List TablesContent) (whole : Bool) (served : ServedContent) : Type 0 where
+  pub whole_is : whole ≡ true
+  pub well : All IsWell ends
+  pub ends_are : served.ends ≡ map end_of ends
+  pub merged : IsMerged parts served.tables
+  pub one_for_each : length served.tables.ribs ≡ length served.tables.plan.peers
