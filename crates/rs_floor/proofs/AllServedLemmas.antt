@@ -1,5 +1,5 @@
 -- A run of which all is well serves what the files say that the readers may give.
-use Rattle.std.proofs.Common.{◌≡◌, ◌∙◌, sym, ap, subst, refl, ℕ, ◌<◌, suc, zero, arith, Bool, true, false, List, [], ◌∷◌, ◌++◌, All, length, map, Option, Some, None}
+use Rattle.std.proofs.Common.{◌≡◌, ◌∙◌, sym, ap, subst, refl, ℕ, ◌<◌, suc, zero, arith, Bool, true, List, [], ◌∷◌, All, length, map, Some}
 use Rattle.std.specs.Prelude.{slice_get}
 use Rattle.std.specs.List.{zip}
 use Rattle.std.proofs.lemmas.List.{length-map}
@@ -24,10 +24,9 @@ use Rattle.rs_worker.specs.Crew.{HasSettled, charge_of}
 use Rattle.rs_worker.specs.declared.crew.Job.{Job}
 use Rattle.rs_worker.specs.declared.crew.Joined.{Joined}
 use Rattle.rs_floor.specs.FloorContent.{id_of}
-use Rattle.rs_floor.specs.Laws.{tables_of}
 use Rattle.rs_floor.specs.Lines.{AreLines}
 use Rattle.rs_floor.specs.Run.{HasRun, IsAnswer, IsWell, end_of}
-use Rattle.rs_floor.specs.Served.{ServedContent, IsEndOf, IsServed, IsServedBy, said_by}
+use Rattle.rs_floor.specs.Served.{ServedContent, IsEndOf, IsServedBy, said_by}
 use Rattle.rs_floor.specs.declared.ended.PeerEnd.{PeerEnd}
 use Rattle.rs_floor.proofs.ListLemmas.{same-places, get-within}
 use Rattle.rs_floor.proofs.ServedLemmas.{choose, made-at, zip-at, zip-counted, says-file, end-of-file}

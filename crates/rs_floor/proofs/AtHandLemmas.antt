@@ -1,7 +1,6 @@
 -- Readers of files that are at hand.
-use mathlib.Core.List.{map-map}
-use Rattle.std.proofs.Common.{◌≡◌, ◌∙◌, sym, ap, subst, ℕ, ◌<◌, arith, inl, inr, List, ◌++◌, length, map, take, drop, append_assoc, Option, Some}
-use Rattle.std.specs.Prelude.{◌⊎◌, slice_get}
+use Rattle.std.proofs.Common.{◌≡◌, ◌∙◌, sym, ap, subst, ℕ, ◌<◌, arith, inl, inr, List, ◌++◌, length, map, drop, append_assoc, Some}
+use Rattle.std.specs.Prelude.{slice_get}
 use Rattle.std.specs.List.{zip}
 use Rattle.std.proofs.lemmas.List.{length-map, take-append-drop}
 use Rattle.rs_choice.specs.Plan.{Peer, Plan}

@@ -1,9 +1,9 @@
 -- What follows the record that ends a session says nothing.
-use Rattle.std.proofs.Common.{◌≡◌, ◌∙◌, sym, ap, refl, ℕ, ◌+◌, ◌*◌, ◌^◌, ◌≤◌, ◌<◌, zero, suc, arith, Bool, true, false, cond, not, List, [], ◌∷◌, ◌++◌, length, take, drop, get_or, length-append, length-drop, Option, Some, None}
+use Rattle.std.proofs.Common.{◌≡◌, ◌∙◌, sym, ap, refl, ℕ, ◌+◌, ◌*◌, ◌^◌, ◌≤◌, zero, suc, arith, Bool, true, false, cond, not, List, [], ◌∷◌, ◌++◌, length, take, drop, length-append, length-drop, Option, Some}
 use Rattle.std.specs.Prelude.{◌&&◌, nat_le, slice_index, find, take_while, if◌then◌else◌}
-use Rattle.std.specs.List.{list_any, flat_map}
+use Rattle.std.specs.List.{list_any}
 use Rattle.std.proofs.lemmas.List.Sums.{take_while-cons}
-use Rattle.std.proofs.lemmas.Bool.Decides.{nat_tests, leb_tells}
+use Rattle.std.proofs.lemmas.Bool.Decides.{nat_tests}
 use Rattle.std.proofs.lemmas.List.{get_or_append_left, take-append-le, drop-append-le}
 use Rattle.rs_mrt.specs.Source.{source_end}
 use Rattle.rs_mrt.specs.declared.fault.SourceFault.{SourceFault}
@@ -12,7 +12,7 @@ use Rattle.rs_session.specs.FileChanges.{ends, changes_of, passed_of, changes_in
 use Rattle.rs_session.specs.Given.{has_end}
 use Rattle.rs_session.specs.declared.peer.PeerId.{PeerId}
 use Rattle.rs_update.specs.declared.errors.Errors.{Errors}
-use Rattle.rs_mrt.specs.Record.{MrtRecord, records_within, records_of, end_of, has_record, front_record, after_record, headed, length_field}
+use Rattle.rs_mrt.specs.Record.{MrtRecord, records_within, records_of, end_of, has_record, front_record, after_record, length_field}
 
 and-true : (a b : Bool) → a ≡ true → b ≡ true → (a && b) ≡ true
 and-true a b e f = cc

@@ -1,23 +1,22 @@
 -- Rings as they are opened, one after another.
-use Rattle.std.proofs.Common.{◌≡◌, ◌∙◌, sym, ap, refl, ℕ, ◌+◌, ◌<◌, ◌≤◌, ◌^◌, suc, zero, arith, List, [], ◌∷◌, ◌++◌, All, length, map, take, Some, append_assoc, append-nil, length-append}
+use Rattle.std.proofs.Common.{◌≡◌, ◌∙◌, sym, ap, refl, ℕ, ◌<◌, suc, zero, arith, List, [], ◌∷◌, ◌++◌, All, length, map, take, Some, append_assoc, append-nil, length-append}
 use Rattle.std.specs.Prelude.{slice_get}
-use Rattle.std.proofs.lemmas.List.{length-map, map-append}
+use Rattle.std.proofs.lemmas.List.{map-append}
 use Rattle.std.proofs.lemmas.List.Elements.{All-nil, All-push}
 use Rattle.rs_choice.specs.Plan.{Peer, Plan}
 use Rattle.rs_mrt.specs.Reader.{ReadEnd}
 use Rattle.rs_mrt.specs.RecordReading.{RecordReading, unread}
-use Rattle.rs_ring.specs.Ends.{Receiving, Ring, Sending}
+use Rattle.rs_ring.specs.Ends.{Receiving, Sending}
 use Rattle.rs_router.specs.Cut.{IsShardCount}
 use Rattle.rs_router.specs.declared.routed.Routed.{Routed}
 use Rattle.rs_session.specs.Laws.{GivesFileOrFails}
-use Rattle.rs_session.specs.declared.peer.PeerId.{PeerId}
 use Rattle.rs_session.specs.declared.word.Word.{Word}
 use Rattle.rs_shard.specs.Crew.{IsReady}
 use Rattle.rs_shard.specs.Laws.{IsOfPlan}
 use Rattle.rs_shard.specs.declared.crew.ShardJob.{ShardJob}
 use Rattle.rs_worker.specs.declared.crew.Job.{Job}
 use Rattle.rs_floor.specs.FloorContent.{id_of}
-use Rattle.rs_floor.specs.Lines.{IsReadyJob, IsLine, CanWork, AreLines, CanShare, AreRings}
+use Rattle.rs_floor.specs.Lines.{IsReadyJob, IsLine, CanWork, AreLines, AreRings}
 
 -- two lists made alike stay so with one member more
 map-more : {X Y Z : Type 0} (f : X → Z) (g : Y → Z) (xs : List X) (ys : List Y) (x : X) (y : Y) → map f xs ≡ map g ys → f x ≡ g y → map f (xs ++ x ∷ []) ≡ map g (ys ++ y ∷ [])

@@ -1,15 +1,14 @@
 -- A run, from the start of its threads to their join.
 use mathlib.Core.List.{IsPrefix, map-map}
-use Rattle.std.proofs.Common.{◌≡◌, ◌∙◌, sym, ap, refl, ℕ, ◌<◌, ◌≤◌, zero, suc, arith, take, Result, Ok, Err, Bool, true, false, List, [], ◌∷◌, ◌++◌, All, AllPairs, length, map, get_or, Some, append-nil, length-append}
-use Rattle.std.specs.Prelude.{slice_get, IfOk}
+use Rattle.std.proofs.Common.{◌≡◌, ◌∙◌, sym, ap, refl, ℕ, ◌≤◌, zero, suc, arith, take, Result, Ok, Err, Bool, true, List, [], ◌∷◌, ◌++◌, length, map, get_or, append-nil, length-append}
+use Rattle.std.specs.Prelude.{IfOk}
 use Rattle.std.proofs.lemmas.List.{length-map}
 use Rattle.std.proofs.lemmas.List.Elements.{All-map}
 use Rattle.std.proofs.lemmas.Option.{slice_get-get_or}
-use Rattle.rs_choice.specs.Plan.{Peer, Plan}
+use Rattle.rs_choice.specs.Plan.{Plan}
 use Rattle.rs_mrt.specs.Reader.{ReadEnd}
-use Rattle.rs_mrt.specs.RecordReading.{RecordReading, MayCome, unread}
+use Rattle.rs_mrt.specs.RecordReading.{RecordReading, MayCome}
 use Rattle.rs_ring.specs.Ends.{Receiving, Sending}
-use Rattle.rs_router.specs.Cut.{IsShardCount}
 use Rattle.rs_router.specs.Routing.{AreClosed, AreCuts, received_lists}
 use Rattle.rs_router.specs.declared.routed.Routed.{Routed}
 use Rattle.rs_session.specs.declared.word.Word.{Word}
@@ -17,9 +16,8 @@ use Rattle.rs_shard.specs.Crew as shards
 use Rattle.rs_shard.specs.Crew.{AllHold}
 use Rattle.rs_shard.specs.Laws.{IsOfPlan, AreShardsOf, IsRun, RunShardsAreWhole, ShardsMerge}
 use Rattle.rs_shard.specs.declared.crew.ShardJob.{ShardJob}
-use Rattle.rs_session.specs.Change.{change_of}
 use Rattle.rs_session.specs.Laws.{FailedReadCloses}
-use Rattle.rs_table.specs.Content.{TablesContent, rib_left}
+use Rattle.rs_table.specs.Content.{TablesContent}
 use Rattle.rs_update.specs.declared.errors.Errors.{Errors}
 use Rattle.rs_worker.specs.Crew.{AllSettled, Charge, charge_of}
 use Rattle.rs_worker.specs.declared.crew.Job.{Job}

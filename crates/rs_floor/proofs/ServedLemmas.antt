@@ -1,18 +1,17 @@
 -- What files say of each peer whose worker settled well.
-use Rattle.std.proofs.Common.{◌≡◌, ◌∙◌, sym, ap, subst, refl, ℕ, ◌<◌, suc, zero, arith, inl, inr, Bool, true, false, List, [], ◌∷◌, ◌++◌, All, length, map, Option, Some, None}
+use Rattle.std.proofs.Common.{◌≡◌, ◌∙◌, sym, ap, subst, refl, ℕ, ◌<◌, suc, zero, arith, inl, inr, true, false, List, [], ◌∷◌, ◌++◌, length, map, Some}
 use Rattle.std.specs.Prelude.{slice_get}
 use Rattle.std.specs.List.{zip}
 use Rattle.std.specs.Option.{option_map}
 use Rattle.std.proofs.lemmas.List.{length-map, map-append}
 use Rattle.std.proofs.lemmas.Option.{slice_get-map}
-use Rattle.rs_choice.specs.Plan.{Peer, Plan}
 use Rattle.rs_mrt.specs.Reader.{ReadEnd}
 use Rattle.rs_mrt.specs.Record.{records_of}
-use Rattle.rs_mrt.specs.RecordReading.{RecordReading, MayCome, unread}
+use Rattle.rs_mrt.specs.RecordReading.{MayCome, unread}
 use Rattle.rs_mrt.specs.declared.fault.SourceFault.TheVariants as faults
 use Rattle.rs_session.specs.Change.{Change, Closed, change_of, closing_word, is_read}
-use Rattle.rs_session.specs.FileChanges.{changes_in_by, passed_in_by, changes_of, close_at}
-use Rattle.rs_session.specs.Given.{IsGiven, SaysGiven, SaysFailed}
+use Rattle.rs_session.specs.FileChanges.{changes_of, close_at}
+use Rattle.rs_session.specs.Given.{SaysGiven, SaysFailed}
 use Rattle.rs_session.specs.Laws.{GivesFileOrFails, FailedReadCloses, ClosesByRead}
 use Rattle.rs_session.specs.Stage.{May, fresh}
 use Rattle.rs_session.specs.declared.peer.PeerId.{PeerId}
@@ -23,7 +22,7 @@ use Rattle.rs_update.specs.declared.errors.Errors.{Errors}
 use Rattle.rs_worker.specs.Crew.{HasSettled}
 use Rattle.rs_worker.specs.Worked.{is_memory}
 use Rattle.rs_worker.specs.declared.crew.Joined.{Joined}
-use Rattle.rs_floor.specs.Run.{IsWell, end_of}
+use Rattle.rs_floor.specs.Run.{end_of}
 use Rattle.rs_floor.specs.Served.{IsEndOf}
 
 -- two lists that are one have the same last member

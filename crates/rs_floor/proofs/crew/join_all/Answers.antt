@@ -1,5 +1,5 @@
 -- All was routed, and all threads are joined.
-use Rattle.std.proofs.Common.{◌≡◌, ◌∙◌, sym, ap, subst, List, length, map, arith, rules}
+use Rattle.std.proofs.Common.{◌≡◌, ◌∙◌, sym, ap, subst, List, length, map, arith}
 use Rattle.std.proofs.lemmas.List.{length-map}
 use Rattle.rs_ring.specs.Ends.{Receiving, Sending}
 use Rattle.rs_router.specs.Delivery.{sent_lists}

@@ -1,5 +1,5 @@
 -- All threads were started, or those that were are drained.
-use Rattle.std.proofs.Common.{◌≡◌, ◌≤◌, ◌∙◌, sym, ap, refl, length, map, arith, rules}
+use Rattle.std.proofs.Common.{◌≡◌, refl, length, arith, rules}
 use Rattle.rs_ring.specs.Ends.{Receiving, Sending}
 use Rattle.rs_router.specs.declared.routed.Routed.{Routed}
 use Rattle.rs_session.specs.declared.word.Word.{Word}
