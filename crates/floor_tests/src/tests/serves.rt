@@ -1,9 +1,13 @@
 //! Whole runs: one thread for each peer and for each shard.
 
+ghost use Rattle.std.specs.Prelude.{◌≡◌};
+
 use super::recordings::*;
 use rs_choice::Exchange;
-use rs_floor::{FloorRefused, Gate, Open, PeerEnd, Served, serve, serve_sharded, verdict};
-use rs_mrt::IoReader;
+use rs_floor::{
+    FloorRefused, Gate, Open, PeerEnd, Served, serve, serve_readers, serve_sharded, verdict,
+};
+use rs_mrt::{BGP4MP, IoReader, MemoryReader, ReadLimits, STATE_CHANGE_AS4, write_header};
 use rs_session::Reason;
 use rs_update::Prefix;
 use std::alloc::{AllocError, Global};
@@ -379,4 +383,77 @@ fn files_at_hand_are_served_through_one_shard(rt: HostRuntime) {
     assert!(rt; plan.count() == 2 && a.len() < 1 << 50);
     let served = serve(&rt, alloc, &plan, &[&a, &[]], 2, &Open).expect(&rt, "a run");
     assert_eq!(rt; shown(alloc, &served, 1).expect(&rt, "rows").len(), 2);
+}
+
+#[test]
+fn a_failed_read_is_told_of_the_least_peer(rt: HostRuntime) {
+    let alloc = rt.alloc();
+    let plan = exchange(alloc, 3).expect(&rt, "an exchange");
+    let file = many(alloc, 0, 1).expect(&rt, "memory");
+    assert_eq!(rt; file.len(), 79);
+    for (before_failure, refused) in [
+        ([None, None, None], None),
+        ([Some(79), None, None], Some(FloorRefused::Read(0))),
+        ([None, Some(78), Some(0)], Some(FloorRefused::Read(1))),
+    ] {
+        let readers: Vec<MemoryReader<'_>> = before_failure
+            .iter()
+            .map(|octets| failing_reader(&file, *octets))
+            .collect(alloc)
+            .expect(&rt, "memory");
+        assert!(rt; readers.len() == plan.count());
+        let answer = serve_readers(&rt, alloc, &plan, readers, 4, &Open);
+        assert_eq!(rt; answer.err(), refused);
+    }
+}
+
+// A reader of a file that fails once so many octets came.
+fn failing_reader(file: &[u8], octets_before_failure: Option<usize>) -> MemoryReader<'_>
+    ensures { result.failures ≡ 0 }
+{
+    let limits = ReadLimits {
+        octets_before_failure,
+        piece: 1000,
+    };
+    MemoryReader::new(file, limits)
+}
+
+// Appends the record of a session of a peer that is lost (RFC 6396, section 4.4.4).
+fn add_loss(file: &mut Vec<u8>, peer: u32, time: u32) -> Result<(), AllocError> {
+    write_header(file, time, BGP4MP, STATE_CHANGE_AS4, 24)?;
+    file.extend_from_slice(&asn_of(peer).to_be_bytes())?;
+    file.extend_from_slice(&[0, 0, 0xFB, 0xF4, 0, 0, 0, 1])?;
+    file.extend_from_slice(&address_of(peer).to_be_bytes())?;
+    file.extend_from_slice(&[0xC0, 0, 2, 1, 0, 6, 0, 1])
+}
+
+// The file of a peer that announces 198.51.100.0/24 and 203.0.113.0/24, is lost, and may announce the second of them again.
+fn lost(alloc: Global, peer: u32, comes_back: bool) -> Result<Vec<u8>, AllocError> {
+    let mut file = Vec::new(alloc);
+    add_announcement(&mut file, peer, 100, &[24, 198, 51, 100, 24, 203, 0, 113])?;
+    add_loss(&mut file, peer, 101)?;
+    if comes_back {
+        add_announcement(&mut file, peer, 102, &[24, 203, 0, 113])?;
+    }
+    Ok(file)
+}
+
+#[test]
+fn a_session_that_is_lost_takes_its_routes_from_every_shard(rt: HostRuntime) {
+    let alloc = rt.alloc();
+    let plan = exchange(alloc, 2).expect(&rt, "an exchange");
+    for shards in [1, 2, 16] {
+        for (comes_back, changes, rows) in [(false, 4, 0), (true, 5, 1)] {
+            let a = lost(alloc, 0, comes_back).expect(&rt, "memory");
+            let served = run(&rt, alloc, &plan, &[&a, &[]], 4, shards, &Open).expect(&rt, "a run");
+            assert_eq!(rt; end(&rt, &served, 0).changes, changes);
+            let shown = shown(alloc, &served, 1).expect(&rt, "rows");
+            assert_eq!(rt; shown.len(), rows, "with {shards} shards");
+            assert!(rt;
+                shown
+                    .iter()
+                    .all(|(_, peer, time)| *peer == 0 && *time == 102)
+            );
+        }
+    }
 }
