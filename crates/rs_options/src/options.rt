@@ -3,6 +3,7 @@
 ghost use Rattle.std.specs.Prelude.{◌≡◌};
 ghost use Rattle.rs_options.specs.declared.options.WordsFault.TheVariants.{Memory};
 
+use rs_update::Errors;
 use std::alloc::AllocError;
 use thiserror::Error;
 
@@ -15,6 +16,12 @@ pub struct Options {
     pub out: String,
     /// The Timestamp of every record written, in seconds since 1970 (RFC 6396, section 2).
     pub time: u32,
+    /// How many changes wait at most between two threads of a run, 1 to 65,536.
+    pub ring: usize,
+    /// How many threads keep the tables, each of them some of the prefixes, 1 to 16.
+    pub shards: usize,
+    /// The standard by which faults in the path attributes of an UPDATE are handled (RFC 4271, section 6.3, or RFC 7606).
+    pub errors: Errors,
 }
 
 /// Why the words of the command line give no options.

@@ -11,14 +11,14 @@ use Rattle.rs_options.specs.declared.options.WordsFault.{WordsFault}
 use Rattle.rs_options.specs.declared.options.WordsFault.TheVariants.{Help, Refused, Memory}
 use Rattle.rs_words.specs.CommandLine.{IsToldAs, SaysWhy, number_of}
 
--- a number that was read of a text is the number that the text stands for
-pub number_read : (E : Type 0) (Reads : Text → Result ℕ E → Type 0) → ((text : Text) (read : Result ℕ E) → Reads text read → ParsesUnsigned 32 10 text read)
+-- a number of so many bits that was read of a text is the number that the text stands for
+pub number_read : (bits : ℕ) (E : Type 0) (Reads : Text → Result ℕ E → Type 0) → ((text : Text) (read : Result ℕ E) → Reads text read → ParsesUnsigned bits 10 text read)
     → (text : Option Text) (read : Option ℕ) (number : ℕ) → (text ≡ None → read ≡ None) → ((t : Text) → text ≡ Some t → ReadsOne Reads t read)
     → read ≡ Some number → option_map number_of text ≡ Some number
-number_read E Reads parses None read number none some is =
+number_read bits E Reads parses None read number none some is =
     let bad : None ≡ Some number = sym (none refl) ∙ is in
     cc
-number_read E Reads parses (Some text) read number none some is =
+number_read bits E Reads parses (Some text) read number none some is =
     let given : ReadsOne Reads text (Some number) = subst (ReadsOne Reads text) is (some text refl) in
     ap Some (sym (parses text (Ok number) given).1)
 

@@ -1,13 +1,15 @@
 //! Reads the words of the command line, with `clap`.
 
-ghost use Rattle.std.specs.Prelude.{◌≡◌, [], IfErr, IfOk, OnOk, false, map, string_bytes};
+ghost use Rattle.std.specs.Prelude.{◌≡◌, ◌≢◌, [], IfErr, IfOk, IfSome, None, OnOk, false, map, string_bytes};
 ghost use Rattle.clap.specs.Words.{app_of, found_of, kind_of, rows_of, rule_of};
-ghost use Rattle.rs_words.specs.CommandLine.{AreOptionsOf, HoldOptions, IsToldAs, SaysWhy, config_rule, faults_in, out_rule, program, time_rule};
+ghost use Rattle.rs_update.specs.declared.errors.Errors.TheVariants.{Rfc4271, Rfc7606};
+ghost use Rattle.rs_words.specs.CommandLine.{AreOptionsOf, HoldOptions, IsToldAs, SaysWhy, config_rule, errors_rule, faults_in, out_rule, program, ring_rule, shards_rule, standard_name, time_rule, with_manner};
 
 use clap::builder::ValueParser;
 use clap::error::ErrorKind;
 use clap::{Arg, ArgAction, ArgMatches, Command, Error, value_parser};
 use rs_options::{Options, WordsFault};
+use rs_update::Errors;
 use std::alloc::{AllocError, Global};
 
 // What the program does, at the head of its help.
@@ -33,13 +35,27 @@ Status:
   2  a file, a folder or a device failed
   3  memory was refused";
 
+// What `--errors` does, in its help.
+const ERRORS_HELP: &str =
+    "Standard by which faults in path attributes are handled: rfc4271 (the first closes \
+    the session) or rfc7606 (a route is withdrawn where that is enough)";
+
 // The text where an option has no value.
 const INCOMPLETE: &str = "error: an option has no value\n";
 
-/// Reads the words of the command line, which begin with the program's own name: `--config FILE --out DIR [--time N]`, N from 0 to 4,294,967,295 and
-/// 0 where it isn't given, and DIR not empty.
+// The text where the value of `--errors` names no standard.
+const NO_STANDARD: &str =
+    "error: the value of '--errors <STANDARD>' is neither 'rfc4271' nor 'rfc7606'
+
+For more information, try '--help'.
+";
+
+/// Reads the words of the command line, which begin with the program's own name: `--config FILE --out DIR [--time N]
+/// [--ring N] [--shards N] [--errors rfc4271|rfc7606]`. DIR isn't empty; the time is from 0 to 4,294,967,295, the ring
+/// from 1 to 65,536, the shards from 1 to 16; where they aren't given they are 0, 1,024, 1 and RFC 4271.
 ///
-/// Answers `Help` where help is asked for and `Refused` where the words aren't such, each with the text of `clap`; `Memory` where memory is refused.
+/// Answers `Help` where help is asked for and `Refused` where the words aren't such, each with the text of `clap`, or
+/// with one of our own where `--errors` names no standard; `Memory` where memory is refused.
 pub fn read_words(alloc: Global, words: Vec<String>) -> Result<Options, WordsFault>
     ensures options { IfOk result (λ options. AreOptionsOf (map string_bytes words.items) options) }
     ensures taken { OnOk result (faults_in (map string_bytes words.items) ≡ []) }
@@ -51,7 +67,8 @@ pub fn read_words(alloc: Global, words: Vec<String>) -> Result<Options, WordsFau
     }
 }
 
-// The options that the matches hold. `clap` gives each of the three a value, so nothing is refused here but memory.
+// The options that the matches hold. `clap` gives each of the six a value, and numbers within their limits, so nothing is
+// refused here but memory and a word that names no standard.
 fn options_of(alloc: Global, matches: &ArgMatches<'_>) -> Result<Options, WordsFault>
     ensures options { IfOk result (HoldOptions (rows_of (found_of matches.now))) }
     ensures refused { IfErr result (SaysWhy []) }
@@ -63,11 +80,36 @@ fn options_of(alloc: Global, matches: &ArgMatches<'_>) -> Result<Options, WordsF
     ) else {
         return Err(WordsFault::Refused(String::from_str(alloc, INCOMPLETE)?));
     };
+    let (Some(ring @ 1..=65_536), Some(shards @ 1..=16), Some(standard)) = (
+        matches.get_one::<usize>("ring"),
+        matches.get_one::<usize>("shards"),
+        matches.get_str("errors"),
+    ) else {
+        return Err(WordsFault::Refused(String::from_str(alloc, INCOMPLETE)?));
+    };
+    let Some(errors) = standard_of(standard) else {
+        return Err(WordsFault::Refused(String::from_str(alloc, NO_STANDARD)?));
+    };
     Ok(Options {
         config: String::from_str(alloc, config)?,
         out: String::from_str(alloc, out)?,
         time,
+        ring,
+        shards,
+        errors,
     })
+}
+
+// The standard that a word names.
+fn standard_of(word: &str) -> Option<Errors>
+    ensures named { IfSome result (λ errors. word.now ≡ standard_name errors) }
+    ensures none { result ≡ None → (word.now ≢ standard_name Rfc4271) × (word.now ≢ standard_name Rfc7606) }
+{
+    match word {
+        "rfc4271" => Some(Errors::Rfc4271),
+        "rfc7606" => Some(Errors::Rfc7606),
+        _ => None,
+    }
 }
 
 // Why the words give no options, with the text of `clap`.
@@ -91,10 +133,21 @@ fn program<'a>(alloc: Global) -> Result<Command<'a>, AllocError>
     let command = Command::new(alloc, "route_server")
         .about(ABOUT)
         .after_help(AFTER_HELP);
-    command
+    let command = command
         .arg(config_argument(alloc))?
         .arg(out_argument(alloc))?
-        .arg(time_argument(alloc))
+        .arg(time_argument(alloc))?;
+    with_manner(alloc, command)
+}
+
+// The command with the three options that say how a run goes.
+fn with_manner<'a>(alloc: Global, command: Command<'a>) -> Result<Command<'a>, AllocError>
+    ensures { IfOk result (λ made. app_of made ≡ with_manner (app_of command.entry)) }
+{
+    command
+        .arg(ring_argument(alloc))?
+        .arg(shards_argument(alloc))?
+        .arg(errors_argument(alloc))
 }
 
 // `--config FILE`
@@ -138,4 +191,48 @@ fn time_argument<'a>(alloc: Global) -> Arg<'a>
         .value_parser(value_parser!(u32))
         .default_value("0")
         .help("Timestamp of every record of the dumps, in seconds since 1970, from 0 to 4294967295")
+}
+
+// `--ring N`
+fn ring_argument<'a>(alloc: Global) -> Arg<'a>
+    ensures rule { rule_of result ≡ ring_rule }
+    ensures local { result.global ≡ false }
+{
+    Arg::new(alloc, "ring")
+        .long("ring")
+        .value_name("N")
+        .action(ArgAction::Set)
+        .value_parser(ValueParser::Unsigned(1, 65_536))
+        .default_value("1024")
+        .hide(true)
+        .help("How many changes of routes wait at most between two threads, from 1 to 65536")
+}
+
+// `--shards N`
+fn shards_argument<'a>(alloc: Global) -> Arg<'a>
+    ensures rule { rule_of result ≡ shards_rule }
+    ensures local { result.global ≡ false }
+{
+    Arg::new(alloc, "shards")
+        .long("shards")
+        .value_name("N")
+        .action(ArgAction::Set)
+        .value_parser(ValueParser::Unsigned(1, 16))
+        .default_value("1")
+        .hide(true)
+        .help("How many threads keep the tables, each of them some of the prefixes, from 1 to 16")
+}
+
+// `--errors STANDARD`
+fn errors_argument<'a>(alloc: Global) -> Arg<'a>
+    ensures rule { rule_of result ≡ errors_rule }
+    ensures local { result.global ≡ false }
+{
+    Arg::new(alloc, "errors")
+        .long("errors")
+        .value_name("STANDARD")
+        .action(ArgAction::Set)
+        .default_value("rfc4271")
+        .hide(true)
+        .help(ERRORS_HELP)
 }

@@ -1,6 +1,7 @@
 //! Command lines, and what is read of them.
 
 use rs_options::{Options, WordsFault};
+use rs_update::Errors;
 use rs_words::read_words;
 use std::alloc::{AllocError, Global};
 use std::test::Fail;
@@ -9,12 +10,14 @@ use std::test::Fail;
 enum Answer {
     // The configuration, the folder and the time.
     Given(&'static str, &'static str, u32),
+    // The ring, the shards and the standard.
+    Runs(usize, usize, Errors),
     Helped,
     Refused,
 }
 
 // A command line without the program's name, and its answer.
-const LINES: [(&str, Answer); 17] = [
+const LINES: [(&str, Answer); 37] = [
     ("--config c --out d", Answer::Given("c", "d", 0)),
     ("--out d --config c", Answer::Given("c", "d", 0)),
     ("--config=c --out=d/ --time=7", Answer::Given("c", "d/", 7)),
@@ -23,6 +26,27 @@ const LINES: [(&str, Answer); 17] = [
         Answer::Given("c", "d", 4294967295),
     ),
     ("--config c --out d --time 0", Answer::Given("c", "d", 0)),
+    ("--config c --out d", Answer::Runs(1024, 1, Errors::Rfc4271)),
+    (
+        "--config c --out d --ring 1 --shards 16",
+        Answer::Runs(1, 16, Errors::Rfc4271),
+    ),
+    (
+        "--config c --out d --shards=1 --ring=65536",
+        Answer::Runs(65536, 1, Errors::Rfc4271),
+    ),
+    (
+        "--errors rfc7606 --config c --out d --ring 2",
+        Answer::Runs(2, 1, Errors::Rfc7606),
+    ),
+    (
+        "--config c --out d --errors rfc4271 --shards 2",
+        Answer::Runs(1024, 2, Errors::Rfc4271),
+    ),
+    (
+        "--config c --out d --errors=rfc7606 --shards 3 --ring 7",
+        Answer::Runs(7, 3, Errors::Rfc7606),
+    ),
     ("--help", Answer::Helped),
     ("-h", Answer::Helped),
     ("--config c --out d --help", Answer::Helped),
@@ -30,6 +54,26 @@ const LINES: [(&str, Answer); 17] = [
     ("--config c --out d --time -1", Answer::Refused),
     ("--config c --out d --time soon", Answer::Refused),
     ("--config c --out d --ring 0", Answer::Refused),
+    ("--config c --out d --ring 65537", Answer::Refused),
+    ("--config c --out d --ring -1", Answer::Refused),
+    (
+        "--config c --out d --ring 18446744073709551616",
+        Answer::Refused,
+    ),
+    ("--config c --out d --ring 4 --ring 5", Answer::Refused),
+    ("--config c --out d --shards 0", Answer::Refused),
+    ("--config c --out d --shards 17", Answer::Refused),
+    ("--config c --out d --shards=", Answer::Refused),
+    ("--config c --out d --shards 1.0", Answer::Refused),
+    ("--config c --out d --errors rfc4272", Answer::Refused),
+    ("--config c --out d --errors RFC4271", Answer::Refused),
+    ("--config c --out d --errors=", Answer::Refused),
+    ("--config c --out d --errors rfc76060", Answer::Refused),
+    ("--config c --out d --errors", Answer::Refused),
+    (
+        "--config c --out d --errors rfc7606 --errors rfc7606",
+        Answer::Refused,
+    ),
     ("--config c --out=", Answer::Refused),
     ("--config c --out d more", Answer::Refused),
     ("--config c --config c --out d", Answer::Refused),
@@ -53,6 +97,9 @@ fn is_answer(read: &Result<Options, WordsFault>, answer: &Answer) -> bool {
             options.config.as_str() == *config
                 && options.out.as_str() == *out
                 && options.time == *time
+        }
+        (Ok(options), Answer::Runs(ring, shards, errors)) => {
+            options.ring == *ring && options.shards == *shards && options.errors == *errors
         }
         (Err(WordsFault::Help(_)), Answer::Helped) => true,
         (Err(WordsFault::Refused(_)), Answer::Refused) => true,

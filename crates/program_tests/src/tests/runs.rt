@@ -6,6 +6,7 @@ use rs_mrt::{Limits, MemoryReader, MemoryWriter, ReadLimits};
 use rs_options::Options;
 use rs_run::{Kept, MemoryOutlet, OutletLimits, RunFault, run};
 use rs_setup::read_setup;
+use rs_update::Errors;
 use std::alloc::Global;
 use std::process::Abort;
 use std::test::Fail;
@@ -105,6 +106,9 @@ fn run_over(
         config: String::new(alloc),
         out: String::new(alloc),
         time,
+        ring: 1,
+        shards: 1,
+        errors: Errors::Rfc4271,
     };
     let collected = hex::decode(alloc, COLLECTED.as_bytes())?;
     let [first, second, third, fourth] = limits;

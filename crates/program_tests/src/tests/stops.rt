@@ -8,6 +8,7 @@ use rs_ended::{Ended, MEMORY_LINE, line, path_in, status};
 use rs_options::{Options, WordsFault};
 use rs_run::RunFault;
 use rs_setup::{SetupFault, read_setup};
+use rs_update::Errors;
 use std::alloc::{AllocError, Global};
 use std::process::Abort;
 use std::test::Fail;
@@ -26,6 +27,9 @@ fn options(alloc: Global, out: &str) -> Result<Options, AllocError> {
         config: String::from_str(alloc, "exchange.toml")?,
         out: String::from_str(alloc, out)?,
         time: 0,
+        ring: 1,
+        shards: 1,
+        errors: Errors::Rfc4271,
     })
 }
 
