@@ -103,14 +103,16 @@ fn end<R: AllocGlobal + Print + Eprint>(
     };
     let printed = match ended {
         Ended::Words(WordsFault::Help(_)) => print!(rt; "{text}"),
+        Ended::Words(WordsFault::Version(_)) => print!(rt; "{text}"),
         Ended::Words(WordsFault::Refused(_)) => eprint!(rt; "{text}"),
         _ => eprintln!(rt; "{text}"),
     };
-    match (ended, printed) {
-        (Ended::Words(WordsFault::Help(_)), Err(_)) => {
+    match (status(ended), printed) {
+        // What was asked for can't be shown.
+        (0, Err(_)) => {
             let _ = eprintln!(rt; "{OUTPUT_LINE}");
             ExitCode::from(FAILED)
         }
-        _ => ExitCode::from(status(ended)),
+        (code, _) => ExitCode::from(code),
     }
 }

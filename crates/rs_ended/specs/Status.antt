@@ -7,7 +7,7 @@ use Rattle.rs_options.specs.declared.options.WordsFault.TheVariants as words
 use Rattle.rs_run.specs.declared.run_fault.RunFault.TheVariants as run
 use Rattle.rs_setup.specs.declared.setup.SetupFault.TheVariants as setup
 
--- all is done, or help was shown
+-- all is done, or help or the version was shown
 abbrev pub done : ℕ
 done = 0
 
@@ -26,6 +26,7 @@ out_of_memory = 3
 -- the status of each way to stop short
 abbrev pub status_of : Ended → ℕ
 status_of (Words (words.Help text)) = done
+status_of (Words (words.Version text)) = done
 status_of (Words (words.Refused text)) = refused
 status_of (Words words.Memory) = out_of_memory
 status_of (Setup (setup.Plan plan.Memory)) = out_of_memory

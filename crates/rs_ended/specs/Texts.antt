@@ -90,9 +90,10 @@ run_line (run.Dump client) set_up options = named (codes "cannot write " ++ one_
 run_line run.Report set_up options = named (codes "cannot write standard output")
 run_line (run.Read peer) set_up options = unread_line (file_path set_up peer)
 
--- the line of each way to stop short; help and the refusal of a command line are texts of `clap`
+-- the line of each way to stop short; help, the version and the refusal of a command line are texts of `clap`
 abbrev pub line_of : Ended → Option (Bor SetUp) → Option (Bor Options) → Text
 line_of (Words (words.Help text)) set_up options = string_bytes text
+line_of (Words (words.Version text)) set_up options = string_bytes text
 line_of (Words (words.Refused text)) set_up options = string_bytes text
 line_of (Words words.Memory) set_up options = out_of_memory_line
 line_of (Setup fault) set_up options = setup_line fault

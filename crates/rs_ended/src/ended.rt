@@ -14,7 +14,7 @@ use thiserror::Error;
 /// Why the program stops short.
 #[derive(Debug, Drop, Error)]
 pub enum Ended {
-    /// The command line gives no options: help was asked for, or it is refused.
+    /// The command line gives no options: help or the version was asked for, or it is refused.
     #[error(transparent)]
     Words(WordsFault),
     /// The configuration is refused.
@@ -40,13 +40,14 @@ pub const FAILED: u8 = 2;
 /// Memory was refused.
 pub const OUT_OF_MEMORY: u8 = 3;
 
-/// The status with which the program ends: 0 where help was asked for, 1 where the command line or the configuration is refused, 2 where a file, a
+/// The status with which the program ends: 0 where help or the version was asked for, 1 where the command line or the configuration is refused, 2 where a file, a
 /// folder or a device failed, 3 for want of memory.
 pub fn status(ended: &Ended) -> u8
     ensures { result ≡ status_of ended.now }
 {
     match ended {
         Ended::Words(WordsFault::Help(_)) => 0,
+        Ended::Words(WordsFault::Version(_)) => 0,
         Ended::Words(WordsFault::Refused(_)) => REFUSED,
         Ended::Words(WordsFault::Memory) => OUT_OF_MEMORY,
         Ended::Setup(SetupFault::Plan(PlanFault::Memory)) => OUT_OF_MEMORY,

@@ -20,7 +20,7 @@ pub const OUTPUT_LINE: &str = "route_server: cannot write standard output";
 /// The text that refuses a command line of other words than texts.
 pub const NOT_UTF_8: &str = "error: an argument is not UTF-8\n";
 
-/// The line that says why the program stops short, without a line break at its end; for help and a refused command line the whole text of `clap`.
+/// The line that says why the program stops short, without a line break at its end; for help, the version and a refused command line the whole text of `clap`.
 ///
 /// Of a run that stopped short, `setup` and `options` are those that it was given. Line breaks in a key or a path are shown as `\n` and `\r`, other control characters as `\u{1b}`. Fails
 /// where memory is refused.
@@ -35,6 +35,7 @@ pub fn line(
 {
     match ended {
         Ended::Words(WordsFault::Help(text)) => String::from_str(alloc, text),
+        Ended::Words(WordsFault::Version(text)) => String::from_str(alloc, text),
         Ended::Words(WordsFault::Refused(text)) => String::from_str(alloc, text),
         Ended::Words(WordsFault::Memory) => String::from_str(alloc, MEMORY_LINE),
         Ended::Setup(fault) => setup_line(alloc, fault),

@@ -30,6 +30,9 @@ pub enum WordsFault {
     /// Help was asked for: its text.
     #[error("{0}")]
     Help(String),
+    /// The version was asked for: the line that says it.
+    #[error("{0}")]
+    Version(String),
     /// The words are refused: the text that says why.
     #[error("{0}")]
     Refused(String),

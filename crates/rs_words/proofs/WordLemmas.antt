@@ -6,9 +6,9 @@ use Rattle.clap.specs.Matches.{ReadsOne}
 use Rattle.clap.specs.Words.{HasKind, IsAmong, Kinds, Text, kind_of}
 use Rattle.clap.specs.declared.error.Error.{Error}
 use Rattle.clap.specs.declared.error.kind.ErrorKind.{ErrorKind}
-use Rattle.clap.specs.declared.error.kind.ErrorKind.TheVariants.{DisplayHelp, OutOfMemory}
+use Rattle.clap.specs.declared.error.kind.ErrorKind.TheVariants.{DisplayHelp, DisplayVersion, OutOfMemory}
 use Rattle.rs_options.specs.declared.options.WordsFault.{WordsFault}
-use Rattle.rs_options.specs.declared.options.WordsFault.TheVariants.{Help, Refused, Memory}
+use Rattle.rs_options.specs.declared.options.WordsFault.TheVariants.{Help, Version, Refused, Memory}
 use Rattle.rs_words.specs.CommandLine.{IsToldAs, SaysWhy, number_of}
 
 -- a number of so many bits that was read of a text is the number that the text stands for
@@ -22,9 +22,10 @@ number_read bits E Reads parses (Some text) read number none some is =
     let given : ReadsOne Reads text (Some number) = subst (ReadsOne Reads text) is (some text refl) in
     ap Some (sym (parses text (Ok number) given).1)
 
-only_help : (kind : ErrorKind) → IsAmong kind (DisplayHelp ∷ []) → kind ≡ DisplayHelp
-only_help kind (inl same) = same
-only_help kind (inr none) = absurd none
+-- the one member of a list
+the_one : (kind one : ErrorKind) → IsAmong kind (one ∷ []) → kind ≡ one
+the_one kind one (inl same) = same
+the_one kind one (inr none) = absurd none
 
 -- an error of one of these kinds is told as they say
 pub told_as : (kinds : Kinds) (error : Error) (fault : WordsFault) → HasKind kinds error → IsToldAs (kind_of error) fault → SaysWhy kinds fault
@@ -32,8 +33,15 @@ told_as kinds error (Help text) (inl memory) is =
     let bad : OutOfMemory ≡ DisplayHelp = sym memory ∙ is in
     cc
 told_as kinds error (Help text) (inr among) is = subst (λ kind. IsAmong kind kinds) is among
-told_as kinds error (Refused text) (inl memory) is = absurd (is.1 memory)
-told_as kinds error (Refused text) (inr among) is = λ one. is.0 (only_help (kind_of error) (subst (IsAmong (kind_of error)) one among))
+told_as kinds error (Version text) (inl memory) is =
+    let bad : OutOfMemory ≡ DisplayVersion = sym memory ∙ is in
+    cc
+told_as kinds error (Version text) (inr among) is = subst (λ kind. IsAmong kind kinds) is among
+told_as kinds error (Refused text) (inl memory) is = absurd (is.2 memory)
+told_as kinds error (Refused text) (inr among) is = (
+  λ one. is.0 (the_one (kind_of error) DisplayHelp (subst (IsAmong (kind_of error)) one among)),
+  λ one. is.1 (the_one (kind_of error) DisplayVersion (subst (IsAmong (kind_of error)) one among)),
+)
 told_as kinds error Memory has is = tt
 
 -- what holds at any rate holds of a success

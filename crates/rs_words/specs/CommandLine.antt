@@ -1,14 +1,15 @@
 -- The command line: the program's command as `clap` knows it, and the options that its words ask for.
 use Rattle.std.specs.Prelude.{◌≡◌, ◌≢◌, ◌≤◌, ℕ, ⊤, pos, true, List, [], ◌∷◌, Some, codes, option_map, string_bytes}
 use Rattle.std.specs.Str.Parse.{digits_value, without_leading_plus}
+use Rattle.clap.specs.Simple.{on_top}
 use Rattle.clap.specs.Words.{App, IsAmong, Kinds, Row, Rule, Text, fault_of, first_of, matches_of, new_app, new_rule, one_of, with_rule}
 use Rattle.clap.specs.declared.builder.ArgAction.TheVariants.{Set}
 use Rattle.clap.specs.declared.builder.value_parser.ValueParser.TheVariants.{NonEmptyString, Signed, Unsigned}
 use Rattle.clap.specs.declared.error.kind.ErrorKind.{ErrorKind}
-use Rattle.clap.specs.declared.error.kind.ErrorKind.TheVariants.{DisplayHelp, OutOfMemory}
+use Rattle.clap.specs.declared.error.kind.ErrorKind.TheVariants.{DisplayHelp, DisplayVersion, OutOfMemory}
 use Rattle.rs_options.specs.declared.options.Options.{Options}
 use Rattle.rs_options.specs.declared.options.WordsFault.{WordsFault}
-use Rattle.rs_options.specs.declared.options.WordsFault.TheVariants.{Help, Refused, Memory}
+use Rattle.rs_options.specs.declared.options.WordsFault.TheVariants.{Help, Version, Refused, Memory}
 use Rattle.rs_update.specs.declared.errors.Errors.{Errors}
 use Rattle.rs_update.specs.declared.errors.Errors.TheVariants.{Rfc4271, Rfc7606}
 
@@ -52,9 +53,13 @@ with_places app = with_rule (with_rule (with_rule app config_rule) out_rule) tim
 abbrev pub with_manner : App → App
 with_manner app = with_rule (with_rule (with_rule app ring_rule) shards_rule) errors_rule
 
+-- a command that tells its version
+abbrev pub with_version : App → App
+with_version app = on_top (λ shape. record shape { has_version = true }) app
+
 -- the program's command, with its six options
 abbrev pub program : App
-program = with_manner (with_places (new_app (codes "route_server")))
+program = with_manner (with_places (with_version (new_app (codes "route_server"))))
 
 -- the name of a standard on the command line
 abbrev pub standard_name : Errors → Text
@@ -80,18 +85,20 @@ pub record HoldOptions (rows : List Row) (options : Options) : Type 0 where
 abbrev pub AreOptionsOf : List Text → Options → Type 0
 AreOptionsOf words options = HoldOptions (matches_of program words) options
 
--- what `clap` finds in the words, a request for help included: its error is of one of these kinds; none where it takes them
+-- what `clap` finds in the words, a request for help or for the version included: its error is of one of these kinds; none where it takes them
 abbrev pub faults_in : List Text → Kinds
 faults_in words = fault_of program words
 
 -- a kind of error, and what it is told as
 abbrev pub IsToldAs : ErrorKind → WordsFault → Type 0
 IsToldAs kind (Help text) = kind ≡ DisplayHelp
-IsToldAs kind (Refused text) = (kind ≢ DisplayHelp) × (kind ≢ OutOfMemory)
+IsToldAs kind (Version text) = kind ≡ DisplayVersion
+IsToldAs kind (Refused text) = (kind ≢ DisplayHelp) × (kind ≢ DisplayVersion) × (kind ≢ OutOfMemory)
 IsToldAs kind Memory = ⊤
 
--- words are answered with help only where asking for it is among what is found in them, and aren't refused where it is all that is found
+-- words are answered with help or the version only where asking for it is among what is found in them, and aren't refused where it is all that is found
 abbrev pub SaysWhy : Kinds → WordsFault → Type 0
 SaysWhy kinds (Help text) = IsAmong DisplayHelp kinds
-SaysWhy kinds (Refused text) = kinds ≢ DisplayHelp ∷ []
+SaysWhy kinds (Version text) = IsAmong DisplayVersion kinds
+SaysWhy kinds (Refused text) = (kinds ≢ DisplayHelp ∷ []) × (kinds ≢ DisplayVersion ∷ [])
 SaysWhy kinds Memory = ⊤

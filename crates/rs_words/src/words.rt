@@ -12,6 +12,9 @@ use rs_options::{Options, WordsFault};
 use rs_update::Errors;
 use std::alloc::{AllocError, Global};
 
+// The program's version.
+const VERSION: &str = "0.1.0";
+
 // What the program does, at the head of its help.
 const ABOUT: &str =
     "Replays recorded BGP sessions through a BGP-4 route server: which routes does each client get?
@@ -30,7 +33,7 @@ each client, in configured order:
   table NAME rows N
 
 Status:
-  0  all dumps and the report are written, or help was asked for
+  0  all dumps and the report are written, or help or the version was asked for
   1  the command line or the configuration is refused
   2  a file, a folder or a device failed
   3  memory was refused";
@@ -54,8 +57,8 @@ For more information, try '--help'.
 /// [--ring N] [--shards N] [--errors rfc4271|rfc7606]`. DIR isn't empty; the time is from 0 to 4,294,967,295, the ring
 /// from 1 to 65,536, the shards from 1 to 16; where they aren't given they are 0, 1,024, 1 and RFC 4271.
 ///
-/// Answers `Help` where help is asked for and `Refused` where the words aren't such, each with the text of `clap`, or
-/// with one of our own where `--errors` names no standard; `Memory` where memory is refused.
+/// Answers `Help` or `Version` where that is asked for, and `Refused` where the words aren't such, each with the text of
+/// `clap`, or with one of our own where `--errors` names no standard; `Memory` where memory is refused.
 pub fn read_words(alloc: Global, words: Vec<String>) -> Result<Options, WordsFault>
     ensures options { IfOk result (λ options. AreOptionsOf (map string_bytes words.items) options) }
     ensures taken { OnOk result (faults_in (map string_bytes words.items) ≡ []) }
@@ -122,6 +125,7 @@ fn fault_of(alloc: Global, error: &Error) -> WordsFault
     match error.kind() {
         ErrorKind::OutOfMemory => WordsFault::Memory,
         ErrorKind::DisplayHelp => WordsFault::Help(text),
+        ErrorKind::DisplayVersion => WordsFault::Version(text),
         _ => WordsFault::Refused(text),
     }
 }
@@ -131,6 +135,7 @@ fn program<'a>(alloc: Global) -> Result<Command<'a>, AllocError>
     ensures { IfOk result (λ command. app_of command ≡ program) }
 {
     let command = Command::new(alloc, "route_server")
+        .version(VERSION)
         .about(ABOUT)
         .after_help(AFTER_HELP);
     let command = command

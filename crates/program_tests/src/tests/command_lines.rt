@@ -13,11 +13,12 @@ enum Answer {
     // The ring, the shards and the standard.
     Runs(usize, usize, Errors),
     Helped,
+    Versioned,
     Refused,
 }
 
 // A command line without the program's name, and its answer.
-const LINES: [(&str, Answer); 37] = [
+const LINES: [(&str, Answer); 40] = [
     ("--config c --out d", Answer::Given("c", "d", 0)),
     ("--out d --config c", Answer::Given("c", "d", 0)),
     ("--config=c --out=d/ --time=7", Answer::Given("c", "d/", 7)),
@@ -49,6 +50,9 @@ const LINES: [(&str, Answer); 37] = [
     ),
     ("--help", Answer::Helped),
     ("-h", Answer::Helped),
+    ("--version", Answer::Versioned),
+    ("-V", Answer::Versioned),
+    ("--config c --version", Answer::Versioned),
     ("--config c --out d --help", Answer::Helped),
     ("--config c --out d --time 4294967296", Answer::Refused),
     ("--config c --out d --time -1", Answer::Refused),
@@ -102,6 +106,7 @@ fn is_answer(read: &Result<Options, WordsFault>, answer: &Answer) -> bool {
             options.ring == *ring && options.shards == *shards && options.errors == *errors
         }
         (Err(WordsFault::Help(_)), Answer::Helped) => true,
+        (Err(WordsFault::Version(text)), Answer::Versioned) => text.starts_with("route_server "),
         (Err(WordsFault::Refused(_)), Answer::Refused) => true,
         _ => false,
     }
@@ -131,7 +136,7 @@ fn help_names_each_option_with_its_range_and_default_and_each_status(
         "--time <N>",
         "seconds since 1970, from 0 to 4294967295 [default: 0]",
         "route_server --config exchange.toml --out tables",
-        "0  all dumps and the report are written, or help was asked for",
+        "0  all dumps and the report are written, or help or the version was asked for",
         "1  the command line or the configuration is refused",
         "2  a file, a folder or a device failed",
         "3  memory was refused",

@@ -63,6 +63,12 @@ fn a_command_line_ends_with_the_text_of_clap(rt: HostRuntime) -> Result<(), Fail
     )?;
     ends(
         &rt,
+        Ended::Words(WordsFault::Version(text(alloc, "route_server 1\n")?)),
+        0,
+        "route_server 1\n",
+    )?;
+    ends(
+        &rt,
         Ended::Words(WordsFault::Refused(text(alloc, "error: so\n")?)),
         1,
         "error: so\n",

@@ -74,6 +74,7 @@ fn what_stops_the_program_before_a_run_says_so(rt: HostRuntime) -> Result<(), Fa
         "server.as",
     )?;
     says(&rt, &WordsFault::Help(key(alloc)?), "server.as")?;
+    says(&rt, &WordsFault::Version(key(alloc)?), "server.as")?;
     says(
         &rt,
         &WordsFault::Memory,
