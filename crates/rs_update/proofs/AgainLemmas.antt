@@ -9,6 +9,7 @@ use Rattle.rs_update.specs.declared.attribute_type.AttributeType.{AttributeType}
 use Rattle.rs_update.specs.declared.attribute_type.AttributeType.TheVariants as types
 use Rattle.rs_update.specs.declared.values.Aggregator.{Aggregator}
 use Rattle.rs_update.specs.AttributeType.{type_of, is_unrecognized, is_transitive, is_partial}
+use Rattle.rs_update.specs.Found.{kept_as, kept_in}
 use Rattle.rs_update.specs.Gathered.{look, aggregator_of, community_list_of, is_passed_on, passed_on_of, passed_on_in, others_of, attributes_from, attributes_of}
 use Rattle.rs_update.specs.Laws.{WrittenIsRead}
 use Rattle.rs_update.specs.Parts.{AreOctets, parts_of}
@@ -17,7 +18,7 @@ use Rattle.rs_update.specs.Section.{Item, FitsItsLength, item_at, items_of, rest
 use Rattle.rs_update.specs.Shapes.{passed_on_from}
 use Rattle.rs_update.specs.Spelling.{well_known, optional_transitive, spelled_item, written, written_items}
 use Rattle.rs_update.proofs.BoundLemmas.{written-shorter}
-use Rattle.rs_update.proofs.KeptLemmas.{kept_as, kept_in, written_items-kept}
+use Rattle.rs_update.proofs.KeptLemmas.{written_items-kept}
 use Rattle.rs_update.proofs.KindLemmas.{cases_Option, All-range, filter_map-same, find-made, range-any}
 use Rattle.rs_update.proofs.SoundLemmas.{AreSound, sound_section, look_sound}
 use Rattle.rs_update.proofs.SpelledParts.{items_of-spelled}

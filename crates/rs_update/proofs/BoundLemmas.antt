@@ -4,15 +4,16 @@ use Rattle.std.specs.List.{filter_map, range_with_len, flat_map, AllByRecursion}
 use Rattle.std.proofs.lemmas.Bool.{cases_Bool, cases_eq, cases_lt, eq-eqb, ne_eqb, lt-ltb, le-ltb}
 use Rattle.std.proofs.lemmas.List.{length-append}
 use Rattle.rs_update.specs.declared.attribute_type.AttributeType.{AttributeType}
-use Rattle.rs_update.specs.declared.attribute_type.AttributeType.TheVariants as types
-use Rattle.rs_update.specs.AttributeType.{type_of, is_extended, is_transitive, is_partial}
-use Rattle.rs_update.specs.Found.{IsPlain, spelled_kept}
+use Rattle.rs_update.specs.declared.attribute_type.WantedFlags.{WantedFlags}
+use Rattle.rs_update.specs.declared.attribute_type.WantedFlags.TheVariants.{WellKnown, OptionalNonTransitive, OptionalTransitive, Optional, Any}
+use Rattle.rs_update.specs.AttributeType.{type_of, row_of, is_extended, is_transitive, is_partial}
+use Rattle.rs_update.specs.Found.{IsPlain, kept_by, kept_as, kept_of, kept_in, spelled_kept}
 use Rattle.rs_update.specs.Gathered.{look, attributes_of}
 use Rattle.rs_update.specs.Parts.{AreOctets}
 use Rattle.rs_update.specs.PathAttributes.{PathAttributes}
 use Rattle.rs_update.specs.Section.{Item, spelled_length, items_of, rest_of, section_fault}
 use Rattle.rs_update.specs.Spelling.{written_flags, spelled_item, written, written_items}
-use Rattle.rs_update.proofs.KeptLemmas.{kept_as, kept_of, kept_in, written_items-kept}
+use Rattle.rs_update.proofs.KeptLemmas.{written_items-kept}
 use Rattle.rs_update.proofs.KindLemmas.{cases_Option, some_same, All-range}
 use Rattle.rs_update.proofs.ReceivedLemmas.{IsReceived, section-is_spelled}
 use Rattle.rs_update.proofs.SoundLemmas.{AreSound, sound_section, look_sound}
@@ -42,24 +43,19 @@ plain_partial : (partial : Bool) → IsPlain (cond partial 0xE0 0xC0)
 plain_partial true = plain_E0
 plain_partial false = plain_C0
 
-pub kept_as-is : (type : AttributeType) (item kept : Item) → kept_as type item ≡ Some kept → IsKept item kept
-kept_as-is types.Origin item kept e = record { flags = 0x40; plain = plain_40; is = sym (some_same _ _ e) }
-kept_as-is types.AsPath item kept e = record { flags = 0x40; plain = plain_40; is = sym (some_same _ _ e) }
-kept_as-is types.NextHop item kept e = record { flags = 0x40; plain = plain_40; is = sym (some_same _ _ e) }
-kept_as-is types.MultiExitDisc item kept e = record { flags = 0x80; plain = plain_80; is = sym (some_same _ _ e) }
-kept_as-is types.LocalPref item kept e = absurd cc
-kept_as-is types.AtomicAggregate item kept e = record { flags = 0x40; plain = plain_40; is = sym (some_same _ _ e) }
-kept_as-is types.Aggregator item kept e = record { flags = cond (is_partial item.flags) 0xE0 0xC0; plain = plain_partial (is_partial item.flags); is = sym (some_same _ _ e) }
-kept_as-is types.Communities item kept e = record { flags = cond (is_partial item.flags) 0xE0 0xC0; plain = plain_partial (is_partial item.flags); is = sym (some_same _ _ e) }
-kept_as-is types.MpReachNlri item kept e = absurd cc
-kept_as-is types.MpUnreachNlri item kept e = absurd cc
-kept_as-is types.As4Path item kept e = absurd cc
-kept_as-is types.As4Aggregator item kept e = absurd cc
-kept_as-is types.Unrecognized item kept e =
+kept_by-is : (wanted : WantedFlags) (item kept : Item) → kept_by wanted item ≡ Some kept → IsKept item kept
+kept_by-is WellKnown item kept e = record { flags = 0x40; plain = plain_40; is = sym (some_same _ _ e) }
+kept_by-is OptionalNonTransitive item kept e = record { flags = 0x80; plain = plain_80; is = sym (some_same _ _ e) }
+kept_by-is OptionalTransitive item kept e = record { flags = cond (is_partial item.flags) 0xE0 0xC0; plain = plain_partial (is_partial item.flags); is = sym (some_same _ _ e) }
+kept_by-is Optional item kept e =
     elim (cases_Bool (is_transitive item.flags)) [
       | inl passed ↦ record { flags = 0xE0; plain = plain_E0; is = sym (some_same _ _ (rw passed at e)) }
       | inr dropped ↦ let none = rw dropped at e in absurd cc
     ]
+kept_by-is Any item kept e = absurd cc
+
+pub kept_as-is : (type : AttributeType) (item kept : Item) → kept_as type item ≡ Some kept → IsKept item kept
+kept_as-is type item kept e = kept_by-is (row_of type).flags item kept e
 
 -- a length takes one octet or two
 short_length : (item : Item) → is_extended item.flags ≡ false → length (spelled_length item) ≡ 1

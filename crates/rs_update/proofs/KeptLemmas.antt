@@ -1,6 +1,6 @@
 -- What is written of the attributes of a section without fault has the values that were received.
 use Rattle.std.proofs.Common.{◌≡◌, ℕ, ◌<◌, ◌==◌, true, List, [], ◌∷◌, ◌++◌, length, take, drop, Option, Some, None, refl, sym, ap, ◌∙◌, arith, inl, inr}
-use Rattle.std.specs.Prelude.{find, option_and_then, is_some, slice_index, if◌then◌else◌}
+use Rattle.std.specs.Prelude.{find, option_and_then, is_some, slice_index}
 use Rattle.std.specs.List.{filter_map, range_with_len, flat_map}
 use Rattle.std.specs.Option.{option_map}
 use Rattle.std.proofs.lemmas.Bool.{cases_Bool, cases_eq, ne_eqb, eqb-true}
@@ -9,7 +9,7 @@ use Rattle.byteorder.specs.Endian.{big_number, big_bytes}
 use Rattle.rs_update.specs.declared.attribute_type.AttributeType.{AttributeType}
 use Rattle.rs_update.specs.declared.attribute_type.AttributeType.TheVariants as types
 use Rattle.rs_update.specs.AttributeType.{type_of, is_transitive, is_partial}
-use Rattle.rs_update.specs.Found.{recognized_as}
+use Rattle.rs_update.specs.Found.{kept_as, kept_in}
 use Rattle.rs_update.specs.Gathered.{look, origin_with, passed_on_in, others_of, attributes_from}
 use Rattle.rs_update.specs.Parts.{AreOctets}
 use Rattle.rs_update.specs.PathAttributes.{PathAttributes, PassedOn}
@@ -22,18 +22,6 @@ use Rattle.rs_update.proofs.OctetLemmas.{AreOctets-drop, big_bytes-big_number, s
 use Rattle.rs_update.proofs.OthersLemmas.{passed_on_kind}
 use Rattle.rs_update.proofs.ReceivedLemmas.{value-is_spelled}
 use Rattle.rs_update.proofs.SoundLemmas.{AreSound, look_sound, origin_value, path_value, next_hop_value, med_value, atomic_value, aggregator_value, communities_value}
-
--- an attribute as it is written: a recognized one, or one that is passed on
-abbrev pub kept_as : AttributeType → Item → Option Item
-kept_as types.Unrecognized item = if is_transitive item.flags then Some (optional_transitive true item.kind item.value) else None
-kept_as type item = recognized_as type item
-
-abbrev pub kept_of : Item → Option Item
-kept_of item = kept_as (type_of item.kind) item
-
--- what is written of a type
-abbrev pub kept_in : List Item → ℕ → Option Item
-kept_in items kind = option_and_then kept_of (look kind items)
 
 -- ---- the values
 

@@ -1,8 +1,7 @@
 -- Attributes by their types: look-ups, and lists that have one of each type at most.
-use Rattle.std.proofs.Common.{◌≡◌, ℕ, zero, suc, ◌+◌, ◌<◌, ◌≤◌, ◌==◌, ◌⊎◌, Bool, true, false, eqb, List, [], ◌∷◌, ◌++◌, Option, Some, None, refl, sym, ap, subst, ◌∙◌, arith, inl, inr}
-use Rattle.std.specs.Prelude.{find, map, filter}
-use Rattle.std.specs.List.{filter_map, cons_option, range_with_len, list_any, AllByRecursion}
-use Rattle.std.specs.Option.{option_map}
+use Rattle.std.proofs.Common.{◌≡◌, ℕ, zero, suc, ◌+◌, ◌<◌, ◌≤◌, ◌==◌, ◌⊎◌, true, false, eqb, List, [], ◌∷◌, Option, Some, None, refl, sym, ap, subst, ◌∙◌, arith, inl, inr}
+use Rattle.std.specs.Prelude.{find}
+use Rattle.std.specs.List.{filter_map, range_with_len, list_any, AllByRecursion}
 use Rattle.std.proofs.lemmas.Bool.{cases_Bool, cases_eq, eqb-true, eq-eqb, ne_eqb}
 
 -- nothing, or something
@@ -18,15 +17,6 @@ pub All-range : (P : ℕ → Type 0) (a n b : ℕ) → a + n ≡ b → ((k : ℕ
 All-range P a zero b end each = tt
 All-range P a (suc n) b end each = (each a (omega arith) (omega arith), All-range P (a + 1) n b (omega arith) (λ k le lt. each k (omega arith) lt))
 
-pub range-split : (a m n b : ℕ) → a + m ≡ b → range_with_len a (m + n) ≡ range_with_len a m ++ range_with_len b n
-range-split a zero n b end =
-    let none : 0 + n ≡ n = omega arith in
-    let same : a ≡ b = omega arith in
-    rw (none, same) refl
-range-split a (suc m) n b end =
-    let one : suc m + n ≡ suc (m + n) = omega arith in
-    rw one (ap (λ (ks : List ℕ). a ∷ ks) (range-split (a + 1) m n b (omega arith)))
-
 -- lists made the same way of each element
 pub filter_map-same : {X Y : Type 0} (f g : X → Option Y) (xs : List X) → AllByRecursion (λ x. f x ≡ g x) xs → filter_map f xs ≡ filter_map g xs
 filter_map-same f g [] each = refl
@@ -35,33 +25,6 @@ filter_map-same f g (x ∷ xs) each = let first = each.0 in let later = filter_m
 pub filter_map-none : {X Y : Type 0} (f : X → Option Y) (xs : List X) → AllByRecursion (λ x. f x ≡ None) xs → filter_map f xs ≡ []
 filter_map-none f [] each = refl
 filter_map-none f (x ∷ xs) each = let first = each.0 in let later = filter_map-none f xs each.1 in rw first later
-
-map-cons_option : {X Y : Type 0} (h : X → Y) (o : Option X) (xs : List X) → map h (cons_option o xs) ≡ cons_option (option_map h o) (map h xs)
-map-cons_option h None xs = refl
-map-cons_option h (Some x) xs = refl
-
-pub map-filter_map : {X Y Z : Type 0} (h : Y → Z) (f : X → Option Y) (xs : List X) → map h (filter_map f xs) ≡ filter_map (λ x. option_map h (f x)) xs
-map-filter_map h f [] = refl
-map-filter_map h f (x ∷ xs) = map-cons_option h (f x) (filter_map f xs) ∙ ap (cons_option (option_map h (f x))) (map-filter_map h f xs)
-
--- a test that all pass, and one that none does
-pub filter-all : {X Y : Type 0} (p : Y → Bool) (f : X → Option Y) (xs : List X) → AllByRecursion (λ x. (y : Y) → f x ≡ Some y → p y ≡ true) xs → filter p (filter_map f xs) ≡ filter_map f xs
-filter-all p f [] each = refl
-filter-all p f (x ∷ xs) each =
-    let later = filter-all p f xs each.1 in
-    elim (cases_Option (f x)) [
-      | inl none ↦ rw none later
-      | inr some ↦ let passes = each.0 some.0 some.1 in rw (some.1, passes) (ap (λ ys. some.0 ∷ ys) later)
-    ]
-
-pub filter-no : {X Y : Type 0} (p : Y → Bool) (f : X → Option Y) (xs : List X) → AllByRecursion (λ x. (y : Y) → f x ≡ Some y → p y ≡ false) xs → filter p (filter_map f xs) ≡ []
-filter-no p f [] each = refl
-filter-no p f (x ∷ xs) each =
-    let later = filter-no p f xs each.1 in
-    elim (cases_Option (f x)) [
-      | inl none ↦ rw none later
-      | inr some ↦ let fails = each.0 some.0 some.1 in rw (some.1, fails) later
-    ]
 
 -- what is found has the type that is looked for
 pub kind_of_found : {X : Type 0} (kind : X → ℕ) (k : ℕ) (xs : List X) (x : X) → find (λ y. kind y == k) xs ≡ Some x → kind x ≡ k

@@ -1,6 +1,7 @@
 pub mod AgainLemmas
 pub mod AgreeLemmas
 pub mod BoundLemmas
+pub mod FindLemmas
 pub mod FirstFaultLemmas
 pub mod FoundLemmas
 pub mod HandlingLemmas
@@ -10,7 +11,6 @@ pub mod KindLemmas
 pub mod MessageExamples
 pub mod MessageLemmas
 pub mod OctetLemmas
-pub mod OrderLemmas
 pub mod OthersLemmas
 pub mod PartsLemmas
 pub mod PathExamples

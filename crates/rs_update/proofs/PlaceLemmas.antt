@@ -17,11 +17,15 @@ behind before section rest e =
     let size : length section - length rest ≡ length before = omega (arith, ap length e, length-append before rest) in
     ap (λ (n : ℕ). drop n section) size ∙ ap (drop (length before)) e ∙ drop-append_seam before rest
 
+-- an attribute begins there
+pub item_there : (before section rest : List ℕ) (split : Item × List ℕ) → section ≡ before ++ rest → item_at rest ≡ Some split → item_from section (length section - length rest) ≡ Some split.0
+item_there before section rest split there e =
+    ap (λ (octets : List ℕ). option_map (λ (s : Item × List ℕ). s.0) (item_at octets)) (behind before section rest there) ∙ ap (option_map (λ (s : Item × List ℕ). s.0)) e
+
 module _ (before section rest : List ℕ) (kind : ℕ) (there : section ≡ before ++ rest) (held : look kind (items_of rest) ≡ look kind (items_of section)) where
   pub item_from-found : (split : Item × List ℕ) → item_at rest ≡ Some split → split.0.kind ≡ kind → item_from section (length section - length rest) ≡ look kind (items_of section)
   item_from-found split e same =
-      ap (λ (octets : List ℕ). option_map (λ (s : Item × List ℕ). s.0) (item_at octets)) (behind before section rest there)
-      ∙ ap (option_map (λ (s : Item × List ℕ). s.0)) e
+      item_there before section rest split there e
       ∙ sym (ap (look kind) (items_of-step rest split e) ∙ rw (eq-eqb split.0.kind kind same) refl)
       ∙ held
 

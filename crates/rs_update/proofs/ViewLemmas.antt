@@ -2,7 +2,7 @@
 use Rattle.std.proofs.Common.{◌≡◌, ℕ, ◌≤◌, List, length, Option, Some, None, sym, ap, ◌∙◌, arith}
 use Rattle.std.specs.Option.{option_map}
 use Rattle.rs_update.specs.AttributesView.{value_of}
-use Rattle.rs_update.specs.Found.{found_in, spelled_found}
+use Rattle.rs_update.specs.Found.{spelled_section}
 use Rattle.rs_update.specs.Gathered.{look, community_list_of, others_of, attributes_from, attributes_of}
 use Rattle.rs_update.specs.Parts.{AreOctets}
 use Rattle.rs_update.specs.PathAttributes.{PathAttributes}
@@ -30,7 +30,7 @@ communities-shown items attributes found e is =
 
 module _ (section : List ℕ) (fit : AreOctets section) (faultless : section_fault section ≡ None) (short : length section ≤ 4073)
     (origin path next_hop : Item) (has_origin : look 1 (items_of section) ≡ Some origin) (has_path : look 2 (items_of section) ≡ Some path) (has_next_hop : look 3 (items_of section) ≡ Some next_hop)
-    (spelling : List ℕ) (spelled : spelling ≡ spelled_found (found_in (items_of section)) (others_of (items_of section))) where
+    (spelling : List ℕ) (spelled : spelling ≡ spelled_section (items_of section)) where
   abbrev the_attributes : PathAttributes
   the_attributes = attributes_from (items_of section) origin path next_hop
 

@@ -7,12 +7,11 @@ use Rattle.rs_update.specs.declared.attribute_type.AttributeType.TheVariants as 
 use Rattle.rs_update.specs.declared.attribute_type.WantedFlags.TheVariants.{WellKnown, OptionalNonTransitive, OptionalTransitive}
 use Rattle.rs_update.specs.AttributeType.{type_of, flags_of, suits, is_unrecognized, is_optional, is_transitive, is_partial}
 use Rattle.rs_update.specs.Fault.{first_fault}
-use Rattle.rs_update.specs.Found.{IsPlain}
+use Rattle.rs_update.specs.Found.{IsPlain, kept_as, kept_of, kept_in}
 use Rattle.rs_update.specs.Gathered.{look}
 use Rattle.rs_update.specs.Section.{Item, FitsItsLength, tests_of, suits_length, value_tests, own_fault_of, has_type, first_item_fault}
 use Rattle.rs_update.specs.Spelling.{written_flags}
 use Rattle.rs_update.proofs.BoundLemmas.{kept_as-is}
-use Rattle.rs_update.proofs.KeptLemmas.{kept_as, kept_of, kept_in}
 use Rattle.rs_update.proofs.KindLemmas.{cases_Option, some_same}
 use Rattle.rs_update.proofs.SoundLemmas.{AreSound, IsSound, look_sound, tests_passed, received_short}
 

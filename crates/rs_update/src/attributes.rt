@@ -12,7 +12,7 @@ ghost use Rattle.rs_update.specs.Section.{items_of, section_fault};
 ghost use Rattle.rs_update.specs.Spelling.{written};
 
 use crate::as_path::{Segments, holds_as};
-use crate::item::{Item, is_passed_on, split_item};
+use crate::item::{is_passed_on, item_from, split_item};
 use crate::number_list::{NUMBER_LEN, Numbers};
 use crate::values::{Aggregator, Origin};
 use std::marker::Model;
@@ -248,18 +248,7 @@ impl Attributes {
     }
 }
 
-// The attribute that begins at a place of a section.
-fn item_from(section: &[u8], place: u16) -> Option<Item<'_>>
-    ensures { option_map item_of result ≡ item_from_spec section.now place }
-{
-    let place = usize::from(place);
-    if section.len() < place {
-        return None;
-    }
-    Some(split_item(&section[place..])?.0)
-}
-
-// Its value, empty where none begins there.
+// The value of the attribute that begins at a place of a section, empty where none begins there.
 fn value_from(section: &[u8], place: u16) -> &[u8]
     ensures { result.now ≡ value_of (item_from_spec section.now place) }
 {

@@ -1,84 +1,88 @@
-//! The attributes of a section that a route keeps, where they stand in it (RFC 4271, section 5).
+//! Where the attributes of a section stand, by their types (RFC 4271, section 5).
 //!
-//! One pass finds them, once for each message. A section without fault has one of each type at most; of several the first would count.
+//! One pass finds them, once for each message. A section without fault has one of each type at most.
 
-ghost use Rattle.std.specs.Prelude.{◌≡◌, [], ◌∷◌, Some};
-ghost use Rattle.std.specs.Option.{option_map, option_or};
-ghost use Rattle.rs_update.specs.Found.{found_in, found_of, found_before, has_mandatory};
+ghost use Rattle.std.specs.Prelude.{◌≡◌, ◌<◌, ◌≤◌, length, None};
+ghost use Rattle.std.specs.Option.{option_map};
+ghost use Rattle.rs_update.specs.Found.{Finds, has_mandatory};
+ghost use Rattle.rs_update.specs.Gathered.{look};
 ghost use Rattle.rs_update.specs.Items.{item_of};
-ghost use Rattle.rs_update.specs.Section.{items_of};
+ghost use Rattle.rs_update.specs.Section.{items_of, section_fault};
 
-use crate::attribute_type::AttributeType;
-use crate::item::{Item, split_item};
+use crate::item::{Item, item_from, split_item};
+use crate::section::TYPES;
 
-// The attributes of a section that a route keeps by themselves, the first of each type, and whether any other is passed on.
+// The types of the attributes that are asked for by themselves.
+pub(crate) const ORIGIN: u8 = 1;
+
+pub(crate) const AS_PATH: u8 = 2;
+
+pub(crate) const NEXT_HOP: u8 = 3;
+
+pub(crate) const MULTI_EXIT_DISC: u8 = 4;
+
+pub(crate) const ATOMIC_AGGREGATE: u8 = 6;
+
+pub(crate) const AGGREGATOR: u8 = 7;
+
+pub(crate) const COMMUNITIES: u8 = 8;
+
+// A place behind the end of each section.
+const NOWHERE: u16 = u16::MAX;
+
+/// Where the attributes of a section begin, by their types.
 #[derive(Clone, Copy)]
-pub(crate) struct Found<'a> {
-    pub(crate) origin: Option<Item<'a>>,
-    pub(crate) path: Option<Item<'a>>,
-    pub(crate) next_hop: Option<Item<'a>>,
-    pub(crate) med: Option<Item<'a>>,
-    pub(crate) atomic: Option<Item<'a>>,
-    pub(crate) aggregator: Option<Item<'a>>,
-    pub(crate) communities: Option<Item<'a>>,
-    pub(crate) passes_on: bool,
+pub(crate) struct Found {
+    /// A place for each type, behind the end of the section where none stands.
+    pub(crate) places: [u16; TYPES],
+    /// No attribute has this type or a higher one.
+    pub(crate) end: usize,
 }
 
-impl<'a> Found<'a> {
-    // Whether ORIGIN, AS_PATH and NEXT_HOP were found.
-    pub(crate) fn has_mandatory(&self) -> bool
-        ensures { result ≡ has_mandatory (found_of self.now) }
+impl Found {
+    /// The attribute of a type.
+    pub(crate) fn get<'a>(&self, section: &'a [u8], kind: u8) -> Option<Item<'a>>
+        requires { Finds self.now section.now }
+        ensures { option_map item_of result ≡ look kind (items_of section.now) }
     {
-        self.origin.is_some() && self.path.is_some() && self.next_hop.is_some()
+        item_from(section, self.places[usize::from(kind)])
     }
 
-    // Finds one attribute more.
-    fn add(&mut self, item: Item<'a>)
-        ensures { found_of self.new ≡ found_before (found_of self.old) (found_in (item_of item.entry ∷ [])) }
+    /// Whether ORIGIN, AS_PATH and NEXT_HOP stand.
+    pub(crate) fn has_mandatory(&self, section: &[u8]) -> bool
+        requires { Finds self.now section.now }
+        ensures { result ≡ has_mandatory (items_of section.now) }
     {
-        match AttributeType::of(item.kind) {
-            AttributeType::Origin => keep(&mut self.origin, item),
-            AttributeType::AsPath => keep(&mut self.path, item),
-            AttributeType::NextHop => keep(&mut self.next_hop, item),
-            AttributeType::MultiExitDisc => keep(&mut self.med, item),
-            AttributeType::AtomicAggregate => keep(&mut self.atomic, item),
-            AttributeType::Aggregator => keep(&mut self.aggregator, item),
-            AttributeType::Communities => keep(&mut self.communities, item),
-            AttributeType::Unrecognized => {
-                self.passes_on = self.passes_on || item.flags.is_transitive();
-            }
-            _ => {}
-        }
+        self.get(section, ORIGIN).is_some()
+            && self.get(section, AS_PATH).is_some()
+            && self.get(section, NEXT_HOP).is_some()
     }
 }
 
-// Keeps an attribute, unless one of its type is kept.
-fn keep<'a>(place: &mut Option<Item<'a>>, item: Item<'a>)
-    ensures { option_map item_of place.new ≡ option_or (option_map item_of place.old) (Some (item_of item.entry)) }
+// An end behind a type more.
+fn end_with(end: usize, kind: u8) -> usize
+    ensures before { end ≤ result }
+    ensures behind { kind < result }
+    ensures fits { end ≤ 256 → result ≤ 256 }
 {
-    if place.is_none() {
-        *place = Some(item);
-    }
+    let next = usize::from(kind) + 1;
+    if next > end { next } else { end }
 }
 
-// Finds the attributes of a section.
-pub(crate) fn find_items(section: &[u8]) -> Found<'_>
-    ensures { found_of result ≡ found_in (items_of section.now) }
+/// Finds the attributes of a section.
+pub(crate) fn find_items(section: &[u8]) -> Found
+    requires faultless { section_fault section.now ≡ None }
+    requires short { length section.now ≤ 4073 }
+    ensures { Finds result section.now }
 {
-    let mut found = Found {
-        origin: None,
-        path: None,
-        next_hop: None,
-        med: None,
-        atomic: None,
-        aggregator: None,
-        communities: None,
-        passes_on: false,
-    };
+    let mut places = [NOWHERE; TYPES];
+    let mut end = 0;
     let mut rest = section;
     while let Some(front) = split_item(rest) {
-        found.add(front.0);
+        let kind = usize::from(front.0.kind);
+        places[kind] = (section.len() - rest.len()) as u16;
+        end = end_with(end, front.0.kind);
         rest = front.1;
     }
-    found
+    Found { places, end }
 }

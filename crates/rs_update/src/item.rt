@@ -4,7 +4,7 @@
 
 ghost use Rattle.std.specs.Prelude.{◌≡◌, ◌≤◌, length};
 ghost use Rattle.std.specs.Option.{option_map};
-ghost use Rattle.rs_update.specs.AttributesView.{item_from};
+ghost use Rattle.rs_update.specs.AttributesView.{item_from as item_from_spec};
 ghost use Rattle.rs_update.specs.Gathered.{look, is_passed_on as is_passed_on_item};
 ghost use Rattle.rs_update.specs.Section.{item_at, items_of, item_with, long_item_at, short_item_at};
 ghost use Rattle.rs_update.specs.Items.{item_of, split_of};
@@ -88,10 +88,21 @@ pub(crate) fn is_passed_on(item: Item<'_>) -> bool
     }
 }
 
+/// The attribute that begins at a place of a section.
+pub(crate) fn item_from(section: &[u8], place: u16) -> Option<Item<'_>>
+    ensures { option_map item_of result ≡ item_from_spec section.now place }
+{
+    let place = usize::from(place);
+    if section.len() < place {
+        return None;
+    }
+    Some(split_item(&section[place..])?.0)
+}
+
 /// Where the first attribute of a type begins in a section, or where its attributes end.
 pub(crate) fn place_of(section: &[u8], kind: u8) -> u16
     requires { length section.now ≤ 4073 }
-    ensures { item_from section.now result ≡ look kind (items_of section.now) }
+    ensures { item_from_spec section.now result ≡ look kind (items_of section.now) }
 {
     let mut rest = section;
     while let Some(front) = split_item(rest) {

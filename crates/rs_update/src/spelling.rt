@@ -1,16 +1,18 @@
 //! The written form of a route's attributes (RFC 4271, section 4.3).
 
-ghost use Rattle.std.specs.Prelude.{◌≡◌, ◌+◌, ◌≤◌, ◌<◌, ◌++◌, All, true, false, if◌then◌else◌, length, map, IfOk, OnOk, OnErr, IsOk, vec_len, vec_capacity, option_and_then};
+ghost use Rattle.std.specs.Prelude.{◌≡◌, ◌+◌, ◌≤◌, ◌<◌, ◌++◌, None, true, false, if◌then◌else◌, length, IfOk, OnOk, OnErr, IsOk, vec_len, vec_capacity, option_and_then};
 ghost use Rattle.std.specs.Option.{ForSome, option_map};
+ghost use Rattle.rs_update.specs.declared.attribute_type.WantedFlags.TheVariants.{Optional};
 ghost use Rattle.rs_update.specs.AttributeType.{is_extended};
-ghost use Rattle.rs_update.specs.Found.{found_of, recognized_of, spelled_kept, IsPlain, IsSpellable, AreSpellable, spelled_others, spelled_found};
-ghost use Rattle.rs_update.specs.Items.{item_of, passed_of};
+ghost use Rattle.rs_update.specs.Found.{Finds, IsPlain, IsSpellable, kept_by, kept_of, spelled_kept, spelled_section};
+ghost use Rattle.rs_update.specs.Items.{item_of};
+ghost use Rattle.rs_update.specs.Section.{items_of, section_fault};
 ghost use Rattle.rs_update.specs.Spelling.{written, written_flags, spelled_item};
 
 use crate::attribute_type::{AttributeType, WantedFlags};
 use crate::attributes::Attributes;
 use crate::found::Found;
-use crate::item::Item;
+use crate::item::{Item, item_from};
 use byteorder::{BigEndian, ByteOrder};
 use std::alloc::{AllocError, Global};
 
@@ -41,55 +43,56 @@ pub fn write_attributes(attributes: &Attributes, out: &mut Vec<u8>) -> Result<()
     out.extend_from_slice(attributes.spelling())
 }
 
-// The written form of what was found in a section of `size` octets.
-pub(crate) fn spell(
-    alloc: Global,
-    size: usize,
-    found: &Found<'_>,
-    others: &[Item<'_>],
-) -> Result<Vec<u8>, AllocError>
-    requires found_short { AreSpellable found.now }
-    requires others_short { All (λ other. length other.value.now < 65536) others.now }
-    ensures { IfOk result (λ spelling. spelling.items ≡ spelled_found (found_of found.now) (map passed_of others.now)) }
+/// The written form of a section: its attributes in ascending type, each as it is kept. It takes memory once.
+pub(crate) fn spell(alloc: Global, section: &[u8], found: &Found) -> Result<Vec<u8>, AllocError>
+    requires faultless { section_fault section.now ≡ None }
+    requires are_found { Finds found.now section.now }
+    ensures { IfOk result (λ spelling. spelling.items ≡ spelled_section (items_of section.now)) }
 {
-    let mut out = Vec::with_capacity(alloc, size)?;
-    push_others(&mut out, others, true)?;
-    push_kept(&mut out, found.origin)?;
-    push_kept(&mut out, found.path)?;
-    push_kept(&mut out, found.next_hop)?;
-    push_kept(&mut out, found.med)?;
-    push_kept(&mut out, found.atomic)?;
-    push_kept(&mut out, found.aggregator)?;
-    push_kept(&mut out, found.communities)?;
-    push_others(&mut out, others, false)?;
+    let mut out = Vec::with_capacity(alloc, section.len())?;
+    for kind in 0..found.end {
+        push_kept(&mut out, item_from(section, found.places[kind]))?;
+    }
     Ok(out)
 }
 
-// Appends an attribute as it is written, where it is kept: its flags are those of its type.
+// Appends an attribute as it is written, where there is one and it is kept: its flags are those of its type, and one that is passed on
+// without being recognized has its Partial bit set (RFC 4271, section 5).
 fn push_kept(out: &mut Vec<u8>, item: Option<Item<'_>>) -> Result<(), AllocError>
     requires { ForSome item IsSpellable }
-    ensures { OnOk result (out.new.items ≡ out.old.items ++ spelled_kept (option_and_then recognized_of (option_map item_of item.entry))) }
+    ensures { OnOk result (out.new.items ≡ out.old.items ++ spelled_kept (option_and_then kept_of (option_map item_of item.entry))) }
 {
-    match item {
-        None => Ok(()),
-        Some(item) => match AttributeType::of(item.kind).row().flags {
-            WantedFlags::WellKnown => push_item(out, WELL_KNOWN, item.kind, item.value),
-            WantedFlags::OptionalNonTransitive => push_item(
-                out,
-                OPTIONAL_NON_TRANSITIVE,
-                item.kind,
-                item.value,
-            ),
-            WantedFlags::OptionalTransitive => push_item(
-                out,
-                optional_transitive(item.flags.is_partial()),
-                item.kind,
-                item.value,
-            ),
-            WantedFlags::Optional => Ok(()),
-            WantedFlags::Any => Ok(()),
-        },
+    let Some(item) = item else {
+        return Ok(());
+    };
+    match AttributeType::of(item.kind).row().flags {
+        WantedFlags::WellKnown => push_item(out, WELL_KNOWN, item.kind, item.value),
+        WantedFlags::OptionalNonTransitive => push_item(
+            out,
+            OPTIONAL_NON_TRANSITIVE,
+            item.kind,
+            item.value,
+        ),
+        WantedFlags::OptionalTransitive => push_item(
+            out,
+            optional_transitive(item.flags.is_partial()),
+            item.kind,
+            item.value,
+        ),
+        WantedFlags::Optional => push_passed_on(out, item),
+        WantedFlags::Any => Ok(()),
     }
+}
+
+// Appends an unrecognized attribute where it is passed on.
+fn push_passed_on(out: &mut Vec<u8>, item: Item<'_>) -> Result<(), AllocError>
+    requires { IsSpellable item }
+    ensures { OnOk result (out.new.items ≡ out.old.items ++ spelled_kept (kept_by Optional (item_of item.entry))) }
+{
+    if !item.flags.is_transitive() {
+        return Ok(());
+    }
+    push_item(out, OPTIONAL_TRANSITIVE_PARTIAL, item.kind, item.value)
 }
 
 // The flags of an optional transitive attribute, with the Partial bit as it was received.
@@ -102,24 +105,6 @@ fn optional_transitive(partial: bool) -> u8
     } else {
         OPTIONAL_TRANSITIVE
     }
-}
-
-// Appends unrecognized attributes, those of type 0 or all others: the Partial bit is set (RFC 4271, section 5).
-fn push_others(out: &mut Vec<u8>, others: &[Item<'_>], zero: bool) -> Result<(), AllocError>
-    requires { All (λ other. length other.value.now < 65536) others.now }
-    ensures { OnOk result (out.new.items ≡ out.old.items ++ spelled_others zero (map passed_of others.now)) }
-{
-    for other in others {
-        let wanted = if zero {
-            other.kind == 0
-        } else {
-            other.kind != 0
-        };
-        if wanted {
-            push_item(out, OPTIONAL_TRANSITIVE_PARTIAL, other.kind, other.value)?;
-        }
-    }
-    Ok(())
 }
 
 // Appends an attribute: Extended Length stands exactly where the value is longer than 255 octets.

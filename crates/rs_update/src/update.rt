@@ -10,7 +10,7 @@ ghost use Rattle.rs_update.specs.Handling.{kept_of, strongest_in};
 ghost use Rattle.rs_update.specs.Gathered.{attributes_of};
 ghost use Rattle.rs_update.specs.Message as spec;
 ghost use Rattle.rs_update.specs.Treating.{standing_attributes as standing_attributes_of, treating_update_of, treating_message, update_by, attributes_in, reset_of};
-ghost use Rattle.rs_update.specs.Found.{found_in, found_of};
+ghost use Rattle.rs_update.specs.Found.{Finds};
 ghost use Rattle.rs_update.specs.Section.{items_of, section_fault as section_fault_of};
 
 use crate::attributes::Attributes;
@@ -63,22 +63,22 @@ fn split_fields(body: &[u8]) -> Result<UpdateFields<'_>, UpdateFault>
 }
 
 // Whether routes are announced without one of the mandatory attributes.
-fn lacks_mandatory(fields: UpdateFields<'_>, found: &Found<'_>) -> bool
-    requires { found_of found.now ≡ found_in (items_of fields.section.now) }
+fn lacks_mandatory(fields: UpdateFields<'_>, found: &Found) -> bool
+    requires { Finds found.now fields.section.now }
     ensures { result ≡ is_err (spec.announced_attributes fields.entry.section.now fields.entry.nlri.now) }
 {
-    !fields.nlri.is_empty() && !found.has_mandatory()
+    !fields.nlri.is_empty() && !found.has_mandatory(fields.section)
 }
 
 // The attributes of the announced routes, or None where none is announced.
 fn announced_attributes(
     alloc: Global,
     fields: UpdateFields<'_>,
-    found: &Found<'_>,
+    found: &Found,
 ) -> Result<Option<Attributes>, AllocError>
     requires faultless { section_fault_of fields.section.now ≡ None }
     requires short { length fields.section.now ≤ 4073 }
-    requires are_found { found_of found.now ≡ found_in (items_of fields.section.now) }
+    requires are_found { Finds found.now fields.section.now }
     ensures memory { OnErr result (0 < length fields.entry.nlri.now) }
     ensures value { IfOk result (λ attributes. IfOk (spec.announced_attributes fields.entry.section.now fields.entry.nlri.now) (λ announced. attributes ≡ announced)) }
 {

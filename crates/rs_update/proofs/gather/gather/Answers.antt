@@ -1,5 +1,4 @@
-use Rattle.std.proofs.Common.{sym, ap}
-use Rattle.rs_update.specs.Found.{FoundItems}
+use Rattle.std.proofs.Common.{sym}
 use Rattle.rs_update.specs.Section.{items_of}
 use Rattle.rs_update.proofs.WholeLemmas.{not_there, no_origin, no_path, no_next_hop}
 use Rattle.rs_update.proofs.gather.gather.Goals as goal
@@ -7,14 +6,14 @@ use Rattle.rs_update.proofs.gather.gather.Goals as goal
 pub returns-in_default : goal.returns-in_default
 returns-in_default c =
     let items = items_of c.args.section.now in
-    sym (no_origin items (not_there 1 items c.args.found.now.origin (ap (λ (f : FoundItems). f.origin) c.requires.are_found) c.in_default.not-Some))
+    sym (no_origin items (not_there 1 items c.get.result c.get.ensures c.in_default.not-Some))
 
-pub returns-in_default-path : goal.returns-in_default-path
-returns-in_default-path c =
+pub returns-in_default-get : goal.returns-in_default-get
+returns-in_default-get c =
     let items = items_of c.args.section.now in
-    sym (no_path items (not_there 2 items c.args.found.now.path (ap (λ (f : FoundItems). f.path) c.requires.are_found) c.in_default-path.not-Some))
+    sym (no_path items (not_there 2 items c.get-2.result c.get-2.ensures c.in_default-get.not-Some))
 
-pub returns-in_default-next_hop : goal.returns-in_default-next_hop
-returns-in_default-next_hop c =
+pub returns-in_default-get-2 : goal.returns-in_default-get-2
+returns-in_default-get-2 c =
     let items = items_of c.args.section.now in
-    sym (no_next_hop items (not_there 3 items c.args.found.now.next_hop (ap (λ (f : FoundItems). f.next_hop) c.requires.are_found) c.in_default-next_hop.not-Some))
+    sym (no_next_hop items (not_there 3 items c.get-3.result c.get-3.ensures c.in_default-get-2.not-Some))

@@ -2,6 +2,11 @@ use Rattle.std.proofs.Common.{◌∙◌, sym}
 use Rattle.rs_update.proofs.HandlingLemmas.{is_kept-keep, nothing_discarded}
 use Rattle.rs_update.proofs.update.kept_attributes.Goals as goal
 
+pub find_items-requires-clause-faultless : goal.find_items-requires-clause-faultless
+find_items-requires-clause-faultless c =
+    let keep = is_kept-keep c.args.handling (sym c.is_keep.ensures ∙ c.if-is_keep.true) in
+    (nothing_discarded c.args.section.now (sym c.requires.handled ∙ keep)).1
+
 pub gather-requires-clause-faultless : goal.gather-requires-clause-faultless
 gather-requires-clause-faultless c =
     let keep = is_kept-keep c.args.handling (sym c.is_keep.ensures ∙ c.if-is_keep.true) in
