@@ -1,18 +1,18 @@
 -- A run of which all is well serves what the files say that the readers may give.
-use Rattle.std.proofs.Common.{◌≡◌, ◌∙◌, sym, ap, subst, refl, ℕ, ◌<◌, suc, zero, arith, Bool, true, List, [], ◌∷◌, All, length, map, Some}
+use Rattle.std.proofs.Common.{◌≡◌, ◌∙◌, sym, ap, subst, refl, ℕ, ◌<◌, suc, zero, arith, Bool, true, false, List, [], ◌∷◌, All, length, map, take, Some}
 use Rattle.std.specs.Prelude.{slice_get}
 use Rattle.std.specs.List.{zip}
-use Rattle.std.proofs.lemmas.List.{length-map}
+use Rattle.std.proofs.lemmas.List.{length-map, length-take}
 use Rattle.std.proofs.lemmas.Option.{get_or_from_slice_get}
 use Rattle.rs_choice.specs.Plan.{Peer, Plan}
 use Rattle.rs_mrt.specs.Reader.{ReadEnd}
 use Rattle.rs_mrt.specs.RecordReading.{RecordReading, MayCome, unread}
 use Rattle.rs_ring.specs.Ends.{Receiving}
 use Rattle.rs_router.specs.Routing.{received_lists}
-use Rattle.rs_session.specs.Change.{Change, change_of}
+use Rattle.rs_session.specs.Change.{Change, change_of, is_read}
 use Rattle.rs_session.specs.FileChanges.{changes_in_by}
-use Rattle.rs_session.specs.Given.{IsGiven, AreGiven, SaysGiven}
-use Rattle.rs_session.specs.Laws.{GivesFileOrFails, FailedReadCloses}
+use Rattle.rs_session.specs.Given.{IsGiven, AreGiven, SaysGiven, MayFailAt}
+use Rattle.rs_session.specs.Laws.{ClosesOnce, GivesFileOrFails, FailedReadCloses}
 use Rattle.rs_session.specs.Stage.{May, fresh}
 use Rattle.rs_session.specs.declared.peer.PeerId.{PeerId}
 use Rattle.rs_session.specs.declared.word.Word.{Word}
@@ -20,16 +20,17 @@ use Rattle.rs_shard.specs.Crew as charges
 use Rattle.rs_shard.specs.declared.crew.ShardJob.{ShardJob}
 use Rattle.rs_table.specs.Content.{RibContent, TablesContent, rib_left}
 use Rattle.rs_update.specs.declared.errors.Errors.{Errors}
-use Rattle.rs_worker.specs.Crew.{HasSettled, charge_of}
+use Rattle.rs_worker.specs.Crew.{HasJoined, charge_of}
+use Rattle.rs_worker.specs.Worked.{is_memory}
 use Rattle.rs_worker.specs.declared.crew.Job.{Job}
 use Rattle.rs_worker.specs.declared.crew.Joined.{Joined}
 use Rattle.rs_floor.specs.FloorContent.{id_of}
 use Rattle.rs_floor.specs.Lines.{AreLines}
-use Rattle.rs_floor.specs.Run.{HasRun, IsAnswer, IsWell, end_of}
+use Rattle.rs_floor.specs.Run.{HasRun, IsAnswer, IsFirstRead, IsWell, end_of}
 use Rattle.rs_floor.specs.Served.{ServedContent, IsEndOf, IsServedBy, said_by}
 use Rattle.rs_floor.specs.declared.ended.PeerEnd.{PeerEnd}
 use Rattle.rs_floor.proofs.ListLemmas.{same-places, get-within}
-use Rattle.rs_floor.proofs.ServedLemmas.{choose, made-at, zip-at, zip-counted, says-file, end-of-file}
+use Rattle.rs_floor.proofs.ServedLemmas.{JoinedOver, choose, made-at, zip-at, zip-counted, says-file, end-of-file, may-fail}
 
 pub some-at : {X : Type 0} (xs : List X) (at : ℕ) → at < length xs → (x : X) × (slice_get xs at ≡ Some x)
 some-at [] at h = absurd (omega arith)
@@ -38,6 +39,19 @@ some-at (x ∷ xs) (suc at) h = some-at xs at (omega arith)
 
 pub all-at : {X : Type 0} (P : X → Type 0) (xs : List X) → All P xs → (place : ℕ) (x : X) → slice_get xs place ≡ Some x → P x
 all-at P xs all place x e = subst P (get_or_from_slice_get xs place x x e) (all place x (get-within xs place x e))
+
+-- what is known at a place of a run: its peer, its reader, what was received, and how its worker ended
+pub record IsPlace {R : Type 0} (gives : R → List ℕ → ReadEnd → Type 0) (errors : Errors) (peers : List Peer) (readers : List R) (receivers : List (Receiving Word)) (ends : List Joined) (place : ℕ) : Type 0 where
+  pub peer : Peer
+  pub reader : R
+  pub receiver : Receiving Word
+  pub end : Joined
+  pub peer_at : slice_get peers place ≡ Some peer
+  pub reader_at : slice_get readers place ≡ Some reader
+  pub receiver_at : slice_get receivers place ≡ Some receiver
+  pub end_at : slice_get ends place ≡ Some end
+  pub law : GivesFileOrFails gives reader
+  pub joined : JoinedOver gives errors (id_of peer) reader receiver.received end
 
 -- the file at a place, which its reader may give: it says what was received there, and its end
 pub record IsFileAt {R : Type 0} (gives : R → List ℕ → ReadEnd → Type 0) (errors : Errors) (peers : List Peer) (readers : List R) (receivers : List (Receiving Word)) (ends : List Joined) (place : ℕ) (file : List ℕ) : Type 0 where
@@ -52,6 +66,38 @@ pub record IsFileAt {R : Type 0} (gives : R → List ℕ → ReadEnd → Type 0)
   pub given : IsGiven gives errors (id_of peer) reader file
   pub says : map change_of receiver.received ≡ changes_in_by errors (id_of peer) file
   pub ended : IsEndOf errors (id_of peer) file (end_of end)
+
+-- the reader at a place may give this file
+pub record IsGivenAt {R : Type 0} (gives : R → List ℕ → ReadEnd → Type 0) (errors : Errors) (peers : List PeerId) (readers : List R) (place : ℕ) (file : List ℕ) : Type 0 where
+  pub peer : PeerId
+  pub reader : R
+  pub peer_at : slice_get peers place ≡ Some peer
+  pub reader_at : slice_get readers place ≡ Some reader
+  pub given : IsGiven gives errors peer reader file
+
+given-all : {R : Type 0} (gives : R → List ℕ → ReadEnd → Type 0) (errors : Errors) (peers : List PeerId) (readers : List R) (files : List (List ℕ)) → length files ≡ length readers
+    → ((place : ℕ) (file : List ℕ) → slice_get files place ≡ Some file → IsGivenAt gives errors peers readers place file) → AreGiven gives errors peers readers files
+given-all {R = R} gives errors peers readers files as_many at = record { as_many = as_many; each = each }
+  where
+    each : (place : ℕ) (peer : PeerId) (reader : R) (file : List ℕ) → slice_get peers place ≡ Some peer → slice_get readers place ≡ Some reader → slice_get files place ≡ Some file → IsGiven gives errors peer reader file
+    each place peer reader file peer_at reader_at file_at =
+        let here = at place file file_at in
+        let both : Some here.peer ≡ Some peer = sym here.peer_at ∙ peer_at in
+        let same_peer : here.peer ≡ peer = cc in
+        let two : Some here.reader ≡ Some reader = sym here.reader_at ∙ reader_at in
+        let same_reader : here.reader ≡ reader = cc in
+        subst (λ (r : R). IsGiven gives errors peer r file) same_reader (subst (λ (p : PeerId). IsGiven gives errors p here.reader file) same_peer here.given)
+
+-- what stands at a place of a list stands there in a beginning that reaches so far
+take-at : {X : Type 0} (n : ℕ) (xs : List X) (place : ℕ) (x : X) → place < n → slice_get xs place ≡ Some x → slice_get (take n xs) place ≡ Some x
+take-at zero xs place x below e = absurd (omega (arith, below))
+take-at (suc n) [] place x below e = absurd cc
+take-at (suc n) (y ∷ ys) zero x below e = e
+take-at (suc n) (y ∷ ys) (suc place) x below e = take-at n ys place x (omega (arith, below)) e
+
+-- what a value made of a member is at its place
+made-is : {X Y : Type 0} (f : X → Y) (xs : List X) (place : ℕ) (x : X) (y : Y) → slice_get xs place ≡ Some x → slice_get (map f xs) place ≡ Some y → f x ≡ y
+made-is f xs place x y e made = let both : Some (f x) ≡ Some y = sym (made-at f xs place x e) ∙ made in cc
 
 -- two lists made alike have the same at a place
 same-made : {X Y Z : Type 0} (f : X → Z) (g : Y → Z) (xs : List X) (ys : List Y) → map f xs ≡ map g ys → (place : ℕ) (x : X) (y : Y) → slice_get xs place ≡ Some x → slice_get ys place ≡ Some y → f x ≡ g y
@@ -74,12 +120,12 @@ module _ {R : Type 0} (gives : R → List ℕ → ReadEnd → Type 0) (errors : 
     (ends : List Joined)
     (sources : map (λ job. job.source) jobs ≡ map unread readers) (peers : map (λ job. job.id) jobs ≡ map id_of plan.peers)
     (counted : length receivers ≡ length jobs) (joined : length ends ≡ length jobs) where
-  -- there is a file at each place
-  file-at : All (GivesFileOrFails gives) readers → FailedReadCloses → All IsWell ends
-      → ((place : ℕ) (job : Job (RecordReading R)) (receiver : Receiving Word) (end : Joined) → slice_get jobs place ≡ Some job → slice_get receivers place ≡ Some receiver → slice_get ends place ≡ Some end → end.settled ≡ true
-      → HasSettled (May (MayCome gives) (λ reading. reading.shown) (fresh job.source job.id errors)) receiver.received end)
-      → (place : ℕ) → place < length plan.peers → (file : List ℕ) × IsFileAt gives errors plan.peers readers receivers ends place file
-  file-at says closes well settled place below =
+  -- each place has all of these
+  place-at : All (GivesFileOrFails gives) readers
+      → ((place : ℕ) (job : Job (RecordReading R)) (receiver : Receiving Word) (end : Joined) → slice_get jobs place ≡ Some job → slice_get receivers place ≡ Some receiver → slice_get ends place ≡ Some end
+      → HasJoined (May (MayCome gives) (λ reading. reading.shown) (fresh job.source job.id errors)) receiver.received end)
+      → (place : ℕ) → place < length plan.peers → IsPlace gives errors plan.peers readers receivers ends place
+  place-at says known place below =
       let as_many : length jobs ≡ length plan.peers = same-counted (λ (job : Job (RecordReading R)). job.id) id_of jobs plan.peers peers in
       let as_readers : length jobs ≡ length readers = same-counted (λ (job : Job (RecordReading R)). job.source) unread jobs readers sources in
       let peer = some-at plan.peers place below in
@@ -89,46 +135,48 @@ module _ {R : Type 0} (gives : R → List ℕ → ReadEnd → Type 0) (errors : 
       let end = some-at ends place (omega (arith, as_many, joined)) in
       let source : job.0.source ≡ unread reader.0 = same-made (λ (j : Job (RecordReading R)). j.source) unread jobs readers sources place job.0 reader.0 job.1 reader.1 in
       let id : job.0.id ≡ id_of peer.0 = same-made (λ (j : Job (RecordReading R)). j.id) id_of jobs plan.peers peers place job.0 peer.0 job.1 peer.1 in
-      let fine : IsWell end.0 = all-at IsWell ends well place end.0 end.1 in
-      let before : HasSettled (May (MayCome gives) (λ reading. reading.shown) (fresh job.0.source job.0.id errors)) receiver.0.received end.0 = settled place job.0 receiver.0 end.0 job.1 receiver.1 end.1 fine.0 in
-      let with_source : HasSettled (May (MayCome gives) (λ reading. reading.shown) (fresh (unread reader.0) job.0.id errors)) receiver.0.received end.0 =
-      subst (λ (s : RecordReading R). HasSettled (May (MayCome gives) (λ reading. reading.shown) (fresh s job.0.id errors)) receiver.0.received end.0) source before in
-      let whole : HasSettled (May (MayCome gives) (λ reading. reading.shown) (fresh (unread reader.0) (id_of peer.0) errors)) receiver.0.received end.0 =
-      subst (λ (i : PeerId). HasSettled (May (MayCome gives) (λ reading. reading.shown) (fresh (unread reader.0) i errors)) receiver.0.received end.0) id with_source in
-      let law : GivesFileOrFails gives reader.0 = all-at (GivesFileOrFails gives) readers says place reader.0 reader.1 in
-      let said : SaysGiven gives errors (id_of peer.0) reader.0 (map change_of receiver.0.received) end.0.passed = says-file gives errors (id_of peer.0) reader.0 receiver.0.received end.0 law closes whole fine.1 fine.2 in (
+      let before : HasJoined (May (MayCome gives) (λ reading. reading.shown) (fresh job.0.source job.0.id errors)) receiver.0.received end.0 = known place job.0 receiver.0 end.0 job.1 receiver.1 end.1 in
+      let with_source : JoinedOver gives errors job.0.id reader.0 receiver.0.received end.0 =
+      subst (λ (s : RecordReading R). HasJoined (May (MayCome gives) (λ reading. reading.shown) (fresh s job.0.id errors)) receiver.0.received end.0) source before in
+      record {
+        peer = peer.0;
+        reader = reader.0;
+        receiver = receiver.0;
+        end = end.0;
+        peer_at = peer.1;
+        reader_at = reader.1;
+        receiver_at = receiver.1;
+        end_at = end.1;
+        law = all-at (GivesFileOrFails gives) readers says place reader.0 reader.1;
+        joined = subst (λ (i : PeerId). JoinedOver gives errors i reader.0 receiver.0.received end.0) id with_source;
+      }
+
+  -- where all is well there is a file
+  file-at : FailedReadCloses → (place : ℕ) (here : IsPlace gives errors plan.peers readers receivers ends place) → IsWell here.end → (file : List ℕ) × IsFileAt gives errors plan.peers readers receivers ends place file
+  file-at closes place here fine =
+      let said : SaysGiven gives errors (id_of here.peer) here.reader (map change_of here.joined.sent) here.end.passed = says-file gives errors (id_of here.peer) here.reader here.receiver.received here.end here.law closes here.joined fine.1 fine.2 in (
         said.file,
         record {
-          peer = peer.0;
-          reader = reader.0;
-          receiver = receiver.0;
-          end = end.0;
-          peer_at = peer.1;
-          reader_at = reader.1;
-          receiver_at = receiver.1;
-          end_at = end.1;
+          peer = here.peer;
+          reader = here.reader;
+          receiver = here.receiver;
+          end = here.end;
+          peer_at = here.peer_at;
+          reader_at = here.reader_at;
+          receiver_at = here.receiver_at;
+          end_at = here.end_at;
           given = said.given;
-          says = said.says;
-          ended = end-of-file gives errors (id_of peer.0) reader.0 receiver.0.received end.0 whole said;
+          says = ap (map change_of) (here.joined.settles fine.0) ∙ said.says;
+          ended = end-of-file gives errors (id_of here.peer) here.reader here.receiver.received here.end here.joined said;
         },
       )
 
   module _ (files : List (List ℕ)) (as_many : length files ≡ length plan.peers) (at : (place : ℕ) (file : List ℕ) → slice_get files place ≡ Some file → IsFileAt gives errors plan.peers readers receivers ends place file) where
     are-given : AreGiven gives errors (map id_of plan.peers) readers files
-    are-given = record {
-      as_many = as_many ∙ sym (same-counted (λ (job : Job (RecordReading R)). job.id) id_of jobs plan.peers peers) ∙ same-counted (λ (job : Job (RecordReading R)). job.source) unread jobs readers sources;
-      each = each;
-    }
-      where
-        each : (place : ℕ) (peer : PeerId) (reader : R) (file : List ℕ) → slice_get (map id_of plan.peers) place ≡ Some peer → slice_get readers place ≡ Some reader → slice_get files place ≡ Some file → IsGiven gives errors peer reader file
-        each place peer reader file peer_at reader_at file_at =
-            let here = at place file file_at in
-            let made : slice_get (map id_of plan.peers) place ≡ Some (id_of here.peer) = made-at id_of plan.peers place here.peer here.peer_at in
-            let both : Some (id_of here.peer) ≡ Some peer = sym made ∙ peer_at in
-            let same_peer : id_of here.peer ≡ peer = cc in
-            let two : Some here.reader ≡ Some reader = sym here.reader_at ∙ reader_at in
-            let same_reader : here.reader ≡ reader = cc in
-            subst (λ (r : R). IsGiven gives errors peer r file) same_reader (subst (λ (p : PeerId). IsGiven gives errors p here.reader file) same_peer here.given)
+    are-given =
+        given-all gives errors (map id_of plan.peers) readers files
+        (as_many ∙ sym (same-counted (λ (job : Job (RecordReading R)). job.id) id_of jobs plan.peers peers) ∙ same-counted (λ (job : Job (RecordReading R)). job.source) unread jobs readers sources)
+        (λ place file file_at. let here = at place file file_at in record { peer = id_of here.peer; reader = here.reader; peer_at = made-at id_of plan.peers place here.peer here.peer_at; reader_at = here.reader_at; given = here.given })
 
     said-same : said_by errors plan files ≡ map (λ receiver. map change_of receiver.received) receivers
     said-same = same-places (map (λ (receiver : Receiving Word). map change_of receiver.received) receivers) (said_by errors plan files) lengths places
@@ -160,30 +208,76 @@ module _ {R : Type 0} (gives : R → List ℕ → ReadEnd → Type 0) (errors : 
         let same_end : end_of here.end ≡ end = cc in
         subst (λ (e : PeerEnd). IsEndOf errors (id_of peer) file e) same_end (subst (λ (p : Peer). IsEndOf errors (id_of p) file (end_of here.end)) same_peer here.ended)
 
--- all of it
-pub all-served : {R : Type 0} (gives : R → List ℕ → ReadEnd → Type 0) (errors : Errors) (plan : Plan) (readers : List R) (jobs : List (Job (RecordReading R))) (lines : List (Receiving Word))
-    (shards : List ShardJob) (ends : List Joined) (parts : List TablesContent) (whole : Bool) (served : ServedContent)
-    → AreLines gives plan readers jobs lines → FailedReadCloses → (run : HasRun gives (map (charge_of errors) jobs) (map charges.charge_of shards) ends parts whole) → IsAnswer ends parts whole served
-    → served.tables ≡ record { plan = plan; ribs = map (λ words. rib_left (map change_of words)) (received_lists run.receivers) }
-    → IsServedBy gives errors plan readers served
-all-served {R = R} gives errors plan readers jobs lines shards ends parts whole served are closes run answer tables =
-    let chosen = choose (length plan.peers) (λ place file. IsFileAt gives errors plan.peers readers run.receivers ends place file)
-    (file-at gives errors plan readers jobs run.receivers ends are.sources are.peers counted joined are.says closes answer.well settled) in (
-      chosen.0,
-      are-given gives errors plan readers jobs run.receivers ends are.sources are.peers counted joined chosen.0 chosen.1 chosen.2,
+module _ {R : Type 0} (gives : R → List ℕ → ReadEnd → Type 0) (errors : Errors) (plan : Plan) (readers : List R) (jobs : List (Job (RecordReading R))) (lines : List (Receiving Word))
+    (shards : List ShardJob) (ends : List Joined) (parts : List TablesContent) (whole : Bool)
+    (are : AreLines gives plan readers jobs lines) (closes : FailedReadCloses) (run : HasRun gives (map (charge_of errors) jobs) (map charges.charge_of shards) ends parts whole) where
+  counted : length run.receivers ≡ length jobs
+  counted = run.counted ∙ length-map jobs (charge_of errors)
+
+  joined : length ends ≡ length jobs
+  joined = run.joined ∙ length-map jobs (charge_of errors)
+
+  as_peers : length jobs ≡ length plan.peers
+  as_peers = same-counted (λ (job : Job (RecordReading R)). job.id) id_of jobs plan.peers are.peers
+
+  as_readers : length jobs ≡ length readers
+  as_readers = same-counted (λ (job : Job (RecordReading R)). job.source) unread jobs readers are.sources
+
+  known : (place : ℕ) (job : Job (RecordReading R)) (receiver : Receiving Word) (end : Joined) → slice_get jobs place ≡ Some job → slice_get run.receivers place ≡ Some receiver → slice_get ends place ≡ Some end
+      → HasJoined (May (MayCome gives) (λ reading. reading.shown) (fresh job.source job.id errors)) receiver.received end
+  known place job receiver end job_at receiver_at end_at = run.known place (charge_of errors job) receiver end (made-at (charge_of errors) jobs place job job_at) receiver_at end_at
+
+  here-at : (place : ℕ) → place < length plan.peers → IsPlace gives errors plan.peers readers run.receivers ends place
+  here-at = place-at gives errors plan readers jobs run.receivers ends are.sources are.peers counted joined are.says known
+
+  -- a place of an end is one of a peer
+  pub within-peers : (place : ℕ) → place < length ends → place < length plan.peers
+  within-peers place below = omega (arith, below, joined, as_peers)
+
+  -- all of it
+  pub all-served : (served : ServedContent) → IsAnswer ends parts whole served
+      → served.tables ≡ record { plan = plan; ribs = map (λ words. rib_left (map change_of words)) (received_lists run.receivers) }
+      → IsServedBy gives errors plan readers served
+  all-served served answer tables =
+      let chosen = choose (length plan.peers) (λ place file. IsFileAt gives errors plan.peers readers run.receivers ends place file)
+      (λ place below. let here = here-at place below in file-at gives errors plan readers jobs run.receivers ends are.sources are.peers counted joined closes place here (all-at IsWell ends answer.well place here.end here.end_at)) in (
+        chosen.0,
+        are-given gives errors plan readers jobs run.receivers ends are.sources are.peers counted joined chosen.0 chosen.1 chosen.2,
+        record {
+          tables_are = tables ∙ ap (λ (ribs : List RibContent). let t : TablesContent = record { plan = plan; ribs = ribs } in t) (ribs-same run.receivers ∙ ap (map rib_left) (sym (said-same gives errors plan readers jobs run.receivers ends are.sources are.peers counted joined chosen.0 chosen.1 chosen.2)));
+          counted = ap length answer.ends_are ∙ length-map ends end_of ∙ joined ∙ as_peers;
+          ends_are = ends-same gives errors plan readers jobs run.receivers ends are.sources are.peers counted joined chosen.0 chosen.1 chosen.2 served.ends answer.ends_are;
+        },
+      )
+
+  -- the first peer of which a read failed had a reader that may fail, and those of the peers before it may give files
+  pub fails-first : ClosesOnce → (peer : ℕ) → IsFirstRead ends peer → MayFailAt gives errors (map id_of plan.peers) readers peer
+  fails-first once peer first =
+      let within : peer < length ends = omega (arith, get-within (map (λ (end : Joined). is_read end.reason) ends) peer true first.least.has, length-map ends (λ (end : Joined). is_read end.reason)) in
+      let here = here-at peer (within-peers peer within) in
+      let chosen = choose peer (λ place file. IsGivenAt gives errors (take peer (map id_of plan.peers)) (take peer readers) place file) (before within) in
       record {
-        tables_are = tables ∙ ap (λ (ribs : List RibContent). let t : TablesContent = record { plan = plan; ribs = ribs } in t) (ribs-same run.receivers ∙ ap (map rib_left) (sym (said-same gives errors plan readers jobs run.receivers ends are.sources are.peers counted joined chosen.0 chosen.1 chosen.2)));
-        counted = ap length answer.ends_are ∙ length-map ends end_of ∙ joined ∙ same-counted (λ (job : Job (RecordReading R)). job.id) id_of jobs plan.peers are.peers;
-        ends_are = ends-same gives errors plan readers jobs run.receivers ends are.sources are.peers counted joined chosen.0 chosen.1 chosen.2 served.ends answer.ends_are;
-      },
-    )
-  where
-    counted : length run.receivers ≡ length jobs
-    counted = run.counted ∙ length-map jobs (charge_of errors)
-
-    joined : length ends ≡ length jobs
-    joined = run.joined ∙ length-map jobs (charge_of errors)
-
-    settled : (place : ℕ) (job : Job (RecordReading R)) (receiver : Receiving Word) (end : Joined) → slice_get jobs place ≡ Some job → slice_get run.receivers place ≡ Some receiver → slice_get ends place ≡ Some end → end.settled ≡ true
-        → HasSettled (May (MayCome gives) (λ reading. reading.shown) (fresh job.source job.id errors)) receiver.received end
-    settled place job receiver end job_at receiver_at end_at is_settled = run.settled place (charge_of errors job) receiver end (made-at (charge_of errors) jobs place job job_at) receiver_at end_at is_settled
+        peer = id_of here.peer;
+        reader = here.reader;
+        files = chosen.0;
+        peer_is = made-at id_of plan.peers peer here.peer here.peer_at;
+        reader_is = here.reader_at;
+        fails = may-fail gives errors (id_of here.peer) here.reader here.receiver.received here.end here.law once here.joined (made-is (λ (end : Joined). is_read end.reason) ends peer here.end true here.end_at first.least.has);
+        before = given-all gives errors (take peer (map id_of plan.peers)) (take peer readers) chosen.0 (omega (arith, chosen.1, length-take peer readers, within, joined, as_readers)) chosen.2;
+      }
+    where
+      before : peer < length ends → (place : ℕ) → place < peer → (file : List ℕ) × IsGivenAt gives errors (take peer (map id_of plan.peers)) (take peer readers) place file
+      before within place below =
+          let here = here-at place (within-peers place (omega (arith, below, within))) in
+          let reads : is_read here.end.reason ≡ false = made-is (λ (end : Joined). is_read end.reason) ends place here.end false here.end_at (first.least.least place below) in
+          let remembers : is_memory here.end.reason ≡ false = all-at (λ (end : Joined). is_memory end.reason ≡ false) ends first.remember place here.end here.end_at in
+          let said = says-file gives errors (id_of here.peer) here.reader here.receiver.received here.end here.law closes here.joined remembers reads in (
+            said.file,
+            record {
+              peer = id_of here.peer;
+              reader = here.reader;
+              peer_at = take-at peer (map id_of plan.peers) place (id_of here.peer) below (made-at id_of plan.peers place here.peer here.peer_at);
+              reader_at = take-at peer readers place here.reader below here.reader_at;
+              given = said.given;
+            },
+          )

@@ -1,7 +1,8 @@
 -- A run, from the start of its threads to their join.
 use mathlib.Core.List.{IsPrefix, map-map}
-use Rattle.std.proofs.Common.{◌≡◌, ◌∙◌, sym, ap, refl, ℕ, ◌≤◌, zero, suc, arith, take, Result, Ok, Err, Bool, true, List, [], ◌∷◌, ◌++◌, length, map, get_or, append-nil, length-append}
-use Rattle.std.specs.Prelude.{IfOk}
+use Rattle.std.proofs.Common.{◌≡◌, ◌∙◌, sym, ap, subst, refl, ℕ, ◌<◌, ◌≤◌, ◌⊎◌, inl, inr, zero, suc, arith, take, Result, Ok, Err, Bool, true, List, [], ◌∷◌, ◌++◌, length, map, get_or, append-nil, length-append}
+use Rattle.std.specs.Prelude.{IfErr, IfOk}
+use Rattle.std.specs.Result.{IsErrOf}
 use Rattle.std.proofs.lemmas.List.{length-map}
 use Rattle.std.proofs.lemmas.List.Elements.{All-map}
 use Rattle.std.proofs.lemmas.Option.{slice_get-get_or}
@@ -16,17 +17,22 @@ use Rattle.rs_shard.specs.Crew as shards
 use Rattle.rs_shard.specs.Crew.{AllHold}
 use Rattle.rs_shard.specs.Laws.{IsOfPlan, AreShardsOf, IsRun, RunShardsAreWhole, ShardsMerge}
 use Rattle.rs_shard.specs.declared.crew.ShardJob.{ShardJob}
-use Rattle.rs_session.specs.Laws.{FailedReadCloses}
+use Rattle.rs_session.specs.Change.{is_read}
+use Rattle.rs_session.specs.Given.{MayFailAt}
+use Rattle.rs_session.specs.Laws.{ClosesOnce, FailedReadCloses}
 use Rattle.rs_table.specs.Content.{TablesContent}
 use Rattle.rs_update.specs.declared.errors.Errors.{Errors}
-use Rattle.rs_worker.specs.Crew.{AllSettled, Charge, charge_of}
+use Rattle.rs_worker.specs.Crew.{AllJoined, Charge, charge_of}
 use Rattle.rs_worker.specs.declared.crew.Job.{Job}
 use Rattle.rs_worker.specs.declared.crew.Joined.{Joined}
 use Rattle.rs_floor.specs.FloorContent.{id_of}
 use Rattle.rs_floor.specs.Lines.{AreLines, AreRings}
-use Rattle.rs_floor.specs.Run.{HasRun, CanMerge, IsAnswer}
+use Rattle.rs_floor.specs.Run.{HasRun, CanMerge, IsAnswer, IsFirstRead, IsRefusal}
 use Rattle.rs_floor.specs.Served.{ServedContent, IsServedBy}
-use Rattle.rs_floor.proofs.AllServedLemmas.{all-at, all-served}
+use Rattle.rs_floor.specs.declared.fault.FloorRefused.{FloorRefused}
+use Rattle.rs_floor.specs.declared.fault.FloorRefused.TheVariants.{Capacity, Read, Shards, Unsettled}
+use Rattle.rs_floor.proofs.AllServedLemmas.{all-at, all-served, fails-first, within-peers}
+use Rattle.rs_floor.proofs.ListLemmas.{get-within}
 
 pub none-left : {X : Type 0} (xs : List X) → length xs ≡ 0 → xs ≡ []
 none-left [] e = refl
@@ -74,9 +80,9 @@ pub has-run : {R : Type 0} (gives : R → List ℕ → ReadEnd → Type 0) (work
     (ends : List Joined) (parts : List TablesContent) (whole : Bool)
     → AreClosed (received_lists routed) → AreCuts (received_lists routed) sent → map (λ receiver. receiver.received) joined ≡ map (λ receiver. receiver.received) routed
     → length routed ≡ length workers → length sent ≡ length of_shards → length ends ≡ length workers
-    → AllSettled (MayCome gives) (λ reading. reading.shown) workers joined ends → (whole ≡ true → AllHold of_shards sent parts)
+    → AllJoined (MayCome gives) (λ reading. reading.shown) workers joined ends → (whole ≡ true → AllHold of_shards sent parts)
     → HasRun gives workers of_shards ends parts whole
-has-run gives workers of_shards routed joined sent ends parts whole closed cuts same counted sizes ended settled held = record {
+has-run gives workers of_shards routed joined sent ends parts whole closed cuts same counted sizes ended known held = record {
   receivers = joined;
   sent = sent;
   closed = rw same closed;
@@ -84,9 +90,16 @@ has-run gives workers of_shards routed joined sent ends parts whole closed cuts 
   counted = counted-by (λ (r : Receiving Word). r.received) (λ (r : Receiving Word). r.received) joined routed same ∙ counted;
   shared = sizes;
   joined = ended;
-  settled = settled;
+  known = known;
   held = held;
 }
+
+-- a run of which all threads were joined isn't refused for its limits
+pub not-limits : (ends : List Joined) {A : Type 0} (result : Result A FloorRefused) → IfErr result (IsRefusal ends) → IsErrOf result Capacity ⊎ IsErrOf result Shards → ⊥
+not-limits ends (Ok answer) refused (inl is) = absurd cc
+not-limits ends (Ok answer) refused (inr is) = absurd cc
+not-limits ends (Err fault) refused (inl is) = let same : fault ≡ Capacity = cc in subst (IsRefusal ends) same refused
+not-limits ends (Err fault) refused (inr is) = let same : fault ≡ Shards = cc in subst (IsRefusal ends) same refused
 
 module _ {R : Type 0} (gives : R → List ℕ → ReadEnd → Type 0) (errors : Errors) (plan : Plan) (readers : List R) (jobs : List (Job (RecordReading R))) (lines : List (Receiving Word))
     (of_shards : List ShardJob) (senders : List (Sending Routed)) (ends : List Joined) (parts : List TablesContent) (whole : Bool)
@@ -121,5 +134,25 @@ module _ {R : Type 0} (gives : R → List ℕ → ReadEnd → Type 0) (errors : 
   -- and then they are what the files leave
   pub run-served : RunShardsAreWhole → ShardsMerge → FailedReadCloses → (served : ServedContent) → IsAnswer ends parts whole served → IsServedBy gives errors plan readers served
   run-served law merge closes served answer =
-      all-served gives errors plan readers jobs lines of_shards ends parts whole served are closes run answer
+      all-served gives errors plan readers jobs lines of_shards ends parts whole are closes run served answer
       ((merge plan (received_lists run.receivers) parts (whole-shards law answer.whole_is)).1 served.tables answer.merged answer.one_for_each)
+
+  -- where a run is refused for a failed read, the reader of that peer may fail
+  pub run-fails : ClosesOnce → FailedReadCloses → {A : Type 0} (result : Result A FloorRefused) → IfErr result (IsRefusal ends) → (peer : ℕ) → IsErrOf result (Read peer) → MayFailAt gives errors (map id_of plan.peers) readers peer
+  run-fails once closes (Ok answer) refused peer is = absurd cc
+  run-fails once closes (Err fault) refused peer is =
+      let same : fault ≡ Read peer = cc in
+      fails-first gives errors plan readers jobs lines of_shards ends parts whole are closes run once peer (subst (IsRefusal ends) same refused)
+
+  -- and it is a peer of the plan, as the one is for which a run is refused as unsettled
+  pub run-names : FailedReadCloses → {A : Type 0} (result : Result A FloorRefused) → IfErr result (IsRefusal ends) → (peer : ℕ) → IsErrOf result (Read peer) ⊎ IsErrOf result (Unsettled peer) → peer < length plan.peers
+  run-names closes (Ok answer) refused peer (inl is) = absurd cc
+  run-names closes (Ok answer) refused peer (inr is) = absurd cc
+  run-names closes (Err fault) refused peer (inl is) =
+      let same : fault ≡ Read peer = cc in
+      let first : IsFirstRead ends peer = subst (IsRefusal ends) same refused in
+      within-peers gives errors plan readers jobs lines of_shards ends parts whole are closes run peer
+      (omega (arith, get-within (map (λ (end : Joined). is_read end.reason) ends) peer true first.least.has, length-map ends (λ (end : Joined). is_read end.reason)))
+  run-names closes (Err fault) refused peer (inr is) =
+      let same : fault ≡ Unsettled peer = cc in
+      within-peers gives errors plan readers jobs lines of_shards ends parts whole are closes run peer (subst (IsRefusal ends) same refused)

@@ -1,28 +1,30 @@
 -- What files say of each peer whose worker settled well.
-use Rattle.std.proofs.Common.{◌≡◌, ◌∙◌, sym, ap, subst, refl, ℕ, ◌<◌, suc, zero, arith, inl, inr, true, false, List, [], ◌∷◌, ◌++◌, length, map, Some}
+use Rattle.std.proofs.Common.{◌≡◌, ◌∙◌, sym, ap, subst, refl, ℕ, ◌<◌, suc, zero, arith, inl, inr, true, false, List, [], ◌∷◌, ◌++◌, length, map, Option, Some, None}
 use Rattle.std.specs.Prelude.{slice_get}
 use Rattle.std.specs.List.{zip}
 use Rattle.std.specs.Option.{option_map}
 use Rattle.std.proofs.lemmas.List.{length-map, map-append}
 use Rattle.std.proofs.lemmas.Option.{slice_get-map}
 use Rattle.rs_mrt.specs.Reader.{ReadEnd}
-use Rattle.rs_mrt.specs.Record.{records_of}
+use Rattle.rs_mrt.specs.Record.{records_of, end_of}
 use Rattle.rs_mrt.specs.RecordReading.{MayCome, unread}
+use Rattle.rs_mrt.specs.Source.{source_end}
+use Rattle.rs_mrt.specs.declared.fault.MrtFault.{MrtFault}
 use Rattle.rs_mrt.specs.declared.fault.SourceFault.TheVariants as faults
 use Rattle.rs_session.specs.Change.{Change, Closed, change_of, closing_word, is_read}
 use Rattle.rs_session.specs.FileChanges.{changes_of, close_at}
-use Rattle.rs_session.specs.Given.{SaysGiven, SaysFailed}
-use Rattle.rs_session.specs.Laws.{GivesFileOrFails, FailedReadCloses, ClosesByRead}
+use Rattle.rs_session.specs.Given.{MayFail, SaysGiven, SaysFailed}
+use Rattle.rs_session.specs.Laws.{ClosesOnce, GivesFileOrFails, FailedReadCloses, ClosesByRead, may_close}
 use Rattle.rs_session.specs.Stage.{May, fresh}
 use Rattle.rs_session.specs.declared.peer.PeerId.{PeerId}
 use Rattle.rs_session.specs.declared.word.Reason.{Reason}
 use Rattle.rs_session.specs.declared.word.Reason.TheVariants as reasons
 use Rattle.rs_session.specs.declared.word.Word.{Word}
 use Rattle.rs_update.specs.declared.errors.Errors.{Errors}
-use Rattle.rs_worker.specs.Crew.{HasSettled}
+use Rattle.rs_worker.specs.Crew.{HasJoined}
 use Rattle.rs_worker.specs.Worked.{is_memory}
 use Rattle.rs_worker.specs.declared.crew.Joined.{Joined}
-use Rattle.rs_floor.specs.Run.{end_of}
+use Rattle.rs_floor.specs.Run as run
 use Rattle.rs_floor.specs.Served.{IsEndOf}
 
 -- two lists that are one have the same last member
@@ -37,44 +39,77 @@ last-same (a ∷ xs) (b ∷ ys) x y e = let later : xs ++ x ∷ [] ≡ ys ++ y �
 reason-same : (t u : ℕ) (reason other : Reason) → close_at t reason ≡ close_at u other → reason ≡ other
 reason-same t u reason other e = let bodies : Closed reason ≡ Closed other = ap (λ (c : Change). c.body) e in cc
 
--- the changes of a worker that settled, the last one being its close
-pub ends-so : {R : Type 0} (gives : R → List ℕ → ReadEnd → Type 0) (errors : Errors) (peer : PeerId) (reader : R) (received : List Word) (end : Joined)
-    → (settled : HasSettled (May (MayCome gives) (λ reading. reading.shown) (fresh (unread reader) peer errors)) received end)
-    → map change_of received ≡ map change_of settled.said.before ++ close_at settled.said.time end.reason ∷ []
-ends-so gives errors peer reader received end settled =
-    ap (map change_of) settled.said.splits ∙ map-append change_of settled.said.before (closing_word settled.said.time end.reason ∷ [])
+-- what is known of a worker over this reader
+abbrev pub JoinedOver : {R : Type 0} → (R → List ℕ → ReadEnd → Type 0) → Errors → PeerId → R → List Word → Joined → Type 0
+JoinedOver gives errors peer reader received end = HasJoined (May (MayCome gives) (λ reading. reading.shown) (fresh (unread reader) peer errors)) received end
 
--- a worker that settled well sent what a file says that its reader may give
+-- the changes that a worker sent, the last one being its close
+pub ends-so : {R : Type 0} (gives : R → List ℕ → ReadEnd → Type 0) (errors : Errors) (peer : PeerId) (reader : R) (received : List Word) (end : Joined) → (joined : JoinedOver gives errors peer reader received end)
+    → map change_of joined.sent ≡ map change_of joined.said.before ++ close_at joined.said.time end.reason ∷ []
+ends-so gives errors peer reader received end joined =
+    ap (map change_of) joined.said.splits ∙ map-append change_of joined.said.before (closing_word joined.said.time end.reason ∷ [])
+
+-- a worker that ended well sent what a file says that its reader may give
 pub says-file : {R : Type 0} (gives : R → List ℕ → ReadEnd → Type 0) (errors : Errors) (peer : PeerId) (reader : R) (received : List Word) (end : Joined)
-    → GivesFileOrFails gives reader → FailedReadCloses
-    → HasSettled (May (MayCome gives) (λ reading. reading.shown) (fresh (unread reader) peer errors)) received end
+    → GivesFileOrFails gives reader → FailedReadCloses → (joined : JoinedOver gives errors peer reader received end)
     → is_memory end.reason ≡ false → is_read end.reason ≡ false
-    → SaysGiven gives errors peer reader (map change_of received) end.passed
-says-file gives errors peer reader received end file_or_fails closes settled remembers reads =
-    elim (file_or_fails errors peer (map change_of received) end.passed (settled.said.whole remembers)) [ inl given ↦ given | inr failed ↦ absurd (no_read failed) ]
+    → SaysGiven gives errors peer reader (map change_of joined.sent) end.passed
+says-file gives errors peer reader received end file_or_fails closes joined remembers reads =
+    elim (file_or_fails errors peer (map change_of joined.sent) end.passed (joined.said.whole remembers)) [ inl given ↦ given | inr failed ↦ absurd (no_read failed) ]
   where
-    no_read : SaysFailed gives errors peer reader (map change_of received) end.passed → ⊥
+    no_read : SaysFailed gives errors peer reader (map change_of joined.sent) end.passed → ⊥
     no_read failed =
         let close : ClosesByRead (changes_of errors peer (records_of failed.came) (Some faults.Read)) = closes errors peer failed.came failed.fails.no_end in
-        let ends = ends-so gives errors peer reader received end settled in
-        let same : map change_of settled.said.before ++ close_at settled.said.time end.reason ∷ [] ≡ close.before ++ close_at 0 reasons.Read ∷ [] = sym ends ∙ failed.says ∙ close.splits in
-        let last : close_at settled.said.time end.reason ≡ close_at 0 reasons.Read = last-same (map change_of settled.said.before) close.before (close_at settled.said.time end.reason) (close_at 0 reasons.Read) same in
-        let reason : end.reason ≡ reasons.Read = reason-same settled.said.time 0 end.reason reasons.Read last in
+        let ends = ends-so gives errors peer reader received end joined in
+        let same : map change_of joined.said.before ++ close_at joined.said.time end.reason ∷ [] ≡ close.before ++ close_at 0 reasons.Read ∷ [] = sym ends ∙ failed.says ∙ close.splits in
+        let last : close_at joined.said.time end.reason ≡ close_at 0 reasons.Read = last-same (map change_of joined.said.before) close.before (close_at joined.said.time end.reason) (close_at 0 reasons.Read) same in
+        let reason : end.reason ≡ reasons.Read = reason-same joined.said.time 0 end.reason reasons.Read last in
         let read : is_read end.reason ≡ true = ap is_read reason in
         cc
 
 -- and its end is what that file says
-pub end-of-file : {R : Type 0} (gives : R → List ℕ → ReadEnd → Type 0) (errors : Errors) (peer : PeerId) (reader : R) (received : List Word) (end : Joined)
-    → (settled : HasSettled (May (MayCome gives) (λ reading. reading.shown) (fresh (unread reader) peer errors)) received end)
-    → (given : SaysGiven gives errors peer reader (map change_of received) end.passed)
-    → IsEndOf errors peer given.file (end_of end)
-end-of-file gives errors peer reader received end settled given = record {
-  before = map change_of settled.said.before;
-  time = settled.said.time;
-  changes_are = settled.counted ∙ sym (length-map received change_of) ∙ ap length given.says;
+pub end-of-file : {R : Type 0} (gives : R → List ℕ → ReadEnd → Type 0) (errors : Errors) (peer : PeerId) (reader : R) (received : List Word) (end : Joined) → (joined : JoinedOver gives errors peer reader received end)
+    → (given : SaysGiven gives errors peer reader (map change_of joined.sent) end.passed)
+    → IsEndOf errors peer given.file (run.end_of end)
+end-of-file gives errors peer reader received end joined given = record {
+  before = map change_of joined.said.before;
+  time = joined.said.time;
+  changes_are = joined.counted ∙ sym (length-map joined.sent change_of) ∙ ap length given.says;
   passed_are = given.counts;
-  closes = sym given.says ∙ ends-so gives errors peer reader received end settled;
+  closes = sym given.says ∙ ends-so gives errors peer reader received end joined;
 }
+
+-- ---- failed reads
+
+read-is : (reason : Reason) → is_read reason ≡ true → reason ≡ reasons.Read
+read-is reasons.EndOfFile reads = absurd cc
+read-is (reasons.Bgp code subcode) reads = absurd cc
+read-is (reasons.Mrt number) reads = absurd cc
+read-is reasons.Memory reads = absurd cc
+read-is reasons.Read reads = refl
+
+-- no file says that a read failed
+unread_by-file : (end : Option MrtFault) (reason : Reason) → may_close (source_end end) reason ≡ true → reason ≡ reasons.Read → ⊥
+unread_by-file None reason may is = absurd (let bad : may_close None reasons.Read ≡ true = rw is at may in cc)
+unread_by-file (Some fault) reason may is = absurd (let bad : may_close (source_end (Some fault)) reasons.Read ≡ true = rw is at may in cc)
+
+-- a worker that ended since a read failed had a reader that may fail
+pub may-fail : {R : Type 0} (gives : R → List ℕ → ReadEnd → Type 0) (errors : Errors) (peer : PeerId) (reader : R) (received : List Word) (end : Joined)
+    → GivesFileOrFails gives reader → ClosesOnce → JoinedOver gives errors peer reader received end → is_read end.reason ≡ true → MayFail gives errors peer reader
+may-fail gives errors peer reader received end file_or_fails once joined reads =
+    let read : end.reason ≡ reasons.Read = read-is end.reason reads in
+    elim (file_or_fails errors peer (map change_of joined.sent) end.passed (joined.said.whole (ap is_memory read))) [ inl given ↦ absurd (no_file read given) | inr failed ↦ (failed.came, failed.fails) ]
+  where
+    no_file : end.reason ≡ reasons.Read → SaysGiven gives errors peer reader (map change_of joined.sent) end.passed → ⊥
+    no_file read given =
+        let close = once errors peer (records_of given.file) (source_end (end_of given.file)) in
+        let ends = ends-so gives errors peer reader received end joined in
+        let same : map change_of joined.said.before ++ close_at joined.said.time end.reason ∷ [] ≡ close.before ++ close_at close.time close.reason ∷ [] = sym ends ∙ given.says ∙ close.splits in
+        let last : close_at joined.said.time end.reason ≡ close_at close.time close.reason = last-same (map change_of joined.said.before) close.before (close_at joined.said.time end.reason) (close_at close.time close.reason) same in
+        let reason : end.reason ≡ close.reason = reason-same joined.said.time close.time end.reason close.reason last in
+        unread_by-file (end_of given.file) close.reason close.recorded (sym reason ∙ read)
+
+-- ---- lists by places
 
 -- a list of what there is at each place
 pub choose : {X : Type 0} (n : ℕ) (P : ℕ → X → Type 0) → ((k : ℕ) → k < n → (x : X) × P k x) → (xs : List X) × (length xs ≡ n) × ((k : ℕ) (x : X) → slice_get xs k ≡ Some x → P k x)

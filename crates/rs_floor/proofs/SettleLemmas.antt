@@ -1,7 +1,9 @@
 -- The answer to a run of which all threads were joined.
-use Rattle.std.proofs.Common.{◌≡◌, ◌∙◌, sym, ap, refl, ℕ, zero, Bool, true, false, not, List, [], ◌∷◌, All, length, map}
-use Rattle.std.specs.Prelude.{◌||◌}
+use Rattle.std.proofs.Common.{◌≡◌, ◌∙◌, sym, ap, subst, refl, arith, ℕ, zero, Bool, true, false, not, List, [], ◌∷◌, All, length, map, Result, Ok, Err}
+use Rattle.std.specs.Prelude.{◌||◌, IfErr}
+use Rattle.std.specs.Result.{IsErrAnd}
 use Rattle.std.specs.List.{list_any}
+use Rattle.std.proofs.lemmas.List.{length-map}
 use Rattle.std.proofs.lemmas.List.Elements.{All-nil, All-cons, All-head, All-tail}
 use Rattle.rs_choice.specs.Plan.{Plan}
 use Rattle.rs_session.specs.Change.{is_read}
@@ -9,7 +11,11 @@ use Rattle.rs_table.specs.Content.{TablesContent}
 use Rattle.rs_table.specs.Merge.{IsMerged}
 use Rattle.rs_worker.specs.Worked.{is_memory}
 use Rattle.rs_worker.specs.declared.crew.Joined.{Joined}
-use Rattle.rs_floor.specs.Run.{CanMerge, IsWell}
+use Rattle.rs_floor.specs.Outcome.{IsLeastPlace, IsVerdict}
+use Rattle.rs_floor.specs.Run.{CanMerge, IsRefusal, IsWell}
+use Rattle.rs_floor.specs.declared.fault.FloorRefused.{FloorRefused}
+use Rattle.rs_floor.specs.declared.fault.FloorRefused.TheVariants.{Memory, Unsettled, Capacity, Read, Shards}
+use Rattle.rs_floor.proofs.ListLemmas.{get-within}
 
 or-split : (a b : Bool) → (a || b) ≡ false → (a ≡ false) × (b ≡ false)
 or-split true b e = absurd cc
@@ -37,3 +43,29 @@ all-well ends memory whole is verdict =
 -- tables made of parts that can be merged are over a plan of so many peers
 pub merged-counted : (peers : ℕ) (parts : List TablesContent) (merged : TablesContent) → CanMerge peers parts → IsMerged parts merged → length merged.plan.peers ≡ peers
 merged-counted peers parts merged can is = ap (λ (plan : Plan). length plan.peers) (is.plan zero merged can.some) ∙ can.counted zero merged can.some
+
+remembers : (ends : List Joined) → list_any (λ end. is_memory end.reason) ends ≡ false → All (λ end. is_memory end.reason ≡ false) ends
+remembers [] none = All-nil (λ end. is_memory end.reason ≡ false)
+remembers (e ∷ es) none =
+    let parts = or-split (is_memory e.reason) (list_any (λ (end : Joined). is_memory end.reason) es) none in
+    All-cons (λ end. is_memory end.reason ≡ false) e es parts.0 (remembers es parts.1)
+
+-- where it isn't, the verdict says why
+pub refusal : (ends : List Joined) (memory whole : Bool) (failed settled : List Bool) (fault : FloorRefused) → memory ≡ (list_any (λ end. is_memory end.reason) ends || not whole) → failed ≡ map (λ end. is_read end.reason) ends → settled ≡ map (λ end. end.settled) ends
+    → IsVerdict memory failed settled (Err fault) → IsRefusal ends fault
+refusal ends memory whole failed settled Memory is reads settles verdict = tt
+refusal ends memory whole failed settled (Read peer) is reads settles verdict = record {
+  remember = remembers ends ((or-split (list_any (λ (end : Joined). is_memory end.reason) ends) (not whole) (sym is ∙ verdict.0)).0);
+  least = subst (λ (values : List Bool). IsLeastPlace true false values peer) reads verdict.1;
+}
+refusal ends memory whole failed settled (Unsettled peer) is reads settles verdict =
+    omega (arith, get-within settled peer false verdict.2.has, ap (λ (values : List Bool). length values) settles, length-map ends (λ (end : Joined). end.settled))
+refusal ends memory whole failed settled Capacity is reads settles verdict = absurd verdict
+refusal ends memory whole failed settled Shards is reads settles verdict = absurd verdict
+
+-- so it is of an answer that is this one
+pub refusal-of : (ends : List Joined) (memory whole : Bool) (failed settled : List Bool) (fault : FloorRefused) {A : Type 0} (result : Result A FloorRefused) → IsErrAnd result (λ found. found ≡ fault)
+    → memory ≡ (list_any (λ end. is_memory end.reason) ends || not whole) → failed ≡ map (λ end. is_read end.reason) ends → settled ≡ map (λ end. end.settled) ends
+    → IsVerdict memory failed settled (Err fault) → IfErr result (IsRefusal ends)
+refusal-of ends memory whole failed settled fault (Ok answer) same is reads settles verdict = tt
+refusal-of ends memory whole failed settled fault (Err found) same is reads settles verdict = subst (IsRefusal ends) (sym same) (refusal ends memory whole failed settled fault is reads settles verdict)

@@ -1,5 +1,5 @@
 -- What a run on threads leaves once all of them were joined.
-use Rattle.std.specs.Prelude.{◌≡◌, ◌<◌, ℕ, Bool, true, false, List, All, AllPairs, map, length}
+use Rattle.std.specs.Prelude.{◌≡◌, ◌<◌, ⊤, ℕ, Bool, true, false, List, All, AllPairs, map, length}
 use Rattle.rs_mrt.specs.Reader.{ReadEnd}
 use Rattle.rs_mrt.specs.RecordReading.{RecordReading, MayCome}
 use Rattle.rs_ring.specs.Ends.{Receiving}
@@ -11,11 +11,14 @@ use Rattle.rs_shard.specs.Crew as shards
 use Rattle.rs_shard.specs.Crew.{AllHold}
 use Rattle.rs_table.specs.Content.{TablesContent}
 use Rattle.rs_table.specs.Merge.{AreParts, IsMerged}
-use Rattle.rs_worker.specs.Crew.{AllSettled, Charge}
+use Rattle.rs_worker.specs.Crew.{AllJoined, Charge}
 use Rattle.rs_worker.specs.Worked.{is_memory}
 use Rattle.rs_worker.specs.declared.crew.Joined.{Joined}
+use Rattle.rs_floor.specs.Outcome.{IsLeastPlace}
 use Rattle.rs_floor.specs.Served.{ServedContent}
 use Rattle.rs_floor.specs.declared.ended.PeerEnd.{PeerEnd}
+use Rattle.rs_floor.specs.declared.fault.FloorRefused.{FloorRefused}
+use Rattle.rs_floor.specs.declared.fault.FloorRefused.TheVariants.{Memory, Unsettled, Capacity, Read, Shards}
 
 -- What all receivers and shards took: each peer's changes up to its close, those of a settled worker being all that it sent; each shard
 -- its cut of them, which its tables hold, unless a shard was refused memory.
@@ -28,7 +31,7 @@ pub record HasRun {R : Type 0} (gives : R → List ℕ → ReadEnd → Type 0) (
   pub counted : length receivers ≡ length workers
   pub shared : length sent ≡ length of_shards
   pub joined : length ends ≡ length workers
-  pub settled : AllSettled (MayCome gives) (λ reading. reading.shown) workers receivers ends
+  pub known : AllJoined (MayCome gives) (λ reading. reading.shown) workers receivers ends
   pub held : whole ≡ true → AllHold of_shards sent parts
 
 -- the parts can be made one, over a plan of so many peers
@@ -52,3 +55,16 @@ pub record IsAnswer (ends : List Joined) (parts : List TablesContent) (whole : B
   pub ends_are : served.ends ≡ map end_of ends
   pub merged : IsMerged parts served.tables
   pub one_for_each : length served.tables.ribs ≡ length served.tables.plan.peers
+
+-- a read of this peer's file failed and none of the peers before it, and no worker was refused memory
+pub record IsFirstRead (ends : List Joined) (peer : ℕ) : Type 0 where
+  pub remember : All (λ end. is_memory end.reason ≡ false) ends
+  pub least : IsLeastPlace true false (map (λ end. is_read end.reason) ends) peer
+
+-- why all isn't well
+abbrev pub IsRefusal : List Joined → FloorRefused → Type 0
+IsRefusal ends Memory = ⊤
+IsRefusal ends (Read peer) = IsFirstRead ends peer
+IsRefusal ends (Unsettled peer) = peer < length ends
+IsRefusal ends Capacity = ⊥
+IsRefusal ends Shards = ⊥

@@ -1,15 +1,17 @@
 //! Runs on threads: one for each peer's recorded session, and one for each shard of the tables.
 
 ghost use Rattle.std.specs.List.{list_any};
-ghost use Rattle.std.specs.Prelude.{◌≡◌, ◌<◌, ◌≤◌, ◌^◌, ◌||◌, not, [], true, false, All, Err, IfOk, IfSome, IsTrue, length, map, vec_len, vec_capacity};
+ghost use Rattle.std.specs.Prelude.{◌≡◌, ◌<◌, ◌≤◌, ◌^◌, ◌||◌, ℕ, not, [], true, false, All, Err, IfErr, IfOk, IfSome, IsErrOf, IsTrue, length, map, vec_len, vec_capacity};
 ghost use Rattle.rs_ring.specs.Items.{is_capacity};
 ghost use Rattle.rs_session.specs.Change.{is_read};
+ghost use Rattle.rs_session.specs.Given.{MayFailAt};
 ghost use Rattle.rs_shard.specs.Crew as of_shards;
 ghost use Rattle.rs_worker.specs.Crew.{charge_of};
 ghost use Rattle.rs_worker.specs.Worked as spec;
-ghost use Rattle.rs_floor.specs.Run.{CanMerge, HasRun, IsAnswer, end_of};
+ghost use Rattle.rs_floor.specs.Run.{CanMerge, HasRun, IsAnswer, IsRefusal, end_of};
 ghost use Rattle.rs_router.specs.Cut.{IsShardCount};
 ghost use Rattle.rs_session.specs.FileChanges.{default_standard};
+ghost use Rattle.rs_floor.specs.FloorContent.{id_of};
 ghost use Rattle.rs_floor.specs.Served.{IsServed, IsServedBy, is_shard_count};
 ghost use Rattle.rs_floor.specs.declared.fault.FloorRefused.TheVariants.{Capacity, Shards};
 
@@ -22,7 +24,7 @@ use crate::served::Served;
 use rs_choice::Exchange;
 use rs_mrt::{IoReader, Read};
 use rs_router::MAX_SHARDS;
-use rs_session::{Reason, a_failed_read_closes_last};
+use rs_session::{Reason, a_failed_read_closes_last, a_session_closes_once};
 use rs_shard::{run_shards_are_whole, shards_merge};
 use rs_table::Tables;
 use rs_update::Errors;
@@ -53,7 +55,13 @@ pub fn serve_by<T: Threads + Wait + Sync, R: Read + Send + Drop, G: Gate>(
     requires failures { All (λ reader. R.failures reader < u64.MAX) readers.items }
     ensures served { IfOk result (IsServedBy R.gives errors plan.now.value readers.items) }
     ensures capacity { is_capacity capacity ≡ false → result ≡ Err Capacity }
+    ensures capacity_only { IsErrOf result Capacity → is_capacity capacity ≡ false }
     ensures shards { is_capacity capacity ≡ true → is_shard_count shards ≡ false → result ≡ Err Shards }
+    ensures shards_only { IsErrOf result Shards → is_shard_count shards ≡ false }
+    ensures read_known { (peer : ℕ) → IsErrOf result (FloorRefused.Read peer) → peer < length plan.now.value.peers }
+    // The reader of that peer may fail, and those of the peers before it may give files.
+    ensures read_fails { (peer : ℕ) → IsErrOf result (FloorRefused.Read peer) → MayFailAt R.gives errors (map id_of plan.now.value.peers) readers.items peer }
+    ensures unsettled_known { (peer : ℕ) → IsErrOf result (FloorRefused.Unsettled peer) → peer < length plan.now.value.peers }
 {
     if !has_room(capacity) {
         return Err(FloorRefused::Capacity);
@@ -62,6 +70,7 @@ pub fn serve_by<T: Threads + Wait + Sync, R: Read + Send + Drop, G: Gate>(
         return Err(FloorRefused::Shards);
     }
     a_failed_read_closes_last();
+    a_session_closes_once();
     run_shards_are_whole();
     shards_merge();
     let crew = Crew::new(alloc, plan, readers, capacity, shards)?;
@@ -90,7 +99,8 @@ fn has_place(shards: usize) -> bool
 // The answer to a run of which all threads were joined.
 fn settle(alloc: Global, ran: Ran) -> Result<Served, FloorRefused>
     requires { IsTrue ran.whole → CanMerge (length ran.ends.items) ran.parts.items }
-    ensures { IfOk result (IsAnswer ran.ends.items ran.parts.items ran.whole) }
+    ensures served { IfOk result (IsAnswer ran.ends.items ran.parts.items ran.whole) }
+    ensures refused { IfErr result (IsRefusal ran.ends.items) }
 {
     let Ran { ends, parts, whole } = ran;
     let memory = is_refused_memory(&ends, whole);
@@ -179,7 +189,13 @@ pub fn serve_sharded<T: Threads + Wait + Sync, R: Read + Send + Drop, G: Gate>(
     requires failures { All (λ reader. R.failures reader < u64.MAX) readers.items }
     ensures served { IfOk result (IsServedBy R.gives default_standard plan.now.value readers.items) }
     ensures capacity { is_capacity capacity ≡ false → result ≡ Err Capacity }
+    ensures capacity_only { IsErrOf result Capacity → is_capacity capacity ≡ false }
     ensures shards { is_capacity capacity ≡ true → is_shard_count shards ≡ false → result ≡ Err Shards }
+    ensures shards_only { IsErrOf result Shards → is_shard_count shards ≡ false }
+    ensures read_known { (peer : ℕ) → IsErrOf result (FloorRefused.Read peer) → peer < length plan.now.value.peers }
+    // The reader of that peer may fail, and those of the peers before it may give files.
+    ensures read_fails { (peer : ℕ) → IsErrOf result (FloorRefused.Read peer) → MayFailAt R.gives default_standard (map id_of plan.now.value.peers) readers.items peer }
+    ensures unsettled_known { (peer : ℕ) → IsErrOf result (FloorRefused.Unsettled peer) → peer < length plan.now.value.peers }
 {
     serve_by(
         rt,
@@ -206,6 +222,11 @@ pub fn serve_readers<T: Threads + Wait + Sync, R: Read + Send + Drop, G: Gate>(
     requires failures { All (λ reader. R.failures reader < u64.MAX) readers.items }
     ensures served { IfOk result (IsServedBy R.gives default_standard plan.now.value readers.items) }
     ensures capacity { is_capacity capacity ≡ false → result ≡ Err Capacity }
+    ensures capacity_only { IsErrOf result Capacity → is_capacity capacity ≡ false }
+    ensures read_known { (peer : ℕ) → IsErrOf result (FloorRefused.Read peer) → peer < length plan.now.value.peers }
+    // The reader of that peer may fail, and those of the peers before it may give files.
+    ensures read_fails { (peer : ℕ) → IsErrOf result (FloorRefused.Read peer) → MayFailAt R.gives default_standard (map id_of plan.now.value.peers) readers.items peer }
+    ensures unsettled_known { (peer : ℕ) → IsErrOf result (FloorRefused.Unsettled peer) → peer < length plan.now.value.peers }
 {
     serve_sharded(rt, alloc, plan, readers, capacity, 1, gate)
 }
@@ -223,6 +244,9 @@ pub fn serve<T: Threads + Wait + Sync, G: Gate>(
     requires limit { All (λ file. length file.now < 2 ^ 50) files.now }
     ensures served { IfOk result (IsServed default_standard plan.now.value (map (λ file. file.now) files.now)) }
     ensures capacity { is_capacity capacity ≡ false → result ≡ Err Capacity }
+    ensures capacity_only { IsErrOf result Capacity → is_capacity capacity ≡ false }
+    ensures read_known { (peer : ℕ) → IsErrOf result (FloorRefused.Read peer) → peer < length plan.now.value.peers }
+    ensures unsettled_known { (peer : ℕ) → IsErrOf result (FloorRefused.Unsettled peer) → peer < length plan.now.value.peers }
 {
     if !has_room(capacity) {
         return Err(FloorRefused::Capacity);

@@ -1,5 +1,5 @@
 -- Joining one worker after another.
-use Rattle.std.proofs.Common.{◌≡◌, ◌≢◌, ◌∙◌, sym, ap, refl, ℕ, zero, suc, ◌<◌, arith, true, List, [], ◌∷◌, ◌++◌, length, get_or, map, Option, Some, append_assoc, append-nil, length-append}
+use Rattle.std.proofs.Common.{◌≡◌, ◌≢◌, ◌∙◌, sym, ap, refl, ℕ, zero, suc, ◌<◌, arith, List, [], ◌∷◌, ◌++◌, length, get_or, map, Option, Some, append_assoc, append-nil, length-append}
 use Rattle.std.proofs.Common.{◌+◌, ◌⊎◌, inl, inr}
 use Rattle.std.proofs.lemmas.List.{map-append}
 use Rattle.std.specs.Prelude.{slice_get, slice_set}
@@ -7,7 +7,7 @@ use Rattle.rs_mrt.specs.Record.{MrtRecord}
 use Rattle.rs_ring.specs.Ends.{Receiving}
 use Rattle.rs_session.specs.Stage.{Comes}
 use Rattle.rs_session.specs.declared.word.Word.{Word}
-use Rattle.rs_worker.specs.Crew.{Charge, said_by, HasSettled, AllSettled}
+use Rattle.rs_worker.specs.Crew.{Charge, said_by, HasJoined, AllJoined}
 use Rattle.rs_worker.specs.declared.crew.Joined.{Joined}
 
 -- some workers were joined and told what was received, the others are left, and no receiver has another ring or received anything
@@ -15,7 +15,7 @@ pub record Joining {S : Type 0} (comes : Comes S) (shows : S → Option MrtRecor
   pub done : List (Charge S)
   pub splits : all ≡ done ++ left
   pub counted : length ends ≡ length done
-  pub settled : AllSettled comes shows done from ends
+  pub joined : AllJoined comes shows done from ends
   pub rings : map (λ receiver. receiver.ring) from ≡ map (λ receiver. receiver.ring) at_first
   pub received : map (λ receiver. receiver.received) from ≡ map (λ receiver. receiver.received) at_first
   pub tied : map (λ charge. charge.ring) all ≡ map (λ receiver. receiver.ring) from
@@ -105,41 +105,40 @@ module _ {S : Type 0} (comes : Comes S) (shows : S → Option MrtRecord) where
     done = [];
     splits = refl;
     counted = refl;
-    settled = λ peer charge receiver end no h g. absurd cc;
+    joined = λ peer charge receiver end no h g. absurd cc;
     rings = refl;
     received = refl;
     tied = tied;
   }
 
-  settled-next : (done : List (Charge S)) (charge : Charge S) (from : List (Receiving Word)) (ends : List Joined) (new : Receiving Word) (end : Joined) → length ends ≡ length done → AllSettled comes shows done from ends → (end.settled ≡ true → HasSettled (said_by comes shows charge) new.received end) → AllSettled comes shows (done ++ charge ∷ []) (slice_set from (length done) new) (ends ++ end ∷ [])
-  settled-next done charge from ends new end counted settled told peer c r e here there at settles =
+  joined-next : (done : List (Charge S)) (charge : Charge S) (from : List (Receiving Word)) (ends : List Joined) (new : Receiving Word) (end : Joined) → length ends ≡ length done → AllJoined comes shows done from ends → HasJoined (said_by comes shows charge) new.received end → AllJoined comes shows (done ++ charge ∷ []) (slice_set from (length done) new) (ends ++ end ∷ [])
+  joined-next done charge from ends new end counted joined told peer c r e here there at =
       at_place (below peer (length done) (omega (arith, get-within (done ++ charge ∷ []) peer c here, length-append done (charge ∷ []))))
     where
-      at_place : (peer < length done) ⊎ (peer ≡ length done) → HasSettled (said_by comes shows c) r.received e
+      at_place : (peer < length done) ⊎ (peer ≡ length done) → HasJoined (said_by comes shows c) r.received e
       at_place (inl less) =
-          settled peer c r e
+          joined peer c r e
           (sym (get-front done (charge ∷ []) peer less) ∙ here)
           (sym (get-set_other from (length done) new peer (λ same. absurd (omega (arith, less, same)))) ∙ there)
           (sym (get-front ends (end ∷ []) peer (omega (arith, less, counted))) ∙ at)
-          settles
       at_place (inr same) =
           let charge_is : charge ≡ c = found-seam done peer charge c same here in
           let new_is : new ≡ r = found-set from (length done) new r (rw same at there) in
           let end_is : end ≡ e = found-seam ends peer end e (same ∙ sym counted) at in
-          rw (← charge_is, ← new_is, ← end_is) (told (rw (← end_is) at settles))
+          rw (← charge_is, ← new_is, ← end_is) told
 
   -- one worker more was joined
-  pub joining-next : (all left : List (Charge S)) (at_first from : List (Receiving Word)) (charge : Charge S) (ends : List Joined) (receiver new : Receiving Word) (end : Joined) → Joining comes shows all at_first (charge ∷ left) from ends → slice_get from (length ends) ≡ Some receiver → new.ring ≡ receiver.ring → new.received ≡ receiver.received → (end.settled ≡ true → HasSettled (said_by comes shows charge) new.received end) → Joining comes shows all at_first left (slice_set from (length ends) new) (ends ++ end ∷ [])
+  pub joining-next : (all left : List (Charge S)) (at_first from : List (Receiving Word)) (charge : Charge S) (ends : List Joined) (receiver new : Receiving Word) (end : Joined) → Joining comes shows all at_first (charge ∷ left) from ends → slice_get from (length ends) ≡ Some receiver → new.ring ≡ receiver.ring → new.received ≡ receiver.received → HasJoined (said_by comes shows charge) new.received end → Joining comes shows all at_first left (slice_set from (length ends) new) (ends ++ end ∷ [])
   joining-next all left at_first from charge ends receiver new end j there ring received told = record {
     done = j.done ++ charge ∷ [];
     splits = j.splits ∙ sym (append_assoc j.done (charge ∷ []) left);
     counted = omega (arith, j.counted, length-append ends (end ∷ []), length-append j.done (charge ∷ []));
-    settled = rw j.counted (settled-next j.done charge from ends new end j.counted j.settled told);
+    joined = rw j.counted (joined-next j.done charge from ends new end j.counted j.joined told);
     rings = map-set (λ (r : Receiving Word). r.ring) from (length ends) new receiver there ring ∙ j.rings;
     received = map-set (λ (r : Receiving Word). r.received) from (length ends) new receiver there received ∙ j.received;
     tied = j.tied ∙ sym (map-set (λ (r : Receiving Word). r.ring) from (length ends) new receiver there ring);
   }
 
   -- all were joined
-  pub joining-all : (all : List (Charge S)) (at_first from : List (Receiving Word)) (ends : List Joined) → Joining comes shows all at_first [] from ends → AllSettled comes shows all from ends
-  joining-all all at_first from ends j = rw (j.splits, append-nil j.done) j.settled
+  pub joining-all : (all : List (Charge S)) (at_first from : List (Receiving Word)) (ends : List Joined) → Joining comes shows all at_first [] from ends → AllJoined comes shows all from ends
+  joining-all all at_first from ends j = rw (j.splits, append-nil j.done) j.joined

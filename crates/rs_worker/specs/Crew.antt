@@ -29,14 +29,16 @@ charged promise = record { source = promise.source.value; peer = promise.id; err
 abbrev pub said_by : {S : Type 0} → Comes S → (S → Option MrtRecord) → Charge S → Saying
 said_by comes shows charge = May comes shows (fresh charge.source charge.peer charge.errors)
 
--- what was received is all that was sent, and so many changes
-pub record HasSettled (may : Saying) (received : List Word) (end : Joined) : Type 0 where
-  pub said : HasSent may received end.reason end.passed
-  pub counted : end.changes ≡ length received
+-- what a worker sent, and how many changes these are; where it settled, they are what was received
+pub record HasJoined (may : Saying) (received : List Word) (end : Joined) : Type 0 where
+  pub sent : List Word
+  pub said : HasSent may sent end.reason end.passed
+  pub counted : end.changes ≡ length sent
+  pub settles : end.settled ≡ true → received ≡ sent
 
--- each worker that settled sent what its peer's receiver received
-abbrev pub AllSettled : {S : Type 0} → Comes S → (S → Option MrtRecord) → List (Charge S) → List (Receiving Word) → List Joined → Type 0
-AllSettled {S = S} comes shows charges from ends =
+-- each worker sent what its session says, and what it tells of that is so of its peer's receiver
+abbrev pub AllJoined : {S : Type 0} → Comes S → (S → Option MrtRecord) → List (Charge S) → List (Receiving Word) → List Joined → Type 0
+AllJoined {S = S} comes shows charges from ends =
     (peer : ℕ) (charge : Charge S) (receiver : Receiving Word) (end : Joined) →
     slice_get charges peer ≡ Some charge → slice_get from peer ≡ Some receiver → slice_get ends peer ≡ Some end →
-    end.settled ≡ true → HasSettled (said_by comes shows charge) receiver.received end
+    HasJoined (said_by comes shows charge) receiver.received end

@@ -3,7 +3,7 @@
 ghost use Rattle.std.specs.Prelude.{◌≡◌, ◌≤◌, ◌^◌, [], All, IfSome, IsTrue, map, vec_len, vec_capacity};
 ghost use mathlib.Core.List.{IsPrefix};
 ghost use Rattle.rs_session.specs.Stage.{May, fresh};
-ghost use Rattle.rs_worker.specs.Crew.{charge_of, charged, said_by, HasSettled, AllSettled};
+ghost use Rattle.rs_worker.specs.Crew.{charge_of, charged, said_by, HasJoined, AllJoined};
 ghost use Rattle.rs_worker.specs.Worked.{HasWorked};
 
 use crate::gate::Gate;
@@ -119,7 +119,7 @@ fn join_worker<S: Source>(
     from: &mut Receiver<Word>,
 ) -> Joined
     requires { (charged handle.promise).ring ≡ from.old.ring }
-    ensures settled { IsTrue result.settled → HasSettled (said_by S.comes S.shows (charged handle.promise)) from.new.received result }
+    ensures joined { HasJoined (said_by S.comes S.shows (charged handle.promise)) from.new.received result }
     ensures same { (from.new.ring ≡ from.old.ring) × (from.new.received ≡ from.old.received) }
 {
     let WorkerEnd {
@@ -162,7 +162,7 @@ pub fn join_workers<S: Source>(
     requires empty { ends.old.items ≡ [] }
     requires room { vec_len handles ≤ vec_capacity ends.old }
     ensures count { vec_len ends.new ≡ vec_len handles }
-    ensures settled { AllSettled S.comes S.shows (map (λ handle. charged handle.promise) handles.items) from.new ends.new.items }
+    ensures joined { AllJoined S.comes S.shows (map (λ handle. charged handle.promise) handles.items) from.new ends.new.items }
     ensures same { (map (λ receiver. receiver.ring) from.new ≡ map (λ receiver. receiver.ring) from.old) × (map (λ receiver. receiver.received) from.new ≡ map (λ receiver. receiver.received) from.old) }
 {
     for handle in handles {

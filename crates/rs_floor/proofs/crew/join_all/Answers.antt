@@ -42,5 +42,5 @@ returns g c =
     (received ∙ ap length c.deref_mut.ensures.value ∙ sym of_workers ∙ sym (length-map c.args.workers.items (λ handle. charged handle.promise)))
     (length-map c.route.new.to (λ (s : Sending Routed). s.sent) ∙ sent ∙ ap length c.deref_mut-2.ensures.value ∙ sym of_shards' ∙ sym (length-map c.args.shards.items (λ handle. of_shards.charged handle.promise)))
     (joined ∙ sym (length-map c.args.workers.items (λ handle. charged handle.promise)))
-    c.join_workers.ensures.settled
+    c.join_workers.ensures.joined
     (λ is. subst Holds back_to (c.join_shards-whole.ensures.parts is))

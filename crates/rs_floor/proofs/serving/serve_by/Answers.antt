@@ -1,7 +1,8 @@
 -- The run is served.
+use Rattle.std.proofs.Common.{inl, inr}
 use Rattle.rs_floor.specs.Run.{IsAnswer}
 use Rattle.rs_floor.specs.Served.{IsServedBy}
-use Rattle.rs_floor.proofs.RunLemmas.{can-merge, ok-so, run-served}
+use Rattle.rs_floor.proofs.RunLemmas.{can-merge, not-limits, ok-so, run-fails, run-names, run-served}
 use Rattle.rs_floor.proofs.serving.serve_by.Goals as goal
 
 pub settle-requires : goal.settle-requires
@@ -9,5 +10,23 @@ settle-requires g c = λ is. can-merge g.R.Read.gives c.args.errors c.args.plan.
 
 pub returns-in-Some-clause-served : goal.returns-in-Some-clause-served
 returns-in-Some-clause-served g c =
-    ok-so c.settle.result (IsAnswer c.in-Some.ran.ends.items c.in-Some.ran.parts.items c.in-Some.ran.whole) (IsServedBy g.R.Read.gives c.args.errors c.args.plan.now.value c.args.readers.items) c.settle.ensures
+    ok-so c.settle.result (IsAnswer c.in-Some.ran.ends.items c.in-Some.ran.parts.items c.in-Some.ran.whole) (IsServedBy g.R.Read.gives c.args.errors c.args.plan.now.value c.args.readers.items) c.settle.ensures.served
     (λ served answer. run-served g.R.Read.gives c.args.errors c.args.plan.now.value c.args.readers.items c.in_ok-crew.crew.lines.jobs.items c.in_ok-crew.crew.lines.from.items c.in_ok-crew.crew.rings.jobs.items c.in_ok-crew.crew.rings.to.items c.in-Some.ran.ends.items c.in-Some.ran.parts.items c.in-Some.ran.whole c.in_ok-crew.ensures.lines c.in_ok-crew.ensures.rings c.in-Some.ensures.1 c.run_shards_are_whole.ensures c.shards_merge.ensures c.a_failed_read_closes_last.ensures served answer)
+
+pub returns-in-Some-clause-read_fails : goal.returns-in-Some-clause-read_fails
+returns-in-Some-clause-read_fails g c = λ peer is.
+    run-fails g.R.Read.gives c.args.errors c.args.plan.now.value c.args.readers.items c.in_ok-crew.crew.lines.jobs.items c.in_ok-crew.crew.lines.from.items c.in_ok-crew.crew.rings.jobs.items c.in_ok-crew.crew.rings.to.items c.in-Some.ran.ends.items c.in-Some.ran.parts.items c.in-Some.ran.whole c.in_ok-crew.ensures.lines c.in_ok-crew.ensures.rings c.in-Some.ensures.1 c.a_session_closes_once.ensures c.a_failed_read_closes_last.ensures c.settle.result c.settle.ensures.refused peer is
+
+pub returns-in-Some-clause-read_known : goal.returns-in-Some-clause-read_known
+returns-in-Some-clause-read_known g c = λ peer is.
+    run-names g.R.Read.gives c.args.errors c.args.plan.now.value c.args.readers.items c.in_ok-crew.crew.lines.jobs.items c.in_ok-crew.crew.lines.from.items c.in_ok-crew.crew.rings.jobs.items c.in_ok-crew.crew.rings.to.items c.in-Some.ran.ends.items c.in-Some.ran.parts.items c.in-Some.ran.whole c.in_ok-crew.ensures.lines c.in_ok-crew.ensures.rings c.in-Some.ensures.1 c.a_failed_read_closes_last.ensures c.settle.result c.settle.ensures.refused peer (inl is)
+
+pub returns-in-Some-clause-unsettled_known : goal.returns-in-Some-clause-unsettled_known
+returns-in-Some-clause-unsettled_known g c = λ peer is.
+    run-names g.R.Read.gives c.args.errors c.args.plan.now.value c.args.readers.items c.in_ok-crew.crew.lines.jobs.items c.in_ok-crew.crew.lines.from.items c.in_ok-crew.crew.rings.jobs.items c.in_ok-crew.crew.rings.to.items c.in-Some.ran.ends.items c.in-Some.ran.parts.items c.in-Some.ran.whole c.in_ok-crew.ensures.lines c.in_ok-crew.ensures.rings c.in-Some.ensures.1 c.a_failed_read_closes_last.ensures c.settle.result c.settle.ensures.refused peer (inr is)
+
+pub returns-in-Some-clause-capacity_only : goal.returns-in-Some-clause-capacity_only
+returns-in-Some-clause-capacity_only g c = λ is. absurd (not-limits c.in-Some.ran.ends.items c.settle.result c.settle.ensures.refused (inl is))
+
+pub returns-in-Some-clause-shards_only : goal.returns-in-Some-clause-shards_only
+returns-in-Some-clause-shards_only g c = λ is. absurd (not-limits c.in-Some.ran.ends.items c.settle.result c.settle.ensures.refused (inr is))

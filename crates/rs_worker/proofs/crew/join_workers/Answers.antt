@@ -40,14 +40,14 @@ loop-handle-preserved g c =
           rw (c.push_reserved.ensures.items, place) (joining-next g.S.Source.comes g.S.Source.shows _ _ c.args.from.now c.loop-handle.from (charged c.in-Some.handle.promise) c.loop-handle.ends.items next.0 c.join_worker.new.from c.join_worker.result joining next.1
           (c.join_worker.ensures.same.0 ∙ ap (λ (receiver : Receiving Word). receiver.ring) read)
           (c.join_worker.ensures.same.1 ∙ ap (λ (receiver : Receiving Word). receiver.received) read)
-          c.join_worker.ensures.settled);
+          c.join_worker.ensures.joined);
       left = search rules;
       counted = search rules;
       room = search rules;
     }
 
-pub returns-clause-settled : goal.returns-clause-settled
-returns-clause-settled g c =
+pub returns-clause-joined : goal.returns-clause-joined
+returns-clause-joined g c =
     let handles : into_iter_items c.into_iter-handle-iterator.result ≡ c.args.handles.items = c.into_iter-handle-iterator.ensures.into_iter_gives.0 in
     let none : into_iter_items c.loop-handle.handle-iterator ≡ [] = no-members (into_iter_items c.loop-handle.handle-iterator) (sym c.loop-handle.invariant.left ∙ c.in-None.ensures.steps.0) in
     let joining = rw (none, handles) at c.loop-handle.invariant.joining in
