@@ -5,7 +5,7 @@
 //! Supported standards: RFC 4271, RFC 6793, RFC 1997, RFC 7947, RFC 6396.
 #![tactic(auto)]
 
-ghost use Rattle.std.specs.Prelude.{◌≡◌, None, Some, IfErr, IfOk, length};
+ghost use Rattle.std.specs.Prelude.{◌≡◌, ◌≤◌, None, Some, IfErr, IfOk, length};
 ghost use Rattle.rs_ended.specs.Texts.{CanTell};
 
 mod files;
@@ -25,6 +25,8 @@ use std::env::Env;
 use std::fs::Files;
 use std::io::ErrorKind;
 use std::process::ExitCode;
+use std::sync::Wait;
+use std::thread::Threads;
 use std::{env, io};
 
 fn main(rt: HostRuntime) -> ExitCode {
@@ -43,7 +45,10 @@ fn main(rt: HostRuntime) -> ExitCode {
 }
 
 // The options of the command line.
-fn command_line<R: AllocGlobal + Env>(rt: &R) -> Result<Options, WordsFault> {
+fn command_line<R: AllocGlobal + Env>(rt: &R) -> Result<Options, WordsFault>
+    ensures ring { IfOk result (λ options. (1 ≤ options.ring) × (options.ring ≤ 65536)) }
+    ensures shards { IfOk result (λ options. (1 ≤ options.shards) × (options.shards ≤ 16)) }
+{
     let alloc = rt.alloc();
     match env::args(rt) {
         Ok(words) => read_words(alloc, words.collect(alloc)?),
@@ -67,12 +72,16 @@ fn configuration<R: AllocGlobal + Files>(rt: &R, options: &Options) -> Result<Se
 
 // Opens the peers' files, and runs over them: dumps go to the folder of the options, the report to standard output. Where a dump would take the place of a file
 // that was read, nothing is written.
-fn serve<R: AllocGlobal + Files + Print>(
+fn serve<R: AllocGlobal + Files + Print + Threads + Wait + Sync>(
     rt: &R,
     setup: &Setup,
     options: &Options,
 ) -> Result<(), Ended>
-    requires { length setup.now.files.items ≡ length setup.now.plan.value.peers }
+where
+    R::File: Send,
+    requires files { length setup.now.files.items ≡ length setup.now.plan.value.peers }
+    requires ring { (1 ≤ options.now.ring) × (options.now.ring ≤ 65536) }
+    requires shards { (1 ≤ options.now.shards) × (options.now.shards ≤ 16) }
     ensures { IfErr result (λ ended. CanTell ended (Some setup.entry) (Some options.entry)) }
 {
     let alloc = rt.alloc();
@@ -82,7 +91,7 @@ fn serve<R: AllocGlobal + Files + Print>(
     }
     let mut outlet = FolderOutlet::new(rt, alloc, &options.out);
     let mut report = IoWriter::new(io::writer(rt));
-    match run(alloc, setup, files, options, &mut outlet, &mut report) {
+    match run(rt, alloc, setup, files, options, &mut outlet, &mut report) {
         Ok(()) => Ok(()),
         Err(fault) => Err(Ended::Run(fault)),
     }

@@ -23,6 +23,10 @@ failed = 2
 abbrev pub out_of_memory : ℕ
 out_of_memory = 3
 
+-- a peer is unsettled
+abbrev pub unsettled : ℕ
+unsettled = 4
+
 -- the status of each way to stop short
 abbrev pub status_of : Ended → ℕ
 status_of (Words (words.Help text)) = done
@@ -35,6 +39,7 @@ status_of (Setup fault) = refused
 status_of (Unread path) = failed
 status_of Memory = out_of_memory
 status_of (Run run.Memory) = out_of_memory
+status_of (Run (run.Unsettled peer)) = unsettled
 status_of (Run (run.Dump client)) = failed
 status_of (Run run.Report) = failed
 status_of (Run (run.Read peer)) = failed

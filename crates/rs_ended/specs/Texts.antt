@@ -68,9 +68,9 @@ setup_line (setup.NotValid key) = key_line (string_bytes key) (codes "not valid"
 setup_line (setup.Plan fault) = plan_line fault
 setup_line setup.Memory = out_of_memory_line
 
--- the name of a client, which is a peer
+-- the name of a peer, by its number
 abbrev pub name_of : List Peer → ℕ → Text
-name_of peers client = unwrap_or (option_map (λ peer. peer.name) (slice_get peers client)) []
+name_of peers number = unwrap_or (option_map (λ peer. peer.name) (slice_get peers number)) []
 
 -- the path of a client's dump
 abbrev pub dump_path : SetUp → Options → ℕ → Text
@@ -87,6 +87,7 @@ file_path set_up peer = unwrap_or (option_map string_bytes (slice_get set_up.fil
 abbrev pub run_line : RunFault → SetUp → Options → Text
 run_line run.Memory set_up options = out_of_memory_line
 run_line (run.Dump client) set_up options = named (codes "cannot write " ++ one_line (dump_path set_up options client))
+run_line (run.Unsettled peer) set_up options = named (codes "peer " ++ (name_of set_up.plan.value.peers peer ++ codes " unsettled"))
 run_line run.Report set_up options = named (codes "cannot write standard output")
 run_line (run.Read peer) set_up options = unread_line (file_path set_up peer)
 
@@ -102,9 +103,10 @@ line_of Memory set_up options = out_of_memory_line
 line_of (Run fault) (Some set_up) (Some options) = run_line fault set_up.now options.now
 line_of (Run fault) set_up options = []
 
--- the client that a run names is one of the plan, and the peer that it names has a recorded file
+-- the client that a run names is one of the plan, so is the peer that is unsettled, and the one of which a read failed has a recorded file
 abbrev pub NamesPeer : RunFault → SetUp → Type 0
 NamesPeer (run.Dump client) set_up = client < length set_up.plan.value.peers
+NamesPeer (run.Unsettled peer) set_up = peer < length set_up.plan.value.peers
 NamesPeer (run.Read peer) set_up = peer < length set_up.files.items
 NamesPeer fault set_up = ⊤
 

@@ -40,8 +40,11 @@ pub const FAILED: u8 = 2;
 /// Memory was refused.
 pub const OUT_OF_MEMORY: u8 = 3;
 
+/// Not all changes of a peer are known to have been applied.
+pub const UNSETTLED: u8 = 4;
+
 /// The status with which the program ends: 0 where help or the version was asked for, 1 where the command line or the configuration is refused, 2 where a file, a
-/// folder or a device failed, 3 for want of memory.
+/// folder or a device failed, 3 for want of memory, 4 where not all changes of a peer are known to have been applied.
 pub fn status(ended: &Ended) -> u8
     ensures { result ≡ status_of ended.now }
 {
@@ -56,6 +59,7 @@ pub fn status(ended: &Ended) -> u8
         Ended::Unread(_) => FAILED,
         Ended::Memory => OUT_OF_MEMORY,
         Ended::Run(RunFault::Memory) => OUT_OF_MEMORY,
+        Ended::Run(RunFault::Unsettled(_)) => UNSETTLED,
         Ended::Run(RunFault::Dump(_)) => FAILED,
         Ended::Run(RunFault::Report) => FAILED,
         Ended::Run(RunFault::Read(_)) => FAILED,

@@ -101,6 +101,10 @@ fn run_line(
             let path = on_one_line(alloc, &path)?;
             format!(in alloc; "route_server: cannot write {path}")
         }
+        RunFault::Unsettled(peer) => {
+            let name = &setup.plan.peer(*peer).name;
+            format!(in alloc; "route_server: peer {name} unsettled")
+        }
         RunFault::Report => String::from_str(alloc, "route_server: cannot write standard output"),
         RunFault::Read(peer) => unread_line(alloc, &setup.files[*peer]),
     }

@@ -1,4 +1,3 @@
+pub mod EndLemmas
 pub mod ListingLemmas
-pub mod RibLemmas
 pub mod RunLemmas
-pub mod SessionLemmas

@@ -1,5 +1,5 @@
 -- Lists that are gone through by place.
-use Rattle.std.proofs.Common.{◌≡◌, ℕ, zero, suc, ◌+◌, ◌≤◌, ◌<◌, get_or, List, [], ◌∷◌, ◌++◌, Some, length, take, sym, ap, ◌∙◌, append_assoc, arith}
+use Rattle.std.proofs.Common.{◌≡◌, ℕ, zero, suc, ◌+◌, ◌≤◌, List, [], ◌∷◌, ◌++◌, Some, length, take, sym, ap, ◌∙◌, append_assoc, arith}
 use Rattle.std.specs.Prelude.{slice_get}
 use Rattle.std.specs.List.{zip, flat_map, enumerate_from}
 use Rattle.std.proofs.lemmas.Grind.{flat_map-append}
@@ -42,11 +42,3 @@ pub length-zip : {X Y : Type 0} (xs : List X) (ys : List Y) → length (zip xs y
 length-zip [] ys = omega arith
 length-zip (a ∷ xs) [] = omega arith
 length-zip (a ∷ xs) (b ∷ ys) = omega (arith, length-zip xs ys)
-
--- a place and what stands there, of a list whose places are numbered
-pub at-enumerated_from : {X : Type 0} (from : ℕ) (xs : List X) (place : ℕ) (p : ℕ × X) → place < length (enumerate_from from xs) → p ≡ get_or (enumerate_from from xs) place p → (p.0 ≡ from + place) × (slice_get xs place ≡ Some p.1)
-at-enumerated_from from [] place p below here = absurd (omega (arith, below))
-at-enumerated_from {X} from (a ∷ xs) zero p below here = (omega (arith, ap (λ (q : ℕ × X). q.0) here), sym (ap (λ (q : ℕ × X). Some q.1) here))
-at-enumerated_from from (a ∷ xs) (suc place) p below here =
-    let rest = at-enumerated_from (from + 1) xs place p (omega (arith, below)) here in
-    (omega (arith, rest.0), rest.1)

@@ -9,15 +9,17 @@ use Rattle.std.proofs.lemmas.List.FromFn.{length-enumerate_from}
 use Rattle.std.proofs.lemmas.Option.{slice_get-map}
 use Rattle.rs_choice.specs.Plan.{Peer, Plan}
 use Rattle.rs_dump.specs.Dump.{dumped}
+use Rattle.rs_floor.specs.FloorContent.{id_of}
+use Rattle.rs_floor.specs.declared.ended.PeerEnd.{PeerEnd}
 use Rattle.rs_mrt.specs.Reader.{ReadEnd}
 use Rattle.rs_table.specs.Content.{TablesContent}
 use Rattle.rs_table.specs.Table.{table_of}
+use Rattle.rs_update.specs.declared.errors.Errors.{Errors}
 use Rattle.rs_run.specs.Outlet.{KeptDump, Grows}
-use Rattle.rs_run.specs.Recorded.{OverFiles, id_of, tables_of_files}
+use Rattle.rs_run.specs.Recorded.{OverFiles, tables_of_files}
 use Rattle.rs_run.specs.Report.{peer_lines, table_line, table_line_of, report_of}
-use Rattle.rs_run.specs.declared.peer_end.PeerEnd.{PeerEnd}
 use Rattle.rs_run.specs.declared.run_fault.RunFault.{RunFault}
-use Rattle.rs_run.specs.declared.run_fault.RunFault.TheVariants.{Memory, Dump, Report, Read}
+use Rattle.rs_run.specs.declared.run_fault.RunFault.TheVariants.{Memory, Unsettled, Dump, Report, Read}
 use Rattle.rs_run.specs.Run.{dump_name, kept_dump_of, dumps_of, GrowsByBeginning, IsFaultAt, IsStop, KeepsBeginning}
 use Rattle.rs_run.specs.SessionEnd.{end_in, ends_of_files}
 use Rattle.rs_run.proofs.ListingLemmas.{flat_map-one_more, lines-one_more, slice_get-enumerated, take-one_more}
@@ -71,8 +73,8 @@ length-zip_same [] ys same = refl
 length-zip_same (x ∷ xs) [] same = absurd (omega (arith, same))
 length-zip_same (x ∷ xs) (y ∷ ys) same = omega (arith, length-zip_same xs ys (omega (arith, same)))
 
-pub length-ends : (plan : Plan) (files : List (List ℕ)) → length files ≡ length plan.peers → length (ends_of_files plan files) ≡ length plan.peers
-length-ends plan files same = length-map (zip plan.peers files) (λ (peer, file). end_in (id_of peer) file) ∙ length-zip_same plan.peers files same
+pub length-ends : (errors : Errors) (plan : Plan) (files : List (List ℕ)) → length files ≡ length plan.peers → length (ends_of_files errors plan files) ≡ length plan.peers
+length-ends errors plan files same = length-map (zip plan.peers files) (λ (peer, file). end_in errors (id_of peer) file) ∙ length-zip_same plan.peers files same
 
 -- nothing was kept
 pub Grows-none : (kept : Option (List KeptDump)) → Grows kept kept []
@@ -91,6 +93,7 @@ stop-at : (plan : Plan) (tables : TablesContent) (time client before after : ℕ
 stop-at plan tables time client before after old new Memory known grown is = ((client, grown), is)
 stop-at plan tables time client before after old new (Dump at) known grown is =
     subst (λ (number : ℕ). IsStop plan tables time old new before after (Dump number)) (sym is.0) (known, grown, is.1)
+stop-at plan tables time client before after old new (Unsettled peer) known grown is = absurd is
 stop-at plan tables time client before after old new Report known grown is = absurd is
 stop-at plan tables time client before after old new (Read peer) known grown is = absurd is
 
@@ -102,11 +105,11 @@ stop-client plan tables time client before after old new fault (Err found) same 
     subst (IsStop plan tables time old new before after) (sym same) (stop-at plan tables time client before after old new fault known grown is)
 
 -- memory was refused once a beginning of the dumps of files that the readers may give was kept
-pub keeps-beginning : {R T : Type 0} (gives : R → List ℕ → ReadEnd → Type 0) (plan : Plan) (readers : List R) (time : ℕ) (tables : TablesContent) (ends : List PeerEnd) (old new : Option (List KeptDump)) (before after : ℕ) (fault : RunFault) (result : Result T RunFault)
-    → OverFiles gives plan readers (λ files. (tables ≡ tables_of_files plan files) × (ends ≡ ends_of_files plan files)) → IsErrAnd result (λ found. found ≡ fault) → IsErrOf result Memory
-    → IsStop plan tables time old new before after fault → KeepsBeginning gives plan readers time old new
-keeps-beginning gives plan readers time tables ends old new before after fault (Ok value) read same is stop = absurd cc
-keeps-beginning gives plan readers time tables ends old new before after fault (Err found) read same is stop =
+pub keeps-beginning : {R T : Type 0} (gives : R → List ℕ → ReadEnd → Type 0) (errors : Errors) (plan : Plan) (readers : List R) (time : ℕ) (tables : TablesContent) (ends : List PeerEnd) (old new : Option (List KeptDump)) (before after : ℕ) (fault : RunFault) (result : Result T RunFault)
+    → OverFiles gives errors plan readers (λ files. (tables ≡ tables_of_files errors plan files) × (ends ≡ ends_of_files errors plan files)) → IsErrAnd result (λ found. found ≡ fault) → IsErrOf result Memory
+    → IsStop plan tables time old new before after fault → KeepsBeginning gives errors plan readers time old new
+keeps-beginning gives errors plan readers time tables ends old new before after fault (Ok value) read same is stop = absurd cc
+keeps-beginning gives errors plan readers time tables ends old new before after fault (Err found) read same is stop =
     let memory : found ≡ Memory = cc in
     let stopped : IsStop plan tables time old new before after Memory = subst (IsStop plan tables time old new before after) (sym same ∙ memory) stop in
     inr (read.0, read.1, subst (λ (held : TablesContent). GrowsByBeginning old new (dumps_of plan held time)) read.2.0 stopped.0)

@@ -3,13 +3,14 @@ use Rattle.std.specs.Prelude.{ℕ, List, ◌++◌, codes, length}
 use Rattle.std.specs.Fmt.{decimal}
 use Rattle.std.specs.List.{zip, flat_map, enumerate_from}
 use Rattle.rs_choice.specs.Plan.{Peer, Plan}
+use Rattle.rs_floor.specs.declared.ended.PeerEnd.{PeerEnd}
 use Rattle.rs_session.specs.declared.word.Reason.{Reason}
 use Rattle.rs_session.specs.declared.word.Reason.TheVariants.{EndOfFile, Bgp, Mrt, Memory, Read}
 use Rattle.rs_table.specs.Content.{TablesContent}
 use Rattle.rs_table.specs.Table.{table_of}
+use Rattle.rs_update.specs.declared.errors.Errors.{Errors}
 use Rattle.rs_run.specs.Recorded.{tables_of_files}
 use Rattle.rs_run.specs.SessionEnd.{ends_of_files}
-use Rattle.rs_run.specs.declared.peer_end.PeerEnd.{PeerEnd}
 
 -- the text of a reason
 abbrev pub reason_text : Reason → List ℕ
@@ -44,5 +45,5 @@ abbrev pub report_of : Plan → List PeerEnd → TablesContent → List ℕ
 report_of plan ends tables = peer_lines plan.peers ends ++ flat_map (table_line_of tables) (enumerate_from 0 plan.peers)
 
 -- the report over what the files say and leave
-abbrev pub report_of_files : Plan → List (List ℕ) → List ℕ
-report_of_files plan files = report_of plan (ends_of_files plan files) (tables_of_files plan files)
+abbrev pub report_of_files : Errors → Plan → List (List ℕ) → List ℕ
+report_of_files errors plan files = report_of plan (ends_of_files errors plan files) (tables_of_files errors plan files)

@@ -4,10 +4,11 @@ use Rattle.rs_dump.specs.Dump.{dumped}
 use Rattle.rs_mrt.specs.Reader.{ReadEnd}
 use Rattle.rs_table.specs.Content.{TablesContent}
 use Rattle.rs_table.specs.Table.{table_of}
+use Rattle.rs_update.specs.declared.errors.Errors.{Errors}
 use Rattle.std.specs.List.{enumerate_from}
 use Rattle.rs_choice.specs.Plan.{Peer, Plan}
 use Rattle.rs_run.specs.declared.run_fault.RunFault.{RunFault}
-use Rattle.rs_run.specs.declared.run_fault.RunFault.TheVariants.{Memory, Dump, Report, Read}
+use Rattle.rs_run.specs.declared.run_fault.RunFault.TheVariants.{Memory, Unsettled, Dump, Report, Read}
 use Rattle.rs_run.specs.Outlet.{KeptDump, Grows}
 use Rattle.rs_run.specs.Recorded.{FailsAt, OverFiles, tables_of_files}
 
@@ -24,8 +25,8 @@ abbrev pub dumps_of : Plan → TablesContent → ℕ → List KeptDump
 dumps_of plan tables time = map (kept_dump_of plan tables time) (enumerate_from 0 plan.peers)
 
 -- the same of what the files leave
-abbrev pub dumps_of_files : Plan → List (List ℕ) → ℕ → List KeptDump
-dumps_of_files plan files time = dumps_of plan (tables_of_files plan files) time
+abbrev pub dumps_of_files : Errors → Plan → List (List ℕ) → ℕ → List KeptDump
+dumps_of_files errors plan files time = dumps_of plan (tables_of_files errors plan files) time
 
 -- a beginning of these dumps was kept
 abbrev pub GrowsByBeginning : Option (List KeptDump) → Option (List KeptDump) → List KeptDump → Type 0
@@ -43,6 +44,7 @@ IsDumpFailure before after rows = (after ≡ before + 1) ⊎ ((after ≡ before)
 abbrev pub IsFaultAt : ℕ → ℕ → ℕ → ℕ → RunFault → Type 0
 IsFaultAt client rows before after Memory = after ≡ before
 IsFaultAt client rows before after (Dump at) = (at ≡ client) × IsDumpFailure before after rows
+IsFaultAt client rows before after (Unsettled peer) = ⊥
 IsFaultAt client rows before after Report = ⊥
 IsFaultAt client rows before after (Read peer) = ⊥
 
@@ -53,17 +55,19 @@ IsStop plan tables time kept later before after (Dump client) =
     (client < length plan.peers)
     × Grows kept later (take client (dumps_of plan tables time))
     × IsDumpFailure before after (length (table_of tables client))
+IsStop plan tables time kept later before after (Unsettled peer) = ⊥
 IsStop plan tables time kept later before after Report = ⊥
 IsStop plan tables time kept later before after (Read peer) = ⊥
 
--- how the reading of sessions stops: memory was refused, or a read failed
-abbrev pub IsReadStop : {R : Type 0} → (R → List ℕ → ReadEnd → Type 0) → Plan → List R → RunFault → Type 0
-IsReadStop gives plan readers Memory = ⊤
-IsReadStop gives plan readers (Dump client) = ⊥
-IsReadStop gives plan readers Report = ⊥
-IsReadStop gives plan readers (Read peer) = FailsAt gives plan readers peer
+-- how the reading of sessions stops: memory was refused, a read failed, or a peer is unsettled
+abbrev pub IsReadStop : {R : Type 0} → (R → List ℕ → ReadEnd → Type 0) → Errors → Plan → List R → RunFault → Type 0
+IsReadStop gives errors plan readers Memory = ⊤
+IsReadStop gives errors plan readers (Unsettled peer) = peer < length plan.peers
+IsReadStop gives errors plan readers (Dump client) = ⊥
+IsReadStop gives errors plan readers Report = ⊥
+IsReadStop gives errors plan readers (Read peer) = (peer < length plan.peers) × FailsAt gives errors plan readers peer
 
 -- where memory is refused, nothing was kept, or a beginning of the dumps of files that the readers may give
-abbrev pub KeepsBeginning : {R : Type 0} → (R → List ℕ → ReadEnd → Type 0) → Plan → List R → ℕ → Option (List KeptDump) → Option (List KeptDump) → Type 0
-KeepsBeginning gives plan readers time kept later =
-    (later ≡ kept) ⊎ OverFiles gives plan readers (λ files. GrowsByBeginning kept later (dumps_of_files plan files time))
+abbrev pub KeepsBeginning : {R : Type 0} → (R → List ℕ → ReadEnd → Type 0) → Errors → Plan → List R → ℕ → Option (List KeptDump) → Option (List KeptDump) → Type 0
+KeepsBeginning gives errors plan readers time kept later =
+    (later ≡ kept) ⊎ OverFiles gives errors plan readers (λ files. GrowsByBeginning kept later (dumps_of_files errors plan files time))

@@ -4,8 +4,8 @@ ghost use Rattle.std.specs.Prelude.{◌≡◌, ◌++◌, OnOk, Some, length, map
 ghost use Rattle.rs_choice.specs.Plan.{Peer};
 ghost use Rattle.rs_run.specs.Report.{peer_line, peer_lines, reason_text, table_line};
 
-use crate::peer_end::PeerEnd;
 use rs_choice::Exchange;
+use rs_floor::{PeerEnd, Served};
 use rs_session::Reason;
 use std::alloc::AllocError;
 use std::fmt;
@@ -33,26 +33,27 @@ impl Display for ReasonText {
 pub fn add_peer_lines(
     report: &mut String,
     plan: &Exchange,
-    ends: &[PeerEnd],
+    served: &Served,
 ) -> Result<(), AllocError>
-    requires { length ends.now ≡ length plan.now.peers }
-    ensures { OnOk result (string_bytes report.new ≡ string_bytes report.old ++ peer_lines plan.now.peers ends.now) }
+    requires plan { served.now.tables.plan ≡ plan.now }
+    requires one_for_each { length served.now.ends ≡ length plan.now.peers }
+    ensures { OnOk result (string_bytes report.new ≡ string_bytes report.old ++ peer_lines plan.now.peers served.now.ends) }
 {
-    for (number, end) in ends.iter().enumerate() {
-        add_peer_line(report, &plan.peer(number).name, end)?;
+    for number in 0..plan.count() {
+        add_peer_line(report, &plan.peer(number).name, served.end(number))?;
     }
     Ok(())
 }
 
 // Adds the line of a peer.
-fn add_peer_line(report: &mut String, name: &str, end: &PeerEnd) -> Result<(), AllocError>
-    ensures { OnOk result (string_bytes report.new ≡ string_bytes report.old ++ peer_line name.now end.now) }
+fn add_peer_line(report: &mut String, name: &str, end: PeerEnd) -> Result<(), AllocError>
+    ensures { OnOk result (string_bytes report.new ≡ string_bytes report.old ++ peer_line name.now end) }
 {
     let PeerEnd {
         changes,
         passed,
         reason,
-    } = *end;
+    } = end;
     let reason = ReasonText(reason);
     writeln!(
         report,

@@ -12,6 +12,9 @@ pub enum RunFault {
     /// Memory was refused.
     #[error("memory was refused during the run")]
     Memory,
+    /// Not all changes of the peer of this number are known to have been applied.
+    #[error("peer {0} is unsettled")]
+    Unsettled(usize),
     /// The dump of the client of this number can't be made or written.
     #[error("the dump of client {0} cannot be made or written")]
     Dump(usize),

@@ -1,8 +1,9 @@
 //! A run over recorded files: a dump for each client, and the report.
 //!
-//! Our choices: all sessions are read before the first dump is started; all dumps are kept, in the order of the plan, before the first line of the report is written; the first failure ends the run.
+//! Our choices: all sessions are read, at once and each on a thread of its own, before the first dump is started; all dumps are kept, in the order of the plan, before
+//! the first line of the report is written; the first failure ends the run.
 
-ghost use Rattle.std.specs.Prelude.{◌≡◌, ◌+◌, ◌<◌, ℕ, [], ◌∷◌, All, IfOk, IfErr, OnOk, OnErr, IsErrOf, length, string_bytes, take};
+ghost use Rattle.std.specs.Prelude.{◌≡◌, ◌+◌, ◌<◌, ◌≤◌, ℕ, [], ◌∷◌, All, IfOk, IfErr, OnOk, OnErr, IsErrOf, length, string_bytes, take};
 ghost use Rattle.std.specs.Io.KnownBytes.{Appends};
 ghost use Rattle.rs_dump.specs.Dump.{dumped};
 ghost use Rattle.rs_mrt.specs.Stream.{AppendsBeginning};
@@ -10,33 +11,39 @@ ghost use Rattle.rs_table.specs.Table.{table_of};
 ghost use Rattle.rs_run.specs.Outlet.{Grows};
 ghost use Rattle.rs_run.specs.Recorded.{FailsAt, OverFiles, tables_of_files};
 ghost use Rattle.rs_run.specs.Report.{report_of, report_of_files};
-ghost use Rattle.rs_run.specs.Run.{dump_name, dumps_of, dumps_of_files, IsDumpFailure, IsFaultAt, IsStop, KeepsBeginning};
+ghost use Rattle.rs_run.specs.Run.{dump_name, dumps_of, dumps_of_files, IsDumpFailure, IsFaultAt, IsReadStop, IsStop, KeepsBeginning};
+ghost use Rattle.rs_run.specs.SessionEnd.{ends_of_files};
 
 use crate::outlet::Outlet;
 use crate::report::{add_peer_lines, add_table_line};
 use crate::run_fault::RunFault;
-use crate::sessions::{Sessions, read_sessions};
 use rs_choice::Exchange;
 use rs_dump::{DumpFault, write_dump};
+use rs_floor::{FloorRefused, Open, Served, serve_by};
 use rs_mrt::{Read, Write, write_all};
 use rs_options::Options;
+use rs_session::a_session_closes_once;
 use rs_setup::Setup;
 use rs_table::{Tables, table_is_computed};
 use std::alloc::Global;
+use std::sync::{Arc, Wait};
+use std::thread::Threads;
 
 // How many octets the report has at most for each peer: the line of its session, and that of its table.
 const LINES_LEN: usize = 256;
 
-/// Reads the recorded sessions of all peers, keeps the dump of each client's table in `outlet` under the client's name with `.mrt`, and
-/// writes the report to `report`: a line for each peer's session, and then one for each client's table, all in the order of the plan.
+/// Reads the recorded sessions of all peers at once, each on a thread of its own, keeps the dump of each client's table in `outlet` under the
+/// client's name with `.mrt`, and writes the report to `report`: a line for each peer's session, and then one for each client's table, all in the order of the plan.
 ///
 /// `readers` gives the recorded file of each peer, in the order of the peers; of a file that has a record which closes the session, no more
 /// is read than up to a little behind that record. `Read` names the first peer whose file can't be read to its end or has 2^50 octets or
-/// more, unless a record closes the session before; nothing is kept, and nothing of the report is out. `Dump` comes where the outlet
+/// more, unless a record closes the session before; nothing is kept, and nothing of the report is out. `Unsettled` names the first peer of
+/// which not all changes are known to have been applied; nothing is kept, and nothing of the report is out. `Dump` comes where the outlet
 /// failed, or the writer of a dump, or where a table has more than 4,294,967,295 rows; the dumps of the clients before that one are kept.
 /// `Report` comes where a write of the report failed; all dumps are kept, and a beginning of the report is out. `Memory` comes where memory
 /// was refused; a beginning of the dumps is kept, and nothing of the report is out.
-pub fn run<O: Outlet, W: Write, R: Read + Drop>(
+pub fn run<T: Threads + Wait + Sync, O: Outlet, W: Write, R: Read + Send + Drop>(
+    rt: &T,
     alloc: Global,
     setup: &Setup,
     readers: Vec<R>,
@@ -48,38 +55,79 @@ pub fn run<O: Outlet, W: Write, R: Read + Drop>(
     requires reader_failures { All (λ reader. R.failures reader < u64.MAX) readers.items }
     requires outlet_failures { O.failures outlet.old < u64.MAX }
     requires report_failures { W.failures report.old < u64.MAX }
+    requires ring { (1 ≤ options.now.ring) × (options.now.ring ≤ 65536) }
+    requires shards { (1 ≤ options.now.shards) × (options.now.shards ≤ 16) }
     // All dumps are kept, and the report is out, of files that the readers may give.
-    ensures done { OnOk result (OverFiles R.gives setup.now.plan.value readers.items (λ files.
-        Grows (O.kept outlet.old) (O.kept outlet.new) (dumps_of_files setup.now.plan.value files options.now.time)
-        × Appends (W.taken report.old) (W.taken report.new) (report_of_files setup.now.plan.value files))) }
+    ensures done { OnOk result (OverFiles R.gives options.now.errors setup.now.plan.value readers.items (λ files.
+        Grows (O.kept outlet.old) (O.kept outlet.new) (dumps_of_files options.now.errors setup.now.plan.value files options.now.time)
+        × Appends (W.taken report.old) (W.taken report.new) (report_of_files options.now.errors setup.now.plan.value files))) }
     ensures no_failure { OnOk result (O.failures outlet.new ≡ O.failures outlet.old) }
     ensures no_failed_write { OnOk result (W.failures report.new ≡ W.failures report.old) }
-    ensures memory_kept { IsErrOf result RunFault.Memory → KeepsBeginning R.gives setup.now.plan.value readers.items options.now.time (O.kept outlet.old) (O.kept outlet.new) }
+    ensures memory_kept { IsErrOf result RunFault.Memory → KeepsBeginning R.gives options.now.errors setup.now.plan.value readers.items options.now.time (O.kept outlet.old) (O.kept outlet.new) }
     ensures memory_failures { IsErrOf result RunFault.Memory → O.failures outlet.new ≡ O.failures outlet.old }
     ensures memory_reports_nothing { IsErrOf result RunFault.Memory → report.new ≡ report.old }
     ensures dump_known { (client : ℕ) → IsErrOf result (RunFault.Dump client) → client < length setup.now.plan.value.peers }
     // The dumps before that client's are kept, of files that the readers may give; over these its table has too many rows, or the outlet failed.
-    ensures dump { (client : ℕ) → IsErrOf result (RunFault.Dump client) → OverFiles R.gives setup.now.plan.value readers.items (λ files.
-        Grows (O.kept outlet.old) (O.kept outlet.new) (take client (dumps_of_files setup.now.plan.value files options.now.time))
-        × IsDumpFailure (O.failures outlet.old) (O.failures outlet.new) (length (table_of (tables_of_files setup.now.plan.value files) client))) }
+    ensures dump { (client : ℕ) → IsErrOf result (RunFault.Dump client) → OverFiles R.gives options.now.errors setup.now.plan.value readers.items (λ files.
+        Grows (O.kept outlet.old) (O.kept outlet.new) (take client (dumps_of_files options.now.errors setup.now.plan.value files options.now.time))
+        × IsDumpFailure (O.failures outlet.old) (O.failures outlet.new) (length (table_of (tables_of_files options.now.errors setup.now.plan.value files) client))) }
     ensures dump_reports_nothing { (client : ℕ) → IsErrOf result (RunFault.Dump client) → report.new ≡ report.old }
     // All dumps are kept, and a beginning of the report is out, of files that the readers may give.
-    ensures report { IsErrOf result RunFault.Report → OverFiles R.gives setup.now.plan.value readers.items (λ files.
-        Grows (O.kept outlet.old) (O.kept outlet.new) (dumps_of_files setup.now.plan.value files options.now.time)
-        × AppendsBeginning (W.taken report.old) (W.taken report.new) (report_of_files setup.now.plan.value files)) }
+    ensures report { IsErrOf result RunFault.Report → OverFiles R.gives options.now.errors setup.now.plan.value readers.items (λ files.
+        Grows (O.kept outlet.old) (O.kept outlet.new) (dumps_of_files options.now.errors setup.now.plan.value files options.now.time)
+        × AppendsBeginning (W.taken report.old) (W.taken report.new) (report_of_files options.now.errors setup.now.plan.value files)) }
     ensures report_failures { IsErrOf result RunFault.Report → W.failures report.new ≡ W.failures report.old + 1 }
     ensures report_no_failure { IsErrOf result RunFault.Report → O.failures outlet.new ≡ O.failures outlet.old }
     ensures read_known { (peer : ℕ) → IsErrOf result (RunFault.Read peer) → peer < length setup.now.plan.value.peers }
     // The reader of that peer may fail while the session is open, and each before it may give its peer's file.
-    ensures read_fails { (peer : ℕ) → IsErrOf result (RunFault.Read peer) → FailsAt R.gives setup.now.plan.value readers.items peer }
+    ensures read_fails { (peer : ℕ) → IsErrOf result (RunFault.Read peer) → FailsAt R.gives options.now.errors setup.now.plan.value readers.items peer }
     ensures read_keeps_nothing { (peer : ℕ) → IsErrOf result (RunFault.Read peer) → outlet.new ≡ outlet.old }
     ensures read_reports_nothing { (peer : ℕ) → IsErrOf result (RunFault.Read peer) → report.new ≡ report.old }
+    ensures unsettled_known { (peer : ℕ) → IsErrOf result (RunFault.Unsettled peer) → peer < length setup.now.plan.value.peers }
+    ensures unsettled_keeps_nothing { (peer : ℕ) → IsErrOf result (RunFault.Unsettled peer) → outlet.new ≡ outlet.old }
+    ensures unsettled_reports_nothing { (peer : ℕ) → IsErrOf result (RunFault.Unsettled peer) → report.new ≡ report.old }
 {
-    let sessions = read_sessions(alloc, &setup.plan, readers)?;
-    let text = keep_dumps(alloc, &setup.plan, &sessions, options.time, outlet)?;
+    let served = serve_files(rt, alloc, &setup.plan, readers, options)?;
+    let text = keep_dumps(alloc, &setup.plan, &served, options.time, outlet)?;
     match write_all(report, text.as_bytes()) {
         Ok(()) => Ok(()),
         Err(_) => Err(RunFault::Report),
+    }
+}
+
+// Reads the sessions of all peers, on threads.
+fn serve_files<T: Threads + Wait + Sync, R: Read + Send + Drop>(
+    rt: &T,
+    alloc: Global,
+    plan: &Arc<Exchange>,
+    readers: Vec<R>,
+    options: &Options,
+) -> Result<Served, RunFault>
+    requires one_for_each { length readers.items ≡ length plan.now.value.peers }
+    requires reader_failures { All (λ reader. R.failures reader < u64.MAX) readers.items }
+    requires ring { (1 ≤ options.now.ring) × (options.now.ring ≤ 65536) }
+    requires shards { (1 ≤ options.now.shards) × (options.now.shards ≤ 16) }
+    ensures served { IfOk result (λ served. OverFiles R.gives options.now.errors plan.now.value readers.items (λ files.
+        (served.tables ≡ tables_of_files options.now.errors plan.now.value files) × (served.ends ≡ ends_of_files options.now.errors plan.now.value files))) }
+    ensures fault { IfErr result (IsReadStop R.gives options.now.errors plan.now.value readers.items) }
+{
+    a_session_closes_once();
+    match serve_by(
+        rt,
+        alloc,
+        plan,
+        readers,
+        options.ring,
+        options.shards,
+        options.errors,
+        &Open,
+    ) {
+        Ok(served) => Ok(served),
+        Err(FloorRefused::Memory) => Err(RunFault::Memory),
+        Err(FloorRefused::Read(peer)) => Err(RunFault::Read(peer)),
+        Err(FloorRefused::Unsettled(peer)) => Err(RunFault::Unsettled(peer)),
+        Err(FloorRefused::Capacity) => unreachable!(),
+        Err(FloorRefused::Shards) => unreachable!(),
     }
 }
 
@@ -87,23 +135,23 @@ pub fn run<O: Outlet, W: Write, R: Read + Drop>(
 fn keep_dumps<O: Outlet>(
     alloc: Global,
     plan: &Exchange,
-    sessions: &Sessions,
+    served: &Served,
     time: u32,
     outlet: &mut O,
 ) -> Result<String, RunFault>
-    requires plan { sessions.now.tables.plan ≡ plan.now }
-    requires one_for_each { length sessions.now.ends.items ≡ length plan.now.peers }
+    requires plan { served.now.tables.plan ≡ plan.now }
+    requires one_for_each { length served.now.ends ≡ length plan.now.peers }
     requires failures { O.failures outlet.old < u64.MAX }
-    ensures report { IfOk result (λ text. string_bytes text ≡ report_of plan.now sessions.now.ends.items sessions.now.tables) }
-    ensures kept { OnOk result (Grows (O.kept outlet.old) (O.kept outlet.new) (dumps_of plan.now sessions.now.tables time)) }
+    ensures report { IfOk result (λ text. string_bytes text ≡ report_of plan.now served.now.ends served.now.tables) }
+    ensures kept { OnOk result (Grows (O.kept outlet.old) (O.kept outlet.new) (dumps_of plan.now served.now.tables time)) }
     ensures no_failure { OnOk result (O.failures outlet.new ≡ O.failures outlet.old) }
-    ensures fault { IfErr result (IsStop plan.now sessions.now.tables time (O.kept outlet.old) (O.kept outlet.new) (O.failures outlet.old) (O.failures outlet.new)) }
+    ensures fault { IfErr result (IsStop plan.now served.now.tables time (O.kept outlet.old) (O.kept outlet.new) (O.failures outlet.old) (O.failures outlet.new)) }
 {
     let mut text = String::with_capacity(alloc, plan.count() * LINES_LEN)?;
-    add_peer_lines(&mut text, plan, &sessions.ends)?;
+    add_peer_lines(&mut text, plan, served)?;
     for client in 0..plan.count() {
         let name = plan.peer(client).name.as_str();
-        let rows = keep_dump(alloc, plan, &sessions.tables, client, name, time, outlet)?;
+        let rows = keep_dump(alloc, plan, served.tables(), client, name, time, outlet)?;
         add_table_line(&mut text, name, rows)?;
     }
     Ok(text)

@@ -9,7 +9,9 @@ use rs_setup::read_setup;
 use rs_update::Errors;
 use std::alloc::Global;
 use std::process::Abort;
+use std::sync::Wait;
 use std::test::Fail;
+use std::thread::Threads;
 
 // Four peers, of which the first has the file of a collector.
 const EXCHANGE: &str = r#"
@@ -82,20 +84,36 @@ struct Ran {
     report: MemoryWriter,
 }
 
+// How a run goes: the room of its rings, how many shards it has, and the standard by which faults in messages are handled.
+#[derive(Clone, Copy)]
+struct Manner {
+    ring: usize,
+    shards: usize,
+    errors: Errors,
+}
+
+// Small rings, so that threads wait for one another, and two shards.
+const MANNER: Manner = Manner {
+    ring: 2,
+    shards: 2,
+    errors: Errors::Rfc4271,
+};
+
 // Runs over that file, with an outlet and a report that fail so.
 fn run_with(
-    rt: &(impl AllocGlobal + Abort),
-    time: u32,
+    rt: &(impl AllocGlobal + Abort + Threads + Wait + Sync),
     outlet: OutletLimits,
     report: Limits,
 ) -> Result<Ran, Fail> {
-    run_over(rt, time, [ReadLimits::none(); CLIENTS], outlet, report)
+    let limits = [ReadLimits::none(); CLIENTS];
+    run_over(rt, MANNER, COLLECTED, limits, outlet, report)
 }
 
-// The same, with a reader of each peer's file that gives and fails so.
+// Runs over a file of the first peer, with a reader of each peer's file that gives and fails so.
 fn run_over(
-    rt: &(impl AllocGlobal + Abort),
-    time: u32,
+    rt: &(impl AllocGlobal + Abort + Threads + Wait + Sync),
+    manner: Manner,
+    file: &str,
     limits: [ReadLimits; CLIENTS],
     outlet: OutletLimits,
     report: Limits,
@@ -105,26 +123,36 @@ fn run_over(
     let options = Options {
         config: String::new(alloc),
         out: String::new(alloc),
-        time,
-        ring: 1,
-        shards: 1,
-        errors: Errors::Rfc4271,
+        time: 0,
+        ring: manner.ring,
+        shards: manner.shards,
+        errors: manner.errors,
     };
-    let collected = hex::decode(alloc, COLLECTED.as_bytes())?;
+    let file = hex::decode(alloc, file.as_bytes())?;
     let [first, second, third, fourth] = limits;
     let readers = Vec::from_array(
         alloc,
         [
-            MemoryReader::new(&collected, first),
+            MemoryReader::new(&file, first),
             MemoryReader::new(&[], second),
             MemoryReader::new(&[], third),
             MemoryReader::new(&[], fourth),
         ],
     )?;
     assert_eq!(rt; setup.plan.count(), CLIENTS);
+    assert!(rt; 1 <= options.ring && options.ring <= 65_536);
+    assert!(rt; 1 <= options.shards && options.shards <= 16);
     let mut outlet = MemoryOutlet::new(alloc, outlet);
     let mut report = MemoryWriter::new(alloc, report);
-    let answer = run(alloc, &setup, readers, &options, &mut outlet, &mut report);
+    let answer = run(
+        rt,
+        alloc,
+        &setup,
+        readers,
+        &options,
+        &mut outlet,
+        &mut report,
+    );
     Ok(Ran {
         answer,
         outlet,
@@ -148,11 +176,76 @@ fn check_kept(rt: &(impl AllocGlobal + Abort), kept: &[Kept], count: usize) -> R
 
 #[test]
 fn a_run_keeps_a_dump_for_each_client_and_reports(rt: HostRuntime) -> Result<(), Fail> {
-    let ran = run_with(&rt, 0, OutletLimits::none(), Limits::none())?;
+    let ran = run_with(&rt, OutletLimits::none(), Limits::none())?;
     assert_eq!(rt; ran.answer, Ok(()));
     check_kept(&rt, ran.outlet.kept(), CLIENTS)?;
     assert_eq!(rt; ran.report.octets(), REPORT.as_bytes());
     Ok(())
+}
+
+#[test]
+fn a_run_is_the_same_whatever_its_rings_and_shards(rt: HostRuntime) -> Result<(), Fail> {
+    for ring in [1, 2, 1024, 65_536] {
+        for shards in [1, 2, 16] {
+            let manner = Manner {
+                ring,
+                shards,
+                ..MANNER
+            };
+            let limits = [ReadLimits::none(); CLIENTS];
+            let (outlet, report) = (OutletLimits::none(), Limits::none());
+            let ran = run_over(&rt, manner, COLLECTED, limits, outlet, report)?;
+            assert_eq!(rt; ran.answer, Ok(()), "{ring} {shards}");
+            check_kept(&rt, ran.outlet.kept(), CLIENTS)?;
+            assert_eq!(rt; ran.report.octets(), REPORT.as_bytes());
+        }
+    }
+    Ok(())
+}
+
+// An UPDATE of a with 203.0.113.0/24 whose ORIGIN has the value 3, which none has.
+const FAULTY: &str =
+    "0000006400100004000000430000FBF50000FBF400000001C000020BC0000201FFFFFFFFFFFFFFFFFFFFFFFFFFFFFFFF002F02000000144001010340\
+    020602010000FBF5400304C000020B18CB0071";
+
+// The first line of the report over that file.
+fn first_line(
+    rt: &(impl AllocGlobal + Abort + Threads + Wait + Sync),
+    errors: Errors,
+    wanted: &str,
+) -> Result<(), Fail> {
+    let manner = Manner { errors, ..MANNER };
+    let limits = [ReadLimits::none(); CLIENTS];
+    let ran = run_over(
+        rt,
+        manner,
+        FAULTY,
+        limits,
+        OutletLimits::none(),
+        Limits::none(),
+    )?;
+    assert_eq!(rt; ran.answer, Ok(()));
+    assert!(rt;
+        ran.report.octets().starts_with(wanted.as_bytes()),
+        "{wanted}"
+    );
+    Ok(())
+}
+
+#[test]
+fn faults_in_messages_are_handled_by_the_standard_of_the_options(
+    rt: HostRuntime,
+) -> Result<(), Fail> {
+    first_line(
+        &rt,
+        Errors::Rfc4271,
+        "peer a changes 1 passed 0 close bgp 3/6\n",
+    )?;
+    first_line(
+        &rt,
+        Errors::Rfc7606,
+        "peer a changes 2 passed 0 close end\n",
+    )
 }
 
 #[test]
@@ -164,7 +257,8 @@ fn a_run_over_files_in_pieces_is_the_same(rt: HostRuntime) -> Result<(), Fail> {
         };
         let ran = run_over(
             &rt,
-            0,
+            MANNER,
+            COLLECTED,
             [limits; CLIENTS],
             OutletLimits::none(),
             Limits::none(),
@@ -186,11 +280,12 @@ fn failing_after(octets: usize) -> ReadLimits {
 
 // A run stopped at a failed read of a peer: nothing is kept, and nothing is reported.
 fn check_unread(
-    rt: &(impl AllocGlobal + Abort),
+    rt: &(impl AllocGlobal + Abort + Threads + Wait + Sync),
     limits: [ReadLimits; CLIENTS],
     peer: usize,
 ) -> Result<(), Fail> {
-    let ran = run_over(rt, 0, limits, OutletLimits::none(), Limits::none())?;
+    let (outlet, report) = (OutletLimits::none(), Limits::none());
+    let ran = run_over(rt, MANNER, COLLECTED, limits, outlet, report)?;
     assert_eq!(rt; ran.answer, Err(RunFault::Read(peer)));
     assert!(rt; ran.outlet.kept().is_empty());
     assert!(rt; ran.report.octets().is_empty());
@@ -233,7 +328,7 @@ fn a_refused_start_or_keep_ends_the_run(rt: HostRuntime) -> Result<(), Fail> {
                 calls_before_refusal: Some(2 * client as u64 + call),
                 ..OutletLimits::none()
             };
-            check_stopped(&rt, &run_with(&rt, 0, limits, Limits::none())?, client)?;
+            check_stopped(&rt, &run_with(&rt, limits, Limits::none())?, client)?;
         }
     }
     Ok(())
@@ -250,7 +345,7 @@ fn a_failed_write_of_a_dump_ends_the_run(rt: HostRuntime) -> Result<(), Fail> {
             },
             ..OutletLimits::none()
         };
-        check_stopped(&rt, &run_with(&rt, 0, limits, Limits::none())?, client)?;
+        check_stopped(&rt, &run_with(&rt, limits, Limits::none())?, client)?;
     }
     Ok(())
 }
@@ -265,7 +360,7 @@ fn a_failed_write_of_the_report_leaves_a_beginning_of_it(rt: HostRuntime) -> Res
             room: usize::MAX,
             piece: 7,
         };
-        let ran = run_with(&rt, 0, OutletLimits::none(), limits)?;
+        let ran = run_with(&rt, OutletLimits::none(), limits)?;
         assert_eq!(rt; ran.answer, Err(RunFault::Report));
         check_kept(&rt, ran.outlet.kept(), CLIENTS)?;
         assert_eq!(rt; ran.report.octets().len() as u64, 7 * calls);

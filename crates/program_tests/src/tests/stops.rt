@@ -178,6 +178,9 @@ fn run_ends<R: AllocGlobal + Abort>(
     if let RunFault::Dump(client) = &fault {
         assert!(rt; *client < setup.plan.count());
     }
+    if let RunFault::Unsettled(peer) = &fault {
+        assert!(rt; *peer < setup.plan.count());
+    }
     if let RunFault::Read(peer) = &fault {
         assert!(rt; *peer < setup.files.len());
     }
@@ -210,6 +213,12 @@ fn a_run_that_stopped_short_names_what_failed(rt: HostRuntime) -> Result<(), Fai
             "t\n",
             2,
             "route_server: cannot write t\\n/b.mrt",
+        ),
+        (
+            RunFault::Unsettled(1),
+            "tables",
+            4,
+            "route_server: peer b unsettled",
         ),
         (
             RunFault::Report,

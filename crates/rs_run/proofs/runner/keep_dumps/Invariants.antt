@@ -9,9 +9,9 @@ use Rattle.rs_run.proofs.runner.keep_dumps.Given as goal
 abbrev pub invariant-loop-client : goal.invariant-loop-client
 invariant-loop-client g l =
     let O = g.O.Outlet in
-    let tables = l.sessions.tables in
+    let tables = l.served.tables in
     record {
       kept : Grows (O.kept l.fn.outlet) (O.kept l.outlet) (take l.client (dumps_of l.plan tables l.time));
       failures : O.failures l.outlet ≡ O.failures l.fn.outlet;
-      report : string_bytes l.text ≡ peer_lines l.plan.peers l.sessions.ends.items ++ flat_map (table_line_of tables) (take l.client (enumerate_from 0 l.plan.peers));
+      report : string_bytes l.text ≡ peer_lines l.plan.peers l.served.ends ++ flat_map (table_line_of tables) (take l.client (enumerate_from 0 l.plan.peers));
     }
