@@ -1,20 +1,23 @@
--- A candidate that the first three steps remove is of no matter to the choice, and neither is a route that is no candidate.
-use Rattle.std.proofs.Common.{◌≡◌, ◌∙◌, sym, ap, refl, arith, Bool, true, false, cond, not, ◌⊎◌, inl, inr, List, [], ◌∷◌, ◌++◌, subst, Option}
+-- A candidate that the first three steps remove is of no matter to the choice, nor is one that another of its neighbour AS outdoes, nor a
+-- route that is no candidate.
+use Rattle.std.proofs.Common.{◌≡◌, ◌∙◌, sym, ap, refl, arith, ℕ, ◌<◌, Bool, true, false, cond, not, ◌⊎◌, inl, inr, List, [], ◌∷◌, ◌++◌, subst, Option}
 use Rattle.std.specs.Prelude.{◌==◌, nat_lt, filter, ◌||◌, ◌&&◌}
 use Rattle.std.specs.List.{list_any}
 use Rattle.std.specs.Option.{option_map}
 use Rattle.std.proofs.lemmas.Bool.Decides.{nat_tests}
 use Rattle.std.proofs.lemmas.List.Elements.{filter-append}
 use Rattle.rs_choice.specs.declared.candidate.Standing.{Standing}
+use Rattle.rs_choice.specs.declared.step.Step.TheVariants as steps
 use Rattle.rs_choice.specs.Clients.{is_sent_to, eligible_among, peer_or_own}
-use Rattle.rs_choice.specs.Comparison.{IsAhead}
-use Rattle.rs_choice.specs.Decision.{SentRoute, origin_code, remaining, choice, standing_of}
+use Rattle.rs_choice.specs.Comparison.{HasLowerMed, HasSameMed, IsAhead, IsAheadByMed, IsLevel, Outdoes, OutdoesByMed, Precedes}
+use Rattle.rs_choice.specs.Decision.{SentRoute, beats, origin_code, remaining, choice, standing_of}
 use Rattle.rs_choice.specs.Eligibility.{is_eligible}
-use Rattle.rs_choice.specs.Laws.{RemovedIsNoMatter, BehindIsNoMatter, OthersAreNoMatter}
+use Rattle.rs_choice.specs.Laws.{RemovedIsNoMatter, BehindIsNoMatter, OthersAreNoMatter, OutdoneIsNoMatter}
 use Rattle.rs_choice.proofs.Members.{Mem, mem_of-filter, list_any-none}
-use Rattle.rs_choice.proofs.Eliminations.{Same, Unbeaten, By, same3, is_false, true_not_false}
+use Rattle.rs_choice.proofs.Eliminations.{Same, Unbeaten, Left, By, same3, is_false, true_not_false, means_lower_med, holds_lower_med}
 use Rattle.rs_choice.proofs.LawLemmas.{any_found, choice_cases, contains-mem, mem-contains}
 use Rattle.rs_choice.proofs.ShareLemmas.{reaching_med, choice_stays}
+use Rattle.rs_choice.proofs.TestLemmas.{both, either, less_number, number_less, number_same, of_both, of_either, same_number}
 
 -- ---- ahead by the first three steps, as a test
 
@@ -33,6 +36,82 @@ holds_ahead one other h = grind (arith, nat_tests)
 
 not_ahead_of_itself : (one : Standing) → IsAhead one one → ⊥
 not_ahead_of_itself one h = grind arith
+
+-- ---- outdone by all six, as a test
+
+abbrev precedes : Standing → Standing → Bool
+precedes one other = nat_lt one.id other.id || (one.id == other.id && nat_lt one.address other.address)
+
+means_precedes : (one other : Standing) → precedes one other ≡ true → Precedes one other
+means_precedes one other h = grind (arith, nat_tests)
+
+holds_precedes : (one other : Standing) → Precedes one other → precedes one other ≡ true
+holds_precedes one other h = grind (arith, nat_tests)
+
+abbrev outdoes_by_med : Standing → Standing → Bool
+outdoes_by_med one other = one.neighbour == other.neighbour && (nat_lt one.med other.med || (one.med == other.med && precedes one other))
+
+abbrev is_level : Standing → Standing → Bool
+is_level one other = one.preference == other.preference && (one.path_length == other.path_length && origin_code one.origin == origin_code other.origin)
+
+means_level : (one other : Standing) → is_level one other ≡ true → IsLevel one other
+means_level one other h = grind (arith, nat_tests)
+
+holds_level : (one other : Standing) → IsLevel one other → is_level one other ≡ true
+holds_level one other h = grind (arith, nat_tests)
+
+means_by_med : (one other : Standing) → outdoes_by_med one other ≡ true → OutdoesByMed one other
+means_by_med one other h =
+    let parts = both (one.neighbour == other.neighbour) (nat_lt one.med other.med || (one.med == other.med && precedes one other)) h in
+    let neighbour = same_number one.neighbour other.neighbour parts.0 in
+    elim (either (nat_lt one.med other.med) (one.med == other.med && precedes one other) parts.1) [
+      | inl lower ↦ inl (neighbour, less_number one.med other.med lower)
+      | inr later ↦
+          let last = both (one.med == other.med) (precedes one other) later in
+          inr ((neighbour, same_number one.med other.med last.0), means_precedes one other last.1)
+    ]
+
+holds_by_med : (one other : Standing) → OutdoesByMed one other → outdoes_by_med one other ≡ true
+holds_by_med one other (inl lower) =
+    of_both (one.neighbour == other.neighbour) (nat_lt one.med other.med || (one.med == other.med && precedes one other)) (number_same one.neighbour other.neighbour lower.0)
+    (of_either (nat_lt one.med other.med) (one.med == other.med && precedes one other) (inl (number_less one.med other.med lower.1)))
+holds_by_med one other (inr same) =
+    of_both (one.neighbour == other.neighbour) (nat_lt one.med other.med || (one.med == other.med && precedes one other)) (number_same one.neighbour other.neighbour same.0.0)
+    (of_either (nat_lt one.med other.med) (one.med == other.med && precedes one other)
+    (inr (of_both (one.med == other.med) (precedes one other) (number_same one.med other.med same.0.1) (holds_precedes one other same.1))))
+
+abbrev outdoes : Standing → Standing → Bool
+outdoes one other = is_ahead one other || (is_level one other && outdoes_by_med one other)
+
+means_outdoes : (one other : Standing) → outdoes one other ≡ true → Outdoes one other
+means_outdoes one other h = elim (either (is_ahead one other) (is_level one other && outdoes_by_med one other) h) [
+  | inl ahead ↦ inl (means_ahead one other ahead)
+  | inr later ↦
+      let parts = both (is_level one other) (outdoes_by_med one other) later in
+      inr (means_level one other parts.0, means_by_med one other parts.1)
+]
+
+holds_outdoes : (one other : Standing) → Outdoes one other → outdoes one other ≡ true
+holds_outdoes one other (inl ahead) = of_either (is_ahead one other) (is_level one other && outdoes_by_med one other) (inl (holds_ahead one other ahead))
+holds_outdoes one other (inr later) =
+    of_either (is_ahead one other) (is_level one other && outdoes_by_med one other)
+    (inr (of_both (is_level one other) (outdoes_by_med one other) (holds_level one other later.0) (holds_by_med one other later.1)))
+
+does_not_outdo_itself : (one : Standing) → Outdoes one one → ⊥
+does_not_outdo_itself one (inl ahead) = not_ahead_of_itself one ahead
+does_not_outdo_itself one (inr (level, inl lower)) = absurd (omega (arith, lower.1))
+does_not_outdo_itself one (inr (level, inr (med, inl id))) = absurd (omega (arith, id))
+does_not_outdo_itself one (inr (level, inr (med, inr address))) = absurd (omega (arith, address.1))
+
+-- what is ahead of one is ahead of each that is level with it
+ahead_of_level : (w one other : Standing) → IsLevel one other → IsAhead w one → IsAhead w other
+ahead_of_level w one other level ahead = grind arith
+
+-- and what goes before one by the first four steps goes before each of its neighbour AS that is level with it and has no lower MED
+ahead_by_med_of_level : (w one other : Standing) → IsLevel one other → HasSameMed one other → IsAheadByMed w one → IsAheadByMed w other
+ahead_by_med_of_level w one other level med (inl ahead) = inl (ahead_of_level w one other level ahead)
+ahead_by_med_of_level w one other level med (inr (w_level, lower)) =
+    inr ((w_level.0 ∙ level.0, w_level.1 ∙ level.1, w_level.2 ∙ level.2), (lower.0 ∙ med.0, omega (arith, lower.1, med.1)))
 
 -- ---- a list with one member more
 
@@ -61,37 +140,75 @@ filter_without p before after one fails =
     filter-append p before (one ∷ after) ∙ ap (λ b. filter p before ++ cond b (one ∷ filter p after) (filter p after)) fails
     ∙ sym (filter-append p before after)
 
--- ---- the choice without those that a member is ahead of
+-- ---- the choice without those that a member outdoes
 
 module _ {M : Type 0} (standing : M → Standing) where
   abbrev is_kept : M → M → Bool
-  is_kept other x = not (is_ahead (standing other) (standing x))
+  is_kept other x = not (outdoes (standing other) (standing x))
 
-  kept : (other x : M) → (IsAhead (standing other) (standing x) → ⊥) → is_kept other x ≡ true
-  kept other x h = ap not (is_false (is_ahead (standing other) (standing x)) (λ ahead. h (means_ahead (standing other) (standing x) ahead)))
+  kept : (other x : M) → (Outdoes (standing other) (standing x) → ⊥) → is_kept other x ≡ true
+  kept other x h = ap not (is_false (outdoes (standing other) (standing x)) (λ outdone. h (means_outdoes (standing other) (standing x) outdone)))
 
   reaching : (set : List M) → Same (Mem (reaching_med standing set)) (Unbeaten (By standing IsAhead) (Mem set))
   unfolding remaining
   reaching set = same3 standing set
 
-  without_behind : (set : List M) (other : M) → Mem set other → choice standing (filter (is_kept other) set) ≡ choice standing set
-  without_behind set other member =
+  -- who is chosen isn't outdone
+  chosen_is_kept : (set : List M) (other chosen : M) → Mem set other → Left standing (Mem set) chosen → Outdoes (standing other) (standing chosen) → ⊥
+  chosen_is_kept set other chosen member left (inl ahead) = left.member.best other member (inl ahead)
+  chosen_is_kept set other chosen member left (inr (level, inl lower)) = left.member.best other member (inr (level, lower))
+  chosen_is_kept set other chosen member left (inr (level, inr (med, before))) =
+      left.best other
+      (record {
+        member = member;
+        best = λ w k ahead. left.member.best w k (ahead_by_med_of_level (standing w) (standing other) (standing chosen) level med ahead);
+      })
+      before
+
+  -- whom one that is outdone removes by MED, the other one removes too
+  removed_too : (set : List M) (other third one : M) → Mem set other → Mem (reaching_med standing set) third → Outdoes (standing other) (standing third) →
+      HasLowerMed (standing third) (standing one) → Mem (reaching_med standing set) other × HasLowerMed (standing other) (standing one)
+  removed_too set other third one member reached (inl ahead) lower = absurd (((reaching set).to third reached).best other member ahead)
+  removed_too set other third one member reached (inr (level, by_med)) lower = (
+    (reaching set).from other (record {
+      member = member;
+      best = λ w k ahead. ((reaching set).to third reached).best w k (ahead_of_level (standing w) (standing other) (standing third) level ahead);
+    }),
+    elim by_med [
+      | inl less ↦ (less.0 ∙ lower.0, omega (arith, less.1, lower.1))
+      | inr same ↦ (same.0.0 ∙ lower.0, omega (arith, same.0.1, lower.1))
+    ],
+  )
+
+  without_outdone : (set : List M) (other : M) → Mem set other → choice standing (filter (is_kept other) set) ≡ choice standing set
+  without_outdone set other member =
       elim (choice_cases standing set) [
         | inl none ↦ let nothing : Mem [] other = rw none.1 at member in absurd nothing
         | inr found ↦
             choice_stays standing set (is_kept other) found.0 found.1
-            (kept other found.0 (λ ahead. found.2.member.best other member (inl ahead)))
-            (λ one third one_member stays third_member beaten.
-            (third, third_member, kept other third (λ ahead. ((reaching set).to third third_member).best other member ahead), beaten))
+            (kept other found.0 (chosen_is_kept set other found.0 member found.2))
+            (λ one third one_member stays third_member beaten. by_kept one third (outdoes (standing other) (standing third)) refl third_member beaten)
             ∙ sym found.1
       ]
+    where
+      by_kept : (one third : M) (b : Bool) → outdoes (standing other) (standing third) ≡ b → Mem (reaching_med standing set) third →
+          beats steps.Med (standing third) (standing one) ≡ true →
+          (x : M) × Mem (reaching_med standing set) x × (is_kept other x ≡ true) × (beats steps.Med (standing x) (standing one) ≡ true)
+      by_kept one third false e reached beaten = (third, reached, ap not e, beaten)
+      by_kept one third true e reached beaten =
+          let also = removed_too set other third one member reached (means_outdoes (standing other) (standing third) e) (means_lower_med (standing third) (standing one) beaten) in
+          (other, also.0, kept other other (does_not_outdo_itself (standing other)), holds_lower_med (standing other) (standing one) also.1)
+
+  pub outdone : (before after : List M) (one other : M) → Mem (before ++ after) other → Outdoes (standing other) (standing one) →
+      choice standing (before ++ one ∷ after) ≡ choice standing (before ++ after)
+  outdone before after one other member outdoes =
+      sym (without_outdone (before ++ one ∷ after) other (mem_more before after one other member))
+      ∙ ap (choice standing) (filter_without (is_kept other) before after one (ap not (holds_outdoes (standing other) (standing one) outdoes)))
+      ∙ without_outdone (before ++ after) other member
 
   pub behind : (before after : List M) (one other : M) → Mem (before ++ after) other → IsAhead (standing other) (standing one) →
       choice standing (before ++ one ∷ after) ≡ choice standing (before ++ after)
-  behind before after one other member ahead =
-      sym (without_behind (before ++ one ∷ after) other (mem_more before after one other member))
-      ∙ ap (choice standing) (filter_without (is_kept other) before after one (ap not (holds_ahead (standing other) (standing one) ahead)))
-      ∙ without_behind (before ++ after) other member
+  behind before after one other member ahead = outdone before after one other member (inl ahead)
 
   pub removed : (before after : List M) (one : M) → (Mem (reaching_med standing (before ++ one ∷ after)) one → ⊥) →
       choice standing (before ++ one ∷ after) ≡ choice standing (before ++ after)
@@ -117,6 +234,10 @@ module _ {M : Type 0} (standing : M → Standing) where
 pub behind_is_no_matter : BehindIsNoMatter
 behind_is_no_matter plan before after one other among ahead =
     behind (standing_of plan) before after one other (contains-mem (before ++ after) other among) ahead
+
+pub outdone_is_no_matter : OutdoneIsNoMatter
+outdone_is_no_matter plan before after one other among outdoes =
+    outdone (standing_of plan) before after one other (contains-mem (before ++ after) other among) outdoes
 
 pub removed_is_no_matter : RemovedIsNoMatter
 removed_is_no_matter plan before after one gone =
@@ -147,11 +268,11 @@ candidates_apart : {M : Type 0} (p q : M → Bool) (before after : List M) →
     filter q (filter p (before ++ after)) ≡ filter q (filter p before) ++ filter q (filter p after)
 candidates_apart p q before after = ap (filter q) (filter-append p before after) ∙ filter-append q (filter p before) (filter p after)
 
--- one that another candidate is ahead of may go
-behind_candidate : {M : Type 0} (standing : M → Standing) (p q : M → Bool) (before after : List M) (one other : M) →
-    Mem (before ++ after) other → p other ≡ true → q other ≡ true → IsAhead (standing other) (standing one) →
+-- one that another candidate outdoes may go
+outdone_candidate : {M : Type 0} (standing : M → Standing) (p q : M → Bool) (before after : List M) (one other : M) →
+    Mem (before ++ after) other → p other ≡ true → q other ≡ true → Outdoes (standing other) (standing one) →
     choice standing (filter q (filter p (before ++ one ∷ after))) ≡ choice standing (filter q (filter p (before ++ after)))
-behind_candidate standing p q before after one other among eligible permitted ahead = go (p one) refl (q one) refl
+outdone_candidate standing p q before after one other among eligible permitted outdoes = go (p one) refl (q one) refl
   where
     go : (b : Bool) → p one ≡ b → (c : Bool) → q one ≡ c →
         choice standing (filter q (filter p (before ++ one ∷ after))) ≡ choice standing (filter q (filter p (before ++ after)))
@@ -160,7 +281,7 @@ behind_candidate standing p q before after one other among eligible permitted ah
         mem_of-filter q (filter p (before ++ after)) other permitted (mem_of-filter p (before ++ after) other eligible among) in
         let apart = candidates_apart p q before after in
         ap (choice standing) (candidates_with p q before after one one_eligible one_permitted)
-        ∙ behind standing (filter q (filter p before)) (filter q (filter p after)) one other (subst (λ list. Mem list other) apart candidate) ahead
+        ∙ outdone standing (filter q (filter p before)) (filter q (filter p after)) one other (subst (λ list. Mem list other) apart candidate) outdoes
         ∙ ap (choice standing) (sym apart)
     go false fails c e = ap (choice standing) (no_candidate p q before after one (inl fails))
     go true e false fails = ap (choice standing) (no_candidate p q before after one (inr fails))
@@ -182,6 +303,6 @@ others_are_no_matter plan client before after one nothing =
       | inr others ↦ elim others [
         | inl refused ↦ ap (choice (standing_of plan)) (no_candidate p q before after one (inr refused))
         | inr found ↦
-            behind_candidate (standing_of plan) p q before after one found.0 (contains-mem (before ++ after) found.0 found.1) found.2 found.3 found.4
+            outdone_candidate (standing_of plan) p q before after one found.0 (contains-mem (before ++ after) found.0 found.1) found.2 found.3 found.4
       ]
     ]

@@ -19,3 +19,4 @@ pub mod PolicyLemmas
 pub mod ScanLemmas
 pub mod ShareLemmas
 pub mod StayLemmas
+pub mod TestLemmas

@@ -10,7 +10,7 @@ use Rattle.rs_choice.specs.declared.held_route.HeldRoute.{HeldRoute}
 use Rattle.rs_choice.specs.declared.route_change.RouteChange.{RouteChange}
 use Rattle.rs_choice.specs.Candidacy.{is_candidate}
 use Rattle.rs_choice.specs.Clients.{is_sent_to, best_peer_for, eligible_among, peer_or_own}
-use Rattle.rs_choice.specs.Comparison.{IsAhead}
+use Rattle.rs_choice.specs.Comparison.{Outdoes}
 use Rattle.rs_choice.specs.Decision.{SentRoute, standing_of}
 use Rattle.rs_choice.specs.Eligibility.{is_eligible}
 use Rattle.rs_choice.specs.Held.{sent_of_held, IsJudged}
@@ -158,11 +158,11 @@ module _ (plan : Plan) (held : List HeldRoute) (change : RouteChange) (bests : L
           let eligible : IsTrue (is_eligible plan other.peer other.attributes.value) = subst (λ (o : HeldRoute). IsTrue (is_eligible plan o.peer o.attributes.value)) same r.3 in
           let permitted : IsTrue (is_sent_to plan client (sent_of_held other)) = subst (λ (o : HeldRoute). IsTrue (is_sent_to plan client (sent_of_held o))) same r.4 in
           let candidate : IsTrue (is_candidate other.candidacy) = judged_other.eligible ∙ eligible in
-          let ahead : IsAhead (standing_of plan (sent_of_held other)) (standing_of plan (sent_of_held one)) =
+          let outdoes : Outdoes (standing_of plan (sent_of_held other)) (standing_of plan (sent_of_held one)) =
           rw (← judged_other.standing candidate, ← judged.standing e) found.3 in
           let kept_other : Mem kept (sent_of_held other) =
           subst (λ list. Mem list (sent_of_held other)) (sym (filter-map sent_of_held of_other is.before)) (mem_map sent_of_held (of_others change.peer is.before) other was_others) in
-          inr (inr (sent_of_held other, mem-contains kept (sent_of_held other) kept_other, eligible, permitted, ahead))
+          inr (inr (sent_of_held other, mem-contains kept (sent_of_held other) kept_other, eligible, permitted, outdoes))
 
   pub stays : All (IsJudged plan) held → IsUntouched plan held change client best → best ≡ best_peer_for plan client (map sent_of_held held)
   stays all untouched =

@@ -54,3 +54,14 @@ HasLowerAddress one other = one.address < other.address
 -- by identifier, then address
 abbrev pub Precedes : Standing → Standing → Type 0
 Precedes = FirstOrSecond HasLowerId HasSameId HasLowerAddress
+
+abbrev pub HasSameMed : Standing → Standing → Type 0
+HasSameMed one other = (one.neighbour ≡ other.neighbour) × (one.med ≡ other.med)
+
+-- by MED, identifier and address, within one neighbour AS
+abbrev pub OutdoesByMed : Standing → Standing → Type 0
+OutdoesByMed = FirstOrSecond HasLowerMed HasSameMed Precedes
+
+-- by all six steps: candidates of different neighbour ASes are told apart by the first three alone
+abbrev pub Outdoes : Standing → Standing → Type 0
+Outdoes = FirstOrSecond IsAhead IsLevel OutdoesByMed

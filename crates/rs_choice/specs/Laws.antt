@@ -5,7 +5,7 @@ use Rattle.rs_choice.specs.declared.plan.Local.{Local}
 use Rattle.rs_choice.specs.declared.step.Step.{Step}
 use Rattle.rs_choice.specs.declared.step.Step.TheVariants as steps
 use Rattle.rs_choice.specs.Clients.{best_peer_for, is_sent_to}
-use Rattle.rs_choice.specs.Comparison.{IsAhead}
+use Rattle.rs_choice.specs.Comparison.{IsAhead, Outdoes}
 use Rattle.rs_choice.specs.Eligibility.{is_eligible}
 use Rattle.rs_choice.specs.Plan.{Peer, Plan, Test, first_fault, plan_fault}
 use Rattle.rs_choice.specs.Policy.{is_permitted}
@@ -83,13 +83,20 @@ BehindIsNoMatter =
     Contains (before ++ after) other → IsAhead (standing_of plan other) (standing_of plan one) →
     choice (standing_of plan) (before ++ one ∷ after) ≡ choice (standing_of plan) (before ++ after)
 
--- a route that, beside others, isn't eligible, or isn't permitted to a client, or is behind one of the others that the client may get
+-- and for each one that another candidate outdoes: one that is level with it, of the same neighbour AS, goes before it by MED or after it
+abbrev pub OutdoneIsNoMatter : Type 0
+OutdoneIsNoMatter =
+    (plan : Plan) (before after : List SentRoute) (one other : SentRoute) →
+    Contains (before ++ after) other → Outdoes (standing_of plan other) (standing_of plan one) →
+    choice (standing_of plan) (before ++ one ∷ after) ≡ choice (standing_of plan) (before ++ after)
+
+-- a route that, beside others, isn't eligible, or isn't permitted to a client, or is outdone by one of the others that the client may get
 abbrev pub IsNoMatterTo : Plan → ℕ → List SentRoute → SentRoute → Type 0
 IsNoMatterTo plan client others one =
     IsFalse (is_eligible plan one.peer one.attributes)
     ⊎ IsFalse (is_sent_to plan client one)
     ⊎ ((other : SentRoute) × Contains others other × IsTrue (is_eligible plan other.peer other.attributes) × IsTrue (is_sent_to plan client other)
-    × IsAhead (standing_of plan other) (standing_of plan one))
+    × Outdoes (standing_of plan other) (standing_of plan one))
 
 -- a client gets the same with such a route and without it, wherever it stands
 abbrev pub OthersAreNoMatter : Type 0

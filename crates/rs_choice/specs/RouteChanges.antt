@@ -8,7 +8,7 @@ use Rattle.rs_choice.specs.declared.route_change.RouteChange.{RouteChange}
 use Rattle.rs_choice.specs.declared.route_change.KnownBest.{KnownBest}
 use Rattle.rs_choice.specs.Candidacy.{is_candidate}
 use Rattle.rs_choice.specs.Clients.{is_sent_to, AreBest}
-use Rattle.rs_choice.specs.Comparison.{IsAhead}
+use Rattle.rs_choice.specs.Comparison.{Outdoes}
 use Rattle.rs_choice.specs.Held.{held_standing, sent_of_held, IsJudged}
 use Rattle.rs_choice.specs.Plan.{Plan}
 
@@ -47,23 +47,23 @@ pub record IsKnown (plan : Plan) (held : List HeldRoute) (change : RouteChange) 
 abbrev pub IsOneOf : List HeldRoute → RouteChange → HeldRoute → Type 0
 IsOneOf held change one = (change.old ≡ Some one) ⊎ (new_route held change ≡ Some one)
 
--- something is ahead of both routes of a change by preference, path length and origin, if they may be candidates
+-- something outdoes both routes of a change, if they may be candidates
 abbrev pub AreBehindAll : Plan → List HeldRoute → RouteChange → Standing → Type 0
-AreBehindAll plan held change ahead =
-    (one : HeldRoute) → IsOneOf held change one → IsTrue (is_candidate one.candidacy) → IsAhead ahead (held_standing plan one)
+AreBehindAll plan held change best =
+    (one : HeldRoute) → IsOneOf held change one → IsTrue (is_candidate one.candidacy) → Outdoes best (held_standing plan one)
 
--- the route of a peer is ahead of another one by preference, path length and origin
+-- the route of a peer outdoes another one
 abbrev pub IsBehind : Plan → List HeldRoute → ℕ → HeldRoute → Type 0
 IsBehind plan held peer one =
-    (other : HeldRoute) × Contains held other × (other.peer ≡ peer) × IsAhead (held_standing plan other) (held_standing plan one)
+    (other : HeldRoute) × Contains held other × (other.peer ≡ peer) × Outdoes (held_standing plan other) (held_standing plan one)
 
 -- and of both routes of a change, if they may be candidates
 abbrev pub AreBehind : Plan → List HeldRoute → RouteChange → ℕ → Type 0
 AreBehind plan held change peer = (one : HeldRoute) → IsOneOf held change one → IsTrue (is_candidate one.candidacy) → IsBehind plan held peer one
 
--- what is known of a peer's route: it is ahead of both, and not one of them
+-- what is known of a peer's route: it outdoes both, and is not one of them
 abbrev pub KnowsBest : Plan → List HeldRoute → RouteChange → KnownBest → Type 0
-KnowsBest plan held change known = IsTrue known.is_ahead → (known.peer ≢ change.peer) × AreBehind plan held change known.peer
+KnowsBest plan held change known = IsTrue known.outdoes → (known.peer ≢ change.peer) × AreBehind plan held change known.peer
 
 -- a route is no candidate of a client
 abbrev pub IsNoCandidate : Plan → ℕ → HeldRoute → Type 0
@@ -74,7 +74,7 @@ abbrev pub AreNoCandidates : Plan → List HeldRoute → RouteChange → ℕ →
 AreNoCandidates plan held change client = (one : HeldRoute) → IsOneOf held change one → IsNoCandidate plan client one
 
 -- a change is of no matter to a client that got the route of a peer: neither of its routes is a candidate of the client, or another peer's
--- route that the client got is ahead of both
+-- route that the client got outdoes both
 abbrev pub IsUntouched : Plan → List HeldRoute → RouteChange → ℕ → ℕ → Type 0
 IsUntouched plan held change client best =
     AreNoCandidates plan held change client ⊎ ((best ≢ client) × (best ≢ change.peer) × AreBehind plan held change best)

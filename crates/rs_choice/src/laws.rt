@@ -1,6 +1,6 @@
 //! What holds of the definitions that the contracts cite: each law is the contract of a function that does nothing.
 
-ghost use Rattle.rs_choice.specs.Laws.{BehindIsNoMatter, ChoiceIgnoresOrder, ChoiceIsMember, ChoiceIsUnbeaten, ChoiceStays, FaultIsFirst, MedDecidesWithinNeighbour, OpenPolicySharesChoice, OthersAreNoMatter, PeersHaveOwnAddresses, RemovedIsNoMatter};
+ghost use Rattle.rs_choice.specs.Laws.{BehindIsNoMatter, ChoiceIgnoresOrder, ChoiceIsMember, ChoiceIsUnbeaten, ChoiceStays, FaultIsFirst, MedDecidesWithinNeighbour, OpenPolicySharesChoice, OthersAreNoMatter, OutdoneIsNoMatter, PeersHaveOwnAddresses, RemovedIsNoMatter};
 
 /// The choice among candidates is one of them, and there is one unless there is no candidate; at each step of the decision process
 /// it is in the set that reached the step, and no member of that set beats it (RFC 4271, section 9.1.2.2).
@@ -31,12 +31,14 @@ pub fn the_choice_stays_without_those_of_no_weight()
 {}
 
 /// A candidate that the first three steps of the decision process remove is of no matter to the choice, wherever it stands: the step
-/// by MED never sees it (RFC 4271, section 9.1.2.2). So it is with each one that another candidate is ahead of by these steps. A client
+/// by MED never sees it (RFC 4271, section 9.1.2.2). So it is with each one that another candidate is ahead of by these steps, and with each one that another candidate of its
+/// neighbour AS, level with it by these steps, goes before by MED, identifier and address. A client
 /// gets the same with such a route and without it, and with a route and without it that isn't eligible or isn't permitted to the client:
 /// a change of one route can be looked at by itself, and only a client that the old route or the new one may matter to is decided anew.
 pub fn those_behind_are_no_matter()
     ensures removed { RemovedIsNoMatter }
     ensures behind { BehindIsNoMatter }
+    ensures outdone { OutdoneIsNoMatter }
     ensures client { OthersAreNoMatter }
 {}
 

@@ -1,12 +1,16 @@
 //! Export policy: which routes a client may get (RFC 7947, section 2.3). The five cases are our choice.
 
-ghost use Rattle.std.specs.Prelude.{◌≡◌, ◌≢◌, ◌<◌, ◌↔◌, IsTrue, length};
-ghost use Rattle.rs_update.specs.Community.{has_community_of_in};
+ghost use Rattle.std.specs.Prelude.{◌≡◌, ◌≢◌, ◌<◌, ◌↔◌, ◌∷◌, [], IsTrue, Some, length};
+ghost use Rattle.rs_update.specs.Community.{has_community_of_in, has_value};
+ghost use Rattle.rs_update.specs.Shapes.{communities_of};
 ghost use Rattle.rs_choice.specs.Held.{IsOpen};
 ghost use Rattle.rs_choice.specs.Policy.{is_permitted, permits_by_communities};
 
 use crate::exchange::Exchange;
-use rs_update::Attributes;
+use rs_update::{Attributes, Communities};
+
+// The numbers that half a community can hold (RFC 1997).
+const HALF: u32 = 65536;
 
 impl Exchange {
     /// Whether the peer of number `client` may get a route of the peer of number `peer`; no client gets a route of its own. The
@@ -59,14 +63,36 @@ impl Exchange {
     }
 }
 
-// Whether the communities of a route permit it to a client. A route that is for few clients has (0, server's AS): they are
-// looked through twice for each of the others.
+// Whether the communities of a route permit it to a client.
 fn permitted_by_communities(local_asn: u32, client_asn: u32, attributes: &Attributes) -> bool
     ensures { result ≡ permits_by_communities local_asn client_asn attributes.now.communities }
 {
-    if attributes.has_community(local_asn, client_asn) {
-        !attributes.has_community(0, client_asn)
-    } else {
-        !attributes.has_community(0, local_asn) && !attributes.has_community(0, client_asn)
+    match attributes.communities() {
+        None => true,
+        Some(list) => permitted_by_list(local_asn, client_asn, list),
     }
+}
+
+// The same of communities that were received: they are looked through once.
+fn permitted_by_list(local_asn: u32, client_asn: u32, list: Communities<'_>) -> bool
+    ensures { result ≡ permits_by_communities local_asn client_asn (Some (communities_of list.entry)) }
+{
+    let mut permits = false;
+    let mut refuses_all = false;
+    let mut rest = list.values;
+    while let Some(value) = rest.next() {
+        if is_community(value, 0, client_asn) {
+            return false;
+        }
+        permits = permits || is_community(value, local_asn, client_asn);
+        refuses_all = refuses_all || is_community(value, 0, local_asn);
+    }
+    permits || !refuses_all
+}
+
+// Whether a value is the community (`high`, `low`).
+fn is_community(value: u32, high: u32, low: u32) -> bool
+    ensures { result ≡ has_value (value ∷ []) high low }
+{
+    value / HALF == high && value % HALF == low
 }

@@ -1,15 +1,15 @@
 //! What a change of one peer's route makes of the decisions on a prefix: few clients can get another route by it.
 //!
 //! A client gets what it got where neither the route that went nor the one that came is a candidate of it, or where the route that it
-//! got is another peer's and ahead of both by preference, path length and origin: the steps after these never see them. For all other
-//! clients there is a decision anew.
+//! got is another peer's and outdoes both: it is ahead of them by preference, path length and origin, or goes before them in its own
+//! neighbour AS. For all other clients there is a decision anew.
 
 ghost use Rattle.std.specs.Prelude.{◌≡◌, ◌≢◌, ◌<◌, ◌≤◌, ◌↔◌, ◌&&◌, ◌||◌, not, IfSome, IsTrue, IsFalse, Some, length, map, slice_get, slice_index_or};
 ghost use Rattle.std.specs.List.{All};
 ghost use Rattle.rs_choice.specs.declared.held_route.HeldRoute.{HeldRoute};
 ghost use Rattle.rs_choice.specs.Candidacy.{is_candidate};
 ghost use Rattle.rs_choice.specs.Clients.{is_sent_to, AreBest};
-ghost use Rattle.rs_choice.specs.Comparison.{IsAhead};
+ghost use Rattle.rs_choice.specs.Comparison.{Outdoes};
 ghost use Rattle.rs_choice.specs.Held.{held_standing, sent_of_held, IsJudged};
 ghost use Rattle.rs_choice.specs.RouteChanges.{AreBehind, AreBehindAll, AreNoCandidates, IsAt, IsChange, IsKnown, IsNextTouched, IsUntouched, KnowsBest};
 
@@ -30,11 +30,11 @@ pub struct RouteChange {
     pub new: Option<usize>,
 }
 
-// Whether the route of a peer is known to be ahead of both routes of a change.
+// Whether the route of a peer is known to outdo both routes of a change.
 #[derive(Clone, Copy)]
 pub(crate) struct KnownBest {
     peer: usize,
-    is_ahead: bool,
+    outdoes: bool,
 }
 
 impl Exchange {
@@ -52,7 +52,7 @@ impl Exchange {
         let count = self.count();
         let mut known = KnownBest {
             peer: change.peer,
-            is_ahead: false,
+            outdoes: false,
         };
         let mut client = self.next_touched(held, change, bests, 0, &mut known);
         if client == count {
@@ -110,13 +110,13 @@ impl Exchange {
         ensures untouched { IsFalse result → IsUntouched self.now held.now change.now client best }
     {
         let peer = usize::from(best);
-        if peer != client && known.peer == peer && known.is_ahead {
+        if peer != client && known.peer == peer && known.outdoes {
             return false;
         }
         self.is_touched_unless_known(held, change, client, best, known)
     }
 
-    // The same, where it isn't known that the client's route is ahead.
+    // The same, where it isn't known that the client's route outdoes both.
     fn is_touched_unless_known(
         &self,
         held: &[HeldRoute],
@@ -137,10 +137,10 @@ impl Exchange {
             return false;
         }
         *known = self.know(held, change, best, *known);
-        best == client || !known.is_ahead
+        best == client || !known.outdoes
     }
 
-    // Whether the route of a peer is ahead of both routes of a change: it is looked up where something else is known.
+    // Whether the route of a peer outdoes both routes of a change: it is looked up where something else is known.
     fn know(
         &self,
         held: &[HeldRoute],
@@ -159,7 +159,7 @@ impl Exchange {
         }
         KnownBest {
             peer,
-            is_ahead: self.is_ahead(held, change, peer),
+            outdoes: self.outdoes_both(held, change, peer),
         }
     }
 
@@ -190,8 +190,8 @@ impl Exchange {
         one.candidacy.is_eligible() && self.permits_held(client, one)
     }
 
-    // Whether the route of a peer is ahead of both routes of a change, and not one of them.
-    fn is_ahead(&self, held: &[HeldRoute], change: &RouteChange, peer: usize) -> bool
+    // Whether the route of a peer outdoes both routes of a change, and is not one of them.
+    fn outdoes_both(&self, held: &[HeldRoute], change: &RouteChange, peer: usize) -> bool
         requires judged { All (IsJudged self.now) held.now }
         requires known { IsKnown self.now held.now change.now }
         ensures { IsTrue result → (peer ≢ change.now.peer) × AreBehind self.now held.now change.now peer }
@@ -205,7 +205,7 @@ impl Exchange {
         self.are_behind(held, change, &self.held_standing(&held[place]))
     }
 
-    // Whether something is ahead of both routes of a change, if they may be candidates.
+    // Whether something outdoes both routes of a change, if they may be candidates.
     fn are_behind(&self, held: &[HeldRoute], change: &RouteChange, standing: &Standing) -> bool
         requires judged { All (IsJudged self.now) held.now }
         requires known { IsKnown self.now held.now change.now }
@@ -222,12 +222,12 @@ impl Exchange {
         old_is_behind && new_is_behind
     }
 
-    // Whether a route is no candidate of any client, or something is ahead of it.
+    // Whether a route is no candidate of any client, or something outdoes it.
     fn is_behind(&self, one: &HeldRoute, standing: &Standing) -> bool
         requires { one.now.peer < length self.now.peers }
-        ensures { IsTrue result → IsTrue (is_candidate one.now.candidacy) → IsAhead standing.now (held_standing self.now one.now) }
+        ensures { IsTrue result → IsTrue (is_candidate one.now.candidacy) → Outdoes standing.now (held_standing self.now one.now) }
     {
-        !one.candidacy.is_eligible() || standing.is_ahead_of(&self.held_standing(one))
+        !one.candidacy.is_eligible() || standing.outdoes(&self.held_standing(one))
     }
 }
 

@@ -4,7 +4,7 @@ use Rattle.std.specs.Prelude.{IfSome, IsTrue, slice_get, ◌<◌}
 use Rattle.std.proofs.lemmas.Option.{slice_get_read}
 use Rattle.rs_choice.specs.declared.held_route.HeldRoute.{HeldRoute}
 use Rattle.rs_choice.specs.Candidacy.{is_candidate}
-use Rattle.rs_choice.specs.Comparison.{IsAhead}
+use Rattle.rs_choice.specs.Comparison.{Outdoes}
 use Rattle.rs_choice.specs.Held.{held_standing}
 use Rattle.rs_choice.proofs.exchange.Exchange.are_behind.Goals as goal
 use Rattle.rs_choice.proofs.exchange.Exchange.are_behind.Goals.{in-None, in-Some, in-None-new, in-Some-new}
@@ -19,7 +19,7 @@ same_some found one other h k = let e : Some one ≡ Some other = sym h ∙ k in
 pub returns-then-old_is_behind : goal.returns-then-old_is_behind
 returns-then-old_is_behind c = λ new_true one is_one candidate.
     let held = c.args.held.now in
-    let behind = λ (one : HeldRoute). IsTrue (is_candidate one.candidacy) → IsAhead c.args.standing.now (held_standing c.args.self.now one) in
+    let behind = λ (one : HeldRoute). IsTrue (is_candidate one.candidacy) → Outdoes c.args.standing.now (held_standing c.args.self.now one) in
     elim is_one [
       | inl old ↦ elim c.match-change.branch [
         | in-None w ↦ absurd (none_is_no_some c.args.change.now.old one w.in-None.is old)

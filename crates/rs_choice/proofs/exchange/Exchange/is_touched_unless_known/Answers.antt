@@ -8,7 +8,7 @@ not_false false e = absurd (cc (e))
 
 pub returns-else-best-client-clause-untouched : goal.returns-else-best-client-clause-untouched
 returns-else-best-client-clause-untouched c = λ untouched.
-    let known = c.know.ensures.knows (not_false c.know.result.is_ahead untouched) in
+    let known = c.know.ensures.knows (not_false c.know.result.outdoes untouched) in
     let peer : c.know.result.peer ≡ c.args.best = c.know.ensures.peer ∙ c.from-best.ensures in
     inr (
       (λ same. c.if-best-client.false (c.from-best.ensures ∙ same)),

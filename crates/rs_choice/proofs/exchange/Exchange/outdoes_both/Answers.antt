@@ -2,10 +2,10 @@ use Rattle.std.proofs.Common.{◌≡◌, ◌<◌, ◌∙◌, sym, ap, subst, ari
 use Rattle.std.specs.Prelude.{slice_get}
 use Rattle.std.proofs.lemmas.Option.{slice_get_read, slice_get_within}
 use Rattle.rs_choice.specs.declared.candidate.Standing.{Standing}
-use Rattle.rs_choice.specs.Comparison.{IsAhead}
+use Rattle.rs_choice.specs.Comparison.{Outdoes}
 use Rattle.rs_choice.specs.Held.{held_standing}
 use Rattle.rs_choice.proofs.StayLemmas.{contains_at}
-use Rattle.rs_choice.proofs.exchange.Exchange.is_ahead.Goals as goal
+use Rattle.rs_choice.proofs.exchange.Exchange.outdoes_both.Goals as goal
 
 pub returns : goal.returns
 returns c = λ behind.
@@ -22,6 +22,6 @@ returns c = λ behind.
         found.0,
         contains_at held place found.0 found.1,
         found.2,
-        subst (λ (standing : Standing). IsAhead standing (held_standing plan one)) (c.held_standing.ensures ∙ ap (held_standing plan) same) (c.are_behind.ensures behind one is_one candidate),
+        subst (λ (standing : Standing). Outdoes standing (held_standing plan one)) (c.held_standing.ensures ∙ ap (held_standing plan) same) (c.are_behind.ensures behind one is_one candidate),
       ),
     )
