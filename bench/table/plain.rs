@@ -1,7 +1,8 @@
 //! Plain tables with the same structures as `rs_table`: an ordered map from prefix to a cell, held routes of 24 octets sorted by peer, one octet for each client. It
 //! decides as `rs_choice` does. What decisions ask of a route by itself is found when it comes, and stands beside it. One
 //! pass by neighbour groups chooses among all eligible routes, and that choice is shared by the clients to which the few routes on which it rests are permitted; each
-//! other client has a pass of its own. After a change only the clients are decided anew that it may touch. It is the baseline of the ratio.
+//! other client has a pass of its own. After a change only the clients are decided anew that it may touch: of a route for named clients alone these are found by the
+//! communities. It is the baseline of the ratio.
 //!
 //! usage: plain FILE PEERS PREFIXES SENDERS
 #[path = "../update/plain.rs"]
@@ -83,6 +84,11 @@ impl Standing {
     fn last(&self) -> (u32, u32) {
         (self.id, self.address)
     }
+
+    fn outdoes(&self, other: &Standing) -> bool {
+        self.front() < other.front()
+            || (self.front() == other.front() && self.neighbour == other.neighbour && (self.med, self.last()) < (other.med, other.last()))
+    }
 }
 
 // Of each neighbour AS the place of the route that stands for it, and whether that route keeps out another one by its MED.
@@ -109,6 +115,21 @@ fn has_community(attributes: &Attributes, high: u32, low: u32) -> bool {
     }
 }
 
+// The communities are looked through once.
+fn permitted_by_communities(attributes: &Attributes, server: u32, client: u32) -> bool {
+    let Some((_, values)) = &attributes.communities else { return true };
+    let (mut permits, mut refuses_all) = (false, false);
+    for value in values {
+        let is = |high: u32, low: u32| high < 65536 && low < 65536 && *value == high << 16 | low;
+        if is(0, client) {
+            return false;
+        }
+        permits = permits || is(server, client);
+        refuses_all = refuses_all || is(0, server);
+    }
+    permits || !refuses_all
+}
+
 // Whether a community could keep a route from some client: those that do are of AS 0.
 fn may_be_restricted(attributes: &Attributes) -> bool {
     attributes.communities.as_ref().is_some_and(|(_, values)| values.iter().any(|value| *value < 65536))
@@ -125,8 +146,7 @@ impl Plan {
         let asn = self.peers[client].asn;
         client != peer
             && !self.refusals[client][peer]
-            && !has_community(attributes, 0, asn)
-            && (has_community(attributes, self.asn, asn) || !has_community(attributes, 0, self.asn))
+            && permitted_by_communities(attributes, self.asn, asn)
     }
 
     fn candidacy(&self, peer: usize, attributes: &Attributes) -> Candidacy {
@@ -235,26 +255,67 @@ impl Plan {
         let peer = if weighing.iter().all(|place| self.permits_held(client, &held[usize::from(*place)])) {
             shared
         } else {
-            let own = self.groups(held, |route| self.permits_held(client, route));
-            self.first(held, &own).map(|place| held[usize::from(place)].peer)
+            self.choose_among(held, client)
         };
         peer.unwrap_or(client as u8)
     }
 
     // Decides anew for the clients to which a change of one peer's route may be of matter.
     fn decide_after(&self, held: &[Held], change: &Change, bests: &mut [u8]) {
+        let mut recipients = [false; MAX_PEERS];
+        for route in change.both(held) {
+            self.mark(route, &mut recipients);
+        }
         let mut known = (change.peer, false);
         let peers = self.peers.len();
-        let Some(first) = (0..peers).find(|client| self.is_touched(held, change, *client, bests[*client], &mut known)) else { return };
-        let (groups, len, shared) = self.share(held);
-        for client in first..peers {
-            if self.is_touched(held, change, client, bests[client], &mut known) {
-                bests[client] = self.choose_for(held, &groups.places[..len], shared, client);
+        let mut client = self.next_touched(held, change, bests, 0, &recipients, &mut known);
+        if client == peers {
+            return;
+        }
+        let shared = recipients[MAX_PEERS - 1].then(|| self.share(held));
+        while client < peers {
+            bests[client] = match &shared {
+                Some((groups, len, shared)) => self.choose_for(held, &groups.places[..*len], *shared, client),
+                None => self.choose_among(held, client).unwrap_or(client as u8),
+            };
+            client = self.next_touched(held, change, bests, client + 1, &recipients, &mut known);
+        }
+    }
+
+    // The first client from one on to which it may be of matter.
+    #[inline(always)]
+    fn next_touched(&self, held: &[Held], change: &Change, bests: &[u8], from: usize, recipients: &[bool; MAX_PEERS], known: &mut (u8, bool)) -> usize {
+        for client in from..bests.len() {
+            if recipients[client] && self.is_touched(held, change, client, bests[client], known) {
+                return client;
+            }
+        }
+        bests.len()
+    }
+
+    // Marks the clients of which a route may be a candidate: of one for named clients alone, those that a community (server's AS, client's AS) names.
+    fn mark(&self, route: &Held, marks: &mut [bool; MAX_PEERS]) {
+        if !route.candidacy.is_eligible() {
+            return;
+        }
+        if route.candidacy.is_open() || !has_community(&route.attributes, 0, self.asn) {
+            *marks = [true; MAX_PEERS];
+            return;
+        }
+        for value in route.attributes.communities.iter().flat_map(|(_, values)| values).filter(|value| **value >> 16 == self.asn) {
+            for (peer, mark) in self.peers.iter().zip(marks.iter_mut()) {
+                *mark = *mark || peer.asn == value & 0xffff;
             }
         }
     }
 
-    // Whether it may be of matter to a client that got the route of a peer. Of one peer it is known whether its route is ahead of both.
+    // The peer of the choice among those that a client may get.
+    fn choose_among(&self, held: &[Held], client: usize) -> Option<u8> {
+        let own = self.groups(held, |route| self.permits_held(client, route));
+        self.first(held, &own).map(|place| held[usize::from(place)].peer)
+    }
+
+    // Whether it may be of matter to a client that got the route of a peer. Of one peer it is known whether its route outdoes both.
     #[inline(always)]
     fn is_touched(&self, held: &[Held], change: &Change, client: usize, best: u8, known: &mut (u8, bool)) -> bool {
         if usize::from(best) != client && *known == (best, true) {
@@ -264,15 +325,15 @@ impl Plan {
             return false;
         }
         if known.0 != best {
-            *known = (best, self.is_ahead(held, change, best));
+            *known = (best, self.outdoes_both(held, change, best));
         }
         usize::from(best) == client || !known.1
     }
 
-    fn is_ahead(&self, held: &[Held], change: &Change, peer: u8) -> bool {
+    fn outdoes_both(&self, held: &[Held], change: &Change, peer: u8) -> bool {
         let Some(one) = held.iter().find(|route| route.peer == peer) else { return false };
         let one = self.standing(one);
-        peer != change.peer && change.both(held).all(|route| !route.candidacy.is_eligible() || one.front() < self.standing(route).front())
+        peer != change.peer && change.both(held).all(|route| !route.candidacy.is_eligible() || one.outdoes(&self.standing(route)))
     }
 }
 

@@ -1,6 +1,7 @@
 pub mod BehindLemmas
 pub mod ChosenLemmas
 pub mod ClientLemmas
+pub mod CommunityLemmas
 pub mod Eliminations
 pub mod Examples
 pub mod GroupChoice
@@ -16,6 +17,7 @@ pub mod PlaceLemmas
 pub mod PlanLaws
 pub mod PlanLemmas
 pub mod PolicyLemmas
+pub mod RecipientLemmas
 pub mod ScanLemmas
 pub mod ShareLemmas
 pub mod StayLemmas

@@ -14,6 +14,7 @@ pub mod Laws
 pub mod Naturality
 pub mod Plan
 pub mod Policy
+pub mod Recipients
 pub mod Refusal
 pub mod RouteChanges
 pub mod Scan

@@ -9,7 +9,7 @@ ghost use Rattle.std.specs.Prelude.{◌≡◌, ◌<◌, ◌≤◌, ◌↔◌, If
 ghost use Rattle.std.specs.List.{All};
 ghost use Rattle.std.specs.Option.{option_map};
 ghost use Rattle.rs_choice.specs.Candidacy.{is_candidate};
-ghost use Rattle.rs_choice.specs.Clients.{best_peer_for, is_sent_to, peer_or_own, AreBest};
+ghost use Rattle.rs_choice.specs.Clients.{best_peer_for, eligible_among, is_sent_to, peer_or_own, AreBest};
 ghost use Rattle.rs_choice.specs.Decision.{choice, member_at, standing_of};
 ghost use Rattle.rs_choice.specs.Entrants.{chosen_of};
 ghost use Rattle.rs_choice.specs.Held.{sent_of_held, AreEligible, IsJudged};
@@ -78,8 +78,49 @@ impl Exchange {
         }
     }
 
+    // The same where it is wanted.
+    pub(crate) fn share_if(
+        &self,
+        is_wanted: bool,
+        held: &[HeldRoute],
+        groups: &mut NeighbourGroups,
+    ) -> Option<Shared>
+        requires judged { All (IsJudged self.now) held.now }
+        requires bound { length held.now ≤ MAX_PEERS }
+        ensures { IfSome result (IsShared self.now held.now) }
+    {
+        if is_wanted {
+            Some(self.share(held, groups))
+        } else {
+            None
+        }
+    }
+
+    // The number of the peer whose route a client gets, or its own number where it gets none, with what is shared or without it.
+    pub(crate) fn choose_with(
+        &self,
+        held: &[HeldRoute],
+        shared: &Option<Shared>,
+        client: usize,
+        groups: &mut NeighbourGroups,
+    ) -> u8
+        requires judged { All (IsJudged self.now) held.now }
+        requires bound { length held.now ≤ MAX_PEERS }
+        requires shared { IfSome shared.now (IsShared self.now held.now) }
+        requires client_known { client < length self.now.peers }
+        ensures { result ≡ best_peer_for self.now client (map sent_of_held held.now) }
+    {
+        match shared {
+            None => {
+                let eligible = eligible(held);
+                self.choose_among(held, &eligible, client, groups)
+            }
+            Some(shared) => self.choose_for(held, shared, client, groups),
+        }
+    }
+
     // The number of the peer whose route a client gets, or its own number where it gets none.
-    pub(crate) fn choose_for(
+    fn choose_for(
         &self,
         held: &[HeldRoute],
         shared: &Shared,
@@ -95,7 +136,25 @@ impl Exchange {
         if self.are_permitted(held, &shared.weighing, client) {
             return number(shared.peer, client);
         }
-        let permitted = self.permitted(held, &shared.eligible, client);
+        self.choose_among(held, &shared.eligible, client, groups)
+    }
+
+    // The same by a decision of its own, among the eligible routes.
+    fn choose_among(
+        &self,
+        held: &[HeldRoute],
+        eligible: &Places,
+        client: usize,
+        groups: &mut NeighbourGroups,
+    ) -> u8
+        requires judged { All (IsJudged self.now) held.now }
+        requires places { ArePlaces held.now eligible.now }
+        requires eligible { sents_at held.now eligible.now ≡ eligible_among self.now (map sent_of_held held.now) }
+        requires client_known { client < length self.now.peers }
+        ensures { result ≡ best_peer_for self.now client (map sent_of_held held.now) }
+    {
+        let _peers = self.count();
+        let permitted = self.permitted(held, eligible, client);
         number(self.chosen_peer(held, &permitted, groups), client)
     }
 

@@ -5,7 +5,7 @@
 //!
 //! Reading order: `plan` (the server and its peers), `fault` and `checks` (which plans are refused), `exchange` (a plan that is
 //! not), `eligibility`, `policy`, `candidate`, `step`, `decision` (the pass that decides), `entrants`, `candidacy`, `held_route` and `clients` (the
-//! decisions of all clients), `scan` (the same decision for lists of any length), `laws`.
+//! decisions of all clients), `recipients` and `route_change` (which of them a change may touch), `scan` (the same decision for lists of any length), `laws`.
 #![tactic(auto)]
 
 mod candidacy;
@@ -23,6 +23,7 @@ mod neighbour_groups;
 mod places;
 mod plan;
 mod policy;
+mod recipients;
 mod route_change;
 mod scan;
 mod step;

@@ -11,6 +11,7 @@ ghost use Rattle.rs_choice.specs.Candidacy.{is_candidate};
 ghost use Rattle.rs_choice.specs.Clients.{is_sent_to, AreBest};
 ghost use Rattle.rs_choice.specs.Comparison.{Outdoes};
 ghost use Rattle.rs_choice.specs.Held.{held_standing, sent_of_held, IsJudged};
+ghost use Rattle.rs_choice.specs.Recipients.{AreRecipients};
 ghost use Rattle.rs_choice.specs.RouteChanges.{AreBehind, AreBehindAll, AreNoCandidates, IsAt, IsChange, IsKnown, IsNextTouched, IsUntouched, KnowsBest};
 
 use crate::candidate::Standing;
@@ -54,38 +55,45 @@ impl Exchange {
             peer: change.peer,
             outdoes: false,
         };
-        let mut client = self.next_touched(held, change, bests, 0, &mut known);
+        let mut recipients = [false; MAX_PEERS];
+        self.mark_recipients(held, change, &mut recipients);
+        let mut client = self.next_touched(held, change, bests, 0, &recipients, &mut known);
         if client == count {
             return;
         }
         let mut groups = NeighbourGroups::new();
-        let shared = self.share(held, &mut groups);
+        // A route for all marks every place, the last one too. Else few clients are touched, and each has a decision of its own.
+        let are_all = recipients[MAX_PEERS - 1];
+        let shared = self.share_if(are_all, held, &mut groups);
         while client < count {
-            bests[client] = self.choose_for(held, &shared, client, &mut groups);
-            client = self.next_touched(held, change, bests, client + 1, &mut known);
+            bests[client] = self.choose_with(held, &shared, client, &mut groups);
+            client = self.next_touched(held, change, bests, client + 1, &recipients, &mut known);
         }
     }
 
-    // The first client, from one on, to which a change may be of matter; the count of clients where there is none.
+    // The first client, from one on, to which a change may be of matter; the count of clients where there is none. Nothing is asked of
+    // clients that the change doesn't reach.
     fn next_touched(
         &self,
         held: &[HeldRoute],
         change: &RouteChange,
         bests: &[u8],
         from: usize,
+        recipients: &[bool; MAX_PEERS],
         known: &mut KnownBest,
     ) -> usize
         requires judged { All (IsJudged self.now) held.now }
         requires count { length bests.now ≡ length self.now.peers }
         requires known { IsKnown self.now held.now change.now }
         requires from { from ≤ length self.now.peers }
+        requires recipients { AreRecipients self.now held.now change.now recipients.now }
         requires knows { KnowsBest self.now held.now change.now known.old }
         ensures knows { KnowsBest self.now held.now change.now known.new }
         ensures next { IsNextTouched self.now held.now change.now bests.now from result }
     {
         let count = self.count();
         for client in from..count {
-            if self.is_touched(held, change, client, bests[client], known) {
+            if recipients[client] && self.is_touched(held, change, client, bests[client], known) {
                 return client;
             }
         }

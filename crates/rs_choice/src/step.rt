@@ -70,7 +70,7 @@ impl Standing {
     }
 
     // Whether the six steps, one after another, remove the other and keep this one. Between different neighbour ASes the first three
-    // alone say so: another route of the other's AS could remove this one's rival by MED.
+    // alone say so, since a third route of this one's AS may remove it by MED.
     pub(crate) fn outdoes(&self, other: &Standing) -> bool
         ensures { IsTrue result ↔ Outdoes self.now other.now }
     {

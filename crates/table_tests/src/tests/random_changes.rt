@@ -18,8 +18,16 @@ const SIX_PEERS: Peers<'static> = &[
     ("f", 64504, 0xC000_0210, 7, "a"),
 ];
 
-// Path lengths 1 and 2, three neighbour ASes, with and without MED, one refused to AS 64502, one to all, and one not eligible.
-const ROUTES: [&str; 8] = [
+// The path 64502 for the peers of AS 64501 and 64503 alone, and the path 64501 for those of AS 64504 alone.
+const TO_TWO_ASES: &str =
+    "40010100 4002060201 0000FBF6 400304C000020B C0080C 0000FBF4 FBF4FBF5 FBF4FBF7";
+
+const TO_64504: &str =
+    "40010100 4002060201 0000FBF5 400304C000020B C0080C 0000FBF4 FBF4FBF8 0000FBF5";
+
+// Path lengths 1 and 2, three neighbour ASes, with and without MED, one refused to AS 64502, one to all, two for named clients alone, and one not
+// eligible.
+const ROUTES: [&str; 10] = [
     VIA_64501,
     MED_10,
     MED_5,
@@ -27,6 +35,8 @@ const ROUTES: [&str; 8] = [
     VIA_64503,
     NOT_TO_64502,
     TO_NOBODY,
+    TO_TWO_ASES,
+    TO_64504,
     VIA_THE_SERVER,
 ];
 
@@ -65,12 +75,12 @@ fn some_body(
         1 => Body::Close(Reason::Mrt(2)),
         2 | 3 => Body::Down,
         4..=15 => Body::Withdraw(prefix),
-        _ => Body::Announce(prefix, routes.get(random.next() % 8)?.clone().ok()?),
+        _ => Body::Announce(prefix, routes.get(random.next() % 10)?.clone().ok()?),
     })
 }
 
 // The routes of the table above.
-fn eight_routes(alloc: Global) -> Option<Vec<Arc<Attributes>>> {
+fn ten_routes(alloc: Global) -> Option<Vec<Arc<Attributes>>> {
     let mut routes = Vec::new(alloc);
     for text in ROUTES {
         routes.push(attributes(alloc, text)?).ok()?;
@@ -121,7 +131,7 @@ impl Both {
 fn random_changes_leave_what_the_rules_say(rt: HostRuntime) {
     let alloc = rt.alloc();
     let prefixes = four_prefixes().expect(&rt, "prefixes");
-    let routes = eight_routes(alloc).expect(&rt, "routes");
+    let routes = ten_routes(alloc).expect(&rt, "routes");
     let mut random = Random { state: 1 };
     let mut both = Both::new(alloc).expect(&rt, "tables");
     for time in 0..CHANGES {

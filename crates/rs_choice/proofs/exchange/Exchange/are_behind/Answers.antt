@@ -6,15 +6,9 @@ use Rattle.rs_choice.specs.declared.held_route.HeldRoute.{HeldRoute}
 use Rattle.rs_choice.specs.Candidacy.{is_candidate}
 use Rattle.rs_choice.specs.Comparison.{Outdoes}
 use Rattle.rs_choice.specs.Held.{held_standing}
+use Rattle.rs_choice.proofs.RecipientLemmas.{none_is_no_some, same_some}
 use Rattle.rs_choice.proofs.exchange.Exchange.are_behind.Goals as goal
 use Rattle.rs_choice.proofs.exchange.Exchange.are_behind.Goals.{in-None, in-Some, in-None-new, in-Some-new}
-
-none_is_no_some : {X : Type 0} (found : Option X) (one : X) → found ≡ None → found ≡ Some one → ⊥
-none_is_no_some None one none some = absurd (cc (some))
-none_is_no_some (Some x) one none some = absurd (cc (none))
-
-same_some : {X : Type 0} (found : Option X) (one other : X) → found ≡ Some one → found ≡ Some other → one ≡ other
-same_some found one other h k = let e : Some one ≡ Some other = sym h ∙ k in cc (e)
 
 pub returns-then-old_is_behind : goal.returns-then-old_is_behind
 returns-then-old_is_behind c = λ new_true one is_one candidate.

@@ -36,16 +36,16 @@ loop-client-preserved c =
     let bests = c.args.bests.now.items in
     let client = c.loop-client.client in
     let items = c.loop-client.bests.items in
-    let more = set items client c.choose_for.result in
+    let more = set items client c.choose_with.result in
     let within : client < length items = omega (arith, c.loop-client-test.true, c.count-count.ensures.value, c.loop-client.invariant.count) in
     let next : IsNextTouched plan held c.args.change.now more (client + 1) c.next_touched-client-in-loop-client.result =
     subst (λ list. IsNextTouched plan held c.args.change.now list (client + 1) c.next_touched-client-in-loop-client.result) c.deref-in-loop-client.ensures.value c.next_touched-client-in-loop-client.ensures.next in
-    let later = later_stay items bests client c.choose_for.result c.loop-client.invariant.later in
+    let later = later_stay items bests client c.choose_with.result c.loop-client.invariant.later in
     record {
-      count = length-set items client c.choose_for.result ∙ c.loop-client.invariant.count;
+      count = length-set items client c.choose_with.result ∙ c.loop-client.invariant.count;
       within = next.within;
       best = further plan held c.args.change.now bests c.requires.change c.requires.judged more (client + 1) c.next_touched-client-in-loop-client.result next.within
-          (found_more items _ client c.choose_for.result within c.choose_for.ensures c.loop-client.invariant.best) later next.untouched;
+          (found_more items _ client c.choose_with.result within c.choose_with.ensures c.loop-client.invariant.best) later next.untouched;
       later = λ k above. later k (omega (arith, above, next.after));
       knows = c.next_touched-client-in-loop-client.ensures.knows;
     }

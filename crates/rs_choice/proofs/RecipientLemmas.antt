@@ -1,0 +1,54 @@
+-- Marks of clients, and the clients that a route for named clients alone doesn't reach.
+use Rattle.std.proofs.Common.{◌≡◌, ◌∙◌, sym, refl, ℕ, suc, zero, replicate, Bool, true, false, ◌&&◌, ◌⊎◌, inl, inr, List, [], ◌∷◌, Option, Some, None}
+use Rattle.std.specs.Prelude.{slice_index_or, nat_lt}
+use Rattle.rs_update.specs.Community.{has_value}
+use Rattle.rs_choice.specs.declared.held_route.HeldRoute.{HeldRoute}
+use Rattle.rs_choice.specs.declared.route_change.RouteChange.{RouteChange}
+use Rattle.rs_choice.specs.Plan.{Plan}
+use Rattle.rs_choice.specs.Recipients.{IsMarked}
+use Rattle.rs_choice.specs.RouteChanges.{new_route, AreNoCandidates, IsNoCandidate}
+use Rattle.rs_choice.proofs.Eliminations.{true_not_false}
+
+-- where all are marked each one is
+pub all_marked : (n k : ℕ) → IsMarked (replicate n true) k
+all_marked zero k = refl
+all_marked (suc n) zero = refl
+all_marked (suc n) (suc k) = all_marked n k
+
+-- no value is that of two halves where there is none
+pub none_of_none : (high low : ℕ) → has_value [] high low ≡ false
+none_of_none high low = go (nat_lt high 65536) (nat_lt low 65536)
+  where
+    go : (a b : Bool) → (a && (b && false)) ≡ false
+    go true true = refl
+    go true false = refl
+    go false b = refl
+
+-- a client has a mark, or neither route of a change is a candidate of it
+pub of_both_routes : (plan : Plan) (held : List HeldRoute) (change : RouteChange) (marks : List Bool) (client : ℕ) →
+    ((one : HeldRoute) → change.old ≡ Some one → IsMarked marks client ⊎ IsNoCandidate plan client one) →
+    ((one : HeldRoute) → new_route held change ≡ Some one → IsMarked marks client ⊎ IsNoCandidate plan client one) →
+    IsMarked marks client ⊎ AreNoCandidates plan held change client
+of_both_routes plan held change marks client old new = go (slice_index_or marks client true) refl
+  where
+    unless : (one : HeldRoute) → slice_index_or marks client true ≡ false → IsMarked marks client ⊎ IsNoCandidate plan client one → IsNoCandidate plan client one
+    unless one e (inl marked) = absurd (true_not_false (slice_index_or marks client true) marked e)
+    unless one e (inr none) = none
+
+    go : (b : Bool) → slice_index_or marks client true ≡ b → IsMarked marks client ⊎ AreNoCandidates plan held change client
+    go true e = inl e
+    go false e = inr (λ one is_one. elim is_one [ inl went ↦ unless one e (old one went) | inr came ↦ unless one e (new one came) ])
+
+-- what holds by some marks holds by others that keep them
+pub still : (before after : List Bool) (plan : Plan) (client : ℕ) (one : HeldRoute) → (IsMarked before client → IsMarked after client) →
+    IsMarked before client ⊎ IsNoCandidate plan client one → IsMarked after client ⊎ IsNoCandidate plan client one
+still before after plan client one kept (inl marked) = inl (kept marked)
+still before after plan client one kept (inr none) = inr none
+
+-- an option holds one thing
+pub none_is_no_some : {X : Type 0} (found : Option X) (one : X) → found ≡ None → found ≡ Some one → ⊥
+none_is_no_some None one none some = absurd (cc (some))
+none_is_no_some (Some x) one none some = absurd (cc (none))
+
+pub same_some : {X : Type 0} (found : Option X) (one other : X) → found ≡ Some one → found ≡ Some other → one ≡ other
+same_some found one other h k = let e : Some one ≡ Some other = sym h ∙ k in cc (e)

@@ -1,0 +1,44 @@
+use Rattle.std.proofs.Common.{◌≡◌, ◌∙◌, sym, ap, inl, inr, List, ℕ}
+use Rattle.rs_update.specs.Community.{has_value}
+use Rattle.rs_update.specs.Shapes.{numbers_in}
+use Rattle.rs_choice.specs.declared.plan.Local.{Local}
+use Rattle.rs_choice.proofs.CommunityLemmas.{first_or_later}
+use Rattle.rs_choice.proofs.Eliminations.{true_not_false}
+use Rattle.rs_choice.proofs.RecipientLemmas.{none_of_none}
+use Rattle.rs_choice.proofs.exchange.Exchange.mark_named.Goals as goal
+
+pub loop-value-preserved-then-value-server : goal.loop-value-preserved-then-value-server
+loop-value-preserved-then-value-server c =
+    let server = c.args.self.now.local.asn in
+    record {
+      named = λ client one at named. elim (c.loop-value.invariant.named client one at named) [
+        | inl marked ↦ inl (c.mark_peers_of.ensures.kept client marked)
+        | inr listed ↦ elim (first_or_later c.in-Some.value _ _ server one.asn c.in-Some.ensures.steps listed) [
+          | inl first ↦ inl (c.mark_peers_of.ensures.marked client one at (sym first.1))
+          | inr later ↦ inr later
+        ]
+      ];
+      kept = λ client marked. c.mark_peers_of.ensures.kept client (c.loop-value.invariant.kept client marked);
+    }
+
+pub loop-value-preserved : goal.loop-value-preserved
+loop-value-preserved c =
+    let server = c.args.self.now.local.asn in
+    record {
+      named = λ client one at named. elim (c.loop-value.invariant.named client one at named) [
+        | inl marked ↦ inl marked
+        | inr listed ↦ elim (first_or_later c.in-Some.value _ _ server one.asn c.in-Some.ensures.steps listed) [
+          | inl first ↦ absurd (c.if-value-server.false (first.0 ∙ sym (ap (λ (local : Local). local.asn) c.local.ensures)))
+          | inr later ↦ inr later
+        ]
+      ];
+      kept = c.loop-value.invariant.kept;
+    }
+
+pub returns-clause-named : goal.returns-clause-named
+returns-clause-named c = λ client one at named. elim (c.loop-value.invariant.named client one at named) [
+  | inl marked ↦ marked
+  | inr listed ↦
+      let server = c.args.self.now.local.asn in
+      absurd (true_not_false _ listed (ap (λ (list : List ℕ). has_value list server one.asn) c.in_default.ensures.steps.0 ∙ none_of_none server one.asn))
+]
