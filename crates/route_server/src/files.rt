@@ -3,6 +3,7 @@
 ghost use Rattle.std.specs.Prelude.{◌≡◌, ◌<◌, All, None, IfErr, IfOk, length, vec_len};
 ghost use Rattle.rs_ended.specs.Texts.{CanTell};
 
+use crate::read_once::first_unreadable;
 use rs_ended::Ended;
 use rs_mrt::IoReader;
 use std::fs;
@@ -27,7 +28,8 @@ pub fn read_file<R: AllocGlobal + Files>(rt: &R, path: &str) -> Result<Vec<u8>, 
     }
 }
 
-/// Opens the files of these paths, in their order, and reads nothing yet. The first that can't be opened is named.
+/// Opens the files of these paths, in their order, and reads nothing yet. The first that can't be opened is named; where each is
+/// there, one that gives its octets only once, as a pipe does, and that an earlier path names too.
 pub fn open_files<R: AllocGlobal + Files>(
     rt: &R,
     paths: &[String],
@@ -36,6 +38,9 @@ pub fn open_files<R: AllocGlobal + Files>(
     ensures no_failure { IfOk result (λ files. All (λ file. file.failures < u64.MAX) files.items) }
     ensures refused { IfErr result (λ ended. CanTell ended None None) }
 {
+    if let Some(peer) = first_unreadable(rt, paths)? {
+        return Err(Ended::Unread(String::from_str(rt.alloc(), &paths[peer])?));
+    }
     let mut files = Vec::with_capacity(rt.alloc(), paths.len())?;
     for path in paths {
         let file = open_file(rt, path)?;

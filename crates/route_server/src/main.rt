@@ -8,13 +8,15 @@
 ghost use Rattle.std.specs.Prelude.{◌≡◌, ◌≤◌, None, Some, IfErr, IfOk, length};
 ghost use Rattle.rs_ended.specs.Texts.{CanTell};
 
+mod file_identity;
 mod files;
 mod folder_outlet;
 mod overwritten;
+mod read_once;
+mod tried;
 
 use files::{open_files, read_file};
 use folder_outlet::FolderOutlet;
-use overwritten::first_overwritten;
 use rs_ended::{Ended, FAILED, MEMORY_LINE, NOT_UTF_8, OUT_OF_MEMORY, OUTPUT_LINE, line, status};
 use rs_mrt::IoWriter;
 use rs_options::{Options, WordsFault};
@@ -28,6 +30,7 @@ use std::process::ExitCode;
 use std::sync::Wait;
 use std::thread::Threads;
 use std::{env, io};
+use tried::first_unwritable;
 
 fn main(rt: HostRuntime) -> ExitCode {
     let options = match command_line(&rt) {
@@ -70,8 +73,8 @@ fn configuration<R: AllocGlobal + Files>(rt: &R, options: &Options) -> Result<Se
     }
 }
 
-// Opens the peers' files, and runs over them: dumps go to the folder of the options, the report to standard output. Where a dump would take the place of a file
-// that was read, nothing is written.
+// Opens the peers' files, and runs over them: dumps go to the folder of the options, the report to standard output. Where a dump
+// would take the place of a file that was read, or the folder takes no files, nothing is read or written.
 fn serve<R: AllocGlobal + Files + Print + Threads + Wait + Sync>(
     rt: &R,
     setup: &Setup,
@@ -86,7 +89,7 @@ where
 {
     let alloc = rt.alloc();
     let files = open_files(rt, &setup.files)?;
-    if let Some(client) = first_overwritten(rt, setup, options)? {
+    if let Some(client) = first_unwritable(rt, setup, options)? {
         return Err(Ended::Run(RunFault::Dump(client)));
     }
     let mut outlet = FolderOutlet::new(rt, alloc, &options.out);

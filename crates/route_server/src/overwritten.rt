@@ -1,10 +1,9 @@
 //! Keeps the program from writing a dump over a file that it reads.
-//!
-//! Our choice: a file is known by its device and its number there, so that another path to it, or a link, is seen too.
 
 ghost use Rattle.std.specs.Prelude.{◌≡◌, ◌<◌, None, IfErr, IfOk, IfSome, length};
 ghost use Rattle.rs_ended.specs.Texts.{CanTell};
 
+use crate::file_identity::FileIdentity;
 use rs_ended::{Ended, dump_path};
 use rs_options::Options;
 use rs_setup::Setup;
@@ -12,14 +11,6 @@ use std::alloc::AllocError;
 use std::fs;
 use std::fs::Files;
 use std::io::ErrorKind;
-use std::os::unix::fs::MetadataExt;
-
-// A file, by its device and its number there.
-#[derive(Clone, Copy, PartialEq, Eq, Drop)]
-struct FileIdentity {
-    device: u64,
-    number: u64,
-}
 
 /// The first client whose dump would be written over the configuration or over a peer's recorded file.
 pub fn first_overwritten<R: AllocGlobal + Files>(
@@ -69,10 +60,7 @@ fn is_among<R: Files>(rt: &R, path: &str, files: &[FileIdentity]) -> Result<bool
 // The file at a path, where there is one.
 fn file_at<R: Files>(rt: &R, path: &str) -> Result<Option<FileIdentity>, AllocError> {
     match fs::metadata(rt, path) {
-        Ok(found) => Ok(Some(FileIdentity {
-            device: found.dev(),
-            number: found.ino(),
-        })),
+        Ok(found) => Ok(Some(FileIdentity::of(&found))),
         Err(error) if error.kind() == ErrorKind::OutOfMemory => Err(AllocError),
         Err(_) => Ok(None),
     }

@@ -1,0 +1,85 @@
+//! Keeps several peers from reading one file that gives its octets only once, as a pipe does: the first would take them all.
+//!
+//! Our choice: of the null device, which never gives any, several peers may read.
+
+ghost use Rattle.std.specs.Prelude.{◌≡◌, ◌<◌, None, IfErr, IfOk, IfSome, length};
+ghost use Rattle.rs_ended.specs.Texts.{CanTell};
+
+use crate::file_identity::FileIdentity;
+use rs_ended::Ended;
+use std::alloc::AllocError;
+use std::fs;
+use std::fs::{Files, Metadata};
+use std::io::ErrorKind;
+use std::os::unix::fs::{FileTypeExt, MetadataExt};
+
+// The number of the null device.
+const NULL_DEVICE: u64 = 0x103;
+
+/// The first of these paths at which nothing is; where there is none, the first that names a file which gives its octets only once
+/// and which an earlier one names too. Nothing is opened, since that may wait for what writes into a pipe.
+pub fn first_unreadable<R: AllocGlobal + Files>(
+    rt: &R,
+    paths: &[String],
+) -> Result<Option<usize>, Ended>
+    ensures known { IfOk result (λ peer. IfSome peer (λ number. number < length paths.now)) }
+    ensures refused { IfErr result (λ ended. CanTell ended None None) }
+{
+    match first_missing(rt, paths)? {
+        Some(peer) => Ok(Some(peer)),
+        None => first_again(rt, paths),
+    }
+}
+
+// The first path at which nothing is.
+fn first_missing<R: AllocGlobal + Files>(rt: &R, paths: &[String]) -> Result<Option<usize>, Ended>
+    ensures known { IfOk result (λ peer. IfSome peer (λ number. number < length paths.now)) }
+    ensures refused { IfErr result (λ ended. CanTell ended None None) }
+{
+    for peer in 0..paths.len() {
+        if found_at(rt, &paths[peer])?.is_none() {
+            return Ok(Some(peer));
+        }
+    }
+    Ok(None)
+}
+
+// The first path of a file that gives its octets only once and that an earlier path names.
+fn first_again<R: AllocGlobal + Files>(rt: &R, paths: &[String]) -> Result<Option<usize>, Ended>
+    ensures known { IfOk result (λ peer. IfSome peer (λ number. number < length paths.now)) }
+    ensures refused { IfErr result (λ ended. CanTell ended None None) }
+{
+    let mut earlier = Vec::new(rt.alloc());
+    for peer in 0..paths.len() {
+        if let Some(file) = read_once_at(rt, &paths[peer])? {
+            if earlier.contains(&file) {
+                return Ok(Some(peer));
+            }
+            earlier.push(file).map_err(|_| Ended::Memory)?;
+        }
+    }
+    Ok(None)
+}
+
+// The file at the path, where it gives its octets only once.
+fn read_once_at<R: Files>(rt: &R, path: &str) -> Result<Option<FileIdentity>, AllocError> {
+    match found_at(rt, path)? {
+        Some(found) if is_read_once(&found) => Ok(Some(FileIdentity::of(&found))),
+        _ => Ok(None),
+    }
+}
+
+// Whether a file gives its octets only once.
+fn is_read_once(found: &Metadata) -> bool {
+    let kind = found.file_type();
+    kind.is_fifo() || kind.is_socket() || (kind.is_char_device() && found.rdev() != NULL_DEVICE)
+}
+
+// What is at the path.
+fn found_at<R: Files>(rt: &R, path: &str) -> Result<Option<Metadata>, AllocError> {
+    match fs::metadata(rt, path) {
+        Ok(found) => Ok(Some(found)),
+        Err(error) if error.kind() == ErrorKind::OutOfMemory => Err(AllocError),
+        Err(_) => Ok(None),
+    }
+}
