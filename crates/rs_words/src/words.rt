@@ -36,7 +36,8 @@ Status:
   0  all dumps and the report are written, or help or the version was asked for
   1  the command line or the configuration is refused
   2  a file, a folder or a device failed
-  3  memory was refused";
+  3  memory or a thread was refused
+  4  not all changes of a peer are known to have been applied: the fault is the program's own";
 
 // What `--errors` does, in its help.
 const ERRORS_HELP: &str =
@@ -209,7 +210,6 @@ fn ring_argument<'a>(alloc: Global) -> Arg<'a>
         .action(ArgAction::Set)
         .value_parser(ValueParser::Unsigned(1, 65_536))
         .default_value("1024")
-        .hide(true)
         .help("How many changes of routes wait at most between two threads, from 1 to 65536")
 }
 
@@ -224,7 +224,6 @@ fn shards_argument<'a>(alloc: Global) -> Arg<'a>
         .action(ArgAction::Set)
         .value_parser(ValueParser::Unsigned(1, 16))
         .default_value("1")
-        .hide(true)
         .help("How many threads keep the tables, each of them some of the prefixes, from 1 to 16")
 }
 
@@ -238,6 +237,5 @@ fn errors_argument<'a>(alloc: Global) -> Arg<'a>
         .value_name("STANDARD")
         .action(ArgAction::Set)
         .default_value("rfc4271")
-        .hide(true)
         .help(ERRORS_HELP)
 }

@@ -135,11 +135,19 @@ fn help_names_each_option_with_its_range_and_default_and_each_status(
         "--out <DIR>",
         "--time <N>",
         "seconds since 1970, from 0 to 4294967295 [default: 0]",
+        "--ring <N>",
+        "from 1 to 65536 [default: 1024]",
+        "--shards <N>",
+        "from 1 to 16 [default: 1]",
+        "--errors <STANDARD>",
+        "[default: rfc4271]",
+        "--version",
         "route_server --config exchange.toml --out tables",
         "0  all dumps and the report are written, or help or the version was asked for",
         "1  the command line or the configuration is refused",
         "2  a file, a folder or a device failed",
-        "3  memory was refused",
+        "3  memory or a thread was refused",
+        "4  not all changes of a peer are known to have been applied",
     ] {
         assert!(rt; text.contains(part), "{part}");
     }
