@@ -1,6 +1,6 @@
 -- What is found while a section without fault is read, and what is written of it type by type.
-use Rattle.std.proofs.Common.{◌≡◌, ℕ, suc, ◌+◌, ◌-◌, ◌<◌, ◌≤◌, false, List, [], ◌∷◌, ◌++◌, length, get_or, set, replicate, Option, Some, None, refl, sym, ap, subst, ◌∙◌, append_assoc, arith, inl, inr, get_or-set_same, get_or-set_other}
-use Rattle.std.specs.Prelude.{option_and_then}
+use Rattle.std.proofs.Common.{◌≡◌, ℕ, suc, ◌+◌, ◌-◌, ◌<◌, ◌≤◌, false, not, eqb, List, [], ◌∷◌, ◌++◌, length, get_or, set, replicate, Option, Some, None, refl, sym, ap, subst, ◌∙◌, append_assoc, arith, inl, inr, get_or-set_same, get_or-set_other}
+use Rattle.std.specs.Prelude.{option_and_then, is_some}
 use Rattle.std.specs.List.{filter_map, flat_map, range_with_len}
 use Rattle.std.specs.Option.{option_or}
 use Rattle.std.proofs.lemmas.Bool.{cases_eq, eq-eqb, ne_eqb}
@@ -27,19 +27,21 @@ pub record FindsSoFar (section rest places : List ℕ) (end : ℕ) : Type 0 wher
   pub items : items_of section ≡ earlier ++ items_of rest
   pub rest_octets : AreOctets rest
   pub whole : length places ≡ 256
+  pub at_each : (kind : ℕ) → kind < 256 → not (eqb (get_or places kind 0) 65535) ≡ is_some (look kind earlier)
   pub at_place : (kind : ℕ) → kind < 256 → item_from section (get_or places kind 0) ≡ look kind earlier
   pub none_behind : (kind : ℕ) → end ≤ kind → look kind earlier ≡ None
   pub end_fits : end ≤ 256
 
 -- nothing yet
-pub finds_nothing : (section : List ℕ) (nowhere : ℕ) → AreOctets section → length section < nowhere → FindsSoFar section section (replicate 256 nowhere) 0
-finds_nothing section nowhere fit past = record {
+pub finds_nothing : (section : List ℕ) → AreOctets section → length section < 65535 → FindsSoFar section section (replicate 256 65535) 0
+finds_nothing section fit past = let nowhere : ℕ = 65535 in record {
   before = [];
   earlier = [];
   octets = refl;
   items = refl;
   rest_octets = fit;
   whole = length-replicate 256 nowhere;
+  at_each = λ kind below. ap (λ (place : ℕ). not (eqb place 65535)) (get_or-replicate 256 kind nowhere 0 below);
   at_place = λ kind below. ap (item_from section) (get_or-replicate 256 kind nowhere 0 below) ∙ item_from-past section nowhere past;
   none_behind = λ kind behind. refl;
   end_fits = omega arith;
@@ -60,9 +62,9 @@ look-other kind earlier item other =
     or_none None = refl
     or_none (Some i) = refl
 
-pub finds_one : (section rest places : List ℕ) (end next : ℕ) (split : Item × List ℕ) → section_fault section ≡ None → item_at rest ≡ Some split → end ≤ next → split.0.kind < next → next ≤ 256
+pub finds_one : (section rest places : List ℕ) (end next : ℕ) (split : Item × List ℕ) → section_fault section ≡ None → length section < 65535 → item_at rest ≡ Some split → end ≤ next → split.0.kind < next → next ≤ 256
     → FindsSoFar section rest places end → FindsSoFar section split.1 (set places split.0.kind (length section - length rest)) next
-finds_one section rest places end next split faultless there after behind fits so_far =
+finds_one section rest places end next split faultless short there after behind fits so_far =
     let item = split.0 in
     let kind = item.kind in
     let place = length section - length rest in
@@ -78,6 +80,16 @@ finds_one section rest places end next split faultless there after behind fits s
       items = all ∙ sym (append_assoc so_far.earlier (item ∷ []) later);
       rest_octets = reads.1;
       whole = length-set places kind place ∙ so_far.whole;
+      at_each = λ k below.
+          elim (cases_eq k kind) [
+            | inl same ↦
+                let table : get_or (set places kind place) k 0 ≡ place = rw same (get_or-set_same places kind place 0 (omega (arith, so_far.whole, reads.2.kind_fits))) in
+                let here : look k (so_far.earlier ++ item ∷ []) ≡ Some item = look-new k so_far.earlier item (sym same) (ap (λ (j : ℕ). look j so_far.earlier) same ∙ none) in
+                let somewhere : eqb place 65535 ≡ false = ne_eqb place 65535 (λ e. omega (arith, e, short)) in
+                ap (λ (p : ℕ). not (eqb p 65535)) table ∙ ap not somewhere ∙ sym (ap (λ (found : Option Item). is_some found) here)
+            | inr other ↦
+                ap (λ (p : ℕ). not (eqb p 65535)) (get_or-set_other places kind k place 0 other) ∙ so_far.at_each k below ∙ sym (ap (λ (found : Option Item). is_some found) (look-other k so_far.earlier item (λ same. other (sym same))))
+          ];
       at_place = λ k below.
           elim (cases_eq k kind) [
             | inl same ↦

@@ -1,16 +1,17 @@
 -- Attributes out of what is found in a section without fault.
-use Rattle.std.proofs.Common.{◌≡◌, ℕ, ◌<◌, Bool, List, [], ◌∷◌, length, Option, Some, None, refl, sym, ap, ◌∙◌, inl, inr}
+use Rattle.std.proofs.Common.{◌≡◌, ℕ, ◌<◌, ◌&&◌, Bool, List, [], ◌∷◌, length, Option, Some, None, refl, sym, ap, ◌∙◌, arith, inl, inr}
 use Rattle.std.specs.Prelude.{is_some}
 use Rattle.std.specs.List.{filter_map, flat_map, AllByRecursion}
 use Rattle.std.specs.Option.{option_map}
+use Rattle.rs_update.specs.declared.found.Found.{Found}
 use Rattle.rs_update.specs.declared.item.Item.{Item as ItemThere}
 use Rattle.rs_update.specs.declared.values.Aggregator.{Aggregator}
 use Rattle.rs_update.specs.declared.values.Origin.{Origin}
-use Rattle.rs_update.specs.Found.{has_mandatory, spelled_section}
+use Rattle.rs_update.specs.Found.{Finds, has_mandatory, spelled_section}
 use Rattle.rs_update.specs.Gathered.{look, attributes_from, attributes_of}
 use Rattle.rs_update.specs.Items.{item_of}
 use Rattle.rs_update.specs.PathAttributes.{PathAttributes, PathSegment, CommunityList, PassedOn}
-use Rattle.rs_update.specs.Section.{Item}
+use Rattle.rs_update.specs.Section.{Item, items_of}
 use Rattle.rs_update.specs.Spelling.{written, spelled_item}
 use Rattle.rs_update.proofs.KeptLemmas.{written_items-kept}
 use Rattle.rs_update.proofs.KindLemmas.{cases_Option, some_same}
@@ -29,10 +30,6 @@ not_there kind items field e none =
 
 pub found_short : (items : List Item) (kind : ℕ) (item : Item) → AreSound items → look kind items ≡ Some item → length item.value < 65536
 found_short items kind item sound e = received_short item (look_sound items kind item sound e).received
-
-pub is_some-map : {A B : Type 0} (f : A → B) (o : Option A) → is_some (option_map f o) ≡ is_some o
-is_some-map f None = refl
-is_some-map f (Some x) = refl
 
 pub All-filter_map : {X Y : Type 0} (P : Y → Type 0) (f : X → Option Y) (xs : List X) → AllByRecursion (λ x. (y : Y) → f x ≡ Some y → P y) xs → AllByRecursion P (filter_map f xs)
 All-filter_map P f [] each = tt
@@ -120,8 +117,8 @@ made_of items attributes e =
     ]
 
 -- a section has the mandatory attributes exactly where it gives a route attributes
-pub mandatory-found : (items : List Item) → has_mandatory items ≡ is_some (attributes_of items)
-mandatory-found items =
+mandatory-all : (items : List Item) → (is_some (look 1 items) && is_some (look 2 items) && is_some (look 3 items)) ≡ is_some (attributes_of items)
+mandatory-all items =
     elim (cases_Option (look 1 items)) [
       | inl none ↦ rw (no_origin items none) (rw none refl)
       | inr first ↦
@@ -134,3 +131,9 @@ mandatory-found items =
                 ]
           ]
     ]
+
+pub mandatory-found : (found : Found) (section : List ℕ) → Finds found section → has_mandatory found ≡ is_some (attributes_of (items_of section))
+mandatory-found found section is = all_three (is.at_each 1 (omega arith)) (is.at_each 2 (omega arith)) (is.at_each 3 (omega arith)) ∙ mandatory-all (items_of section)
+  where
+    all_three : {a b c a' b' c' : Bool} → a ≡ a' → b ≡ b' → c ≡ c' → (a && b && c) ≡ (a' && b' && c')
+    all_three p q r = cc

@@ -1,5 +1,5 @@
 -- What is found in a section of path attributes, and what is written of it (RFC 4271, section 5).
-use Rattle.std.specs.Prelude.{◌≡◌, ℕ, ◌+◌, ◌<◌, ◌≤◌, Bool, true, false, ◌&&◌, List, [], length, slice_index_or, Option, Some, None, is_some, option_and_then, if◌then◌else◌}
+use Rattle.std.specs.Prelude.{◌≡◌, ℕ, ◌+◌, ◌<◌, ◌≤◌, Bool, true, false, not, ◌&&◌, ◌==◌, List, [], length, slice_index_or, Option, Some, None, is_some, option_and_then, if◌then◌else◌}
 use Rattle.std.specs.List.{filter_map, flat_map, range_with_len}
 use Rattle.rs_update.specs.declared.attribute_type.AttributeType.{AttributeType}
 use Rattle.rs_update.specs.declared.attribute_type.WantedFlags.{WantedFlags}
@@ -12,15 +12,20 @@ use Rattle.rs_update.specs.Gathered.{look}
 use Rattle.rs_update.specs.Section.{Item, items_of}
 use Rattle.rs_update.specs.Spelling.{well_known, optional_non_transitive, optional_transitive, spelled_item}
 
+-- a type has a place
+abbrev pub stands : Found → ℕ → Bool
+stands found kind = not (slice_index_or found.places kind 0 == 65535)
+
 -- the attribute of each type begins at its place, and none has a type from the end on
 pub record Finds (found : Found) (section : List ℕ) : Type 0 where
+  pub at_each : (kind : ℕ) → kind < 256 → stands found kind ≡ is_some (look kind (items_of section))
   pub at_place : (kind : ℕ) → kind < 256 → item_from section (slice_index_or found.places kind 0) ≡ look kind (items_of section)
   pub none_behind : (kind : ℕ) → found.end ≤ kind → look kind (items_of section) ≡ None
   pub end_fits : found.end ≤ 256
 
 -- none of the mandatory ones misses
-abbrev pub has_mandatory : List Item → Bool
-has_mandatory items = is_some (look 1 items) && is_some (look 2 items) && is_some (look 3 items)
+abbrev pub has_mandatory : Found → Bool
+has_mandatory found = stands found 1 && stands found 2 && stands found 3
 
 -- an attribute as it is written, by what its flags must say: its value as received; an unrecognized one is passed on where it is transitive, and one whose flags
 -- are not looked at is dropped

@@ -4,7 +4,7 @@
 
 ghost use Rattle.std.specs.Prelude.{◌≡◌, ◌<◌, ◌≤◌, length, None};
 ghost use Rattle.std.specs.Option.{option_map};
-ghost use Rattle.rs_update.specs.Found.{Finds, has_mandatory};
+ghost use Rattle.rs_update.specs.Found.{Finds, stands, has_mandatory};
 ghost use Rattle.rs_update.specs.Gathered.{look};
 ghost use Rattle.rs_update.specs.Items.{item_of};
 ghost use Rattle.rs_update.specs.Section.{items_of, section_fault};
@@ -33,7 +33,7 @@ const NOWHERE: u16 = u16::MAX;
 /// Where the attributes of a section begin, by their types.
 #[derive(Clone, Copy)]
 pub(crate) struct Found {
-    /// A place for each type, behind the end of the section where none stands.
+    /// A place for each type, `NOWHERE` where none stands.
     pub(crate) places: [u16; TYPES],
     /// No attribute has this type or a higher one.
     pub(crate) end: usize,
@@ -48,14 +48,18 @@ impl Found {
         item_from(section, self.places[usize::from(kind)])
     }
 
-    /// Whether ORIGIN, AS_PATH and NEXT_HOP stand.
-    pub(crate) fn has_mandatory(&self, section: &[u8]) -> bool
-        requires { Finds self.now section.now }
-        ensures { result ≡ has_mandatory (items_of section.now) }
+    /// Whether an attribute of a type stands.
+    pub(crate) fn stands(&self, kind: u8) -> bool
+        ensures { result ≡ stands self.now kind }
     {
-        self.get(section, ORIGIN).is_some()
-            && self.get(section, AS_PATH).is_some()
-            && self.get(section, NEXT_HOP).is_some()
+        self.places[usize::from(kind)] != NOWHERE
+    }
+
+    /// Whether ORIGIN, AS_PATH and NEXT_HOP stand.
+    pub(crate) fn has_mandatory(&self) -> bool
+        ensures { result ≡ has_mandatory self.now }
+    {
+        self.stands(ORIGIN) && self.stands(AS_PATH) && self.stands(NEXT_HOP)
     }
 }
 

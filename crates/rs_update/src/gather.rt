@@ -39,7 +39,7 @@ fn whole(
     let spelling = spell(alloc, section, found)?;
     Ok(Attributes {
         origin: origin_of(origin.value),
-        atomic: found.get(section, ATOMIC_AGGREGATE).is_some(),
+        atomic: found.stands(ATOMIC_AGGREGATE),
         path_place: place_of(&spelling, AS_PATH),
         communities_place: place_of(&spelling, COMMUNITIES),
         next_hop: BigEndian::read_u32(next_hop.value),

@@ -67,7 +67,7 @@ fn lacks_mandatory(fields: UpdateFields<'_>, found: &Found) -> bool
     requires { Finds found.now fields.section.now }
     ensures { result ≡ is_err (spec.announced_attributes fields.entry.section.now fields.entry.nlri.now) }
 {
-    !fields.nlri.is_empty() && !found.has_mandatory(fields.section)
+    !fields.nlri.is_empty() && !found.has_mandatory()
 }
 
 // The attributes of the announced routes, or None where none is announced.

@@ -1,5 +1,4 @@
-use Rattle.std.proofs.Common.{◌≡◌, ◌∙◌, sym, ap, arith, ℕ, List, Option, Some, length}
-use Rattle.std.specs.Prelude.{is_some}
+use Rattle.std.proofs.Common.{◌≡◌, ◌∙◌, sym, ap, arith, ℕ, List, Some, length}
 use Rattle.std.specs.Option.{option_map}
 use Rattle.byteorder.specs.Endian.{big_number}
 use Rattle.rs_update.specs.AsPath.{path_length_of, first_as_of}
@@ -13,7 +12,7 @@ use Rattle.rs_update.specs.Spelling.{written}
 use Rattle.rs_update.proofs.ReceivedLemmas.{path_length_fits}
 use Rattle.rs_update.proofs.SoundLemmas.{sound_section, look_sound, origin_value, next_hop_value, med_value, aggregator_value}
 use Rattle.rs_update.proofs.ViewLemmas.{spelling-written, spelling-short, spelled-path, spelled-communities, spelled-others}
-use Rattle.rs_update.proofs.WholeLemmas.{there, found_short, is_some-map, attributes_of-found, same_attributes}
+use Rattle.rs_update.proofs.WholeLemmas.{there, found_short, attributes_of-found, same_attributes}
 use Rattle.rs_update.proofs.gather.whole.Goals as goal
 
 pub origin_of-requires : goal.origin_of-requires
@@ -39,7 +38,7 @@ med_of-requires c = λ x e.
     let items = items_of c.args.section.now in
     let fit : AreOctets c.args.section.now = λ place. omega (arith, c.type_inv.section place) in
     let sound = sound_section c.args.section.now fit c.requires.faultless in
-    let found = there 4 items c.get-2.result x c.get-2.ensures e in
+    let found = there 4 items c.get.result x c.get.ensures e in
     let size = med_value (item_of x) (look_sound items 4 (item_of x) sound found) in
     omega (arith, size)
 
@@ -48,7 +47,7 @@ read_aggregator-requires c = λ x e.
     let items = items_of c.args.section.now in
     let fit : AreOctets c.args.section.now = λ place. omega (arith, c.type_inv.section place) in
     let sound = sound_section c.args.section.now fit c.requires.faultless in
-    let found = there 7 items c.get-3.result x c.get-3.ensures e in
+    let found = there 7 items c.get-2.result x c.get-2.ensures e in
     let size = aggregator_value (item_of x) (look_sound items 7 (item_of x) sound found) in
     omega (arith, size)
 
@@ -82,7 +81,7 @@ place_of-requires-2 c =
 -- the attributes are those that the section gives
 same : (c : goal.After-read_aggregator) → attributes_from (items_of c.args.section.now) (item_of c.args.origin) (item_of c.args.path) (item_of c.args.next_hop) ≡ view_of (record {
   origin = c.origin_of.result;
-  atomic = c.is_some.result;
+  atomic = c.stands.result;
   path_place = c.place_of.result;
   communities_place = c.place_of-2.result;
   next_hop = c.read_u32.result;
@@ -105,9 +104,9 @@ same c =
     (sym c.origin_of.ensures)
     (spelled-path section fit c.requires.faultless c.requires.short (item_of c.args.origin) (item_of c.args.path) (item_of c.args.next_hop) origin path next_hop c.in_ok-spelling.spelling.items c.in_ok-spelling.ensures (item_from octets c.place_of.result) path_place)
     (sym c.read_u32.ensures)
-    (sym (c.med_of.ensures ∙ ap (option_map (λ (med : Item). big_number 4 med.value)) c.get-2.ensures))
-    (sym (c.is_some.ensures ∙ sym (is_some-map item_of c.get.result) ∙ ap (λ (found : Option Item). is_some found) c.get.ensures))
-    (sym (c.read_aggregator.ensures ∙ ap (option_map aggregator_of) c.get-3.ensures))
+    (sym (c.med_of.ensures ∙ ap (option_map (λ (med : Item). big_number 4 med.value)) c.get.ensures))
+    (sym (c.stands.ensures ∙ c.requires.are_found.at_each 6 (omega arith)))
+    (sym (c.read_aggregator.ensures ∙ ap (option_map aggregator_of) c.get-2.ensures))
     (spelled-communities section fit c.requires.faultless c.requires.short (item_of c.args.origin) (item_of c.args.path) (item_of c.args.next_hop) origin path next_hop c.in_ok-spelling.spelling.items c.in_ok-spelling.ensures (item_from octets c.place_of-2.result) communities_place)
     (spelled-others section fit c.requires.faultless c.requires.short (item_of c.args.origin) (item_of c.args.path) (item_of c.args.next_hop) origin path next_hop c.in_ok-spelling.spelling.items c.in_ok-spelling.ensures)
 
