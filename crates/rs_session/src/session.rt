@@ -6,7 +6,8 @@
 ghost use Rattle.std.specs.Prelude.{◌≡◌, ◌+◌, ◌<◌, ◌≤◌, ℕ, Bool, true, false, List, [], None, Option, Result, OnErr, IfOk, IfSome, IfNone, is_none};
 ghost use Rattle.rs_mrt.specs.declared.fault.SourceFault.{SourceFault};
 ghost use Rattle.rs_update.specs.declared.errors.Errors.TheVariants.{Rfc4271};
-ghost use Rattle.rs_mrt.specs.Record.{reading_of};
+ghost use Rattle.std.specs.Option.{option_map};
+ghost use Rattle.rs_mrt.specs.Record.{reading_of, record_of};
 ghost use Rattle.rs_mrt.specs.Source.{CountsFailure};
 ghost use Rattle.rs_session.specs.FileChanges.{changes_in, passed_in};
 ghost use Rattle.rs_session.specs.Laws.{SomethingMayCome};
@@ -19,7 +20,7 @@ use crate::effect::{Effect, read_record};
 use crate::peer::PeerId;
 use crate::pending::Pending;
 use crate::word::{Body, Reason, Word};
-use rs_mrt::{Records, Source, SourceFault};
+use rs_mrt::{Record, Records, Source, SourceFault};
 use rs_update::Errors;
 use std::alloc::{AllocError, Global};
 use std::marker::Model;
@@ -135,6 +136,13 @@ impl<S: Source> Session<S> {
         ensures in_the_end { (passed : ℕ) → May S.comes S.shows self.now [] passed → result ≡ passed }
     {
         self.passed
+    }
+
+    /// The record that is read: after a change was given, the one that gave it. None before the first one, and after a close that no whole record gave.
+    pub fn shown(&self) -> Option<Record<'_>>
+        ensures { option_map record_of result ≡ S.shows self.now.source }
+    {
+        self.source.shown()
     }
 
     // Whether the close was given.

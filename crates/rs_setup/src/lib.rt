@@ -13,3 +13,4 @@ mod values;
 
 pub use laws::{a_configuration_has_a_file_for_each_peer, a_configuration_sets_up_one_exchange};
 pub use setup::{Setup, SetupFault, read_setup};
+pub use values::slashed_subnet;

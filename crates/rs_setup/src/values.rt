@@ -76,8 +76,8 @@ fn dotted_address(text: &str) -> Option<u32>
     }
 }
 
-// The subnet that a text writes with a slash.
-fn slashed_subnet(text: &str) -> Option<Prefix>
+/// The prefix that a text writes as an address, a slash and a length from 0 to 32 without needless zeros. Its host bits are cleared.
+pub fn slashed_subnet(text: &str) -> Option<Prefix>
     ensures { IfSome result (IsSlashedSubnet text.now) }
 {
     let (address, len) = split_at_slash(text)?;
