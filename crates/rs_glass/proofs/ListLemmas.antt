@@ -1,0 +1,78 @@
+-- Lists that grow by one at a time, place by place.
+use Rattle.std.proofs.Common.{◌≡◌, ◌≢◌, ℕ, zero, suc, ◌<◌, ◌+◌, List, [], ◌∷◌, ◌++◌, Some, length, refl, sym, ap, subst, ◌∙◌, arith, inl, inr, get_or}
+use Rattle.std.specs.Prelude.{◌⊎◌, slice_get}
+use Rattle.std.specs.List.{enumerate_from}
+use Rattle.rs_update.specs.IpPrefix.{IpPrefix}
+use Rattle.rs_choice.specs.Plan.{Peer, Plan}
+use Rattle.rs_mrt.specs.Reader.{ReadEnd}
+use Rattle.rs_table.specs.Content.{RibContent, TablesContent, rib_of}
+use Rattle.rs_explain.specs.Explanations.{IsExplanation}
+use Rattle.rs_glass.specs.Explained.{AreExplained}
+use Rattle.rs_glass.specs.Recorded.{AreSaidOf, IsSaidOf, id_of}
+use Rattle.rs_glass.specs.declared.answers.Answer.{Answer}
+use Rattle.rs_glass.specs.declared.question.Question.{Question}
+use Rattle.rs_glass.specs.declared.said.Said.{Said}
+
+-- what stands at a place of a list with one more: what stood there, or the last one
+at-pushed : {X : Type 0} (xs : List X) (x y : X) (n : ℕ) → slice_get (xs ++ x ∷ []) n ≡ Some y → (slice_get xs n ≡ Some y) ⊎ ((n ≡ length xs) × (x ≡ y))
+at-pushed [] x y zero e = inr (refl, cc)
+at-pushed [] x y (suc n) e = absurd cc
+at-pushed (z ∷ zs) x y zero e = inl e
+at-pushed (z ∷ zs) x y (suc n) e = elim (at-pushed zs x y n e) [
+  | inl there ↦ inl there
+  | inr last ↦ inr (ap suc last.0, last.1)
+]
+
+-- what stands at a place is in the list
+at-within : {X : Type 0} (xs : List X) (n : ℕ) (y : X) → slice_get xs n ≡ Some y → n < length xs
+at-within [] n y e = absurd cc
+at-within (z ∷ zs) zero y e = omega arith
+at-within (z ∷ zs) (suc n) y e = omega (arith, at-within zs n y e)
+
+-- a place and what stands there, of a list whose places are numbered
+pub at-enumerated_from : {X : Type 0} (from : ℕ) (xs : List X) (place : ℕ) (p : ℕ × X) → place < length (enumerate_from from xs) → p ≡ get_or (enumerate_from from xs) place p → (p.0 ≡ from + place) × (slice_get xs place ≡ Some p.1)
+at-enumerated_from from [] place p below here = absurd (omega (arith, below))
+at-enumerated_from {X} from (a ∷ xs) zero p below here = (omega (arith, ap (λ (q : ℕ × X). q.0) here), sym (ap (λ (q : ℕ × X). Some q.1) here))
+at-enumerated_from from (a ∷ xs) (suc place) p below here =
+    let rest = at-enumerated_from (from + 1) xs place p (omega (arith, below)) here in
+    (omega (arith, rest.0), rest.1)
+
+module _ {R : Type 0} (gives : R → List ℕ → ReadEnd → Type 0) (question : Question) (plan : Plan) (readers : List R) where
+  pub said-none : (tables : TablesContent) (all : List Said) → AreSaidOf gives question plan readers 0 tables all
+  said-none tables all number below = absurd (omega (arith, below))
+
+  -- one more session was read
+  pub said-more : (count : ℕ) (before after : TablesContent) (all : List Said) (one : Said) (spec : Peer) (reader : R) → AreSaidOf gives question plan readers count before all → length all ≡ count
+      → slice_get plan.peers count ≡ Some spec → slice_get readers count ≡ Some reader → IsSaidOf gives question (id_of spec) reader (rib_of after count) one.last
+      → ((other : ℕ) → other ≢ count → rib_of after other ≡ rib_of before other) → AreSaidOf gives question plan readers (count + 1) after (all ++ one ∷ [])
+  said-more count before after all one spec reader so_far as_many at_peer at_reader is others number below peer here x there said at =
+      elim (at-pushed all one said number at) [
+        | inl earlier ↦
+            let under : number < count = omega (arith, at-within all number said earlier, as_many) in
+            let apart : number ≢ count = λ same. omega (arith, under, same) in
+            subst (λ (rib : RibContent). IsSaidOf gives question (id_of peer) x rib said.last) (sym (others number apart)) (so_far number under peer here x there said earlier)
+        | inr last ↦
+            let place : count ≡ number = sym (last.0 ∙ as_many) in
+            let same_peer : spec ≡ peer = let e : Some spec ≡ Some peer = sym at_peer ∙ ap (slice_get plan.peers) place ∙ here in cc in
+            let same_reader : reader ≡ x = let e : Some reader ≡ Some x = sym at_reader ∙ ap (slice_get readers) place ∙ there in cc in
+            let by_place : IsSaidOf gives question (id_of spec) reader (rib_of after number) one.last = subst (λ (n : ℕ). IsSaidOf gives question (id_of spec) reader (rib_of after n) one.last) place is in
+            let by_peer : IsSaidOf gives question (id_of peer) reader (rib_of after number) one.last = subst (λ (p : Peer). IsSaidOf gives question (id_of p) reader (rib_of after number) one.last) same_peer by_place in
+            let by_reader : IsSaidOf gives question (id_of peer) x (rib_of after number) one.last = subst (λ (r : R). IsSaidOf gives question (id_of peer) r (rib_of after number) one.last) same_reader by_peer in
+            subst (λ (s : Said). IsSaidOf gives question (id_of peer) x (rib_of after number) s.last) last.1 by_reader
+      ]
+
+module _ (tables : TablesContent) (client : ℕ) (prefix : IpPrefix) (all : List Said) where
+  pub explained-none : (answers : List Answer) → AreExplained tables client prefix all 0 answers
+  explained-none answers number below = absurd (omega (arith, below))
+
+  -- one peer more was explained
+  pub explained-more : (count : ℕ) (answers : List Answer) (one : Answer) → AreExplained tables client prefix all count answers → length answers ≡ count → IsExplanation tables client count prefix one.explanation → slice_get all count ≡ Some one.said
+      → AreExplained tables client prefix all (count + 1) (answers ++ one ∷ [])
+  explained-more count answers one so_far as_many is said number below answer at =
+      elim (at-pushed answers one answer number at) [
+        | inl earlier ↦ so_far number (omega (arith, at-within answers number answer earlier, as_many)) answer earlier
+        | inr last ↦
+            let place : count ≡ number = sym (last.0 ∙ as_many) in
+            subst (λ (a : Answer). IsExplanation tables client number prefix a.explanation × (slice_get all number ≡ Some a.said)) last.1
+            (subst (λ (n : ℕ). IsExplanation tables client n prefix one.explanation × (slice_get all n ≡ Some one.said)) place (is, said))
+      ]

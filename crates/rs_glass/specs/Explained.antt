@@ -1,0 +1,19 @@
+-- The answers of the looking glass: what is explained of each peer, and what the client gets.
+use Rattle.std.specs.Prelude.{◌≡◌, ◌<◌, ℕ, List, Option, Some, slice_get}
+use Rattle.std.specs.Option.{option_map}
+use Rattle.rs_update.specs.IpPrefix.{IpPrefix}
+use Rattle.rs_table.specs.Content.{TablesContent}
+use Rattle.rs_table.specs.Table.{best_of}
+use Rattle.rs_explain.specs.Explanations.{IsExplanation}
+use Rattle.rs_glass.specs.declared.answers.Answer.{Answer}
+use Rattle.rs_glass.specs.declared.said.Said.{Said}
+
+-- the number of the peer whose route a client gets on a prefix, if any
+abbrev pub best_from : TablesContent → ℕ → IpPrefix → Option ℕ
+best_from tables client prefix = option_map (λ route. route.peer) (best_of tables client prefix)
+
+-- these are the answers for the peers below a number: each with its explanation, and with what the peer's changes say last
+abbrev pub AreExplained : TablesContent → ℕ → IpPrefix → List Said → ℕ → List Answer → Type 0
+AreExplained tables client prefix all count answers =
+    (number : ℕ) → number < count → (answer : Answer) → slice_get answers number ≡ Some answer
+    → IsExplanation tables client number prefix answer.explanation × (slice_get all number ≡ Some answer.said)

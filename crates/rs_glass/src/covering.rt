@@ -1,0 +1,33 @@
+//! The prefixes that cover a prefix: it itself and the less specific ones, at most 33 (RFC 4271, section 9.1.4).
+
+ghost use Rattle.std.specs.Prelude.{◌≡◌};
+ghost use Rattle.rs_session.specs.Change.{change_of};
+ghost use Rattle.rs_glass.specs.Covering.{concerns, covers};
+
+use rs_session::{Body, Word};
+use rs_update::Prefix;
+
+// Whether a prefix covers another: the other's first bits are its.
+pub(crate) fn covers(wide: Prefix, prefix: Prefix) -> bool
+    ensures { result ≡ covers wide prefix }
+{
+    if prefix.len() < wide.len() {
+        return false;
+    }
+    match Prefix::new(prefix.address(), wide.len()) {
+        Some(front) => front == wide,
+        None => unreachable!(),
+    }
+}
+
+// Whether a change concerns a prefix: it announces or withdraws one that covers it, or is a loss or a close.
+pub(crate) fn concerns(word: &Word, prefix: Prefix) -> bool
+    ensures { result ≡ concerns prefix (change_of word.now) }
+{
+    match &word.body {
+        Body::Announce(changed, _) => covers(*changed, prefix),
+        Body::Withdraw(changed) => covers(*changed, prefix),
+        Body::Down => true,
+        Body::Close(_) => true,
+    }
+}

@@ -1,0 +1,152 @@
+//! The history of a prefix: what happened, and what a client gets after each.
+
+use crate::answers::best_from;
+use crate::happened::Happening;
+use crate::loss::Loss;
+use crate::question::Question;
+use rs_choice::Exchange;
+use rs_session::{Body, Reason};
+use rs_table::Tables;
+use rs_update::{Attributes, Prefix};
+use std::alloc::{AllocError, Global};
+use std::sync::Arc;
+
+/// What happened to a peer's route or session.
+#[derive(Drop)]
+pub enum Event {
+    /// The peer announced the prefix with these attributes.
+    Announced(Arc<Attributes>),
+    /// The peer withdrew the prefix.
+    Withdrawn,
+    /// The session was lost, so.
+    Lost(Option<Loss>),
+    /// The session closed, for this reason.
+    Closed(Reason),
+}
+
+/// One thing that happened, and what the client gets from then on.
+#[derive(Drop)]
+pub struct Gets {
+    /// When it counts, in seconds since 1970.
+    pub time: u32,
+    /// The number of the peer.
+    pub peer: usize,
+    /// What happened.
+    pub event: Event,
+    /// The number of the peer whose route the client gets from then on, if any; none where no client is asked for.
+    pub best: Option<usize>,
+}
+
+/// The history of a prefix.
+#[derive(Drop)]
+pub struct History {
+    /// The prefix.
+    pub prefix: Prefix,
+    /// The number of the client, where one is asked for.
+    pub client: Option<usize>,
+    /// From when on changes are shown, in seconds since 1970, where that was asked for.
+    pub from: Option<u32>,
+    /// Up to when changes count, in seconds since 1970, where that was asked for.
+    pub until: Option<u32>,
+    /// The number of the peer whose route the client gets before what is shown, if any.
+    pub before: Option<usize>,
+    /// What happened, in the order of time.
+    pub events: Vec<Gets>,
+}
+
+impl History {
+    /// A history of what is asked, before anything happened.
+    pub fn of(
+        alloc: Global,
+        question: &Question,
+        client: Option<usize>,
+        from: Option<u32>,
+    ) -> History {
+        History {
+            prefix: question.prefix,
+            client,
+            from,
+            until: question.until,
+            before: None,
+            events: Vec::new(alloc),
+        }
+    }
+}
+
+/// Replays what happened, one after another, and tells what the client gets after each. What happened before `from` counts and isn't shown.
+pub fn replay(
+    alloc: Global,
+    plan: &Arc<Exchange>,
+    happenings: Vec<Happening>,
+    asked: History,
+) -> Result<History, AllocError> {
+    let mut tables = Tables::new(alloc, plan.clone()?)?;
+    let mut history = asked;
+    for happening in happenings {
+        if let Some(gets) = take(&mut tables, history.client, history.prefix, happening)? {
+            note(&mut history, gets)?;
+        }
+    }
+    Ok(history)
+}
+
+// Takes what happened, and tells what the client gets from then on; nothing of a peer that isn't there, or behind its close.
+fn take(
+    tables: &mut Tables,
+    client: Option<usize>,
+    prefix: Prefix,
+    happening: Happening,
+) -> Result<Option<Gets>, AllocError> {
+    let Happening {
+        peer,
+        time,
+        word,
+        loss,
+    } = happening;
+    if peer >= tables.count() {
+        return Ok(None);
+    }
+    if tables.is_closed(peer) {
+        return Ok(None);
+    }
+    let event = event_of(&word.body, loss)?;
+    tables.apply(peer, word)?;
+    let best = match client {
+        Some(client) => best_from(tables, client, prefix),
+        None => None,
+    };
+    Ok(Some(Gets {
+        time,
+        peer,
+        event,
+        best,
+    }))
+}
+
+// Notes what the client gets: before what is shown, or as the next thing that is.
+fn note(history: &mut History, gets: Gets) -> Result<(), AllocError> {
+    if is_before(gets.time, history.from) {
+        history.before = gets.best;
+        return Ok(());
+    }
+    history.events.push(gets)?;
+    Ok(())
+}
+
+// Whether a time is before another, where that is given.
+fn is_before(time: u32, from: Option<u32>) -> bool {
+    match from {
+        Some(from) => time < from,
+        None => false,
+    }
+}
+
+// What happened, by a change and how the session was lost.
+fn event_of(body: &Body, loss: Option<Loss>) -> Result<Event, AllocError> {
+    match body {
+        Body::Announce(_, attributes) => Ok(Event::Announced(attributes.clone()?)),
+        Body::Withdraw(_) => Ok(Event::Withdrawn),
+        Body::Down => Ok(Event::Lost(loss)),
+        Body::Close(reason) => Ok(Event::Closed(*reason)),
+    }
+}

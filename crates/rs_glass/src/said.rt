@@ -1,0 +1,81 @@
+//! What a peer's changes say last of a prefix, and how its session was lost or closed.
+
+ghost use Rattle.std.specs.Prelude.{◌≡◌, ◌++◌, ◌∷◌, [], List};
+ghost use Rattle.rs_update.specs.IpPrefix.{IpPrefix};
+ghost use Rattle.rs_session.specs.Change.{change_of, Change};
+ghost use Rattle.rs_explain.specs.LastSaid.{IsSaidLast};
+
+use crate::loss::Loss;
+use rs_explain::{EndedBy, LastSaid};
+use rs_session::{Body, Reason, Word};
+use rs_update::Prefix;
+
+/// What a peer's changes say last of a prefix, and how its session was lost or closed.
+#[derive(Clone, Copy, Debug, PartialEq, Eq, Drop)]
+pub struct Said {
+    /// What they say last of the prefix.
+    pub last: LastSaid,
+    /// Where a loss of the session took the route away: how it was lost.
+    pub loss: Option<Loss>,
+    /// Why the session closed, where it did.
+    pub close: Option<Reason>,
+}
+
+impl Said {
+    // Before any change.
+    pub(crate) fn nothing() -> Said
+        ensures { (prefix : IpPrefix) → IsSaidLast prefix [] result.last }
+    {
+        Said {
+            last: LastSaid::nothing(),
+            loss: None,
+            close: None,
+        }
+    }
+
+    // With one change more, and how the session was lost where that is the change.
+    pub(crate) fn after(self, prefix: Prefix, word: &Word, loss: Option<Loss>) -> Said
+        ensures { (changes : List Change) → IsSaidLast prefix changes self.last → IsSaidLast prefix (changes ++ change_of word.now ∷ []) result.last }
+    {
+        let last = self.last.after(prefix, word);
+        Said {
+            last,
+            loss: loss_after(self.last, last, self.loss, loss),
+            close: close_after(self.close, word),
+        }
+    }
+
+    /// When the peer's route on the prefix was announced, where it is there, or taken away: in seconds since 1970; none where that isn't known.
+    pub fn time(&self) -> Option<u32> {
+        match self.last {
+            LastSaid::NeverAnnounced => None,
+            LastSaid::Announced(time) => Some(time),
+            LastSaid::Ended(_, ending) => match ending.by {
+                EndedBy::Close(Reason::Mrt(_)) => None,
+                _ => Some(ending.time),
+            },
+        }
+    }
+}
+
+// How the session was lost: anew where the route was there before a change and not after it.
+fn loss_after(
+    before: LastSaid,
+    after: LastSaid,
+    old: Option<Loss>,
+    new: Option<Loss>,
+) -> Option<Loss> {
+    match (before, after) {
+        (LastSaid::Announced(_), LastSaid::Ended(..)) => new,
+        (_, LastSaid::Announced(_)) => None,
+        _ => old,
+    }
+}
+
+// Why the session closed, with one change more.
+fn close_after(before: Option<Reason>, word: &Word) -> Option<Reason> {
+    match word.body {
+        Body::Close(reason) => Some(reason),
+        _ => before,
+    }
+}
