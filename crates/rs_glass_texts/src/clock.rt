@@ -1,0 +1,76 @@
+//! How times are shown: those of one day by the clock, and else with their dates, in UTC.
+
+use rs_explain::LastSaid;
+use rs_glass::Said;
+use rs_timestamp::{Utc, civil_time};
+use std::alloc::{AllocError, Global};
+
+// The seconds of a day.
+const DAY: u32 = 86_400;
+
+// How times are shown together.
+#[derive(Clone, Copy, Debug, PartialEq, Eq)]
+pub(crate) enum Clock {
+    // There is none.
+    NoTime,
+    // All of one day, which has this time: by the clock.
+    OneDay(u32),
+    // With their dates.
+    Days,
+}
+
+impl Clock {
+    // Without any time.
+    pub(crate) fn none() -> Clock {
+        Clock::NoTime
+    }
+
+    // With a time more.
+    pub(crate) fn with(self, time: u32) -> Clock {
+        match self {
+            Clock::NoTime => Clock::OneDay(time),
+            Clock::OneDay(other) if other / DAY == time / DAY => self,
+            _ => Clock::Days,
+        }
+    }
+
+    // With the times of what a peer's changes say last.
+    pub(crate) fn with_all(self, said: &Said) -> Clock {
+        match (said.last, said.time()) {
+            (LastSaid::Ended(announced, _), Some(time)) => self.with(announced).with(time),
+            (LastSaid::Ended(announced, _), None) => self.with(announced),
+            (_, Some(time)) => self.with(time),
+            (_, None) => self,
+        }
+    }
+
+    // A time of the one day, where there is one.
+    pub(crate) fn day(self) -> Option<u32> {
+        match self {
+            Clock::OneDay(time) => Some(time),
+            _ => None,
+        }
+    }
+
+    // A time, as it is shown.
+    pub(crate) fn text(self, alloc: Global, time: u32) -> Result<String, AllocError> {
+        match self {
+            Clock::OneDay(_) => {
+                let clock = civil_time(time).time();
+                format!(in alloc; "{clock}")
+            }
+            _ => {
+                let utc = Utc(time);
+                format!(in alloc; "{utc}")
+            }
+        }
+    }
+
+    // How wide a column of times is: three spaces stand behind a time.
+    pub(crate) fn width(self) -> usize {
+        match self {
+            Clock::Days => 22,
+            _ => 11,
+        }
+    }
+}

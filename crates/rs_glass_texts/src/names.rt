@@ -1,0 +1,76 @@
+//! Peers and prefixes as texts.
+
+use rs_choice::Exchange;
+use rs_update::Prefix;
+use std::alloc::{AllocError, Global};
+use std::net::Ipv4Addr;
+
+// The name of the peer of a number; none where there is no such peer.
+pub(crate) fn name_at(plan: &Exchange, number: usize) -> &str {
+    if number < plan.count() {
+        plan.peer(number).name.as_str()
+    } else {
+        ""
+    }
+}
+
+// The AS number of the peer of a number; 0 where there is no such peer.
+pub(crate) fn asn_at(plan: &Exchange, number: usize) -> u32 {
+    if number < plan.count() {
+        plan.peer(number).asn
+    } else {
+        0
+    }
+}
+
+// How wide a column of names is under a title: two spaces stand behind the longest.
+pub(crate) fn name_width(plan: &Exchange, title: &str) -> usize {
+    let mut longest = title.len();
+    for peer in 0..plan.count() {
+        longest = longest.max(plan.peer(peer).name.len());
+    }
+    longest.saturating_add(2)
+}
+
+// A prefix as it is written: address, slash, length.
+pub(crate) fn prefix_text(alloc: Global, prefix: Prefix) -> Result<String, AllocError> {
+    let (address, len) = (Ipv4Addr::from_bits(prefix.address()), prefix.len());
+    format!(in alloc; "{address}/{len}")
+}
+
+// The names of peers, with commas between them.
+pub(crate) fn names_text(
+    alloc: Global,
+    plan: &Exchange,
+    peers: &[usize],
+) -> Result<String, AllocError> {
+    let mut text = String::new(alloc);
+    for (place, peer) in peers.iter().enumerate() {
+        if place > 0 {
+            text.push_str(", ")?;
+        }
+        text.push_str(name_at(plan, *peer))?;
+    }
+    Ok(text)
+}
+
+// Adds what a client gets on a prefix: `b (AS 64502) gets no route to 192.0.2.0/24`.
+pub(crate) fn add_gets(
+    text: &mut String,
+    plan: &Exchange,
+    (client, best): (usize, Option<usize>),
+    prefix: Prefix,
+) -> Result<(), AllocError> {
+    let (name, asn) = (name_at(plan, client), asn_at(plan, client));
+    let (address, len) = (Ipv4Addr::from_bits(prefix.address()), prefix.len());
+    match best {
+        Some(peer) => {
+            let best = name_at(plan, peer);
+            write!(
+                text,
+                "{name} (AS {asn}) gets the route of {best} to {address}/{len}"
+            )
+        }
+        None => write!(text, "{name} (AS {asn}) gets no route to {address}/{len}"),
+    }
+}

@@ -1,0 +1,193 @@
+//! The reasons of answers, as texts.
+
+use crate::clock::Clock;
+use crate::names::{name_at, names_text};
+use rs_choice::{Exchange, Standing, Step};
+use rs_explain::{Condition, EndedBy, Explanation, LastSaid, Refusal, Removal};
+use rs_glass::{Answer, Said};
+use rs_session::Reason;
+use rs_update::Origin;
+use std::alloc::{AllocError, Global};
+use std::net::Ipv4Addr;
+
+// The name of an answer.
+pub(crate) fn answer_name(explanation: &Explanation) -> &'static str {
+    match explanation {
+        Explanation::Own => "own",
+        Explanation::Absent => "absent",
+        Explanation::Ineligible(_) => "ineligible",
+        Explanation::Refused(_) => "refused",
+        Explanation::Best(_) => "best",
+        Explanation::Lost(_) => "lost",
+    }
+}
+
+// The name of an origin.
+pub(crate) fn origin_name(origin: Origin) -> &'static str {
+    match origin {
+        Origin::Igp => "IGP",
+        Origin::Egp => "EGP",
+        Origin::Incomplete => "INCOMPLETE",
+    }
+}
+
+// Why a session closed.
+pub(crate) fn close_text(alloc: Global, reason: Reason) -> Result<String, AllocError> {
+    match reason {
+        Reason::EndOfFile => String::from_str(alloc, "end"),
+        Reason::Bgp { code, subcode } => format!(in alloc; "bgp {code}/{subcode}"),
+        Reason::Mrt(number) => format!(in alloc; "mrt M{number}"),
+        Reason::Memory => String::from_str(alloc, "memory"),
+        Reason::Read => String::from_str(alloc, "read"),
+    }
+}
+
+// The community that refuses a route.
+pub(crate) fn community_text(
+    alloc: Global,
+    refusal: Refusal,
+) -> Result<Option<String>, AllocError> {
+    match refusal {
+        Refusal::ByName => Ok(None),
+        Refusal::ToClient(asn) => Ok(Some(format!(in alloc; "0:{asn}")?)),
+        Refusal::ToAll(asn) => Ok(Some(format!(in alloc; "0:{asn}")?)),
+    }
+}
+
+// What a step asks of a candidate, as a text.
+pub(crate) fn standing_text(
+    alloc: Global,
+    step: Step,
+    standing: &Standing,
+) -> Result<String, AllocError> {
+    match step {
+        Step::Preference => standing.preference.to_string(alloc),
+        Step::PathLength => standing.path_length.to_string(alloc),
+        Step::Origin => String::from_str(alloc, origin_name(standing.origin)),
+        Step::Med => standing.med.to_string(alloc),
+        Step::Identifier => Ipv4Addr::from_bits(standing.id).to_string(alloc),
+        Step::Address => Ipv4Addr::from_bits(standing.address).to_string(alloc),
+    }
+}
+
+// What a step compares.
+fn step_name(step: Step) -> &'static str {
+    match step {
+        Step::Preference => "preference",
+        Step::PathLength => "path length",
+        Step::Origin => "origin",
+        Step::Med => "MED",
+        Step::Identifier => "identifier",
+        Step::Address => "address",
+    }
+}
+
+// At which step a route was removed, with its value and that of the one that beat it.
+pub(crate) fn lost_text(
+    alloc: Global,
+    plan: &Exchange,
+    removal: &Removal,
+) -> Result<String, AllocError> {
+    let step = step_name(removal.step);
+    let value = standing_text(alloc, removal.step, &removal.loser.standing)?;
+    let rival_value = standing_text(alloc, removal.step, &removal.rival.standing)?;
+    let rival = name_at(plan, removal.rival.peer);
+    format!(in alloc; "{step} {value}, {rival} has {rival_value}")
+}
+
+// The condition of eligibility that fails.
+pub(crate) fn condition_text(
+    alloc: Global,
+    plan: &Exchange,
+    condition: Condition,
+) -> Result<String, AllocError> {
+    match condition {
+        Condition::OwnAs(asn) => format!(in alloc; "AS_PATH has the server's AS {asn}"),
+        Condition::ServerAsNextHop(address) => {
+            let address = Ipv4Addr::from_bits(address);
+            format!(in alloc; "NEXT_HOP {address} is the server's address")
+        }
+        Condition::NextHopOffExchange(address) => {
+            let address = Ipv4Addr::from_bits(address);
+            match plan.local().subnet {
+                Some(subnet) => {
+                    let network = Ipv4Addr::from_bits(subnet.address());
+                    let len = subnet.len();
+                    format!(in alloc; "NEXT_HOP {address} is not in {network}/{len}")
+                }
+                None => format!(in alloc; "NEXT_HOP {address}"),
+            }
+        }
+    }
+}
+
+// The reason of an answer.
+pub(crate) fn because(
+    alloc: Global,
+    plan: &Exchange,
+    client: usize,
+    peer: usize,
+    answer: &Answer,
+    clock: Clock,
+) -> Result<String, AllocError> {
+    match &answer.explanation {
+        Explanation::Own => String::from_str(alloc, "its own"),
+        Explanation::Absent => absent_text(alloc, &answer.said, clock),
+        Explanation::Ineligible(condition) => condition_text(alloc, plan, *condition),
+        Explanation::Refused(refusal) => refused_text(alloc, plan, client, peer, *refusal),
+        Explanation::Best(beaten) if beaten.is_empty() => String::from_str(alloc, "alone"),
+        Explanation::Best(beaten) => {
+            let names = names_text(alloc, plan, beaten)?;
+            format!(in alloc; "beat {names}")
+        }
+        Explanation::Lost(removal) => lost_text(alloc, plan, removal),
+    }
+}
+
+// The rule that refuses a route.
+fn refused_text(
+    alloc: Global,
+    plan: &Exchange,
+    client: usize,
+    peer: usize,
+    refusal: Refusal,
+) -> Result<String, AllocError> {
+    match community_text(alloc, refusal)? {
+        Some(community) => format!(in alloc; "community {community}"),
+        None => {
+            let (client, peer) = (name_at(plan, client), name_at(plan, peer));
+            format!(in alloc; "{client} refuses routes from {peer}")
+        }
+    }
+}
+
+// Why a peer has no route.
+fn absent_text(alloc: Global, said: &Said, clock: Clock) -> Result<String, AllocError> {
+    let LastSaid::Ended(announced, ending) = said.last else {
+        return never_text(alloc, said);
+    };
+    let announced = clock.text(alloc, announced)?;
+    match ending.by {
+        EndedBy::Withdrawal => format!(in alloc; "withdrawn (announced {announced})"),
+        EndedBy::Loss => match said.loss {
+            Some(loss) => format!(in alloc; "session lost: {loss}"),
+            None => String::from_str(alloc, "session lost"),
+        },
+        EndedBy::Close(reason) => {
+            let reason = close_text(alloc, reason)?;
+            format!(in alloc; "session closed: {reason}")
+        }
+    }
+}
+
+// Why a peer never announced a route, where its session closed but at the end of its file.
+fn never_text(alloc: Global, said: &Said) -> Result<String, AllocError> {
+    match said.close {
+        None => String::from_str(alloc, "never announced"),
+        Some(Reason::EndOfFile) => String::from_str(alloc, "never announced"),
+        Some(reason) => {
+            let reason = close_text(alloc, reason)?;
+            format!(in alloc; "never announced, session closed: {reason}")
+        }
+    }
+}

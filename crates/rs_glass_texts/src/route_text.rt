@@ -1,0 +1,82 @@
+//! Path attributes as texts.
+
+use crate::reasons::origin_name;
+use rs_update::{Attributes, Numbers, SegmentView};
+use std::alloc::{AllocError, Global};
+use std::net::Ipv4Addr;
+
+// An AS_PATH: its AS numbers, an AS_SET between braces.
+pub(crate) fn path_text(alloc: Global, attributes: &Attributes) -> Result<String, AllocError> {
+    let mut text = String::new(alloc);
+    for segment in attributes.path() {
+        add_segment(&mut text, segment)?;
+    }
+    Ok(text)
+}
+
+// Adds a segment of an AS_PATH.
+fn add_segment(text: &mut String, segment: SegmentView<'_>) -> Result<(), AllocError> {
+    if !text.is_empty() {
+        text.push(' ')?;
+    }
+    match segment {
+        SegmentView::Sequence(numbers) => add_numbers(text, numbers, " "),
+        SegmentView::Set(numbers) => {
+            text.push('{')?;
+            add_numbers(text, numbers, ",")?;
+            text.push('}')
+        }
+    }
+}
+
+// Adds numbers with a separator between them.
+fn add_numbers(text: &mut String, numbers: Numbers<'_>, separator: &str) -> Result<(), AllocError> {
+    let mut is_first = true;
+    for number in numbers {
+        if !is_first {
+            text.push_str(separator)?;
+        }
+        is_first = false;
+        write!(text, "{number}")?;
+    }
+    Ok(())
+}
+
+// A community: two halves with a colon between them (RFC 1997).
+pub(crate) fn community_of(alloc: Global, community: u32) -> Result<String, AllocError> {
+    let (high, low) = (community >> 16, community & 0xFFFF);
+    format!(in alloc; "{high}:{low}")
+}
+
+// Adds the attributes of a route that decide where it goes.
+pub(crate) fn add_route(
+    text: &mut String,
+    alloc: Global,
+    attributes: &Attributes,
+) -> Result<(), AllocError> {
+    let path = path_text(alloc, attributes)?;
+    let origin = origin_name(attributes.origin());
+    let next_hop = Ipv4Addr::from_bits(attributes.next_hop());
+    write!(text, "path {path}, {origin}, next hop {next_hop}")?;
+    if let Some(med) = attributes.med() {
+        write!(text, ", MED {med}")?;
+    }
+    add_communities(text, alloc, attributes)
+}
+
+// Adds the communities of a route, where it has any.
+fn add_communities(
+    text: &mut String,
+    alloc: Global,
+    attributes: &Attributes,
+) -> Result<(), AllocError> {
+    let Some(communities) = attributes.communities() else {
+        return Ok(());
+    };
+    text.push_str(", communities")?;
+    for community in communities.values {
+        let community = community_of(alloc, community)?;
+        write!(text, " {community}")?;
+    }
+    Ok(())
+}

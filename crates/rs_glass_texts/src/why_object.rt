@@ -1,0 +1,277 @@
+//! The answers as JSON: one object.
+
+use crate::names::{asn_at, name_at, prefix_text};
+use crate::reasons::{answer_name, close_text, community_text, origin_name};
+use rs_choice::{Exchange, Standing, Step};
+use rs_explain::{Condition, EndedBy, Ending, Explanation, LastSaid, Refusal, Removal};
+use rs_glass::{Answer, Answers, LessSpecific, Said};
+use rs_session::Reason;
+use serde_json::{Map, Value, json, put};
+use std::alloc::{AllocError, Global};
+use std::net::Ipv4Addr;
+
+/// The answers as one JSON object on one line, with a line break behind it.
+pub fn why_json(alloc: Global, plan: &Exchange, answers: &Answers) -> Result<String, AllocError> {
+    let mut peers = Vec::with_capacity(alloc, answers.peers.len())?;
+    for (peer, answer) in answers.peers.iter().enumerate() {
+        peers.push(peer_object(alloc, plan, peer, answer)?)?;
+    }
+    let mut object = Map::new(alloc);
+    put(
+        &mut object,
+        alloc,
+        "client",
+        name_of(alloc, plan, Some(answers.client))?,
+    )?;
+    put(
+        &mut object,
+        alloc,
+        "prefix",
+        Value::String(prefix_text(alloc, answers.prefix)?),
+    )?;
+    put(&mut object, alloc, "until", Value::from(answers.until))?;
+    put(
+        &mut object,
+        alloc,
+        "best",
+        name_of(alloc, plan, answers.best)?,
+    )?;
+    put(&mut object, alloc, "peers", Value::Array(peers))?;
+    put(
+        &mut object,
+        alloc,
+        "less_specific",
+        less_specific_object(alloc, plan, answers)?,
+    )?;
+    let mut text = Value::Object(object).to_string(alloc)?;
+    text.push('\n')?;
+    Ok(text)
+}
+
+// The name of a peer, or null.
+pub(crate) fn name_of(
+    alloc: Global,
+    plan: &Exchange,
+    peer: Option<usize>,
+) -> Result<Value, AllocError> {
+    match peer {
+        Some(peer) => Value::try_from_str(alloc, name_at(plan, peer)),
+        None => Ok(Value::Null),
+    }
+}
+
+// The less specific prefix and what the client gets there, or null.
+fn less_specific_object(
+    alloc: Global,
+    plan: &Exchange,
+    answers: &Answers,
+) -> Result<Value, AllocError> {
+    let Some(LessSpecific { prefix, best }) = answers.less_specific else {
+        return Ok(Value::Null);
+    };
+    let best = name_of(alloc, plan, best)?;
+    let prefix = Value::String(prefix_text(alloc, prefix)?);
+    json!(in alloc; {"prefix": prefix, "best": best})
+}
+
+// The answer of a peer.
+fn peer_object(
+    alloc: Global,
+    plan: &Exchange,
+    peer: usize,
+    answer: &Answer,
+) -> Result<Value, AllocError> {
+    let mut object = Map::new(alloc);
+    put(
+        &mut object,
+        alloc,
+        "peer",
+        name_of(alloc, plan, Some(peer))?,
+    )?;
+    put(&mut object, alloc, "as", Value::from(asn_at(plan, peer)))?;
+    put(&mut object, alloc, "time", Value::from(answer.said.time()))?;
+    let name = answer_name(&answer.explanation);
+    put(
+        &mut object,
+        alloc,
+        "answer",
+        Value::try_from_str(alloc, name)?,
+    )?;
+    add_reason(&mut object, alloc, plan, (peer, answer))?;
+    Ok(Value::Object(object))
+}
+
+// Adds a text to an object.
+pub(crate) fn put_text(
+    object: &mut Map<String, Value>,
+    alloc: Global,
+    key: &str,
+    text: &str,
+) -> Result<(), AllocError> {
+    put(object, alloc, key, Value::try_from_str(alloc, text)?)
+}
+
+// Adds the reason of an answer, and what belongs to it.
+fn add_reason(
+    object: &mut Map<String, Value>,
+    alloc: Global,
+    plan: &Exchange,
+    (peer, answer): (usize, &Answer),
+) -> Result<(), AllocError> {
+    match &answer.explanation {
+        Explanation::Own => put(object, alloc, "reason", Value::Null),
+        Explanation::Absent => add_absence(object, alloc, &answer.said),
+        Explanation::Ineligible(condition) => add_condition(object, alloc, *condition),
+        Explanation::Refused(refusal) => add_refusal(object, alloc, plan, (peer, *refusal)),
+        Explanation::Best(beaten) => {
+            put_text(
+                object,
+                alloc,
+                "reason",
+                if beaten.is_empty() { "alone" } else { "beat" },
+            )?;
+            put(object, alloc, "beat", names_list(alloc, plan, beaten)?)
+        }
+        Explanation::Lost(removal) => add_removal(object, alloc, plan, removal),
+    }
+}
+
+// Adds why a peer has no route.
+fn add_absence(
+    object: &mut Map<String, Value>,
+    alloc: Global,
+    said: &Said,
+) -> Result<(), AllocError> {
+    let LastSaid::Ended(announced, ending) = said.last else {
+        put_text(object, alloc, "reason", "never_announced")?;
+        put(object, alloc, "announced", Value::Null)?;
+        return put(object, alloc, "by", closed_by(alloc, said)?);
+    };
+    put_text(object, alloc, "reason", ending_key(&ending))?;
+    put(object, alloc, "announced", Value::from(announced))?;
+    put(object, alloc, "by", ended_by(alloc, said, &ending)?)
+}
+
+// How a route was taken away.
+fn ending_key(ending: &Ending) -> &'static str {
+    match ending.by {
+        EndedBy::Withdrawal => "withdrawn",
+        EndedBy::Loss => "session_lost",
+        EndedBy::Close(_) => "session_closed",
+    }
+}
+
+// By what a session was lost or closed that took a route away, or null.
+fn ended_by(alloc: Global, said: &Said, ending: &Ending) -> Result<Value, AllocError> {
+    match (ending.by, said.loss) {
+        (EndedBy::Loss, Some(loss)) => Ok(Value::String(loss.to_string(alloc)?)),
+        (EndedBy::Close(reason), _) => Ok(Value::String(close_text(alloc, reason)?)),
+        _ => Ok(Value::Null),
+    }
+}
+
+// Why a session closed but at the end of its file, or null.
+fn closed_by(alloc: Global, said: &Said) -> Result<Value, AllocError> {
+    match said.close {
+        Some(Reason::EndOfFile) => Ok(Value::Null),
+        Some(reason) => Ok(Value::String(close_text(alloc, reason)?)),
+        None => Ok(Value::Null),
+    }
+}
+
+// Adds the condition of eligibility that fails.
+fn add_condition(
+    object: &mut Map<String, Value>,
+    alloc: Global,
+    condition: Condition,
+) -> Result<(), AllocError> {
+    let (key, value) = match condition {
+        Condition::OwnAs(asn) => ("server_as_in_path", Value::from(asn)),
+        Condition::ServerAsNextHop(address) => {
+            ("server_address_as_next_hop", address_value(alloc, address)?)
+        }
+        Condition::NextHopOffExchange(address) => {
+            ("next_hop_off_exchange", address_value(alloc, address)?)
+        }
+    };
+    put_text(object, alloc, "reason", key)?;
+    put(object, alloc, "value", value)
+}
+
+// An address as it is written.
+fn address_value(alloc: Global, address: u32) -> Result<Value, AllocError> {
+    Ok(Value::String(Ipv4Addr::from_bits(address).to_string(alloc)?))
+}
+
+// Adds the rule that refuses a route: its community, or the name that is refused.
+fn add_refusal(
+    object: &mut Map<String, Value>,
+    alloc: Global,
+    plan: &Exchange,
+    (peer, refusal): (usize, Refusal),
+) -> Result<(), AllocError> {
+    match community_text(alloc, refusal)? {
+        Some(community) => {
+            put_text(object, alloc, "reason", "community")?;
+            put(object, alloc, "community", Value::String(community))
+        }
+        None => {
+            put_text(object, alloc, "reason", "name")?;
+            put(object, alloc, "name", name_of(alloc, plan, Some(peer))?)
+        }
+    }
+}
+
+// Adds the step that removed a route, the peer whose route beat it there, and what was compared.
+fn add_removal(
+    object: &mut Map<String, Value>,
+    alloc: Global,
+    plan: &Exchange,
+    removal: &Removal,
+) -> Result<(), AllocError> {
+    let step = removal.step;
+    let value = value_at(alloc, step, &removal.loser.standing)?;
+    let rival_value = value_at(alloc, step, &removal.rival.standing)?;
+    put_text(object, alloc, "reason", step_key(step))?;
+    put(object, alloc, "value", value)?;
+    put(
+        object,
+        alloc,
+        "rival",
+        name_of(alloc, plan, Some(removal.rival.peer))?,
+    )?;
+    put(object, alloc, "rival_value", rival_value)
+}
+
+// The name of a step.
+fn step_key(step: Step) -> &'static str {
+    match step {
+        Step::Preference => "preference",
+        Step::PathLength => "path_length",
+        Step::Origin => "origin",
+        Step::Med => "med",
+        Step::Identifier => "identifier",
+        Step::Address => "address",
+    }
+}
+
+// What a step asks of a candidate.
+fn value_at(alloc: Global, step: Step, standing: &Standing) -> Result<Value, AllocError> {
+    match step {
+        Step::Preference => Ok(Value::from(standing.preference)),
+        Step::PathLength => Ok(Value::from(standing.path_length)),
+        Step::Origin => Value::try_from_str(alloc, origin_name(standing.origin)),
+        Step::Med => Ok(Value::from(standing.med)),
+        Step::Identifier => address_value(alloc, standing.id),
+        Step::Address => address_value(alloc, standing.address),
+    }
+}
+
+// The names of peers.
+fn names_list(alloc: Global, plan: &Exchange, peers: &[usize]) -> Result<Value, AllocError> {
+    let mut names = Vec::with_capacity(alloc, peers.len())?;
+    for peer in peers {
+        names.push(name_of(alloc, plan, Some(*peer))?)?;
+    }
+    Ok(Value::Array(names))
+}
