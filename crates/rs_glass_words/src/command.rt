@@ -1,0 +1,115 @@
+//! The program's command, as `clap` knows it.
+
+use clap::builder::ValueParser;
+use clap::{Arg, ArgAction, Command};
+use std::alloc::{AllocError, Global};
+
+// The version of the program.
+const VERSION: &str = "0.1.0";
+
+// What the program does, at the head of its help.
+const ABOUT: &str =
+    "Answers questions about a route server's tables from recorded BGP sessions, without a router.";
+
+// What is told at the foot of its help.
+const AFTER_HELP: &str = "Example:
+  looking_glass why --config exchange.toml --client b --prefix 192.0.2.0/24
+
+Status:
+  0  the question is answered, or help or the version was asked for
+  1  the command line or the configuration is refused
+  2  a file or a device failed
+  3  memory was refused";
+
+const WHY_ABOUT: &str = "Why does a client get each peer's route to a prefix, or not?";
+
+const HISTORY_ABOUT: &str =
+    "What happened to a prefix, in the order of time, and what did a client get from then on?";
+
+// The program's command, with its subcommands.
+pub(crate) fn program<'a>(alloc: Global) -> Result<Command<'a>, AllocError> {
+    let command = Command::new(alloc, "looking_glass")
+        .version(VERSION)
+        .about(ABOUT)
+        .after_help(AFTER_HELP)
+        .subcommand_required(true)
+        .arg_required_else_help(true);
+    command
+        .subcommand(why_command(alloc)?)?
+        .subcommand(history_command(alloc)?)
+}
+
+// `why`
+fn why_command<'a>(alloc: Global) -> Result<Command<'a>, AllocError> {
+    Command::new(alloc, "why")
+        .about(WHY_ABOUT)
+        .arg(config(alloc))?
+        .arg(client(alloc).required(true))?
+        .arg(prefix(alloc))?
+        .arg(until(alloc))?
+        .arg(errors(alloc))?
+        .arg(json(alloc))
+}
+
+// `history`
+fn history_command<'a>(alloc: Global) -> Result<Command<'a>, AllocError> {
+    Command::new(alloc, "history")
+        .about(HISTORY_ABOUT)
+        .arg(config(alloc))?
+        .arg(prefix(alloc))?
+        .arg(client(alloc))?
+        .arg(from(alloc))?
+        .arg(until(alloc))?
+        .arg(errors(alloc))?
+        .arg(json(alloc))
+}
+
+// An option of one value.
+fn option<'a>(alloc: Global, name: &'a str, value: &'a str) -> Arg<'a> {
+    Arg::new(alloc, name)
+        .long(name)
+        .value_name(value)
+        .action(ArgAction::Set)
+}
+
+fn config<'a>(alloc: Global) -> Arg<'a> {
+    option(alloc, "config", "FILE")
+        .required(true)
+        .help("Configuration of the exchange, as route_server takes it")
+}
+
+fn client<'a>(alloc: Global) -> Arg<'a> {
+    option(alloc, "client", "NAME").help("Name of the client")
+}
+
+fn prefix<'a>(alloc: Global) -> Arg<'a> {
+    option(alloc, "prefix", "PREFIX")
+        .required(true)
+        .help("IPv4 prefix, as 192.0.2.0/24")
+}
+
+fn from<'a>(alloc: Global) -> Arg<'a> {
+    option(alloc, "from", "TIME").help(
+        "Shows changes from this time on: seconds since 1970, or as 2026-11-22T06:36:20Z",
+    )
+}
+
+fn until<'a>(alloc: Global) -> Arg<'a> {
+    option(alloc, "until", "TIME").help(
+        "Counts changes up to this time: seconds since 1970, or as 2026-11-22T06:36:20Z",
+    )
+}
+
+fn errors<'a>(alloc: Global) -> Arg<'a> {
+    option(alloc, "errors", "STANDARD")
+        .value_parser(ValueParser::Names(&["rfc4271", "rfc7606"]))
+        .default_value("rfc4271")
+        .help("How faults in path attributes are handled")
+}
+
+fn json<'a>(alloc: Global) -> Arg<'a> {
+    Arg::new(alloc, "json")
+        .long("json")
+        .action(ArgAction::SetTrue)
+        .help("Writes the answer as JSON")
+}

@@ -1,0 +1,13 @@
+//! The words of the command line of `looking_glass`: which question they ask.
+//!
+//! Reading order: `query` (the questions), `values` (what texts of values stand for), `command` (the program's command as `clap` knows it), `read_words`.
+#![tactic(auto)]
+
+mod command;
+mod query;
+mod values;
+mod words;
+
+pub use query::{HistoryQuery, Query, WhyQuery, WordsFault};
+pub use values::{PREFIX_FORM, TIME_FORM};
+pub use words::read_query;

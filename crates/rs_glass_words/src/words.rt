@@ -1,0 +1,109 @@
+//! Reads the words of the command line, with `clap`.
+
+use crate::command::program;
+use crate::query::{HistoryQuery, Query, WhyQuery, WordsFault};
+use crate::values::{PREFIX_FORM, TIME_FORM, prefix_of, standard_of, time_of};
+use clap::error::ErrorKind;
+use clap::{ArgMatches, Error};
+use rs_update::{Errors, Prefix};
+use std::alloc::{AllocError, Global};
+
+// The text where `clap` gives less than it promises.
+const INCOMPLETE: &str = "error: an option has no value\n";
+
+/// Reads the words of the command line, which begin with the program's own name.
+pub fn read_query(alloc: Global, words: Vec<String>) -> Result<Query, WordsFault> {
+    match program(alloc)?.try_get_matches_from(words.as_slice()) {
+        Ok(matches) => query_of(alloc, &matches),
+        Err(error) => Err(fault_of(alloc, &error)),
+    }
+}
+
+// The question that the matches hold.
+fn query_of(alloc: Global, matches: &ArgMatches<'_>) -> Result<Query, WordsFault> {
+    match matches.subcommand() {
+        Some(("why", matches)) => Ok(Query::Why(why_of(alloc, matches)?)),
+        Some(("history", matches)) => Ok(Query::History(history_of(alloc, matches)?)),
+        _ => Err(WordsFault::Refused(String::from_str(alloc, INCOMPLETE)?)),
+    }
+}
+
+fn why_of(alloc: Global, matches: &ArgMatches<'_>) -> Result<WhyQuery, WordsFault> {
+    Ok(WhyQuery {
+        config: text(alloc, matches, "config")?,
+        client: text(alloc, matches, "client")?,
+        prefix: prefix(alloc, matches)?,
+        until: time(alloc, matches, "until")?,
+        errors: errors(alloc, matches)?,
+        json: matches.get_flag("json"),
+    })
+}
+
+fn history_of(alloc: Global, matches: &ArgMatches<'_>) -> Result<HistoryQuery, WordsFault> {
+    Ok(HistoryQuery {
+        config: text(alloc, matches, "config")?,
+        prefix: prefix(alloc, matches)?,
+        client: match matches.get_str("client") {
+            Some(client) => Some(String::from_str(alloc, client)?),
+            None => None,
+        },
+        from: time(alloc, matches, "from")?,
+        until: time(alloc, matches, "until")?,
+        errors: errors(alloc, matches)?,
+        json: matches.get_flag("json"),
+    })
+}
+
+// The text of an option that `clap` gives a value.
+fn text(alloc: Global, matches: &ArgMatches<'_>, name: &str) -> Result<String, WordsFault> {
+    match matches.get_str(name) {
+        Some(value) => Ok(String::from_str(alloc, value)?),
+        None => Err(WordsFault::Refused(String::from_str(alloc, INCOMPLETE)?)),
+    }
+}
+
+fn prefix(alloc: Global, matches: &ArgMatches<'_>) -> Result<Prefix, WordsFault> {
+    let value = matches.get_str("prefix").unwrap_or("");
+    match prefix_of(value) {
+        Some(prefix) => Ok(prefix),
+        None => Err(not_a(alloc, "prefix", value, PREFIX_FORM)),
+    }
+}
+
+fn time(alloc: Global, matches: &ArgMatches<'_>, name: &str) -> Result<Option<u32>, WordsFault> {
+    let Some(value) = matches.get_str(name) else {
+        return Ok(None);
+    };
+    match time_of(value) {
+        Some(time) => Ok(Some(time)),
+        None => Err(not_a(alloc, name, value, TIME_FORM)),
+    }
+}
+
+fn errors(alloc: Global, matches: &ArgMatches<'_>) -> Result<Errors, WordsFault> {
+    let value = matches.get_str("errors").unwrap_or("");
+    match standard_of(value) {
+        Some(errors) => Ok(errors),
+        None => Err(not_a(alloc, "errors", value, "rfc4271 or rfc7606")),
+    }
+}
+
+// The text that refuses a value.
+fn not_a(alloc: Global, name: &str, value: &str, form: &str) -> WordsFault {
+    match format!(in alloc; "looking_glass: --{name} {value:?} is not {form}\n") {
+        Ok(text) => WordsFault::Refused(text),
+        Err(_) => WordsFault::Memory,
+    }
+}
+
+// Why the words ask no question, with the text of `clap`.
+fn fault_of(alloc: Global, error: &Error) -> WordsFault {
+    let Ok(text) = error.to_string(alloc) else {
+        return WordsFault::Memory;
+    };
+    match error.kind() {
+        ErrorKind::OutOfMemory => WordsFault::Memory,
+        ErrorKind::DisplayHelp | ErrorKind::DisplayVersion => WordsFault::Shown(text),
+        _ => WordsFault::Refused(text),
+    }
+}
