@@ -1,0 +1,83 @@
+//! How the program ends where it stops short: its status.
+
+use rs_glass::GlassFault;
+use rs_glass_words::WordsFault;
+use rs_setup::{Setup, SetupFault};
+use std::alloc::{AllocError, Global};
+
+/// The command line or the configuration is refused.
+pub const REFUSED: u8 = 1;
+
+/// A file or a device failed.
+pub const FAILED: u8 = 2;
+
+/// Memory was refused.
+pub const OUT_OF_MEMORY: u8 = 3;
+
+/// Why the program stops short.
+#[derive(Drop)]
+pub enum Ended {
+    /// Help or the version was asked for, or the command line is refused, with this text.
+    Words(WordsFault),
+    /// A word of the command line isn't UTF-8.
+    NotUtf8,
+    /// The configuration is refused.
+    Setup(SetupFault),
+    /// No peer of the configuration has this name.
+    NoPeer(String),
+    /// The file at this path can't be read.
+    Unread(String),
+    /// Standard output can't be written.
+    Output,
+    /// Memory was refused.
+    Memory,
+}
+
+impl Ended {
+    /// What ends the reading of the recorded files of a setup.
+    pub fn by_reading(alloc: Global, fault: GlassFault, setup: &Setup) -> Ended {
+        match fault {
+            GlassFault::Memory => Ended::Memory,
+            GlassFault::Read(peer) => match setup.files.get(peer) {
+                Some(path) => Ended::by_path(alloc, path),
+                None => Ended::Memory,
+            },
+        }
+    }
+
+    /// A file that can't be read, by its path.
+    pub fn by_path(alloc: Global, path: &str) -> Ended {
+        match String::from_str(alloc, path) {
+            Ok(path) => Ended::Unread(path),
+            Err(_) => Ended::Memory,
+        }
+    }
+
+    /// The status with which the program ends.
+    pub fn status(&self) -> u8 {
+        match self {
+            Ended::Words(WordsFault::Shown(_)) => 0,
+            Ended::Words(WordsFault::Refused(_)) => REFUSED,
+            Ended::Words(WordsFault::Memory) => OUT_OF_MEMORY,
+            Ended::NotUtf8 => REFUSED,
+            Ended::Setup(SetupFault::Memory) => OUT_OF_MEMORY,
+            Ended::Setup(_) => REFUSED,
+            Ended::NoPeer(_) => REFUSED,
+            Ended::Unread(_) => FAILED,
+            Ended::Output => FAILED,
+            Ended::Memory => OUT_OF_MEMORY,
+        }
+    }
+}
+
+impl From<AllocError> for Ended {
+    fn from(_refused: AllocError) -> Ended {
+        Ended::Memory
+    }
+}
+
+impl From<WordsFault> for Ended {
+    fn from(fault: WordsFault) -> Ended {
+        Ended::Words(fault)
+    }
+}
