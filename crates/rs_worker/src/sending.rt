@@ -71,7 +71,7 @@ fn send<G: Gate>(rt: &impl Wait, peer: usize, word: Word, out: &mut Sender<Word>
     ensures same { out.new.ring ≡ out.old.ring }
 {
     gate.pass(peer, out.sent());
-    let mut patience = Patience::new();
+    let mut patience = Patience::of_many();
     let mut word = word;
     for _ in rt.forever() {
         match out.try_send(word) {

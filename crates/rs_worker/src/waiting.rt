@@ -8,10 +8,15 @@ use std::sync::Wait;
 use std::thread::Parker;
 use std::time::Duration;
 
-// The first sleep and the longest one, in microseconds.
+// The first sleep, in microseconds.
 const FIRST_SLEEP: u64 = 10;
 
+// The longest sleep of a thread that others wait for, in microseconds.
 const LONGEST_SLEEP: u64 = 320;
+
+// The longest sleep of one of many threads that wait for the same other one, in microseconds: as 256 workers at full rings
+// wait for one router, whose round takes tens of milliseconds.
+const LONGEST_SLEEP_OF_MANY: u64 = 5120;
 
 /// How long a thread has waited for the same thing.
 #[derive(Drop)]
@@ -21,15 +26,28 @@ pub struct Patience {
     parker: Parker,
     // How long the next sleep is, in microseconds.
     sleep: u64,
+    // How long a sleep is at most, in microseconds.
+    longest: u64,
 }
 
 impl Patience {
-    /// Of a thread that begins to wait.
+    /// Of a thread that begins to wait and for which others wait: it sleeps at most 320 microseconds at once.
     pub fn new() -> Patience {
+        Patience::up_to(LONGEST_SLEEP)
+    }
+
+    /// Of one of many threads that wait for the same other one: it sleeps at most 5,120 microseconds at once.
+    pub fn of_many() -> Patience {
+        Patience::up_to(LONGEST_SLEEP_OF_MANY)
+    }
+
+    // Of a thread that begins to wait, with this longest sleep.
+    fn up_to(longest: u64) -> Patience {
         Patience {
             backoff: Backoff::new(),
             parker: Parker::new(),
             sleep: FIRST_SLEEP,
+            longest,
         }
     }
 
@@ -41,7 +59,7 @@ impl Patience {
         }
         self.parker
             .park_timeout(rt, Duration::from_micros(self.sleep));
-        self.sleep = self.sleep.saturating_mul(2).min(LONGEST_SLEEP);
+        self.sleep = self.sleep.saturating_mul(2).min(self.longest);
     }
 
     /// Begins anew: what the thread waited for came.
