@@ -1,0 +1,79 @@
+-- A reader whose first octets were taken gives what it might have given before.
+use Rattle.std.proofs.Common.{◌≡◌, ℕ, zero, suc, ◌<◌, ◌==◌, Bool, true, false, List, [], ◌∷◌, ◌++◌, length, take, drop, min, Result, Ok, Err, refl, sym, ap, subst, ◌∙◌, arith, append-nil, append_assoc, take-append-drop, ne_eqb, ltb, ltb-false}
+use Rattle.rs_mrt.specs.declared.stream.Failed.{Failed}
+use Rattle.rs_mrt.specs.Reader.{ReadEnd, ReadGives}
+use Rattle.rs_inventory.specs.Front.{GivesUnlessEnded, Rewound, RewoundGives, rewound}
+
+module _ {R : Type 0} (gives : R → List ℕ → ReadEnd → Type 0) where
+  -- a call to the reader took more octets, or found its end
+  pub front-more : (taken piece : List ℕ) (n : ℕ) (ended : Bool) (old new : R) → ended ≡ (n == 0) → 0 < length piece → ReadGives (gives old) (gives new) (Ok n) piece → (octets : List ℕ) (end : ReadEnd)
+      → RewoundGives gives (rewound (record { octets = taken ++ take n piece; ended = ended }) new) octets end
+      → RewoundGives gives (rewound (record { octets = taken; ended = false }) old) octets end
+  front-more taken [] zero ended old new is some read octets end w = absurd (omega (arith, some))
+  front-more taken (x ∷ xs) zero ended old new is some read octets end w =
+      let given : GivesUnlessEnded gives true new w.later end = rw is at w.given in
+      record {
+        later = [];
+        splits = w.splits ∙ ap (λ (l : List ℕ). (taken ++ []) ++ l) given.0 ∙ append-nil (taken ++ []);
+        given = subst (λ (e : ReadEnd). gives old [] e) (sym given.1) read;
+      }
+  front-more taken piece (suc n) ended old new is some read octets end w =
+      let given : gives new w.later end = go ended (is ∙ none n) w.later end w.given in
+      record {
+        later = take (suc n) piece ++ w.later;
+        splits = w.splits ∙ append_assoc taken (take (suc n) piece) w.later;
+        given = read w.later end given;
+      }
+    where
+      none : (n : ℕ) → (suc n == 0) ≡ false
+      none n = ne_eqb (suc n) 0 (λ e. omega (arith, e))
+
+      go : (ended : Bool) → ended ≡ false → (later : List ℕ) (end : ReadEnd) → GivesUnlessEnded gives ended new later end → gives new later end
+      go true e later end given = absurd (cc e)
+      go false e later end given = given
+
+  -- the reader is asked once all that was taken was given again
+  pub inner-gives : (old new : R) (result : Result ℕ Failed) (piece : List ℕ) → ReadGives (gives old) (gives new) result piece
+      → ReadGives (RewoundGives gives (record { held = []; ended = false; inner = old })) (RewoundGives gives (record { held = []; ended = false; inner = new })) result piece
+  inner-gives old new (Err failed) piece read = record { later = []; splits = refl; given = read }
+  inner-gives old new (Ok zero) (x ∷ xs) read = record { later = []; splits = refl; given = read }
+  inner-gives old new (Ok zero) [] read = λ later end w. record { later = w.later; splits = w.splits; given = read w.later end w.given }
+  inner-gives old new (Ok (suc n)) piece read = λ later end w. record {
+    later = take (suc n) piece ++ w.later;
+    splits = ap (λ (l : List ℕ). take (suc n) piece ++ l) w.splits;
+    given = read w.later end w.given;
+  }
+
+  -- octets that were taken are given again
+  pub held-gives : (old : Rewound R) (n : ℕ) (piece : List ℕ) → take n piece ≡ take n old.held → 0 < length old.held
+      → n ≡ min (length old.held) (length piece)
+      → ReadGives (RewoundGives gives old) (RewoundGives gives (record old { held = drop n old.held })) (Ok n) piece
+  held-gives old zero [] same some most = λ later end w. w
+  held-gives old zero (x ∷ xs) same some most = absurd (omega (arith, some, most))
+  held-gives old (suc n) piece same some most = λ later end w. record {
+    later = w.later;
+    splits = ap (λ (l : List ℕ). take (suc n) piece ++ l) w.splits ∙ sym (append_assoc (take (suc n) piece) (drop (suc n) old.held) w.later)
+        ∙ ap (λ (l : List ℕ). l ++ w.later) (ap (λ (l : List ℕ). l ++ drop (suc n) old.held) same ∙ take-append-drop (suc n) old.held);
+    given = w.given;
+  }
+
+  -- the end that was found is found again
+  pub ended-gives : (inner : R) (piece : List ℕ)
+      → ReadGives (RewoundGives gives (record { held = []; ended = true; inner = inner })) (RewoundGives gives (record { held = []; ended = true; inner = inner })) (Ok 0) piece
+  ended-gives inner [] = λ later end w. w
+  ended-gives inner (x ∷ xs) = record { later = []; splits = refl; given = (refl, refl) }
+
+  inner-of : (w : Rewound R) → w.held ≡ [] → w.ended ≡ false → w ≡ record { held = []; ended = false; inner = w.inner }
+  inner-of w held ended = λ i. record { held = held i; ended = ended i; inner = w.inner }
+
+  -- the reader is asked where nothing is held
+  pub asks-inner : (old new : Rewound R) (result : Result ℕ Failed) (piece : List ℕ) → old.held ≡ [] → old.ended ≡ false → new.held ≡ [] → new.ended ≡ false
+      → ReadGives (gives old.inner) (gives new.inner) result piece → ReadGives (RewoundGives gives old) (RewoundGives gives new) result piece
+  asks-inner old new result piece held ended held_after ended_after read =
+      subst (λ (w : Rewound R). ReadGives (RewoundGives gives w) (RewoundGives gives new) result piece) (sym (inner-of old held ended))
+      (subst (λ (w : Rewound R). ReadGives (RewoundGives gives (record { held = []; ended = false; inner = old.inner })) (RewoundGives gives w) result piece) (sym (inner-of new held_after ended_after))
+      (inner-gives old.inner new.inner result piece read))
+
+pub nothing-held : (held : List ℕ) → ltb 0 (length held) ≡ false → held ≡ []
+nothing-held [] e = refl
+nothing-held (x ∷ xs) e = absurd (let none = ltb-false 0 (length (x ∷ xs)) e in omega (arith, none))

@@ -1,0 +1,169 @@
+-- What records hold with one record more.
+use Rattle.std.proofs.Common.{◌≡◌, ◌≤◌, ◌<◌, ◌∙◌, sym, ap, subst, refl, ℕ, ◌+◌, true, cond, List, [], ◌∷◌, ◌++◌, All, length, map, slice_index, Option, Some, None, option_map, min, max, arith, inl, inr, append-nil, length-append, ◌⊎◌, leb, leb-true, leb-false}
+use Rattle.std.specs.List.{count_by}
+use Rattle.std.specs.Option.{option_or}
+use Rattle.std.specs.Cmp.{IsTotalOrder, Equal-is, nat_cmp_total, on_total, then_total}
+use Rattle.std.specs.FinMap.{nat_cmp-IsAntisymmetric}
+use Rattle.std.specs.Ordering.{nat_cmp, ordering_then}
+use Rattle.std.specs.declared.cmp.Ordering.{Ordering}
+use Rattle.std.specs.declared.cmp.Ordering.TheVariants.{Less, Equal, Greater}
+use Rattle.std.proofs.lemmas.Bool.{cases_Bool}
+use Rattle.std.proofs.lemmas.List.Elements.{All-push, All-weaker, Contains-append_left, Contains-push, filter_map-append}
+use Rattle.std.proofs.lemmas.List.Sums.{sum_by_push}
+use Rattle.rs_inventory.specs.Kind.{is_kind, place_of}
+use Rattle.rs_inventory.specs.Opening.{first_found}
+use Rattle.rs_inventory.specs.Peer.{PeerContent, TellsMore, Told, counted, peer_content}
+use Rattle.rs_inventory.specs.Inventory.{Content, Holds, IsEarliest, IsLatest, TakesNote, WithCounts, earlier_of, first_of, known_of, known_sum, later_of, peer_at, peer_cmp, same_peer, sum_of, told_in, told_of}
+use Rattle.rs_inventory.specs.declared.finding.Finding.{Finding}
+use Rattle.rs_inventory.specs.declared.finding.News.{News}
+use Rattle.rs_inventory.specs.declared.finding.Note.{Note}
+use Rattle.rs_inventory.specs.declared.kind.Kind.{Kind}
+use Rattle.rs_inventory.specs.declared.peer.Peer.{Peer}
+use Rattle.rs_inventory.proofs.PeerLemmas.{counted-more}
+
+map-push : {X Y : Type 0} (f : X → Y) (xs : List X) (x : X) → map f (xs ++ x ∷ []) ≡ map f xs ++ f x ∷ []
+map-push f [] x = refl
+map-push f (y ∷ xs) x = ap (λ rest. f y ∷ rest) (map-push f xs x)
+
+-- ---- times
+
+le_or : (m n : ℕ) → (m ≤ n) ⊎ (n ≤ m)
+le_or m n = elim (cases_Bool (leb m n)) [ inl is ↦ inl (leb-true m n is) | inr isnt ↦ let below : n < m = leb-false m n isnt in inr (omega arith) ]
+
+earliest-push : (times : List ℕ) (first : Option ℕ) (time : ℕ) → IsEarliest times first → IsEarliest (times ++ time ∷ []) (Some (earlier_of first time))
+earliest-push times None time none =
+    (Contains-push times time, All-push (λ other. time ≤ other) times time (subst (λ (ts : List ℕ). All (λ other. time ≤ other) ts) (sym none) (λ k d k<. absurd (omega arith))) (omega arith))
+earliest-push times (Some first) time is =
+    elim (le_or first time) [
+      | inl before ↦ let e : min first time ≡ first = omega arith in
+          rw e ((Contains-append_left times (time ∷ []) first is.0, All-push (λ other. first ≤ other) times time is.1 before))
+      | inr after ↦ let e : min first time ≡ time = omega arith in
+          rw e ((Contains-push times time, All-push (λ other. time ≤ other) times time (All-weaker (λ other. first ≤ other) (λ other. time ≤ other) (λ x le. omega arith) times is.1) (omega arith)))
+    ]
+
+latest-push : (times : List ℕ) (last : Option ℕ) (time : ℕ) → IsLatest times last → IsLatest (times ++ time ∷ []) (Some (later_of last time))
+latest-push times None time none =
+    (Contains-push times time, All-push (λ other. other ≤ time) times time (subst (λ (ts : List ℕ). All (λ other. other ≤ time) ts) (sym none) (λ k d k<. absurd (omega arith))) (omega arith))
+latest-push times (Some last) time is =
+    elim (le_or last time) [
+      | inl before ↦ let e : max last time ≡ time = omega arith in
+          rw e ((Contains-push times time, All-push (λ other. other ≤ time) times time (All-weaker (λ other. other ≤ last) (λ other. other ≤ time) (λ x le. omega arith) times is.1) (omega arith)))
+      | inr after ↦ let e : max last time ≡ last = omega arith in
+          rw e ((Contains-append_left times (time ∷ []) last is.0, All-push (λ other. other ≤ last) times time is.1 (omega arith)))
+    ]
+
+-- ---- kinds
+
+kinds-push : (kind : Kind) (findings : List Finding) (one : Finding) (count : ℕ) → count ≡ counted (count_by (λ f. is_kind kind f.kind) findings)
+    → cond (is_kind kind one.kind) (counted (count + 1)) count ≡ counted (count_by (λ f. is_kind kind f.kind) (findings ++ one ∷ []))
+kinds-push kind findings one count is =
+    rw (sum_by_push (λ (f : Finding). cond (is_kind kind f.kind) 1 0) findings one)
+    (elim (cases_Bool (is_kind kind one.kind)) [
+      | inl same ↦ rw (same, is) (sym (counted-more (count_by (λ f. is_kind kind f.kind) findings) 1))
+      | inr other ↦ rw (other, is) (sym (ap counted (omega arith)))
+    ])
+
+-- ---- octets
+
+abbrev plus : Option ℕ → Option ℕ → Option ℕ
+plus None other = None
+plus (Some n) other = option_map (λ m. n + m) other
+
+plus-assoc : (n : ℕ) (one other : Option ℕ) → option_map (λ m. n + m) (plus one other) ≡ plus (option_map (λ m. n + m) one) other
+plus-assoc n None other = refl
+plus-assoc n (Some m) None = refl
+plus-assoc n (Some m) (Some k) = ap Some (omega arith)
+
+sum-push : (known : List (Option ℕ)) (one : Option ℕ) → known_sum (known ++ one ∷ []) ≡ plus (known_sum known) one
+sum-push [] None = refl
+sum-push [] (Some n) = ap Some (omega arith)
+sum-push (None ∷ later) one = refl
+sum-push (Some n ∷ later) one = ap (option_map (λ m. n + m)) (sum-push later one) ∙ plus-assoc n (known_sum later) one
+
+counted-plus : (one other : Option ℕ) → option_map counted (plus one other) ≡ sum_of (option_map counted one) other
+counted-plus None other = refl
+counted-plus (Some n) None = refl
+counted-plus (Some n) (Some m) = ap Some (counted-more n m)
+
+known_sum-push : (known : List (Option ℕ)) (one : Option ℕ) → option_map counted (known_sum (known ++ one ∷ [])) ≡ sum_of (option_map counted (known_sum known)) one
+known_sum-push known one = ap (option_map counted) (sum-push known one) ∙ counted-plus (known_sum known) one
+
+-- ---- the recorder
+
+first_found-push : {X Y : Type 0} (ask : X → Option Y) (xs : List X) (x : X) → first_found ask (xs ++ x ∷ []) ≡ first_of (first_found ask xs) (ask x)
+first_found-push ask [] x = elim (ask x) as (λ o. option_or o None ≡ o) [ None ↦ refl | Some y ↦ refl ]
+first_found-push ask (y ∷ xs) x =
+    elim (ask y) as (λ o. option_or o (first_found ask (xs ++ x ∷ [])) ≡ first_of (option_or o (first_found ask xs)) (ask x)) [
+      | None ↦ first_found-push ask xs x
+      | Some z ↦ refl
+    ]
+
+-- ---- peers
+
+peers_total : IsTotalOrder peer_cmp
+peers_total = then_total (on_total (λ (p : Peer). p.address) nat_cmp_total) (on_total (λ (p : Peer). p.asn) nat_cmp_total)
+
+then_first : (r s : Ordering) → ordering_then r s ≡ Equal → r ≡ Equal
+then_first Less s e = cc e
+then_first Equal s e = refl
+then_first Greater s e = cc e
+
+then_second : (r s : Ordering) → ordering_then r s ≡ Equal → s ≡ Equal
+then_second Less s e = cc e
+then_second Equal s e = e
+then_second Greater s e = cc e
+
+same_peer-true : (x y : Peer) → same_peer x y ≡ true → x ≡ y
+same_peer-true x y e =
+    let equal = (Equal-is (peer_cmp x y)).0 e in
+    let address : x.address ≡ y.address = nat_cmp-IsAntisymmetric x.address y.address (then_first _ _ equal) in
+    let asn : x.asn ≡ y.asn = nat_cmp-IsAntisymmetric x.asn y.asn (then_second (nat_cmp x.address y.address) _ equal) in
+    λ i. record { address = address i; asn = asn i }
+
+-- what is known of one peer becomes what it is with one record more
+pub takes-one : (old new : List (Peer × PeerContent)) (note : Note) (time : ℕ) (was : Option PeerContent) (now : PeerContent) → peer_at old note.peer ≡ was
+    → ((peer : Peer) → peer_at new peer ≡ cond (same_peer note.peer peer) (Some now) (peer_at old peer))
+    → ((told : List Told) → was ≡ known_of told → Some now ≡ known_of (told ++ (time, note.news) ∷ [])) → TakesNote old time (Some note) new
+takes-one old new note time was now before updates next = λ peer told is.
+    elim (cases_Bool (same_peer note.peer peer)) [
+      | inl same ↦
+          let here : peer_at new peer ≡ Some now = rw same at (updates peer) in
+          let one : peer_at old note.peer ≡ peer_at old peer = ap (peer_at old) (same_peer-true note.peer peer same) in
+          rw same (here ∙ next told (sym before ∙ one ∙ is))
+      | inr other ↦
+          let here : peer_at new peer ≡ peer_at old peer = rw other at (updates peer) in
+          rw other (here ∙ is ∙ ap known_of (sym (append-nil told)))
+    ]
+
+pub next-new : (time : ℕ) (one : News) (now : PeerContent) → TellsMore (peer_content []) time one now → (told : List Told) → None ≡ known_of told
+    → Some now ≡ known_of (told ++ (time, one) ∷ [])
+next-new time one now tells [] none = ap Some (tells [] refl)
+next-new time one now tells (t ∷ told) none = absurd (cc none)
+
+known-one : (was : PeerContent) (o : Option PeerContent) → Some was ≡ o → (p : PeerContent) → o ≡ Some p → was ≡ p
+known-one was o e p f = cc (e ∙ f)
+
+pub next-known : (was : PeerContent) (time : ℕ) (one : News) (now : PeerContent) → TellsMore was time one now → (told : List Told) → Some was ≡ known_of told
+    → Some now ≡ known_of (told ++ (time, one) ∷ [])
+next-known was time one now tells [] some = absurd (cc some)
+next-known was time one now tells (t ∷ told) some = ap Some (tells (t ∷ told) (known-one was (known_of (t ∷ told)) some (peer_content (t ∷ told)) refl))
+
+-- ---- all
+
+pub holds-more : (findings : List Finding) (one : Finding) (old mid new : Content) → Holds findings old
+    → mid ≡ record old { peers = mid.peers } → TakesNote old.peers one.time one.note mid.peers → WithCounts one mid new → Holds (findings ++ one ∷ []) new
+holds-more findings one old mid new holds same takes counts = record {
+  records = counts.records ∙ ap (λ (c : Content). counted (c.records + 1)) same ∙ ap (λ n. counted (n + 1)) holds.records
+      ∙ sym (counted-more (length findings) 1) ∙ ap counted (sym (length-append findings (one ∷ [])));
+  kinds = λ kind. counts.kinds kind ∙ kinds-push kind findings one (slice_index mid.kinds (place_of kind)) (ap (λ (c : Content). slice_index c.kinds (place_of kind)) same ∙ holds.kinds kind);
+  first = subst (λ (o : Option ℕ). IsEarliest (map (λ f. f.time) (findings ++ one ∷ [])) o) (sym (counts.first ∙ ap (λ (c : Content). Some (earlier_of c.first one.time)) same))
+      (rw (map-push (λ (f : Finding). f.time) findings one) (earliest-push (map (λ f. f.time) findings) old.first one.time holds.first));
+  last = subst (λ (o : Option ℕ). IsLatest (map (λ f. f.time) (findings ++ one ∷ [])) o) (sym (counts.last ∙ ap (λ (c : Content). Some (later_of c.last one.time)) same))
+      (rw (map-push (λ (f : Finding). f.time) findings one) (latest-push (map (λ f. f.time) findings) old.last one.time holds.last));
+  octets = counts.octets ∙ ap (λ (c : Content). sum_of c.octets one.octets) same ∙ ap (λ o. sum_of o one.octets) holds.octets
+      ∙ sym (known_sum-push (map (λ f. f.octets) findings) one.octets) ∙ ap (λ l. option_map counted (known_sum l)) (sym (map-push (λ (f : Finding). f.octets) findings one));
+  recorder = counts.recorder ∙ ap (λ (c : Content). first_of c.recorder one.recorder) same ∙ ap (λ o. first_of o one.recorder) holds.recorder
+      ∙ sym (first_found-push (λ (f : Finding). f.recorder) findings one);
+  peers = λ peer. ap (λ ps. peer_at ps peer) counts.peers ∙ takes peer (told_of peer findings) (holds.peers peer)
+      ∙ ap known_of (sym (filter_map-append (λ (f : Finding). told_in peer f.time f.note) findings (one ∷ [])));
+}

@@ -1,0 +1,6 @@
+mod SessionLemmas
+mod PeerLemmas
+mod InventoryLemmas
+mod ItemLemmas
+mod FrontLemmas
+mod ReadingLemmas

@@ -1,0 +1,64 @@
+-- A reader whose first octets were taken, and which gives them again. Nothing here is of a standard: all of it is our choice.
+use Rattle.std.specs.Prelude.{◌≡◌, ℕ, ◌||◌, nat_le, Bool, true, false, List, [], ◌++◌, length, refl}
+use Rattle.rs_mrt.specs.Reader.{ReadEnd, FileEnds, SomethingIsGiven}
+
+-- octets that were taken of a reader, and whether it has no more
+pub record Taken : Type 0 where
+  pub octets : List ℕ
+  pub ended : Bool
+
+-- the octets that were taken and not yet given again, whether the reader has no more, and the reader
+pub record Rewound (R : Type 0) : Type 0 where
+  pub held : List ℕ
+  pub ended : Bool
+  pub inner : R
+
+-- what may come of a reader that may have no more
+abbrev pub GivesUnlessEnded : {R : Type 0} → (R → List ℕ → ReadEnd → Type 0) → Bool → R → List ℕ → ReadEnd → Type 0
+GivesUnlessEnded gives true inner octets end = (octets ≡ []) × (end ≡ FileEnds)
+GivesUnlessEnded gives false inner octets end = gives inner octets end
+
+-- the octets that were taken may come, and then what the reader may give
+pub record RewoundGives {R : Type 0} (gives : R → List ℕ → ReadEnd → Type 0) (whole : Rewound R) (octets : List ℕ) (end : ReadEnd) : Type 0 where
+  pub later : List ℕ
+  pub splits : octets ≡ whole.held ++ later
+  pub given : GivesUnlessEnded gives whole.ended whole.inner later end
+
+unless_ended : {R : Type 0} (gives : R → List ℕ → ReadEnd → Type 0) (ended : Bool) (inner : R)
+    → SomethingIsGiven (gives inner) → SomethingIsGiven (GivesUnlessEnded gives ended inner)
+unless_ended gives true inner some = ([], FileEnds, (refl, refl))
+unless_ended gives false inner some = some
+
+-- something always may
+pub rewound_may_come : {R : Type 0} (gives : R → List ℕ → ReadEnd → Type 0) → ((inner : R) → SomethingIsGiven (gives inner))
+    → (whole : Rewound R) → SomethingIsGiven (RewoundGives gives whole)
+rewound_may_come gives some whole =
+    let inner = unless_ended gives whole.ended whole.inner (some whole.inner) in
+    (whole.held ++ inner.0, inner.1, record { later = inner.0; splits = refl; given = inner.2 })
+
+-- nothing was given again yet
+abbrev pub rewound : {R : Type 0} → Taken → R → Rewound R
+rewound front inner = record { held = front.octets; ended = front.ended; inner = inner }
+
+-- how many octets tell whether a file is compressed
+abbrev pub front_len : ℕ
+front_len = 6
+
+-- how many there is room for
+abbrev pub room_len : ℕ
+room_len = 12
+
+-- so many were taken, or the reader has no more
+abbrev pub is_done : Taken → Bool
+is_done front = front.ended || nat_le front_len (length front.octets)
+
+-- Whatever may come of the octets that were taken and then the reader might come of the reader before, and a reader without more is only
+-- found at the end of its octets.
+abbrev pub IsFrontOf : {R : Type 0} → (R → List ℕ → ReadEnd → Type 0) → R → R → Taken → Type 0
+IsFrontOf gives old new front = (octets : List ℕ) → (end : ReadEnd) → RewoundGives gives (rewound front new) octets end → gives old octets end
+
+-- one call took more
+abbrev pub TakesMore : {R : Type 0} → (R → List ℕ → ReadEnd → Type 0) → (R → ℕ) → Taken → R → Taken → R → Type 0
+TakesMore gives failures front old more new =
+    ((octets : List ℕ) → (end : ReadEnd) → RewoundGives gives (rewound more new) octets end → RewoundGives gives (rewound front old) octets end)
+    × (failures new ≡ failures old)

@@ -1,0 +1,126 @@
+-- What the records of a file hold, all of them.
+use Rattle.std.specs.Prelude.{◌≡◌, ◌≤◌, ℕ, ◌+◌, Bool, if◌then◌else◌, List, [], ◌∷◌, ◌++◌, All, Contains, length, map, min, max, slice_index, Option, Some, None, count_by, filter_map}
+use Rattle.std.specs.BTreeMap.{is_at}
+use Rattle.std.specs.List.{cons_option}
+use Rattle.std.specs.Map.{lookup}
+use Rattle.std.specs.Option.{option_map}
+use Rattle.std.specs.Ordering.{eq_by_cmp, nat_cmp, ordering_then}
+use Rattle.std.specs.declared.cmp.Ordering.{Ordering}
+use Rattle.rs_mrt.specs.declared.fault.MrtFault.{MrtFault}
+use Rattle.rs_inventory.specs.Kind.{is_kind, place_of}
+use Rattle.rs_inventory.specs.Opening.{first_found}
+use Rattle.rs_inventory.specs.Peer.{PeerContent, Told, counted, peer_content}
+use Rattle.rs_inventory.specs.declared.compression.Compression.{Compression}
+use Rattle.rs_inventory.specs.declared.finding.Finding.{Finding}
+use Rattle.rs_inventory.specs.declared.finding.Note.{Note}
+use Rattle.rs_inventory.specs.declared.kind.Kind.{Kind}
+use Rattle.rs_inventory.specs.declared.peer.Peer.{Peer}
+
+-- the order of peers: by address, then by AS number
+abbrev pub peer_cmp : Peer → Peer → Ordering
+peer_cmp one other = ordering_then (nat_cmp one.address other.address) (nat_cmp one.asn other.asn)
+
+-- what is known of a file: `kinds` has a count at the place of each kind, `peers` the peers in ascending order
+pub record Content : Type 0 where
+  pub compression : Option Compression
+  pub end : Option MrtFault
+  pub records : ℕ
+  pub kinds : List ℕ
+  pub first : Option ℕ
+  pub last : Option ℕ
+  pub octets : Option ℕ
+  pub recorder : Option Peer
+  pub peers : List (Peer × PeerContent)
+
+-- ---- times
+
+abbrev pub IsEarliest : List ℕ → Option ℕ → Type 0
+IsEarliest times None = times ≡ []
+IsEarliest times (Some time) = Contains times time × All (λ other. time ≤ other) times
+
+abbrev pub IsLatest : List ℕ → Option ℕ → Type 0
+IsLatest times None = times ≡ []
+IsLatest times (Some time) = Contains times time × All (λ other. other ≤ time) times
+
+-- ---- peers
+
+abbrev pub same_peer : Peer → Peer → Bool
+same_peer = eq_by_cmp peer_cmp
+
+-- what a record tells of a peer
+abbrev pub told_in : Peer → ℕ → Option Note → Option Told
+told_in peer time None = None
+told_in peer time (Some note) = if same_peer note.peer peer then Some (time, note.news) else None
+
+-- what all records tell of a peer
+abbrev pub told_of : Peer → List Finding → List Told
+told_of peer findings = filter_map (λ f. told_in peer f.time f.note) findings
+
+-- a peer is known where a record tells of it
+abbrev pub known_of : List Told → Option PeerContent
+known_of [] = None
+known_of (one ∷ later) = Some (peer_content (one ∷ later))
+
+abbrev pub peer_at : List (Peer × PeerContent) → Peer → Option PeerContent
+peer_at peers peer = lookup (is_at (peer_cmp peer)) peers
+
+-- ---- octets
+
+-- the sum of numbers, where each is known
+abbrev pub known_sum : List (Option ℕ) → Option ℕ
+known_sum [] = Some 0
+known_sum (None ∷ later) = None
+known_sum (Some n ∷ later) = option_map (λ m. n + m) (known_sum later)
+
+-- ---- all records
+
+-- what these records hold is this: as many records, as many of each kind, their earliest and latest times, their octets, the first recorder
+-- that is named, and of each peer what its records say
+pub record Holds (findings : List Finding) (content : Content) : Type 0 where
+  pub records : content.records ≡ counted (length findings)
+  pub kinds : (kind : Kind) → slice_index content.kinds (place_of kind) ≡ counted (count_by (λ f. is_kind kind f.kind) findings)
+  pub first : IsEarliest (map (λ f. f.time) findings) content.first
+  pub last : IsLatest (map (λ f. f.time) findings) content.last
+  pub octets : content.octets ≡ option_map counted (known_sum (map (λ f. f.octets) findings))
+  pub recorder : content.recorder ≡ first_found (λ f. f.recorder) findings
+  pub peers : (peer : Peer) → peer_at content.peers peer ≡ known_of (told_of peer findings)
+
+-- whatever records held this, with one record more they hold that
+abbrev pub TakesFinding : Content → Finding → Content → Type 0
+TakesFinding old one new = (findings : List Finding) → Holds findings old → Holds (findings ++ one ∷ []) new
+
+-- ---- one record more
+
+-- what is known of each peer becomes what it is with what one record more tells of it
+abbrev pub TakesNote : List (Peer × PeerContent) → ℕ → Option Note → List (Peer × PeerContent) → Type 0
+TakesNote old time note new = (peer : Peer) → (told : List Told) → peer_at old peer ≡ known_of told
+    → peer_at new peer ≡ known_of (told ++ cons_option (told_in peer time note) [])
+
+abbrev pub earlier_of : Option ℕ → ℕ → ℕ
+earlier_of None time = time
+earlier_of (Some first) time = min first time
+
+abbrev pub later_of : Option ℕ → ℕ → ℕ
+later_of None time = time
+later_of (Some last) time = max last time
+
+abbrev pub sum_of : Option ℕ → Option ℕ → Option ℕ
+sum_of None other = None
+sum_of (Some n) other = option_map (λ m. counted (n + m)) other
+
+abbrev pub first_of : {X : Type 0} → Option X → Option X → Option X
+first_of None other = other
+first_of (Some x) other = Some x
+
+-- the counts and times with one record more
+pub record WithCounts (one : Finding) (old new : Content) : Type 0 where
+  pub compression : new.compression ≡ old.compression
+  pub end : new.end ≡ old.end
+  pub records : new.records ≡ counted (old.records + 1)
+  pub kinds : (kind : Kind) → slice_index new.kinds (place_of kind)
+      ≡ (if is_kind kind one.kind then counted (slice_index old.kinds (place_of kind) + 1) else slice_index old.kinds (place_of kind))
+  pub first : new.first ≡ Some (earlier_of old.first one.time)
+  pub last : new.last ≡ Some (later_of old.last one.time)
+  pub octets : new.octets ≡ sum_of old.octets one.octets
+  pub recorder : new.recorder ≡ first_of old.recorder one.recorder
+  pub peers : new.peers ≡ old.peers

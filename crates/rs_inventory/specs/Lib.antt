@@ -1,0 +1,9 @@
+pub mod Compression
+pub mod Front
+pub mod Kind
+pub mod Opening
+pub mod Finding
+pub mod Sessions
+pub mod Peer
+pub mod Inventory
+pub mod Reading

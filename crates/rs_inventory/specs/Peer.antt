@@ -1,0 +1,162 @@
+-- What the records of one peer say.
+use Rattle.std.specs.Prelude.{◌≡◌, ℕ, ◌==◌, ◌^◌, ◌+◌, ◌-◌, min, Bool, true, false, if◌then◌else◌, List, [], ◌∷◌, ◌++◌, length, slice_get, Option, Some, None, sum_by, count_by, filter_map}
+use Rattle.rs_inventory.specs.Sessions.{Event, Up, Down, sessions_of, with_end}
+use Rattle.rs_inventory.specs.declared.finding.News.{News}
+use Rattle.rs_inventory.specs.declared.finding.News.TheVariants as news
+use Rattle.rs_inventory.specs.declared.sessions.SessionTimes.{SessionTimes}
+
+-- a count stops at the largest number of 64 bits (our choice)
+abbrev pub counted : ℕ → ℕ
+counted n = min n (2 ^ 64 - 1)
+
+-- it is a message of a session with four-octet AS numbers
+abbrev pub is_message : News → Bool
+is_message (news.Update announced withdrawn) = true
+is_message (news.Open identifier) = true
+is_message news.Notification = true
+is_message news.Message = true
+is_message news.Faulty = true
+is_message news.Up = false
+is_message news.Down = false
+is_message news.State = false
+is_message (news.TwoOctetOpen identifier) = false
+
+-- it is a change of state
+abbrev pub is_state_change : News → Bool
+is_state_change (news.Update announced withdrawn) = false
+is_state_change (news.Open identifier) = false
+is_state_change news.Notification = false
+is_state_change news.Message = false
+is_state_change news.Faulty = false
+is_state_change news.Up = true
+is_state_change news.Down = true
+is_state_change news.State = true
+is_state_change (news.TwoOctetOpen identifier) = false
+
+-- it is a message with a fault
+abbrev pub is_faulty : News → Bool
+is_faulty (news.Update announced withdrawn) = false
+is_faulty (news.Open identifier) = false
+is_faulty news.Notification = false
+is_faulty news.Message = false
+is_faulty news.Faulty = true
+is_faulty news.Up = false
+is_faulty news.Down = false
+is_faulty news.State = false
+is_faulty (news.TwoOctetOpen identifier) = false
+
+-- how many prefixes it announces, and withdraws
+abbrev pub announced_by : News → ℕ
+announced_by (news.Update announced withdrawn) = announced
+announced_by (news.Open identifier) = 0
+announced_by news.Notification = 0
+announced_by news.Message = 0
+announced_by news.Faulty = 0
+announced_by news.Up = 0
+announced_by news.Down = 0
+announced_by news.State = 0
+announced_by (news.TwoOctetOpen identifier) = 0
+
+abbrev pub withdrawn_by : News → ℕ
+withdrawn_by (news.Update announced withdrawn) = withdrawn
+withdrawn_by (news.Open identifier) = 0
+withdrawn_by news.Notification = 0
+withdrawn_by news.Message = 0
+withdrawn_by news.Faulty = 0
+withdrawn_by news.Up = 0
+withdrawn_by news.Down = 0
+withdrawn_by news.State = 0
+withdrawn_by (news.TwoOctetOpen identifier) = 0
+
+-- the BGP Identifier that it tells
+abbrev pub identifier_in : News → Option ℕ
+identifier_in (news.Update announced withdrawn) = None
+identifier_in (news.Open identifier) = Some identifier
+identifier_in news.Notification = None
+identifier_in news.Message = None
+identifier_in news.Faulty = None
+identifier_in news.Up = None
+identifier_in news.Down = None
+identifier_in news.State = None
+identifier_in (news.TwoOctetOpen identifier) = Some identifier
+
+-- what it says of a session: a NOTIFICATION ends one too (RFC 4271, section 6.4)
+abbrev pub event_at : ℕ → News → Option Event
+event_at time (news.Update announced withdrawn) = None
+event_at time (news.Open identifier) = None
+event_at time news.Notification = Some (Down time)
+event_at time news.Message = None
+event_at time news.Faulty = None
+event_at time news.Up = Some (Up time)
+event_at time news.Down = Some (Down time)
+event_at time news.State = None
+event_at time (news.TwoOctetOpen identifier) = None
+
+-- whether a number is this one
+abbrev pub is_same : Option ℕ → ℕ → Bool
+is_same None n = false
+is_same (Some m) n = m == n
+
+-- the numbers that differ from the one before, which is `before` at the first
+abbrev pub changing : Option ℕ → List ℕ → List ℕ
+changing before [] = []
+changing before (n ∷ later) = if is_same before n then changing (Some n) later else n ∷ changing (Some n) later
+
+-- what is known of a peer
+pub record PeerContent : Type 0 where
+  pub messages : ℕ
+  pub state_changes : ℕ
+  pub faulty : ℕ
+  pub announced : ℕ
+  pub withdrawn : ℕ
+  pub identifiers : List ℕ
+  pub sessions : List SessionTimes
+
+-- what a record says of a peer, with its Timestamp
+abbrev pub Told : Type 0
+Told = ℕ × News
+
+-- what the records of a peer say, all of them
+unfoldable pub peer_content : List Told → PeerContent
+peer_content told = record {
+  messages = counted (count_by (λ t. is_message t.1) told);
+  state_changes = counted (count_by (λ t. is_state_change t.1) told);
+  faulty = counted (count_by (λ t. is_faulty t.1) told);
+  announced = counted (sum_by (λ t. announced_by t.1) told);
+  withdrawn = counted (sum_by (λ t. withdrawn_by t.1) told);
+  identifiers = changing None (filter_map (λ t. identifier_in t.1) told);
+  sessions = sessions_of (filter_map (λ t. event_at t.0 t.1) told);
+}
+
+-- whatever records said this, with one record more they say that
+abbrev pub TellsMore : PeerContent → ℕ → News → PeerContent → Type 0
+TellsMore old time one new = (told : List Told) → old ≡ peer_content told → new ≡ peer_content (told ++ (time, one) ∷ [])
+
+-- ---- one record more
+
+abbrev pub cond_one : Bool → ℕ
+cond_one b = if b then 1 else 0
+
+abbrev pub with_counts : News → PeerContent → PeerContent
+with_counts one p = record p {
+  messages = counted (p.messages + cond_one (is_message one));
+  state_changes = counted (p.state_changes + cond_one (is_state_change one));
+  faulty = counted (p.faulty + cond_one (is_faulty one));
+  announced = counted (p.announced + announced_by one);
+  withdrawn = counted (p.withdrawn + withdrawn_by one);
+}
+
+abbrev pub with_next : List ℕ → Option ℕ → List ℕ
+with_next numbers None = numbers
+with_next numbers (Some n) = if is_same (slice_get numbers (length numbers - 1)) n then numbers else numbers ++ n ∷ []
+
+abbrev pub with_identifier : News → PeerContent → PeerContent
+with_identifier one p = record p { identifiers = with_next p.identifiers (identifier_in one) }
+
+abbrev pub with_event : Option Event → List SessionTimes → List SessionTimes
+with_event None sessions = sessions
+with_event (Some (Up time)) sessions = sessions ++ record { up = Some time; down = None } ∷ []
+with_event (Some (Down time)) sessions = with_end time sessions
+
+abbrev pub with_session : ℕ → News → PeerContent → PeerContent
+with_session time one p = record p { sessions = with_event (event_at time one) p.sessions }

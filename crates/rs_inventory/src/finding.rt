@@ -1,0 +1,299 @@
+//! What one record adds to an inventory.
+
+ghost use Rattle.std.specs.Prelude.{◌≡◌, ◌≤◌, length, IfOk, IsTrue};
+ghost use Rattle.rs_mrt.specs.Record.{record_of};
+ghost use Rattle.rs_update.specs.Message.{message_of};
+ghost use Rattle.rs_inventory.specs.Finding.{finding_of, is_ipv4_message, is_open, kind_of_message, known_octets, news_of_message, news_of_states, note_of, opener_of, recorder_in, two_octet_note, two_octet_open};
+ghost use Rattle.rs_inventory.specs.Kind.{fields_of};
+ghost use Rattle.rs_inventory.specs.Opening.{sender_as};
+ghost use Rattle.rs_inventory.specs.declared.finding.News.TheVariants as news;
+
+use crate::kind::{Kind, MESSAGE, session_fields};
+use crate::opening::{four_octet_as, identifier};
+use crate::peer::Peer;
+use byteorder::{BigEndian, ByteOrder};
+use rs_mrt::{AFI_IPV4, Entry, FRONT_LEN, HEADER_LEN, Record, entry};
+use rs_update::{Message, MessageFault, Update, read_message};
+use std::alloc::{AllocError, Global};
+
+/// What one record adds to an inventory.
+#[derive(Clone, Copy, Debug, PartialEq, Eq)]
+pub(crate) struct Finding {
+    /// The record's Timestamp, in seconds since 1970.
+    pub time: u32,
+    /// What kind of record it is.
+    pub kind: Kind,
+    /// How many octets it has, its header counted; none where it is longer than any of a session, so that not all are
+    /// there.
+    pub octets: Option<u64>,
+    /// Who recorded it, where it is a message of a session with four-octet AS numbers.
+    pub recorder: Option<Peer>,
+    /// What it says of a peer.
+    pub note: Option<Note>,
+}
+
+/// What a record says of a peer.
+#[derive(Clone, Copy, Debug, PartialEq, Eq)]
+pub(crate) struct Note {
+    /// Of whom.
+    pub peer: Peer,
+    /// What.
+    pub news: News,
+}
+
+/// What a record can say of a peer.
+#[derive(Clone, Copy, Debug, PartialEq, Eq)]
+pub(crate) enum News {
+    /// It sent an UPDATE that lists so many prefixes.
+    Update {
+        /// As routes that it announces.
+        announced: u64,
+        /// As routes that it withdraws.
+        withdrawn: u64,
+    },
+    /// It sent an OPEN with this BGP Identifier.
+    Open(u32),
+    /// It sent a NOTIFICATION.
+    Notification,
+    /// It sent a KEEPALIVE or a ROUTE-REFRESH.
+    Message,
+    /// It sent a message with a fault.
+    Faulty,
+    /// Its session came up.
+    Up,
+    /// Its session went down.
+    Down,
+    /// Its session went from one state to another, neither of which is Established, or both.
+    State,
+    /// It sent an OPEN with this BGP Identifier, in a record of a session with two-octet AS numbers.
+    TwoOctetOpen(u32),
+}
+
+// State 6: the session is up (RFC 6396, section 4.4.1).
+const ESTABLISHED: u16 = 6;
+
+// The AS number that stands for one that two octets can't hold (RFC 6793, section 9).
+const AS_TRANS: u16 = 23456;
+
+// Where the Local AS and the Local IP Address of BGP4MP_MESSAGE_AS4 begin, and its message (RFC 6396, section 4.4.3).
+const LOCAL_AS_AT: usize = 4;
+
+const LOCAL_AT: usize = 16;
+
+const AS4_MESSAGE_AT: usize = 20;
+
+// Where the fields of BGP4MP_MESSAGE begin (RFC 6396, section 4.4.2).
+const FAMILY_AT: usize = 6;
+
+const PEER_AT: usize = 8;
+
+const MESSAGE_AT: usize = 16;
+
+impl Finding {
+    /// What a record adds. Refused, nothing is known of it.
+    pub(crate) fn of(alloc: Global, record: &Record<'_>) -> Result<Finding, AllocError>
+        ensures { IfOk result (λ finding. finding ≡ finding_of (record_of «record».now)) }
+    {
+        let nothing = Finding {
+            time: record.time,
+            kind: Kind::CutShort,
+            octets: octets_of(record),
+            recorder: None,
+            note: None,
+        };
+        match entry(record) {
+            Ok(
+                Entry::Message {
+                    peer_as,
+                    peer,
+                    message,
+                },
+            ) => {
+                let (kind, news) = message_news(alloc, message)?;
+                Ok(Finding {
+                    kind,
+                    recorder: recorder(record),
+                    note: Some(Note::of(peer, peer_as, news)),
+                    ..nothing
+                })
+            }
+            Ok(
+                Entry::State {
+                    peer_as,
+                    peer,
+                    old,
+                    new,
+                },
+            ) => Ok(Finding {
+                kind: Kind::StateChange,
+                note: Some(Note::of(peer, peer_as, state_news(old, new))),
+                ..nothing
+            }),
+            Ok(Entry::Other) => Ok(Finding {
+                kind: Kind::of_unread(record),
+                note: two_octet_note(alloc, record)?,
+                ..nothing
+            }),
+            Err(_) => Ok(nothing),
+        }
+    }
+}
+
+impl Note {
+    // News of a peer.
+    fn of(address: u32, asn: u32, news: News) -> Note
+        ensures { result ≡ note_of address asn news }
+    {
+        Note {
+            peer: Peer { address, asn },
+            news,
+        }
+    }
+}
+
+// How many octets a record has; none where it may be that not all are there.
+fn octets_of(record: &Record<'_>) -> Option<u64>
+    ensures { result ≡ known_octets «record».now.body.now }
+{
+    if record.body.len() < FRONT_LEN {
+        Some((HEADER_LEN + record.body.len()) as u64)
+    } else {
+        None
+    }
+}
+
+// Who recorded a message of a session with four-octet AS numbers.
+fn recorder(record: &Record<'_>) -> Option<Peer>
+    ensures { result ≡ recorder_in (fields_of (record_of «record».now)) }
+{
+    let fields = session_fields(record)?;
+    if fields.len() < AS4_MESSAGE_AT {
+        return None;
+    }
+    Some(Peer {
+        address: BigEndian::read_u32(&fields[LOCAL_AT..]),
+        asn: BigEndian::read_u32(&fields[LOCAL_AS_AT..]),
+    })
+}
+
+// What a message is, and what it says of its sender.
+fn message_news(alloc: Global, octets: &[u8]) -> Result<(Kind, News), AllocError>
+    ensures kind { IfOk result (λ (kind, news). kind ≡ kind_of_message (message_of octets.now)) }
+    ensures news { IfOk result (λ (kind, news). news ≡ news_of_message octets.now (message_of octets.now)) }
+{
+    match read_message(alloc, octets) {
+        Ok(Message::Open) => Ok((Kind::Open, News::Open(identifier(octets)))),
+        Ok(Message::Update(update)) => Ok((Kind::Update, update_news(update))),
+        Ok(Message::Notification) => Ok((Kind::Notification, News::Notification)),
+        Ok(Message::KeepAlive) => Ok((Kind::KeepAlive, News::Message)),
+        Ok(Message::Refresh) => Ok((Kind::RouteRefresh, News::Message)),
+        // Only by RFC 7606 is an UPDATE treated.
+        Ok(
+            Message::Treated {
+                withdrawn: _withdrawn,
+                nlri: _nlri,
+            },
+        ) => Ok((Kind::Faulty, News::Faulty)),
+        Err(MessageFault::Bgp { .. }) => Ok((Kind::Faulty, News::Faulty)),
+        Err(MessageFault::Memory) => Err(AllocError),
+    }
+}
+
+// What an UPDATE says.
+fn update_news(update: Update) -> News
+    ensures { result ≡ news.Update (length update.nlri.items) (length update.withdrawn.items) }
+{
+    News::Update {
+        announced: update.nlri.len() as u64,
+        withdrawn: update.withdrawn.len() as u64,
+    }
+}
+
+// What a change of state says of the peer.
+fn state_news(old: u16, new: u16) -> News
+    ensures { result ≡ news_of_states old new }
+{
+    if new == ESTABLISHED && old != ESTABLISHED {
+        News::Up
+    } else if old == ESTABLISHED && new != ESTABLISHED {
+        News::Down
+    } else {
+        News::State
+    }
+}
+
+// What a record of a session with two-octet AS numbers says of a peer: only an OPEN is read, since some recorders
+// write each OPEN so.
+#[tactic(auto, unfolding(crate::specs::Finding::two_octet_note))]
+fn two_octet_note(alloc: Global, record: &Record<'_>) -> Result<Option<Note>, AllocError>
+    ensures { IfOk result (λ note. note ≡ two_octet_note (record_of «record».now)) }
+{
+    if record.subtype != MESSAGE {
+        return Ok(None);
+    }
+    match session_fields(record) {
+        Some(fields) => two_octet_open(alloc, fields),
+        None => Ok(None),
+    }
+}
+
+// What the OPEN says that stands behind the fields of a session with two-octet AS numbers and an IPv4 peer.
+fn two_octet_open(alloc: Global, fields: &[u8]) -> Result<Option<Note>, AllocError>
+    ensures { IfOk result (λ note. note ≡ two_octet_open fields.now) }
+{
+    if !is_ipv4_message(fields) {
+        return Ok(None);
+    }
+    if !is_open(alloc, &fields[MESSAGE_AT..])? {
+        return Ok(None);
+    }
+    Ok(Some(opener(fields)))
+}
+
+// Whether fields of a session with two-octet AS numbers are those of an IPv4 peer, with a message behind them.
+fn is_ipv4_message(fields: &[u8]) -> bool
+    ensures value { result ≡ is_ipv4_message fields.now }
+    ensures bound { IsTrue result → 16 ≤ length fields.now }
+{
+    fields.len() >= MESSAGE_AT && BigEndian::read_u16(&fields[FAMILY_AT..]) == AFI_IPV4
+}
+
+// What an OPEN says behind the fields of a session with two-octet AS numbers.
+#[tactic(auto, unfolding(crate::specs::Finding::opener_of))]
+fn opener(fields: &[u8]) -> Note
+    requires { 16 ≤ length fields.now }
+    ensures { result ≡ opener_of fields.now }
+{
+    let message = &fields[MESSAGE_AT..];
+    Note::of(
+        BigEndian::read_u32(&fields[PEER_AT..]),
+        sender_as(BigEndian::read_u16(fields), message),
+        News::TwoOctetOpen(identifier(message)),
+    )
+}
+
+// Whether a message is an OPEN.
+fn is_open(alloc: Global, octets: &[u8]) -> Result<bool, AllocError>
+    ensures { IfOk result (λ is. is ≡ is_open (message_of octets.now)) }
+{
+    match read_message(alloc, octets) {
+        Ok(Message::Open) => Ok(true),
+        Ok(_message) => Ok(false),
+        Err(MessageFault::Bgp { .. }) => Ok(false),
+        Err(MessageFault::Memory) => Err(AllocError),
+    }
+}
+
+// The AS number of the sender of an OPEN, recorded by two octets.
+#[tactic(auto, unfolding(crate::specs::Opening::sender_as))]
+fn sender_as(recorded: u16, octets: &[u8]) -> u32
+    ensures { result ≡ sender_as recorded octets.now }
+{
+    if recorded != AS_TRANS {
+        return u32::from(recorded);
+    }
+    match four_octet_as(octets) {
+        Some(asn) => asn,
+        None => u32::from(recorded),
+    }
+}

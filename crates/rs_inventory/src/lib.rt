@@ -1,0 +1,25 @@
+//! What recorded files hold: records by kind, times, peers with their sessions, and how a file ends (RFC 6396; RFC
+//! 4271).
+//!
+//! Reading order: `compression` (a file that isn't records), `kind` (what a record is), `opening` (what an OPEN
+//! tells), `finding` (what one record
+//! adds), `sessions`, `peer` (what is known of one peer), `inventory` (of one file), `front` and `reading` (how a
+//! file is read).
+#![tactic(auto)]
+
+mod compression;
+mod finding;
+mod front;
+mod inventory;
+mod kind;
+mod opening;
+mod peer;
+mod reading;
+mod sessions;
+
+pub use compression::Compression;
+pub use inventory::Inventory;
+pub use kind::Kind;
+pub use peer::{Peer, PeerRecords};
+pub use reading::{InventoryFault, read_inventory};
+pub use sessions::SessionTimes;

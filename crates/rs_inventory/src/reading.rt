@@ -1,0 +1,94 @@
+//! How a recorded file is read: once, in pieces, and of a compressed one only its first octets.
+
+ghost use Rattle.std.specs.Prelude.{◌≡◌, ◌+◌, ◌<◌, ◌≤◌, IfOk, IfSome, None};
+ghost use Rattle.rs_mrt.specs.RecordReading.{MayCome, unread};
+ghost use Rattle.rs_inventory.specs.Reading.{GivesFinding, IsInventoryOf};
+
+use crate::compression::Compression;
+use crate::finding::Finding;
+use crate::front::{Front, Whole};
+use crate::inventory::Inventory;
+use rs_mrt::{Failed, MrtFault, Read, RecordReader, Source, SourceFault};
+use std::alloc::{AllocError, Global};
+use thiserror::Error;
+
+/// Why there is no inventory of a file.
+#[derive(Clone, Copy, Debug, PartialEq, Eq, Drop, Error)]
+pub enum InventoryFault {
+    /// A read failed, or the file has 2^50 octets or more.
+    #[error("the file cannot be read whole")]
+    Read,
+    /// Memory was refused.
+    #[error("memory was refused")]
+    Memory,
+}
+
+impl From<AllocError> for InventoryFault {
+    fn from(_refused: AllocError) -> InventoryFault {
+        InventoryFault::Memory
+    }
+}
+
+impl From<Failed> for InventoryFault {
+    fn from(_failed: Failed) -> InventoryFault {
+        InventoryFault::Read
+    }
+}
+
+/// Reads a recorded file and tells what it holds. Memory is taken for its peers and their sessions, not for its octets.
+pub fn read_inventory<R: Read + Drop>(
+    alloc: Global,
+    mut reader: R,
+) -> Result<Inventory, InventoryFault>
+    requires { R.failures reader < u64.MAX }
+    // Of a file that isn't compressed it is the inventory of records that the reader may give, to their end.
+    ensures { IfOk result (λ held. held.compression ≡ None → IsInventoryOf (MayCome R.gives) (unread reader) held) }
+{
+    let front = Front::of(&mut reader)?;
+    if let Some(compression) = Compression::of(front.octets()) {
+        return Ok(Inventory::none(alloc, Some(compression)));
+    }
+    let source = RecordReader::new(Whole::new(front, reader));
+    let inventory = take_records(alloc, source)?;
+    Ok(inventory)
+}
+
+// The inventory of all records of a source.
+fn take_records<S: Source + Drop>(alloc: Global, mut source: S) -> Result<Inventory, InventoryFault>
+    ensures { IfOk result (IsInventoryOf S.comes source) }
+{
+    let mut inventory = Inventory::none(alloc, None);
+    let mut end = None;
+    while let Some(finding) = next_finding(alloc, &mut source, &mut end)? {
+        inventory.take(alloc, finding)?;
+    }
+    inventory.take_end(end);
+    Ok(inventory)
+}
+
+// Goes to the next record and tells what it adds; where there is none, tells how the records end.
+fn next_finding<S: Source>(
+    alloc: Global,
+    source: &mut S,
+    end: &mut Option<MrtFault>,
+) -> Result<Option<Finding>, InventoryFault>
+    ensures gives { IfOk result (GivesFinding S.comes source.old source.new end.new) }
+    ensures room { IfOk result (λ found. IfSome found (λ _. S.room source.new + 12 ≤ S.room source.old)) }
+{
+    match source.advance() {
+        Ok(true) => {}
+        Ok(false) => {
+            *end = None;
+            return Ok(None);
+        }
+        Err(SourceFault::Mrt(fault)) => {
+            *end = Some(fault);
+            return Ok(None);
+        }
+        Err(SourceFault::Read) => return Err(InventoryFault::Read),
+    }
+    let Some(record) = source.shown() else {
+        return Ok(None);
+    };
+    Ok(Some(Finding::of(alloc, &record)?))
+}

@@ -1,0 +1,96 @@
+//! When the sessions of a peer came up and went down, by the recorded changes of state (RFC 6396, section 4.4.1) and
+//! NOTIFICATIONs
+//! (RFC 4271, section 4.5).
+//!
+//! Our choices: a session comes up with a change to Established; the next event, where it is a loss, ends it; a loss
+//! before any other event
+//! ends a session of which it isn't recorded when it came up; a loss after a loss says nothing.
+
+ghost use Rattle.std.specs.Prelude.{◌≡◌, [], ◌∷◌, ◌++◌, OnOk, Some, None};
+ghost use Rattle.rs_inventory.specs.Sessions.{ended_at, with_end};
+
+use std::alloc::{AllocError, Global};
+use std::marker::Model;
+
+/// When a session came up and went down, in seconds since 1970.
+#[derive(Clone, Copy, Debug, PartialEq, Eq)]
+pub struct SessionTimes {
+    /// When it came up: none where that isn't recorded.
+    pub up: Option<u32>,
+    /// When it went down: none where that isn't recorded.
+    pub down: Option<u32>,
+}
+
+impl SessionTimes {
+    // The session, ended where it has no end.
+    fn ended_at(self, time: u32) -> SessionTimes
+        ensures { result ≡ ended_at time self }
+    {
+        match self.down {
+            None => SessionTimes {
+                up: self.up,
+                down: Some(time),
+            },
+            Some(_) => self,
+        }
+    }
+}
+
+/// The sessions of a peer, in order.
+#[derive(Debug, Drop)]
+pub(crate) struct Sessions {
+    times: Vec<SessionTimes>,
+}
+
+impl Model for Sessions {
+    ghost use Rattle.std.specs.Prelude.{List};
+    ghost use Rattle.rs_inventory.specs.declared.sessions.SessionTimes.{SessionTimes};
+
+    ghost Value = { List SessionTimes };
+
+    ghost view = { λ s. s.times.items };
+}
+
+impl Sessions {
+    /// No session yet.
+    pub(crate) fn none(alloc: Global) -> Sessions
+        ensures { result ≡ [] }
+    {
+        Sessions {
+            times: Vec::new(alloc),
+        }
+    }
+
+    /// A session came up.
+    pub(crate) fn comes_up(&mut self, time: u32) -> Result<(), AllocError>
+        ensures { OnOk result (self.new ≡ self.old ++ record { up = Some time; down = None } ∷ []) }
+    {
+        self.times.push(SessionTimes {
+            up: Some(time),
+            down: None,
+        })?;
+        Ok(())
+    }
+
+    /// The session went down.
+    pub(crate) fn goes_down(&mut self, time: u32) -> Result<(), AllocError>
+        ensures { OnOk result (self.new ≡ with_end time self.old) }
+    {
+        let Some(last) = self.times.pop() else {
+            self.times.push(SessionTimes {
+                up: None,
+                down: Some(time),
+            })?;
+            return Ok(());
+        };
+        self.times.push(last.ended_at(time))?;
+        Ok(())
+    }
+
+    /// When each came up and went down.
+    pub(crate) fn times(&self) -> &[SessionTimes]
+        ensures { result.now ≡ self.now }
+    {
+        &self.times
+    }
+}
