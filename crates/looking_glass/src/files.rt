@@ -39,8 +39,8 @@ pub fn open_files<R: AllocGlobal + Files>(
     Ok(files)
 }
 
-// Opens a file. One that can't be opened is named.
-fn open_file<R: AllocGlobal + Files>(
+/// Opens a file, and reads nothing yet. One that can't be opened is named.
+pub fn open_file<R: AllocGlobal + Files>(
     rt: &R,
     path: &str,
 ) -> Result<IoReader<BufReader<R::File>>, Ended>

@@ -12,11 +12,13 @@ mod files;
 mod lines;
 
 use ended::{Ended, OUT_OF_MEMORY};
-use files::{open_files, read_file};
+use files::{open_file, open_files, read_file};
 use lines::{MEMORY_LINE, line};
 use rs_glass::{History, Question, explain_all, read_happenings, read_sessions, replay};
 use rs_glass_texts::{history_json, history_text, why_json, why_text};
-use rs_glass_words::{HistoryQuery, Query, WhyQuery, WordsFault, read_query};
+use rs_glass_words::{HistoryQuery, PeersQuery, Query, WhyQuery, WordsFault, read_query};
+use rs_inventory::{InventoryFault, read_inventory};
+use rs_listing::{RecordedFile, as_json, as_text, as_toml};
 use rs_setup::{Setup, a_configuration_has_a_file_for_each_peer, read_setup};
 use std::env;
 use std::env::Env;
@@ -40,6 +42,7 @@ fn answer<R: AllocGlobal + Env + Files>(rt: &R) -> Result<String, Ended> {
     match command_line(rt)? {
         Query::Why(query) => why(rt, &query),
         Query::History(query) => history(rt, &query),
+        Query::Peers(query) => peers(rt, query),
     }
 }
 
@@ -124,6 +127,34 @@ fn history<R: AllocGlobal + Files>(rt: &R, query: &HistoryQuery) -> Result<Strin
         Ok(history_json(alloc, &setup.plan, &history)?)
     } else {
         Ok(history_text(alloc, &setup.plan, &history)?)
+    }
+}
+
+// What recorded files hold.
+fn peers<R: AllocGlobal + Files>(rt: &R, query: PeersQuery) -> Result<String, Ended> {
+    let alloc = rt.alloc();
+    let PeersQuery { files, json, toml } = query;
+    let mut held = Vec::new(alloc);
+    for path in files {
+        held.push(recorded_file(rt, path)?)
+            .map_err(|_| Ended::Memory)?;
+    }
+    if json {
+        Ok(as_json(alloc, &held)?)
+    } else if toml {
+        Ok(as_toml(alloc, &held)?)
+    } else {
+        Ok(as_text(alloc, &held)?)
+    }
+}
+
+// What the recorded file at a path holds.
+fn recorded_file<R: AllocGlobal + Files>(rt: &R, path: String) -> Result<RecordedFile, Ended> {
+    let reader = open_file(rt, &path)?;
+    match read_inventory(rt.alloc(), reader) {
+        Ok(inventory) => Ok(RecordedFile { path, inventory }),
+        Err(InventoryFault::Memory) => Err(Ended::Memory),
+        Err(InventoryFault::Read) => Err(Ended::Unread(path)),
     }
 }
 

@@ -26,6 +26,8 @@ const WHY_ABOUT: &str = "Why does a client get each peer's route to a prefix, or
 const HISTORY_ABOUT: &str =
     "What happened to a prefix, in the order of time, and what did a client get from then on?";
 
+const PEERS_ABOUT: &str = "What is in recorded files: which peers, sessions and prefixes?";
+
 // The program's command, with its subcommands.
 pub(crate) fn program<'a>(alloc: Global) -> Result<Command<'a>, AllocError> {
     let command = Command::new(alloc, "looking_glass")
@@ -36,7 +38,8 @@ pub(crate) fn program<'a>(alloc: Global) -> Result<Command<'a>, AllocError> {
         .arg_required_else_help(true);
     command
         .subcommand(why_command(alloc)?)?
-        .subcommand(history_command(alloc)?)
+        .subcommand(history_command(alloc)?)?
+        .subcommand(peers_command(alloc)?)
 }
 
 // `why`
@@ -62,6 +65,15 @@ fn history_command<'a>(alloc: Global) -> Result<Command<'a>, AllocError> {
         .arg(until(alloc))?
         .arg(errors(alloc))?
         .arg(json(alloc))
+}
+
+// `peers`
+fn peers_command<'a>(alloc: Global) -> Result<Command<'a>, AllocError> {
+    Command::new(alloc, "peers")
+        .about(PEERS_ABOUT)
+        .arg(files(alloc))?
+        .arg(json(alloc).conflicts_with("toml")?)?
+        .arg(toml(alloc))
 }
 
 // An option of one value.
@@ -112,4 +124,20 @@ fn json<'a>(alloc: Global) -> Arg<'a> {
         .long("json")
         .action(ArgAction::SetTrue)
         .help("Writes the answer as JSON")
+}
+
+fn toml<'a>(alloc: Global) -> Arg<'a> {
+    Arg::new(alloc, "toml")
+        .long("toml")
+        .action(ArgAction::SetTrue)
+        .help("Writes a configuration to start from")
+}
+
+fn files<'a>(alloc: Global) -> Arg<'a> {
+    Arg::new(alloc, "file")
+        .value_name("FILE")
+        .required(true)
+        .num_args(1..)
+        .action(ArgAction::Append)
+        .help("Recorded files (MRT)")
 }

@@ -8,6 +8,6 @@ mod query;
 mod values;
 mod words;
 
-pub use query::{HistoryQuery, Query, WhyQuery, WordsFault};
+pub use query::{HistoryQuery, PeersQuery, Query, WhyQuery, WordsFault};
 pub use values::{PREFIX_FORM, TIME_FORM};
 pub use words::read_query;

@@ -14,6 +14,8 @@ pub enum Query {
     Why(WhyQuery),
     /// What happened on a prefix, in the order of time.
     History(HistoryQuery),
+    /// What recorded files hold.
+    Peers(PeersQuery),
 }
 
 /// Why a client has each peer's route on a prefix, or not. Times are in seconds since 1970.
@@ -50,6 +52,17 @@ pub struct HistoryQuery {
     pub errors: Errors,
     /// Whether the answer is written as JSON.
     pub json: bool,
+}
+
+/// What recorded files hold.
+#[derive(Drop)]
+pub struct PeersQuery {
+    /// The paths of the files.
+    pub files: Vec<String>,
+    /// Whether the answer is written as JSON.
+    pub json: bool,
+    /// Whether a configuration to start from is written.
+    pub toml: bool,
 }
 
 /// Why the words of the command line ask no question.

@@ -1,7 +1,7 @@
 //! Reads the words of the command line, with `clap`.
 
 use crate::command::program;
-use crate::query::{HistoryQuery, Query, WhyQuery, WordsFault};
+use crate::query::{HistoryQuery, PeersQuery, Query, WhyQuery, WordsFault};
 use crate::values::{PREFIX_FORM, TIME_FORM, prefix_of, standard_of, time_of};
 use clap::error::ErrorKind;
 use clap::{ArgMatches, Error};
@@ -24,6 +24,7 @@ fn query_of(alloc: Global, matches: &ArgMatches<'_>) -> Result<Query, WordsFault
     match matches.subcommand() {
         Some(("why", matches)) => Ok(Query::Why(why_of(alloc, matches)?)),
         Some(("history", matches)) => Ok(Query::History(history_of(alloc, matches)?)),
+        Some(("peers", matches)) => Ok(Query::Peers(peers_of(alloc, matches)?)),
         _ => Err(WordsFault::Refused(String::from_str(alloc, INCOMPLETE)?)),
     }
 }
@@ -51,6 +52,22 @@ fn history_of(alloc: Global, matches: &ArgMatches<'_>) -> Result<HistoryQuery, W
         until: time(alloc, matches, "until")?,
         errors: errors(alloc, matches)?,
         json: matches.get_flag("json"),
+    })
+}
+
+fn peers_of(alloc: Global, matches: &ArgMatches<'_>) -> Result<PeersQuery, WordsFault> {
+    let mut files = Vec::new(alloc);
+    if let Some(paths) = matches.get_strs("file") {
+        for path in paths {
+            files
+                .push(String::from_str(alloc, path)?)
+                .map_err(|_| WordsFault::Memory)?;
+        }
+    }
+    Ok(PeersQuery {
+        files,
+        json: matches.get_flag("json"),
+        toml: matches.get_flag("toml"),
     })
 }
 
