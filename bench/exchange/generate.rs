@@ -1,6 +1,8 @@
-//! Writes an exchange into a folder: a configuration and the recorded file of each peer, as BGP4MP_MESSAGE_AS4 records (RFC 6396, section 4.4.3) of realistic
-//! UPDATEs. Each peer ends with the same number of routes; it has announced some of them twice and withdrawn others in between. The peers draw their prefixes
-//! from one set, so that a prefix has about five routes. The same numbers always give the same files.
+//! Writes an exchange into a folder: a configuration and the recorded file of each peer, as
+//! BGP4MP_MESSAGE_AS4 records (RFC 6396, section 4.4.3) of realistic UPDATEs. Each peer ends with the same
+//! number of routes; it has announced some of them twice and withdrawn others in between. The peers draw
+//! their prefixes from one set, so that a prefix has about five routes. The same numbers always give the same
+//! files.
 //!
 //! usage: generate FOLDER PEERS ROUTES
 #[path = "../random.rs"]
@@ -62,7 +64,16 @@ impl Peer {
     fn update(&mut self, withdrawn: &[u8], attributes: &[u8], nlri: &[u8]) {
         let message_len = 23 + withdrawn.len() + attributes.len() + nlri.len();
         self.time += self.random.below(2) as u32;
-        for number in [self.time, 16 << 16 | 4, 20 + message_len as u32, self.asn(), SERVER_AS, 1, self.address(), SERVER_ADDRESS] {
+        for number in [
+            self.time,
+            16 << 16 | 4,
+            20 + message_len as u32,
+            self.asn(),
+            SERVER_AS,
+            1,
+            self.address(),
+            SERVER_ADDRESS,
+        ] {
             self.file.extend_from_slice(&number.to_be_bytes());
         }
         self.file.extend_from_slice(&[0xff; 16]);
@@ -75,7 +86,8 @@ impl Peer {
         self.file.extend_from_slice(nlri);
     }
 
-    // Announces prefixes in UPDATEs of 1 to 8; before one in eight of them come others, which are withdrawn or replaced afterwards.
+    // Announces prefixes in UPDATEs of 1 to 8; before one in eight of them come others, which are withdrawn
+    // or replaced afterwards.
     fn announce(&mut self, prefixes: &[u32]) {
         let mut rest = prefixes;
         while !rest.is_empty() {
@@ -134,11 +146,18 @@ fn address_text(address: u32) -> String {
 
 fn main() -> io::Result<()> {
     let words: Vec<String> = std::env::args().collect();
-    let (folder, peers, routes): (&str, u32, u32) = (&words[1], words[2].parse().expect("PEERS"), words[3].parse().expect("ROUTES"));
+    let (folder, peers, routes): (&str, u32, u32) =
+        (&words[1], words[2].parse().expect("PEERS"), words[3].parse().expect("ROUTES"));
     let server = address_text(SERVER_ADDRESS);
-    let mut configuration = format!("[server]\nas = {SERVER_AS}\naddress = \"{server}\"\nsubnet = \"192.0.2.0/24\"\n");
+    let mut configuration =
+        format!("[server]\nas = {SERVER_AS}\naddress = \"{server}\"\nsubnet = \"192.0.2.0/24\"\n");
     for number in 0..peers {
-        let mut peer = Peer { number, time: START, random: Random(0x9e37_79b9_7f4a_7c15u64.wrapping_mul(1 + u64::from(number))), file: Vec::new() };
+        let mut peer = Peer {
+            number,
+            time: START,
+            random: Random(0x9e37_79b9_7f4a_7c15u64.wrapping_mul(1 + u64::from(number))),
+            file: Vec::new(),
+        };
         let prefixes = prefixes(&mut peer.random, routes);
         peer.announce(&prefixes);
         let (asn, address) = (peer.asn(), address_text(peer.address()));

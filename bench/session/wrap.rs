@@ -1,4 +1,5 @@
-//! Writes BGP messages as MRT records of Type BGP4MP and Subtype MESSAGE_AS4, of so many peers in turn, the first of them AS 64501 at 192.0.2.11.
+//! Writes BGP messages as MRT records of Type BGP4MP and Subtype MESSAGE_AS4, of so many peers in turn, the
+//! first of them AS 64501 at 192.0.2.11.
 //!
 //! usage: wrap PEERS < messages > file.mrt
 use std::io::{self, BufWriter, Read, Write};

@@ -1,6 +1,7 @@
-//! Writes realistic UPDATE messages to standard output: 1 to 8 prefixes of /16 to /24, AS_PATHs of 3 to 6, communities in most, MED in some, and now and then
-//! a withdrawal. The same number always gives the same messages. With PEERS each route is for two clients alone: its communities are (0, 64500), which refuses it to all, and
-//! (64500, AS) of two of so many peers, whose AS numbers begin at 64512.
+//! Writes realistic UPDATE messages to standard output: 1 to 8 prefixes of /16 to /24, AS_PATHs of 3 to 6,
+//! communities in most, MED in some, and now and then a withdrawal. The same number always gives the same
+//! messages. With PEERS each route is for two clients alone: its communities are (0, 64500), which refuses it
+//! to all, and (64500, AS) of two of so many peers, whose AS numbers begin at 64512.
 //!
 //! usage: generate COUNT [PEERS] > messages
 #[path = "../random.rs"]

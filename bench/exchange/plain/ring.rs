@@ -1,8 +1,8 @@
 //! A ring between two threads: one end sends, the other receives, without a lock.
 use std::cell::UnsafeCell;
 use std::mem::MaybeUninit;
-use std::sync::Arc;
 use std::sync::atomic::{AtomicUsize, Ordering};
+use std::sync::Arc;
 
 #[repr(align(128))]
 struct Padded(AtomicUsize);
@@ -14,7 +14,8 @@ struct Shared<T> {
     sent: Padded,
 }
 
-// Each slot is touched by one end at a time: by the sender from `sent` up to the capacity beyond `received`, by the receiver in between.
+// Each slot is touched by one end at a time: by the sender from `sent` up to the capacity beyond `received`,
+// by the receiver in between.
 unsafe impl<T: Send> Sync for Shared<T> {}
 unsafe impl<T: Send> Send for Shared<T> {}
 
@@ -32,7 +33,8 @@ pub struct Receiver<T> {
 
 pub fn ring<T>(capacity: usize) -> (Sender<T>, Receiver<T>) {
     let slots = (0..capacity).map(|_| UnsafeCell::new(MaybeUninit::uninit())).collect();
-    let shared = Arc::new(Shared { slots, received: Padded(AtomicUsize::new(0)), sent: Padded(AtomicUsize::new(0)) });
+    let shared =
+        Arc::new(Shared { slots, received: Padded(AtomicUsize::new(0)), sent: Padded(AtomicUsize::new(0)) });
     (Sender { shared: Arc::clone(&shared), sent: 0, received: 0 }, Receiver { shared, sent: 0, received: 0 })
 }
 
@@ -60,7 +62,8 @@ impl<T> Receiver<T> {
                 return None;
             }
         }
-        let item = unsafe { (*self.shared.slots[self.received % self.shared.slots.len()].get()).assume_init_read() };
+        let item =
+            unsafe { (*self.shared.slots[self.received % self.shared.slots.len()].get()).assume_init_read() };
         self.received += 1;
         self.shared.received.0.store(self.received, Ordering::Release);
         Some(item)
