@@ -17,12 +17,15 @@ abbrev pub DrainedDumpsAreOfFiles : Type 0
 DrainedDumpsAreOfFiles =
     (plan : Plan) (files : List (List ℕ)) (capacity : ℕ) (turns : List Turn) (floor : FloorContent)
     → IsReplayed plan (recorded_by plan files) capacity turns floor → IsDrained (recorded_by plan files) floor
-    → (client time : ℕ) → dump_of floor.tables client time ≡ dump_of (tables_of plan (recorded_by plan files)) client time
+    → (client time : ℕ)
+    → dump_of floor.tables client time ≡ dump_of (tables_of plan (recorded_by plan files)) client time
 
 -- so any two such schedules, of whatever capacity, give the same octets
 abbrev pub DrainedDumpsAgree : Type 0
 DrainedDumpsAgree =
-    (plan : Plan) (files : List (List ℕ)) (capacity other_capacity : ℕ) (turns other_turns : List Turn) (one other : FloorContent)
+    (plan : Plan) (files : List (List ℕ)) (capacity other_capacity : ℕ) (turns other_turns : List Turn)
+    (one other : FloorContent)
     → IsReplayed plan (recorded_by plan files) capacity turns one → IsDrained (recorded_by plan files) one
-    → IsReplayed plan (recorded_by plan files) other_capacity other_turns other → IsDrained (recorded_by plan files) other
+    → IsReplayed plan (recorded_by plan files) other_capacity other_turns other
+    → IsDrained (recorded_by plan files) other
     → (client time : ℕ) → dump_of one.tables client time ≡ dump_of other.tables client time

@@ -4,8 +4,8 @@ ghost use Rattle.ring_tests.specs.Laws.{DrainedDumpsAgree, DrainedDumpsAreOfFile
 
 use rs_floor::drained_schedules_agree;
 
-/// Where all that the files say was received, the dump of each client is that of the files alone: so any two such schedules, of whatever
-/// capacity, give the same octets.
+/// Where all that the files say was received, the dump of each client is that of the files alone: so any two
+/// such schedules, of whatever capacity, give the same octets.
 pub fn drained_schedules_dump_alike()
     ensures files { DrainedDumpsAreOfFiles }
     ensures agree { DrainedDumpsAgree }

@@ -1,5 +1,6 @@
 -- What a record says of a BGP session (RFC 6396, sections 3, 4.4.3, 4.4.4 and 4.5).
-use Rattle.std.specs.Prelude.{◌≡◌, ℕ, ◌+◌, ◌-◌, nat_lt, ◌==◌, ◌&&◌, not, if◌then◌else◌, List, length, take, drop, Result, Ok, Err}
+use Rattle.std.specs.Prelude.{◌≡◌, ℕ, ◌+◌, ◌-◌, nat_lt, ◌==◌, ◌&&◌, not, if◌then◌else◌, List, length, take, drop}
+use Rattle.std.specs.Prelude.{Result, Ok, Err}
 use Rattle.byteorder.specs.Endian.{big_number}
 use Rattle.rs_mrt.specs.declared.fault.MrtFault.{MrtFault}
 use Rattle.rs_mrt.specs.declared.fault.MrtFault.TheVariants.{FieldsCutShort, MicrosecondsCutShort}
@@ -49,8 +50,8 @@ family_ipv4 = 1
 abbrev pub microseconds_len : ℕ
 microseconds_len = 4
 
--- where the fields of both Subtypes begin: Peer AS at 0, Local AS at 4, Interface Index at 8, Address Family at 10, Peer
--- IP Address at 12, Local IP Address at 16, and at 20 the message or the two states
+-- where the fields of both Subtypes begin: Peer AS at 0, Local AS at 4, Interface Index at 8, Address Family
+-- at 10, Peer IP Address at 12, Local IP Address at 16, and at 20 the message or the two states
 abbrev pub family_place : ℕ
 family_place = 10
 
@@ -86,7 +87,8 @@ message_entry fields =
 abbrev pub state_entry : List ℕ → Result Meaning MrtFault
 state_entry fields =
     if nat_lt (length fields) states_end then Err FieldsCutShort
-    else Ok (State (big_number 4 fields) (big_number 4 (drop peer_place fields)) (big_number 2 (drop old_state_place fields)) (big_number 2 (drop new_state_place fields)))
+    else Ok (State (big_number 4 fields) (big_number 4 (drop peer_place fields))
+    (big_number 2 (drop old_state_place fields)) (big_number 2 (drop new_state_place fields)))
 
 -- The fields of a record of Type BGP4MP with this Subtype. We read the two Subtypes for AS numbers of four octets, and
 -- IPv4 peers; the order of the tests is our choice.
@@ -105,13 +107,15 @@ fields_entry subtype fields =
 unfoldable pub entry_of : MrtRecord → Result Meaning MrtFault
 entry_of r =
     if r.kind == type_bgp4mp then fields_entry r.subtype r.body
-    else if r.kind == type_bgp4mp_et then (if nat_lt (length r.body) microseconds_len then Err MicrosecondsCutShort else fields_entry r.subtype (drop microseconds_len r.body))
+    else if r.kind == type_bgp4mp_et
+    then (if nat_lt (length r.body) microseconds_len then Err MicrosecondsCutShort
+    else fields_entry r.subtype (drop microseconds_len r.body))
     else Ok Other
 
 -- ---- the front of a record
 
--- how many octets of a body suffice: microseconds, fields, and one octet more than the longest BGP message has (4 + 20 +
--- 4,096 + 1; RFC 4271, section 4.1)
+-- how many octets of a body suffice: microseconds, fields, and one octet more than the longest BGP message
+-- has (4 + 20 + 4,096 + 1; RFC 4271, section 4.1)
 abbrev pub front_len : ℕ
 front_len = 4121
 
@@ -128,7 +132,8 @@ cut_message n (Err fault) = Err fault
 
 -- how many octets of a message the front of a record holds: 4,097 or 4,101, each more than the longest message has
 abbrev pub message_room : MrtRecord → ℕ
-message_room r = if r.kind == type_bgp4mp_et then front_len - (microseconds_len + message_place) else front_len - message_place
+message_room r =
+    if r.kind == type_bgp4mp_et then front_len - (microseconds_len + message_place) else front_len - message_place
 
 -- The front of a record says what the record says, but for the octets of a message that is longer than any.
 abbrev pub FrontSaysTheSame : Type 0

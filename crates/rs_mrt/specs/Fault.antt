@@ -1,7 +1,8 @@
 -- The numbers of the faults of recorded octets (our choice).
 use Rattle.std.specs.Prelude.{ℕ}
 use Rattle.rs_mrt.specs.declared.fault.MrtFault.{MrtFault}
-use Rattle.rs_mrt.specs.declared.fault.MrtFault.TheVariants.{HeaderCutShort, BodyCutShort, FieldsCutShort, MicrosecondsCutShort}
+use Rattle.rs_mrt.specs.declared.fault.MrtFault.TheVariants.{HeaderCutShort, BodyCutShort, FieldsCutShort}
+use Rattle.rs_mrt.specs.declared.fault.MrtFault.TheVariants.{MicrosecondsCutShort}
 
 -- in the order in which they can be met: in a header, in a body, in the fields of a body
 abbrev pub number_of : MrtFault → ℕ

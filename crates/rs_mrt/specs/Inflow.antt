@@ -1,6 +1,7 @@
 -- How a reader of records takes octets from its reader, step by step. Nothing here is of a standard but the header and
 -- the body of a record (RFC 6396, section 2).
-use Rattle.std.specs.Prelude.{◌≡◌, ◌≢◌, ◌⊎◌, ℕ, zero, suc, ◌+◌, ◌-◌, ◌^◌, ◌<◌, ◌≤◌, Bool, true, false, List, [], ◌++◌, length, take, drop, Option, Some, None, Result, Ok, Err, IfOk, OnErr}
+use Rattle.std.specs.Prelude.{◌≡◌, ◌≢◌, ◌⊎◌, ℕ, zero, suc, ◌+◌, ◌-◌, ◌^◌, ◌<◌, ◌≤◌, Bool, true, false, List, [], ◌++◌}
+use Rattle.std.specs.Prelude.{length, take, drop, Option, Some, None, Result, Ok, Err, IfOk, OnErr}
 use Rattle.rs_mrt.specs.declared.fault.MrtFault.{MrtFault}
 use Rattle.rs_mrt.specs.declared.fault.SourceFault.{SourceFault}
 use Rattle.rs_mrt.specs.declared.fault.SourceFault.TheVariants.{Mrt, Read}
@@ -12,8 +13,8 @@ use Rattle.rs_mrt.specs.RecordReading.{Inflow, MayArrive, RecordReading, read_li
 
 -- ---- octets
 
--- What the octets that came in between say: whatever may arrive afterwards may arrive before with them in front; or they
--- are all, and end so.
+-- What the octets that came in between say: whatever may arrive afterwards may arrive before with them in
+-- front; or they are all, and end so.
 abbrev pub Behind : (List ℕ → ReadEnd → Type 0) → (List ℕ → ReadEnd → Type 0) → List ℕ → Result Bool Failed → Type 0
 Behind old new piece (Ok true) = (later : List ℕ) (end : ReadEnd) → new later end → old (piece ++ later) end
 Behind old new piece (Ok false) = old piece FileEnds
@@ -79,7 +80,8 @@ call_at ReadFails failed = Err failed
 
 -- what always holds of a reader of records: the record that is shown stands in the window; a call of its reader can be
 -- counted while it is asked; where it has stopped, nothing is shown and no record was the answer
-pub record ReaderFits (shown : Option ℕ) (window : List ℕ) (stopped : Option (Result Bool SourceFault)) (came failures : ℕ) : Type 0 where
+pub record ReaderFits (shown : Option ℕ) (window : List ℕ) (stopped : Option (Result Bool SourceFault))
+    (came failures : ℕ) : Type 0 where
   pub stands : shown_len shown ≤ length window
   pub room : length window ≤ header_len + front_len
   pub within : came ≤ read_limit
@@ -118,7 +120,8 @@ module _ {R : Type 0} (gives : R → List ℕ → ReadEnd → Type 0) (failures 
     pub enough : IsEnough wanted (length piece) result
 
   -- a whole record came: its front is shown, and all that came behind it is held
-  pub record FindsRecord (old new : Inflow R) (before : List ℕ) (shown : Option MrtRecord) (held : List ℕ) : Type 0 where
+  pub record FindsRecord (old new : Inflow R) (before : List ℕ) (shown : Option MrtRecord)
+      (held : List ℕ) : Type 0 where
     pub piece : List ℕ
     pub drawn : Draws old new piece (Ok true)
     pub stands : has_record (before ++ piece) ≡ true
@@ -138,7 +141,8 @@ module _ {R : Type 0} (gives : R → List ℕ → ReadEnd → Type 0) (failures 
   -- the next record is found in a window, or none is
   abbrev pub Finds : Inflow R → Inflow R → List ℕ → List ℕ → Result (Option ℕ) SourceFault → Type 0
   Finds old new before after (Ok (Some n)) =
-      FindsRecord old new before (shown_in (Some n) after) (held_behind (Some n) after) × (shown_len (Some n) ≤ length after)
+      FindsRecord old new before (shown_in (Some n) after) (held_behind (Some n) after)
+      × (shown_len (Some n) ≤ length after)
   Finds old new before after (Ok None) = FindsNone old new before after (Ok false)
   Finds old new before after (Err fault) = FindsNone old new before after (Err fault)
 
@@ -147,6 +151,8 @@ module _ {R : Type 0} (gives : R → List ℕ → ReadEnd → Type 0) (failures 
   GoesOn old new (Ok true) =
       FindsRecord old.inflow new.inflow old.held new.shown new.held × (new.stopped ≡ None)
   GoesOn old new (Ok false) =
-      FindsNone old.inflow new.inflow old.held new.held (Ok false) × (new.shown ≡ None) × (new.stopped ≡ Some (Ok false))
+      FindsNone old.inflow new.inflow old.held new.held (Ok false) × (new.shown ≡ None)
+      × (new.stopped ≡ Some (Ok false))
   GoesOn old new (Err fault) =
-      FindsNone old.inflow new.inflow old.held new.held (Err fault) × (new.shown ≡ None) × (new.stopped ≡ Some (Err fault))
+      FindsNone old.inflow new.inflow old.held new.held (Err fault) × (new.shown ≡ None)
+      × (new.stopped ≡ Some (Err fault))

@@ -1,5 +1,6 @@
 -- A writer over memory, and when it fails. Nothing here is of a standard: all of it is our choice.
-use Rattle.std.specs.Prelude.{ℕ, zero, suc, ◌+◌, ◌-◌, min, List, [], ◌++◌, length, take, Option, Some, None, Result, Ok, Err}
+use Rattle.std.specs.Prelude.{ℕ, zero, suc, ◌+◌, ◌-◌, min, List, [], ◌++◌, length, take, Option, Some, None, Result}
+use Rattle.std.specs.Prelude.{Ok, Err}
 use Rattle.rs_mrt.specs.declared.memory.Limits.{Limits}
 use Rattle.rs_mrt.specs.declared.stream.Failed.{Failed}
 use Rattle.rs_mrt.specs.Stream.{failed_calls}
@@ -59,4 +60,9 @@ appended taken piece (Err failed) = taken
 
 -- the writer after a call that answers so
 abbrev pub after_write : InMemory → List ℕ → Result ℕ Failed → InMemory
-after_write writer piece answer = record { taken = appended writer.taken piece answer; failures = writer.failures + failed_calls answer piece; limits = after_call writer.limits }
+after_write writer piece answer =
+    record {
+      taken = appended writer.taken piece answer;
+      failures = writer.failures + failed_calls answer piece;
+      limits = after_call writer.limits;
+    }

@@ -1,5 +1,6 @@
 -- A reader over memory, and when it fails. Nothing here is of a standard: all of it is our choice.
-use Rattle.std.specs.Prelude.{◌≡◌, ℕ, zero, suc, ◌-◌, ◌+◌, min, nat_le, if◌then◌else◌, List, length, take, drop, Option, Some, None, Result, Ok, Err}
+use Rattle.std.specs.Prelude.{◌≡◌, ℕ, zero, suc, ◌-◌, ◌+◌, min, nat_le, if◌then◌else◌, List, length, take, drop}
+use Rattle.std.specs.Prelude.{Option, Some, None, Result, Ok, Err}
 use Rattle.rs_mrt.specs.declared.stream.Failed.{Failed}
 use Rattle.rs_mrt.specs.Reader.{ReadEnd, FileEnds, ReadFails, failed_reads}
 
@@ -23,7 +24,8 @@ ending left (Some n) = if nat_le n (length left) then ReadFails else FileEnds
 
 -- just these octets come, and so they end
 abbrev pub Comes : MemoryReading → List ℕ → ReadEnd → Type 0
-Comes reader octets end = (octets ≡ coming reader.left reader.before_failure) × (end ≡ ending reader.left reader.before_failure)
+Comes reader octets end =
+    (octets ≡ coming reader.left reader.before_failure) × (end ≡ ending reader.left reader.before_failure)
 
 -- how many octets a call gives, where there is room for so many: none where the call fails
 abbrev pub amount_within : Option ℕ → ℕ → Option ℕ

@@ -1,4 +1,5 @@
--- What a reader may still give, and when a call on it has failed. Nothing here is of a standard: all of it is our choice.
+-- What a reader may still give, and when a call on it has failed. Nothing here is of a standard: all of it is
+-- our choice.
 use Rattle.std.specs.Prelude.{◌≡◌, ℕ, zero, suc, List, [], ◌∷◌, ◌++◌, take, Option, None, Some, Result, Ok, Err, refl}
 use Rattle.rs_mrt.specs.declared.stream.Failed.{Failed}
 
@@ -19,7 +20,8 @@ abbrev pub ReadGives : (List ℕ → ReadEnd → Type 0) → (List ℕ → ReadE
 ReadGives old new (Err failed) piece = old [] ReadFails
 ReadGives old new (Ok zero) (octet ∷ octets) = old [] FileEnds
 ReadGives old new (Ok zero) [] = (later : List ℕ) (end : ReadEnd) → new later end → old later end
-ReadGives old new (Ok (suc n)) piece = (later : List ℕ) (end : ReadEnd) → new later end → old (take (suc n) piece ++ later) end
+ReadGives old new (Ok (suc n)) piece =
+    (later : List ℕ) (end : ReadEnd) → new later end → old (take (suc n) piece ++ later) end
 
 -- Some octets may be given, and some end.
 abbrev pub SomethingIsGiven : (List ℕ → ReadEnd → Type 0) → Type 0

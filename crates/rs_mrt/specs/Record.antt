@@ -1,5 +1,7 @@
 -- MRT records, and the records that a file holds (RFC 6396, section 2).
-use Rattle.std.specs.Prelude.{◌≡◌, ◌≢◌, ℕ, zero, suc, ◌+◌, ◌-◌, ◌^◌, ◌<◌, nat_lt, nat_le, Bool, ◌&&◌, if◌then◌else◌, List, [], ◌∷◌, ◌++◌, length, take, drop, slice_index, Option, Some, None, Result, Ok, Err}
+use Rattle.std.specs.Prelude.{◌≡◌, ◌≢◌, ℕ, zero, suc, ◌+◌, ◌-◌, ◌^◌, ◌<◌, nat_lt, nat_le, Bool, ◌&&◌, if◌then◌else◌}
+use Rattle.std.specs.Prelude.{List, [], ◌∷◌, ◌++◌, length, take, drop, slice_index, Option, Some, None, Result, Ok}
+use Rattle.std.specs.Prelude.{Err}
 use Rattle.std.specs.Option.{option_map}
 use Rattle.std.specs.List.{flat_map, AllByRecursion}
 use Rattle.byteorder.specs.Endian.{big_bytes, big_number}
@@ -50,7 +52,8 @@ octets_of (Some r) = header_len + length r.body
 abbrev pub AreOctets : List ℕ → Type 0
 AreOctets octets = (i : ℕ) → slice_index octets i < 256
 
--- the file is the spellings of these records, one after another, then the rest, and no front of the rest spells a record
+-- the file is the spellings of these records, one after another, then the rest, and no front of the rest
+-- spells a record
 pub record Splits (file : List ℕ) (records : List MrtRecord) (rest : List ℕ) : Type 0 where
   pub spelled : file ≡ flat_map record_spelling records ++ rest
   pub fit : AllByRecursion IsRecord records
@@ -68,7 +71,13 @@ has_record octets = nat_le header_len (length octets) && nat_le (length_field oc
 
 -- the record whose header stands at the front, with this body
 abbrev pub headed : List ℕ → List ℕ → MrtRecord
-headed octets body = record { time = big_number 4 octets; kind = big_number 2 (drop 4 octets); subtype = big_number 2 (drop 6 octets); body = body }
+headed octets body =
+    record {
+      time = big_number 4 octets;
+      kind = big_number 2 (drop 4 octets);
+      subtype = big_number 2 (drop 6 octets);
+      body = body;
+    }
 
 -- the record at the front
 abbrev pub front_record : List ℕ → MrtRecord
@@ -81,7 +90,8 @@ after_record octets = drop (length_field octets) (drop header_len octets)
 -- the records at the front of the octets, at most n
 unfoldable pub records_within : ℕ → List ℕ → List MrtRecord
 records_within zero octets = []
-records_within (suc n) octets = if has_record octets then front_record octets ∷ records_within n (after_record octets) else []
+records_within (suc n) octets =
+    if has_record octets then front_record octets ∷ records_within n (after_record octets) else []
 
 -- the octets after those records
 unfoldable pub rest_within : ℕ → List ℕ → List ℕ
@@ -99,7 +109,8 @@ rest_of file = rest_within (length file) file
 -- what the rest says: the end of the file, or which part of a record is cut short
 abbrev pub fault_of_rest : List ℕ → Option MrtFault
 fault_of_rest [] = None
-fault_of_rest (octet ∷ octets) = if nat_lt (length (octet ∷ octets)) header_len then Some HeaderCutShort else Some BodyCutShort
+fault_of_rest (octet ∷ octets) =
+    if nat_lt (length (octet ∷ octets)) header_len then Some HeaderCutShort else Some BodyCutShort
 
 -- the computed split is one
 abbrev pub SplitIsFound : Type 0
@@ -107,7 +118,9 @@ SplitIsFound = (file : List ℕ) → AreOctets file → Splits file (records_of 
 
 -- and there is no other
 abbrev pub SplitIsTheOnlyOne : Type 0
-SplitIsTheOnlyOne = (records : List MrtRecord) (file rest : List ℕ) → AreOctets file → Splits file records rest → (records ≡ records_of file) × (rest ≡ rest_of file)
+SplitIsTheOnlyOne =
+    (records : List MrtRecord) (file rest : List ℕ) → AreOctets file → Splits file records rest
+    → (records ≡ records_of file) × (rest ≡ rest_of file)
 
 -- how the records of a file end
 abbrev pub end_of : List ℕ → Option MrtFault
@@ -124,7 +137,8 @@ pub record Reading : Type 0 where
 
 -- reading goes on with these octets
 abbrev pub reading_of : Option MrtRecord → List ℕ → Reading
-reading_of shown octets = record { shown = shown; left = records_of octets; end = end_of octets; octets = length octets }
+reading_of shown octets =
+    record { shown = shown; left = records_of octets; end = end_of octets; octets = length octets }
 
 -- the next record; after the last one, how the records end
 abbrev pub next_of : List MrtRecord → Option MrtFault → Result (Option MrtRecord) MrtFault
@@ -134,7 +148,8 @@ next_of [] (Some fault) = Err fault
 
 -- the reading once that was given
 abbrev pub after_next : List MrtRecord → Reading → Reading
-after_next (r ∷ later) reading = record { shown = Some r; left = later; end = reading.end; octets = reading.octets - octets_of (Some r) }
+after_next (r ∷ later) reading =
+    record { shown = Some r; left = later; end = reading.end; octets = reading.octets - octets_of (Some r) }
 after_next [] reading = record { shown = None; left = []; end = reading.end; octets = reading.octets }
 
 -- what a program's answer says, with each value as view sees it
@@ -146,6 +161,9 @@ abbrev pub nothing_taken : Option MrtFault → Result (Option (MrtRecord × List
 nothing_taken None = Ok None
 nothing_taken (Some fault) = Err fault
 
--- the record at the front of the octets, and the octets after it; where none stands there, what the octets say as a rest
+-- the record at the front of the octets, and the octets after it; where none stands there, what the octets
+-- say as a rest
 abbrev pub taken_from : List ℕ → Result (Option (MrtRecord × List ℕ)) MrtFault
-taken_from octets = if has_record octets then Ok (Some (front_record octets, after_record octets)) else nothing_taken (fault_of_rest octets)
+taken_from octets =
+    if has_record octets then Ok (Some (front_record octets, after_record octets))
+    else nothing_taken (fault_of_rest octets)

@@ -1,6 +1,7 @@
--- The records that a reader of records shows, of the octets that its reader gives. Our choices: no more than 2^50 octets
--- are taken from a reader, and of a record's body no more than its first 4,121 octets are shown.
-use Rattle.std.specs.Prelude.{◌≡◌, ℕ, ◌+◌, ◌-◌, nat_lt, if◌then◌else◌, Bool, List, [], ◌++◌, length, take, map, Option, Some, None, Result, Ok, Err, refl}
+-- The records that a reader of records shows, of the octets that its reader gives. Our choices: no more than
+-- 2^50 octets are taken from a reader, and of a record's body no more than its first 4,121 octets are shown.
+use Rattle.std.specs.Prelude.{◌≡◌, ℕ, ◌+◌, ◌-◌, nat_lt, if◌then◌else◌, Bool, List, [], ◌++◌, length, take, map, Option}
+use Rattle.std.specs.Prelude.{Some, None, Result, Ok, Err, refl}
 use Rattle.std.specs.Option.{option_map}
 use Rattle.rs_mrt.specs.declared.fault.SourceFault.{SourceFault}
 use Rattle.rs_mrt.specs.declared.fault.SourceFault.TheVariants.{Mrt, Read}
@@ -25,7 +26,8 @@ pub record Inflow (R : Type 0) : Type 0 where
   pub came : ℕ
 
 -- These octets may still arrive, and end so: what the reader may give, up to the limit.
-pub record MayArrive {R : Type 0} (gives : R → List ℕ → ReadEnd → Type 0) (inflow : Inflow R) (octets : List ℕ) (end : ReadEnd) : Type 0 where
+pub record MayArrive {R : Type 0} (gives : R → List ℕ → ReadEnd → Type 0) (inflow : Inflow R) (octets : List ℕ)
+    (end : ReadEnd) : Type 0 where
   pub all : List ℕ
   pub last : ReadEnd
   pub given : gives inflow.reader all last
@@ -41,7 +43,8 @@ fault_behind FileEnds rest = option_map Mrt (fault_of_rest rest)
 
 -- These records may still be shown, and then this end or fault, where these octets are held and others may arrive: the
 -- front of each record of all these octets.
-pub record MayBeShown (arrive : List ℕ → ReadEnd → Type 0) (held : List ℕ) (records : List MrtRecord) (fault : Option SourceFault) : Type 0 where
+pub record MayBeShown (arrive : List ℕ → ReadEnd → Type 0) (held : List ℕ) (records : List MrtRecord)
+    (fault : Option SourceFault) : Type 0 where
   pub octets : List ℕ
   pub end : ReadEnd
   pub come : arrive octets end
@@ -50,8 +53,8 @@ pub record MayBeShown (arrive : List ℕ → ReadEnd → Type 0) (held : List �
 
 -- ---- a reader of records
 
--- what arrives, the octets that are held behind the record that is shown, that record, and the answer that it gives from
--- now on, where it has stopped
+-- what arrives, the octets that are held behind the record that is shown, that record, and the answer that it
+-- gives from now on, where it has stopped
 pub record RecordReading (R : Type 0) : Type 0 where
   pub inflow : Inflow R
   pub held : List ℕ
@@ -68,12 +71,14 @@ fault_of (Ok more) = None
 fault_of (Err fault) = Some fault
 
 -- what may come of the octets; where it has stopped, no record, and the end or the fault that was answered
-abbrev pub ComesUnless : Option (Result Bool SourceFault) → (List MrtRecord → Option SourceFault → Type 0) → List MrtRecord → Option SourceFault → Type 0
+abbrev pub ComesUnless : Option (Result Bool SourceFault) → (List MrtRecord → Option SourceFault → Type 0)
+    → List MrtRecord → Option SourceFault → Type 0
 ComesUnless None comes records fault = comes records fault
 ComesUnless (Some answer) comes records fault = (records ≡ []) × (fault ≡ fault_of answer)
 
 -- these records may still come, and then this end or fault
-abbrev pub MayCome : {R : Type 0} → (R → List ℕ → ReadEnd → Type 0) → RecordReading R → List MrtRecord → Option SourceFault → Type 0
+abbrev pub MayCome : {R : Type 0} → (R → List ℕ → ReadEnd → Type 0) → RecordReading R → List MrtRecord
+    → Option SourceFault → Type 0
 MayCome gives reading = ComesUnless reading.stopped (MayBeShown (MayArrive gives reading.inflow) reading.held)
 
 -- something always may
@@ -82,8 +87,13 @@ some_shown : {R : Type 0} (gives : R → List ℕ → ReadEnd → Type 0) (inflo
 some_shown gives inflow held some =
     let octets = take (read_limit - inflow.came) some.0 in
     let end = end_within (read_limit - inflow.came) some.0 some.1 in
-    let come : MayArrive gives inflow octets end = record { all = some.0; last = some.1; given = some.2; cut = refl; ends = refl } in
-    (map front_of (records_of (held ++ octets)), fault_behind end (rest_of (held ++ octets)), record { octets = octets; end = end; come = come; fronts = refl; ends = refl })
+    let come : MayArrive gives inflow octets end =
+    record { all = some.0; last = some.1; given = some.2; cut = refl; ends = refl } in (
+      map front_of (records_of (held ++ octets)),
+      fault_behind end
+          (rest_of (held ++ octets)),
+      record { octets = octets; end = end; come = come; fronts = refl; ends = refl },
+    )
 
 comes_unless : (stopped : Option (Result Bool SourceFault)) (comes : List MrtRecord → Option SourceFault → Type 0)
     → SomethingComes comes → SomethingComes (ComesUnless stopped comes)
@@ -93,7 +103,8 @@ comes_unless (Some answer) comes some = ([], fault_of answer, (refl, refl))
 pub something_comes : {R : Type 0} (gives : R → List ℕ → ReadEnd → Type 0) (reading : RecordReading R)
     → SomethingIsGiven (gives reading.inflow.reader) → SomethingComes (MayCome gives reading)
 something_comes gives reading some =
-    comes_unless reading.stopped (MayBeShown (MayArrive gives reading.inflow) reading.held) (some_shown gives reading.inflow reading.held some)
+    comes_unless reading.stopped (MayBeShown (MayArrive gives reading.inflow) reading.held)
+    (some_shown gives reading.inflow reading.held some)
 
 -- at least as many octets as it holds and still takes
 abbrev pub room_left : {R : Type 0} → RecordReading R → ℕ

@@ -8,17 +8,20 @@ use Rattle.rs_mrt.specs.declared.fault.SourceFault.TheVariants.{Mrt, Read}
 use Rattle.rs_mrt.specs.Record.{MrtRecord, Reading}
 
 -- What this answer to `advance` says of the records that may come, where `shown` is the record that is shown after it:
--- whatever may come afterwards may come before with the record in front; at the end, and at a fault, no record may be all.
--- So each whole record is shown before a fault is answered, a failed read too.
-abbrev pub Advances : {S : Type 0} → (S → List MrtRecord → Option SourceFault → Type 0) → S → S → Option MrtRecord → Result Bool SourceFault → Type 0
-Advances comes old new (Some r) (Ok true) = (later : List MrtRecord) (end : Option SourceFault) → comes new later end → comes old (r ∷ later) end
+-- whatever may come afterwards may come before with the record in front; at the end, and at a fault, no
+-- record may be all. So each whole record is shown before a fault is answered, a failed read too.
+abbrev pub Advances : {S : Type 0} → (S → List MrtRecord → Option SourceFault → Type 0) → S → S → Option MrtRecord
+    → Result Bool SourceFault → Type 0
+Advances comes old new (Some r) (Ok true) =
+    (later : List MrtRecord) (end : Option SourceFault) → comes new later end → comes old (r ∷ later) end
 Advances comes old new None (Ok true) = ⊥
 Advances comes old new shown (Ok false) = (shown ≡ None) × comes old [] None
 Advances comes old new shown (Err fault) = (shown ≡ None) × comes old [] (Some fault)
 
 -- A failed read is counted. The answer `Read` comes without one where the source is full, or has given it before.
 abbrev pub CountsFailure : ℕ → ℕ → Type 0 → Option (Result Bool SourceFault) → Result Bool SourceFault → Type 0
-CountsFailure before after full stopped (Err Read) = (after ≡ before + 1) ⊎ ((after ≡ before) × (full ⊎ (stopped ≡ Some (Err Read))))
+CountsFailure before after full stopped (Err Read) =
+    (after ≡ before + 1) ⊎ ((after ≡ before) × (full ⊎ (stopped ≡ Some (Err Read))))
 CountsFailure before after full stopped (Err (Mrt fault)) = after ≡ before
 CountsFailure before after full stopped (Ok more) = after ≡ before
 

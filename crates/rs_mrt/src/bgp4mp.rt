@@ -1,8 +1,9 @@
 //! What a record of Type BGP4MP or BGP4MP_ET says (RFC 6396, sections 4.4 and 4.5).
 //!
 //! Our choices: only the Subtypes for AS numbers of four octets and only IPv4 peers are read; a record of another
-//! Subtype is not tested for its length, nor is one of another Address Family beyond that field; microseconds, Local AS,
-//! Interface Index and Local IP Address have no effect, nor have octets after the New State.
+//! Subtype is not tested for its length, nor is one of another Address Family beyond that field;
+//! microseconds, Local AS, Interface Index and Local IP Address have no effect, nor have octets after the New
+//! State.
 
 ghost use Rattle.std.specs.Prelude.{◌≡◌};
 ghost use Rattle.rs_mrt.specs.Record.{record_of};
@@ -51,8 +52,8 @@ const NEW_STATE_AT: usize = 22;
 const STATES_END: usize = 24;
 
 /// Reads what a record says. Nothing is copied: a message stands in the record's octets. The fault is
-/// `MicrosecondsCutShort` where a BGP4MP_ET body has fewer than 4 octets, else `FieldsCutShort` where a body of Subtype 4
-/// or 5 is shorter than its fields.
+/// `MicrosecondsCutShort` where a BGP4MP_ET body has fewer than 4 octets, else `FieldsCutShort` where a body
+/// of Subtype 4 or 5 is shorter than its fields.
 #[tactic(auto, unfolding(crate::specs::Entry::entry_of))]
 pub fn entry<'a>(recorded: &Record<'a>) -> Result<Entry<'a>, MrtFault>
     ensures { answer_of result ≡ entry_of (record_of recorded.now) }

@@ -18,19 +18,22 @@ pub fn file_splits_in_one_way()
     ensures only { SplitIsTheOnlyOne }
 {}
 
-/// The first 4,121 octets of a record's body say what the whole body says: the same fault, or the same entry of the same
-/// peer, a message being cut to its first 4,097 octets or more. So a reader needs no larger buffer.
+/// The first 4,121 octets of a record's body say what the whole body says: the same fault, or the same entry
+/// of the same peer, a message being cut to its first 4,097 octets or more. So a reader needs no larger
+/// buffer.
 pub fn front_of_a_record_says_the_same()
     ensures len { FRONT_LEN ≡ front_len }
     ensures same { FrontSaysTheSame }
 {}
 
-/// Of a reader that gives just these octets, fewer than 2^50, just the front of each of their records is shown, and then
-/// the end or the fault that their rest says: what `Records` gives, but for long bodies.
+/// Of a reader that gives just these octets, fewer than 2^50, just the front of each of their records is
+/// shown, and then the end or the fault that their rest says: what `Records` gives, but for long bodies.
 pub fn known_octets_are_shown<R: Read>(_reader: &R, _file: &[u8])
-    requires known { (octets : List ℕ) (end : ReadEnd) → R.gives _reader.now octets end → (octets ≡ _file.now) × (end ≡ FileEnds) }
+    requires known { (octets : List ℕ) (end : ReadEnd) → R.gives _reader.now octets end
+        → (octets ≡ _file.now) × (end ≡ FileEnds) }
     requires fits { length _file.now < read_limit }
-    ensures { (records : List MrtRecord) (fault : Option SourceFault) → MayCome R.gives (unread _reader.now) records fault
+    ensures { (records : List MrtRecord) (fault : Option SourceFault)
+        → MayCome R.gives (unread _reader.now) records fault
         → (records ≡ map front_of (records_of _file.now)) × (fault ≡ source_end (end_of _file.now)) }
 {}
 

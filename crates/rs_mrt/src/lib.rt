@@ -1,9 +1,9 @@
 //! MRT records of a recording of BGP (RFC 6396): those of a file, at hand or in pieces, what a BGP4MP record says,
 //! and the header of a record that is written.
 //!
-//! Reading order: `record`, `fault`, `meaning`, `bgp4mp`, `source`; `reader`, `inlet`, `window`, `record_reader` (files in pieces);
-//! `spelling`, `stream`; `memory`, `memory_reader`; `laws`.
-//! Standards: RFC 6396, sections 2 (header), 3 and 4.5 (BGP4MP_ET), 4.4.3 and 4.4.4 (BGP4MP with AS numbers of four octets).
+//! Reading order: `record`, `fault`, `meaning`, `bgp4mp`, `source`; `reader`, `inlet`, `window`,
+//! `record_reader` (files in pieces); `spelling`, `stream`; `memory`, `memory_reader`; `laws`. Standards: RFC
+//! 6396, sections 2 (header), 3 and 4.5 (BGP4MP_ET), 4.4.3 and 4.4.4 (BGP4MP with AS numbers of four octets).
 #![tactic(auto)]
 
 mod bgp4mp;

@@ -1,7 +1,8 @@
 //! A reader over memory, which tells what it will give. It can be made to give little at a time and to fail, for tests
 //! of those who read.
 
-ghost use Rattle.std.specs.Prelude.{◌≡◌, ◌+◌, ◌<◌, ◌≤◌, length, take, refl, min, max, Some, Option, ℕ, IfOk, MatchResult};
+ghost use Rattle.std.specs.Prelude.{◌≡◌, ◌+◌, ◌<◌, ◌≤◌, length, take, refl, min, max, Some, Option, ℕ, IfOk};
+ghost use Rattle.std.specs.Prelude.{MatchResult};
 ghost use Rattle.rs_mrt.specs.Reader.{ReadGives, failed_reads};
 ghost use Rattle.rs_mrt.specs.MemoryReading.{Comes, after_read, amount_given, coming, ending, amount_within, sooner};
 
@@ -14,7 +15,8 @@ use std::marker::Model;
 pub struct ReadLimits {
     /// After how many octets a call fails; without a number none does. Calls after it go well.
     pub octets_before_failure: Option<usize>,
-    /// How many octets are given in one call at most. 0 counts as 1, since a call that gives none is the end of the file.
+    /// How many octets are given in one call at most. 0 counts as 1, since a call that gives none is the end
+    /// of the file.
     pub piece: usize,
 }
 

@@ -5,7 +5,8 @@
 
 ghost use Rattle.std.specs.Prelude.{◌≡◌, ◌+◌, ◌≤◌, List, length, None, refl, ◌^◌, ◌<◌};
 ghost use Rattle.rs_mrt.specs.Source.{IsLeft, source_end, stopped_at};
-ghost use Rattle.rs_mrt.specs.Record.{header_len, headed, reading_of, next_of, after_next, record_of, octets_of, seen, taken_from};
+ghost use Rattle.rs_mrt.specs.Record.{header_len, headed, reading_of, next_of, after_next, record_of, octets_of, seen};
+ghost use Rattle.rs_mrt.specs.Record.{taken_from};
 
 use crate::fault::{MrtFault, SourceFault};
 use crate::source::Source;

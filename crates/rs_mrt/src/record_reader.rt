@@ -19,8 +19,8 @@ use crate::window::{WINDOW_LEN, Window};
 use byteorder::{BigEndian, ByteOrder};
 use std::marker::Model;
 
-/// The records of the octets that a reader gives. It holds no more of them than its buffer of 4,133 octets, which is part
-/// of the value, and takes no memory.
+/// The records of the octets that a reader gives. It holds no more of them than its buffer of 4,133 octets,
+/// which is part of the value, and takes no memory.
 #[derive(Drop)]
 pub struct RecordReader<R: Read> {
     inlet: Inlet<R>,
@@ -112,7 +112,8 @@ impl<R: Read> Source for RecordReader<R> {
         // A read that fails is counted. Without one the answer is `Read` only at the limit, or where it was before.
         ensures failures { CountsFailure (R.failures self.old.inflow.reader) (R.failures self.new.inflow.reader)
             (self.new.inflow.came ≡ read_limit) self.old.stopped result }
-        ensures stays { Stays self.old.stopped (R.failures self.old.inflow.reader) (R.failures self.new.inflow.reader) result }
+        ensures stays { Stays self.old.stopped (R.failures self.old.inflow.reader)
+            (R.failures self.new.inflow.reader) result }
         ensures stops { Stops self.new.stopped result }
         // Once it has stopped, the reader is asked no more.
         ensures asks_no_more { StaysStopped self.old self.new result }

@@ -35,7 +35,8 @@ pub trait Source {
         ensures records { Advances comes self.old self.new (shows self.new) result }
         ensures bound { room self.old < 2 ^ 64 }
         ensures room { room self.new + octets_of (shows self.new) ≤ room self.old }
-        ensures failures { CountsFailure (failures self.old) (failures self.new) (full self.new) (stopped self.old) result }
+        ensures failures { CountsFailure (failures self.old) (failures self.new) (full self.new)
+            (stopped self.old) result }
         ensures stays { Stays (stopped self.old) (failures self.old) (failures self.new) result }
         ensures stops { Stops (stopped self.new) result };
 

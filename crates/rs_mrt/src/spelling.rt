@@ -8,8 +8,8 @@ use crate::record::{HEADER_LEN, KIND_AT, LENGTH_AT, SUBTYPE_AT};
 use byteorder::{BigEndian, ByteOrder};
 use std::alloc::AllocError;
 
-/// Appends the header of a record whose body has `body_len` octets: 12 octets, which the Length doesn't count. `time` is
-/// in seconds since 1970. Refused, `out` is as before.
+/// Appends the header of a record whose body has `body_len` octets: 12 octets, which the Length doesn't
+/// count. `time` is in seconds since 1970. Refused, `out` is as before.
 pub fn write_header(
     out: &mut Vec<u8>,
     time: u32,

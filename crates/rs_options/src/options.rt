@@ -20,7 +20,8 @@ pub struct Options {
     pub ring: usize,
     /// How many threads keep the tables, each of them some of the prefixes, 1 to 16.
     pub shards: usize,
-    /// The standard by which faults in the path attributes of an UPDATE are handled (RFC 4271, section 6.3, or RFC 7606).
+    /// The standard by which faults in the path attributes of an UPDATE are handled (RFC 4271, section 6.3,
+    /// or RFC 7606).
     pub errors: Errors,
 }
 

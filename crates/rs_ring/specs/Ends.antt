@@ -11,7 +11,8 @@ pub record Ring : Type 0 where
   pub history : Names
   pub heap : Global
 
--- the end that sends: its ring, for how many items this has room, what was sent, and for how many more there is room as far as this end knows
+-- the end that sends: its ring, for how many items this has room, what was sent, and for how many more there
+-- is room as far as this end knows
 pub record Sending (T : Type 0) : Type 0 where
   pub ring : Ring
   pub capacity : ℕ

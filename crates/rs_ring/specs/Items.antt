@@ -13,7 +13,8 @@ module _ {T : Type 0} where
   abbrev pub MayFollow : (T → Bool) → ℕ → List T → Type 0
   MayFollow closes limit before = (length before < limit) × (has_close closes before ≡ false)
 
-  -- why an item is refused after those that were sent, and it comes back: that the ring is closed counts before that it is full
+  -- why an item is refused after those that were sent, and it comes back: that the ring is closed counts
+  -- before that it is full
   abbrev pub refusal : (T → Bool) → List T → T → SendRefused T
   refusal closes sent item = if has_close closes sent then Closed item else Full item
 

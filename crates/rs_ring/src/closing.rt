@@ -19,7 +19,8 @@ pub trait Closing: Drop {
         ensures { result ≡ closes self.now };
 }
 
-/// What a sender promises of each item that it sends: fewer than the limit came before it, and none of those closes the ring.
+/// What a sender promises of each item that it sends: fewer than the limit came before it, and none of those
+/// closes the ring.
 #[derive(Clone, Copy)]
 pub struct UntilClose;
 

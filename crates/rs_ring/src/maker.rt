@@ -16,14 +16,17 @@ pub const MAX_CAPACITY: usize = 65536;
 
 /// The two ends of a new ring, which has room for `capacity` items.
 ///
-/// Fails with `Capacity` where that isn't from 1 to 65,536, which is tested first, and with `Memory` where memory is refused.
+/// Fails with `Capacity` where that isn't from 1 to 65,536, which is tested first, and with `Memory` where
+/// memory is refused.
 pub fn ring<T: Closing>(
     alloc: Global,
     capacity: usize,
 ) -> Result<(Sender<T>, Receiver<T>), RingRefused>
     ensures pair { IfOk result (λ ends. ends.0.ring ≡ ends.1.ring) }
-    ensures sender { IfOk result (λ ends. (ends.0.sent ≡ []) × (ends.0.room ≡ capacity) × (ends.0.capacity ≡ capacity)) }
-    ensures receiver { IfOk result (λ ends. (ends.1.received ≡ []) × (ends.1.waiting ≡ []) × (ends.1.capacity ≡ capacity)) }
+    ensures sender { IfOk result (λ ends. (ends.0.sent ≡ []) × (ends.0.room ≡ capacity)
+        × (ends.0.capacity ≡ capacity)) }
+    ensures receiver { IfOk result (λ ends. (ends.1.received ≡ []) × (ends.1.waiting ≡ [])
+        × (ends.1.capacity ≡ capacity)) }
     ensures capacity { is_capacity capacity ≡ false → result ≡ Err Capacity }
     ensures memory { is_capacity capacity ≡ true → IfErr result (λ fault. fault ≡ Memory) }
 {

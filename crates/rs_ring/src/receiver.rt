@@ -47,7 +47,8 @@ impl<T: Closing> Model for Receiver<T> {
       waiting = known_items r.consumer;
     } };
 
-    ghost invariant = { λ r. (r.tally.count ≡ length (received r.consumer)) × (r.tally.closed ≡ has_close T.closes (received r.consumer)) };
+    ghost invariant = { λ r. (r.tally.count ≡ length (received r.consumer))
+        × (r.tally.closed ≡ has_close T.closes (received r.consumer)) };
 }
 
 impl<T: Closing> Receiver<T> {
@@ -55,7 +56,8 @@ impl<T: Closing> Receiver<T> {
     pub(crate) fn new(consumer: Consumer<T, Global, UntilClose>) -> Receiver<T>
         requires { received consumer ≡ [] }
         ensures ring { result.ring ≡ ring_of consumer.end }
-        ensures empty { (result.received ≡ []) × (result.waiting ≡ known_items consumer) × (result.capacity ≡ consumer_capacity consumer) }
+        ensures empty { (result.received ≡ []) × (result.waiting ≡ known_items consumer)
+            × (result.capacity ≡ consumer_capacity consumer) }
     {
         Receiver {
             consumer,
@@ -104,7 +106,8 @@ impl<T: Closing> Receiver<T> {
         self.consumer.slots_beside(&mut sender.producer)
     }
 
-    /// How many items wait, once the sender has finished: so many receipts in a row give an item, and no more will come.
+    /// How many items wait, once the sender has finished: so many receipts in a row give an item, and no more
+    /// will come.
     pub fn after(&mut self, token: &mut Finished<T>) -> usize
         requires { token.old.ring ≡ self.old.ring }
         ensures waiting { result ≡ length self.new.waiting }

@@ -1,6 +1,7 @@
 //! The end of a ring that sends.
 
-ghost use Rattle.std.specs.Prelude.{◌≡◌, ◌+◌, ◌<◌, ◌≤◌, ◌++◌, ◌∷◌, [], true, false, length, IfOk, IfErr, IsOk, IsErr, OnErr, OnOk, IfSome};
+ghost use Rattle.std.specs.Prelude.{◌≡◌, ◌+◌, ◌<◌, ◌≤◌, ◌++◌, ◌∷◌, [], true, false, length, IfOk, IfErr, IsOk, IsErr};
+ghost use Rattle.std.specs.Prelude.{OnErr, OnOk, IfSome};
 ghost use Rattle.rtrb.specs.Ring.{sent, known_free, producer_capacity};
 ghost use Rattle.rs_ring.specs.Items.{has_close, refusal};
 ghost use Rattle.rs_ring.specs.Views.{ring_of};
@@ -37,7 +38,8 @@ impl<T: Closing> Model for Sender<T> {
       room = known_free s.producer;
     } };
 
-    ghost invariant = { λ s. (s.tally.count ≡ length (sent s.producer)) × (s.tally.closed ≡ has_close T.closes (sent s.producer)) };
+    ghost invariant = { λ s. (s.tally.count ≡ length (sent s.producer))
+        × (s.tally.closed ≡ has_close T.closes (sent s.producer)) };
 }
 
 impl<T: Closing> Sender<T> {
@@ -45,7 +47,8 @@ impl<T: Closing> Sender<T> {
     pub(crate) fn new(producer: Producer<T, Global, UntilClose>) -> Sender<T>
         requires { sent producer ≡ [] }
         ensures ring { result.ring ≡ ring_of producer.end }
-        ensures empty { (result.sent ≡ []) × (result.room ≡ known_free producer) × (result.capacity ≡ producer_capacity producer) }
+        ensures empty { (result.sent ≡ []) × (result.room ≡ known_free producer)
+            × (result.capacity ≡ producer_capacity producer) }
     {
         Sender {
             producer,
@@ -55,8 +58,8 @@ impl<T: Closing> Sender<T> {
 
     /// Sends an item, and answers its number: how many were sent before it. It takes no memory and doesn't wait.
     ///
-    /// Fails with `Closed` where a closing item was sent before, else with `Full` where the ring has no room. Then the item comes back,
-    /// and nothing changed.
+    /// Fails with `Closed` where a closing item was sent before, else with `Full` where the ring has no room.
+    /// Then the item comes back, and nothing changed.
     pub fn try_send(&mut self, item: T) -> Result<u64, SendRefused<T>>
         requires { length self.old.sent < T.LIMIT }
         ensures number { IfOk result (λ number. number ≡ length self.old.sent) }
@@ -86,7 +89,8 @@ impl<T: Closing> Sender<T> {
         self.tally.count
     }
 
-    /// Ends the sending. The token, where there is one, shows the receiver all that was sent: none comes where the receiver is gone.
+    /// Ends the sending. The token, where there is one, shows the receiver all that was sent: none comes
+    /// where the receiver is gone.
     pub fn finish(self) -> Option<Finished<T>>
         ensures { IfSome result (λ token. token ≡ record { ring = self.ring; sent = self.sent }) }
     {

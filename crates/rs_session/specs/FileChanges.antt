@@ -1,5 +1,6 @@
 -- What the records of a peer's session say (RFC 4271, section 3.1; RFC 6396, section 4.4).
-use Rattle.std.specs.Prelude.{ℕ, Bool, true, false, not, List, [], ◌∷◌, ◌++◌, Option, Some, None, find, take_while, count_by}
+use Rattle.std.specs.Prelude.{ℕ, Bool, true, false, not, List, [], ◌∷◌, ◌++◌, Option, Some, None, find, take_while}
+use Rattle.std.specs.Prelude.{count_by}
 use Rattle.std.specs.List.{flat_map}
 use Rattle.rs_mrt.specs.Fault.{number_of}
 use Rattle.rs_mrt.specs.Record.{MrtRecord, records_of, end_of}

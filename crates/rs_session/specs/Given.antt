@@ -1,5 +1,5 @@
--- Recorded files as readers give them (RFC 6396, section 2). Our choices: a session reads no further than the record that ends it, and takes no
--- more than 2^50 octets of a reader.
+-- Recorded files as readers give them (RFC 6396, section 2). Our choices: a session reads no further than the
+-- record that ends it, and takes no more than 2^50 octets of a reader.
 use Rattle.std.specs.Prelude.{◌≡◌, ◌<◌, ◌≤◌, ◌⊎◌, ℕ, Bool, true, false, List, [], ◌++◌, length, take, slice_get, Some}
 use Rattle.std.specs.List.{list_any}
 use Rattle.rs_mrt.specs.Reader.{ReadEnd, FileEnds, ReadFails}
@@ -24,7 +24,8 @@ module _ {R : Type 0} (gives : R → List ℕ → ReadEnd → Type 0) (errors : 
     pub given : gives reader file FileEnds
     pub fits : length file < read_limit
 
-  -- the reader may give this file first, and a record of it ends the session of the peer: what comes behind it isn't read
+  -- the reader may give this file first, and a record of it ends the session of the peer: what comes behind
+  -- it isn't read
   pub record IsGivenToClose (peer : PeerId) (reader : R) (file : List ℕ) : Type 0 where
     pub later : List ℕ
     pub end : ReadEnd
@@ -73,7 +74,8 @@ module _ {R : Type 0} (gives : R → List ℕ → ReadEnd → Type 0) (errors : 
   pub record AreGiven (peers : List PeerId) (readers : List R) (files : List (List ℕ)) : Type 0 where
     pub as_many : length files ≡ length readers
     pub each : (place : ℕ) (peer : PeerId) (reader : R) (file : List ℕ)
-        → slice_get peers place ≡ Some peer → slice_get readers place ≡ Some reader → slice_get files place ≡ Some file → IsGiven peer reader file
+        → slice_get peers place ≡ Some peer → slice_get readers place ≡ Some reader
+        → slice_get files place ≡ Some file → IsGiven peer reader file
 
   -- this holds of files that the readers may give
   abbrev pub OverGivenFiles : List PeerId → List R → (List (List ℕ) → Type 0) → Type 0

@@ -48,25 +48,31 @@ pub record ClosesLast (end : Option SourceFault) (changes : List Change) : Type 
 
 -- whatever the records and their end, they say exactly one close, and it is the last change
 abbrev pub ClosesOnce : Type 0
-ClosesOnce = (errors : Errors) (peer : PeerId) (records : List MrtRecord) (end : Option SourceFault) → ClosesLast end (changes_of errors peer records end)
+ClosesOnce =
+    (errors : Errors) (peer : PeerId) (records : List MrtRecord) (end : Option SourceFault)
+    → ClosesLast end (changes_of errors peer records end)
 
 -- a file says at most one change more than it has octets
 abbrev pub SaysNoMoreThanOctets : Type 0
-SaysNoMoreThanOctets = (errors : Errors) (peer : PeerId) (file : List ℕ) → length (changes_in_by errors peer file) ≤ length file + 1
+SaysNoMoreThanOctets =
+    (errors : Errors) (peer : PeerId) (file : List ℕ) → length (changes_in_by errors peer file) ≤ length file + 1
 
 -- the first 4,121 octets of a record's body say what the body says
 abbrev pub FrontSuffices : Type 0
-FrontSuffices = (errors : Errors) (peer : PeerId) (r : MrtRecord) → effect_of errors peer (front_of r) ≡ effect_of errors peer r
+FrontSuffices =
+    (errors : Errors) (peer : PeerId) (r : MrtRecord) → effect_of errors peer (front_of r) ≡ effect_of errors peer r
 
 -- there is always something that may come, if only no change
 abbrev pub SomethingMayCome : {S : Type 0} → Comes S → (S → Option MrtRecord) → Stage S → Type 0
 SomethingMayCome comes shows stage = (changes : List Change) × (passed : ℕ) × May comes shows stage changes passed
 
--- whatever a session over a reader may say in all, from the first octet on, is what a file says that the reader may give, or that a read failed
+-- whatever a session over a reader may say in all, from the first octet on, is what a file says that the
+-- reader may give, or that a read failed
 abbrev pub GivesFileOrFails : {R : Type 0} → (R → List ℕ → ReadEnd → Type 0) → R → Type 0
 GivesFileOrFails gives reader =
     (errors : Errors) (peer : PeerId) (changes : List Change) (passed : ℕ)
-    → May (MayCome gives) (λ r. r.shown) (fresh (unread reader) peer errors) changes passed → IsRead gives errors peer reader changes passed
+    → May (MayCome gives) (λ r. r.shown) (fresh (unread reader) peer errors) changes passed
+    → IsRead gives errors peer reader changes passed
 
 -- the changes close once, as the last one, and say that a read failed
 pub record ClosesByRead (changes : List Change) : Type 0 where

@@ -1,5 +1,6 @@
 -- A session that is being read, over any source of records.
-use Rattle.std.specs.Prelude.{◌≡◌, ◌↔◌, ℕ, ◌+◌, ◌≤◌, Bool, true, false, List, [], ◌∷◌, ◌++◌, length, Option, Some, None, Result, Ok, Err, if◌then◌else◌}
+use Rattle.std.specs.Prelude.{◌≡◌, ◌↔◌, ℕ, ◌+◌, ◌≤◌, Bool, true, false, List, [], ◌∷◌, ◌++◌, length, Option, Some}
+use Rattle.std.specs.Prelude.{None, Result, Ok, Err, if◌then◌else◌}
 use Rattle.std.specs.Option.{option_to_list}
 use Rattle.std.specs.declared.alloc.AllocError.{AllocError}
 use Rattle.rs_mrt.specs.Record.{MrtRecord}
@@ -15,9 +16,9 @@ use Rattle.rs_session.specs.declared.word.Word.{Word}
 abbrev pub Comes : Type 0 → Type 1
 Comes S = S → List MrtRecord → Option SourceFault → Type 0
 
--- how far the reading of a session has come: the changes that its last record gave and that haven't been given yet, whether the record that
--- the source shows is still to be read, whether the close was given, and how many records were passed over before the change given last, and
--- how many after it
+-- how far the reading of a session has come: the changes that its last record gave and that haven't been
+-- given yet, whether the record that the source shows is still to be read, whether the close was given, and
+-- how many records were passed over before the change given last, and how many after it
 pub record Stage (S : Type 0) : Type 0 where
   pub source : S
   pub peer : PeerId
@@ -30,7 +31,17 @@ pub record Stage (S : Type 0) : Type 0 where
 
 -- nothing was read yet
 abbrev pub fresh : {S : Type 0} → S → PeerId → Errors → Stage S
-fresh source peer errors = record { source = source; peer = peer; errors = errors; waiting = []; held = false; closed = false; passed = 0; skipped = 0 }
+fresh source peer errors =
+    record {
+      source = source;
+      peer = peer;
+      errors = errors;
+      waiting = [];
+      held = false;
+      closed = false;
+      passed = 0;
+      skipped = 0;
+    }
 
 -- ---- what may still come
 
@@ -39,21 +50,25 @@ abbrev pub to_read : Bool → Option MrtRecord → List MrtRecord → List MrtRe
 to_read held shown later = (if held then option_to_list shown else []) ++ later
 
 -- these records may still be read, and then they end so
-pub record MayRead {S : Type 0} (comes : Comes S) (shows : S → Option MrtRecord) (stage : Stage S) (records : List MrtRecord) (end : Option SourceFault) : Type 0 where
+pub record MayRead {S : Type 0} (comes : Comes S) (shows : S → Option MrtRecord) (stage : Stage S)
+    (records : List MrtRecord) (end : Option SourceFault) : Type 0 where
   pub later : List MrtRecord
   pub come : comes stage.source later end
   pub read : records ≡ to_read stage.held (shows stage.source) later
 
 -- the changes that are still to be given, where these records are read
 abbrev pub changes_left : {S : Type 0} → Stage S → List MrtRecord → Option SourceFault → List Change
-changes_left stage records end = if stage.closed then [] else stage.waiting ++ changes_of stage.errors stage.peer records end
+changes_left stage records end =
+    if stage.closed then [] else stage.waiting ++ changes_of stage.errors stage.peer records end
 
 -- how many records are passed over in the end, where these records are read
 abbrev pub passed_in_the_end : {S : Type 0} → Stage S → List MrtRecord → ℕ
-passed_in_the_end stage records = if stage.closed then stage.passed else stage.passed + stage.skipped + passed_of stage.errors stage.peer records
+passed_in_the_end stage records =
+    if stage.closed then stage.passed else stage.passed + stage.skipped + passed_of stage.errors stage.peer records
 
 -- these changes may still come, and so many records are passed over in the end
-pub record May {S : Type 0} (comes : Comes S) (shows : S → Option MrtRecord) (stage : Stage S) (changes : List Change) (passed : ℕ) : Type 0 where
+pub record May {S : Type 0} (comes : Comes S) (shows : S → Option MrtRecord) (stage : Stage S)
+    (changes : List Change) (passed : ℕ) : Type 0 where
   pub records : List MrtRecord
   pub end : Option SourceFault
   pub may_read : MayRead comes shows stage records end
@@ -62,30 +77,40 @@ pub record May {S : Type 0} (comes : Comes S) (shows : S → Option MrtRecord) (
 
 -- whatever may come after may come before
 abbrev pub Keeps : {S : Type 0} → Comes S → (S → Option MrtRecord) → Stage S → Stage S → Type 0
-Keeps comes shows old new = (changes : List Change) (passed : ℕ) → May comes shows new changes passed → May comes shows old changes passed
+Keeps comes shows old new =
+    (changes : List Change) (passed : ℕ) → May comes shows new changes passed → May comes shows old changes passed
 
 -- whatever may come after may come before, with this change in front
 abbrev pub KeepsBehind : {S : Type 0} → Comes S → (S → Option MrtRecord) → Change → Stage S → Stage S → Type 0
-KeepsBehind comes shows first old new = (changes : List Change) (passed : ℕ) → May comes shows new changes passed → May comes shows old (first ∷ changes) passed
+KeepsBehind comes shows first old new =
+    (changes : List Change) (passed : ℕ) → May comes shows new changes passed
+    → May comes shows old (first ∷ changes) passed
 
 -- no change may come, and as many records are passed over as were
 abbrev pub IsOver : {S : Type 0} → Comes S → (S → Option MrtRecord) → Stage S → Type 0
-IsOver comes shows stage = (changes : List Change) (passed : ℕ) → May comes shows stage changes passed → (changes ≡ []) × (passed ≡ stage.passed)
+IsOver comes shows stage =
+    (changes : List Change) (passed : ℕ) → May comes shows stage changes passed
+    → (changes ≡ []) × (passed ≡ stage.passed)
 
 -- just these changes may still come, and just so many records are passed over in the end
 abbrev pub SaysJust : {S : Type 0} → Comes S → (S → Option MrtRecord) → Stage S → List Change → ℕ → Type 0
-SaysJust comes shows stage whole total = (changes : List Change) (passed : ℕ) → May comes shows stage changes passed ↔ ((changes ≡ whole) × (passed ≡ total))
+SaysJust comes shows stage whole total =
+    (changes : List Change) (passed : ℕ) → May comes shows stage changes passed ↔ ((changes ≡ whole) × (passed ≡ total))
 
 -- ---- what an answer to `next_word` says
 
--- A change that is given was to come before those that may come after it; after a close no change may come. None comes where no change may,
--- and nothing changes. Memory refused changes nothing that may come, and nothing is passed over.
-abbrev pub Says : {S : Type 0} → Comes S → (S → Option MrtRecord) → Stage S → Stage S → Result (Option Word) AllocError → Type 0
-Says comes shows old new (Ok (Some word)) = KeepsBehind comes shows (change_of word) old new × (is_close word.body ≡ true → IsOver comes shows new)
+-- A change that is given was to come before those that may come after it; after a close no change may come.
+-- None comes where no change may, and nothing changes. Memory refused changes nothing that may come, and
+-- nothing is passed over.
+abbrev pub Says : {S : Type 0} → Comes S → (S → Option MrtRecord) → Stage S → Stage S
+    → Result (Option Word) AllocError → Type 0
+Says comes shows old new (Ok (Some word)) =
+    KeepsBehind comes shows (change_of word) old new × (is_close word.body ≡ true → IsOver comes shows new)
 Says comes shows old new (Ok None) = IsOver comes shows old × (new ≡ old)
 Says comes shows old new (Err refused) = Keeps comes shows old new × (new.passed ≡ old.passed)
 
--- An open session gives a change or is refused memory, and just a close closes it. Any answer of a closed one is none, and it stays closed.
+-- An open session gives a change or is refused memory, and just a close closes it. Any answer of a closed one
+-- is none, and it stays closed.
 abbrev pub Closes : Bool → Bool → Result (Option Word) AllocError → Type 0
 Closes before after (Ok (Some word)) = (before ≡ false) × (after ≡ is_close word.body)
 Closes before after (Ok None) = (before ≡ true) × (after ≡ true)
@@ -97,7 +122,8 @@ held_octets false shown = 0
 held_octets true None = 0
 held_octets true (Some r) = length r.body
 
--- how many changes at most may still come before the close: those that wait, and one for each octet that spells the records to be read
+-- how many changes at most may still come before the close: those that wait, and one for each octet that
+-- spells the records to be read
 abbrev pub most_changes : {S : Type 0} → (S → ℕ) → (S → Option MrtRecord) → Stage S → ℕ
 most_changes room shows stage = length stage.waiting + held_octets stage.held (shows stage.source) + room stage.source
 
@@ -114,7 +140,9 @@ answer_behind (Ok None) = Ok true
 answer_behind (Err refused) = Ok true
 
 -- while no close is given, a source that had not stopped has not stopped
-abbrev pub GoesOn : Option (Result Bool SourceFault) → Option (Result Bool SourceFault) → Result (Option Word) AllocError → Type 0
-GoesOn before after (Ok (Some word)) = is_close word.body ≡ false → (last : Result Bool SourceFault) → after ≡ Some last → before ≡ Some last
+abbrev pub GoesOn : Option (Result Bool SourceFault) → Option (Result Bool SourceFault)
+    → Result (Option Word) AllocError → Type 0
+GoesOn before after (Ok (Some word)) =
+    is_close word.body ≡ false → (last : Result Bool SourceFault) → after ≡ Some last → before ≡ Some last
 GoesOn before after (Ok None) = (last : Result Bool SourceFault) → after ≡ Some last → before ≡ Some last
 GoesOn before after (Err refused) = (last : Result Bool SourceFault) → after ≡ Some last → before ≡ Some last

@@ -14,7 +14,8 @@ use Rattle.rs_session.specs.declared.word.Word.{Word}
 
 -- ---- giving
 
--- the first change that waits is given, and what was passed over before it is counted; or none waits, and nothing changes
+-- the first change that waits is given, and what was passed over before it is counted; or none waits, and
+-- nothing changes
 abbrev pub GivesWaiting : {S : Type 0} → Stage S → Option Word → Stage S → Type 0
 GivesWaiting old (Some word) new =
     (old.waiting ≡ change_of word ∷ new.waiting)
@@ -26,8 +27,11 @@ GivesWaiting old None new = (old.waiting ≡ []) × (new ≡ old)
 
 -- a record is there to be read, and no other records may be read than before; or there is none, for this reason
 abbrev pub Fetches : {S : Type 0} → Comes S → (S → Option MrtRecord) → Stage S → Stage S → Option Reason → Type 0
-Fetches comes shows old new None = (records : List MrtRecord) (end : Option SourceFault) → MayRead comes shows new records end → MayRead comes shows old records end
-Fetches comes shows old new (Some reason) = (end : Option SourceFault) × MayRead comes shows old [] end × (reason ≡ reason_at_end end)
+Fetches comes shows old new None =
+    (records : List MrtRecord) (end : Option SourceFault) → MayRead comes shows new records end
+    → MayRead comes shows old records end
+Fetches comes shows old new (Some reason) =
+    (end : Option SourceFault) × MayRead comes shows old [] end × (reason ≡ reason_at_end end)
 
 -- the answer of a source behind what fetching gave
 abbrev pub answer_of_fetch : Option Reason → Result Bool SourceFault
@@ -44,7 +48,8 @@ closed_by stage = record stage { held = false; closed = true; passed = stage.pas
 abbrev pub Applies : {S : Type 0} → ℕ → RecordEffect → Stage S → Option Word → Stage S → Type 0
 Applies time PassesOver old None new = new ≡ record old { held = false; skipped = old.skipped + 1 }
 Applies time (Gives changes) old None new = new ≡ record old { held = false; waiting = changes }
-Applies time (Ends reason) old (Some word) new = (word ≡ closing_word time reason) × (is_read reason ≡ false) × (new ≡ closed_by old)
+Applies time (Ends reason) old (Some word) new =
+    (word ≡ closing_word time reason) × (is_read reason ≡ false) × (new ≡ closed_by old)
 Applies time PassesOver old (Some word) new = ⊥
 Applies time (Gives changes) old (Some word) new = ⊥
 Applies time (Ends reason) old None new = ⊥
@@ -57,7 +62,9 @@ ReadsShown (Some r) old given new = Applies r.time (effect_of old.errors old.pee
 -- ---- a whole step
 
 -- the session goes on, and no more may come than before; or the close is given
-abbrev pub Steps : {S : Type 0} → Comes S → (S → Option MrtRecord) → Stage S → Stage S → Result (Option Word) AllocError → Type 0
+abbrev pub Steps : {S : Type 0} → Comes S → (S → Option MrtRecord) → Stage S → Stage S
+    → Result (Option Word) AllocError → Type 0
 Steps comes shows old new (Ok None) = Keeps comes shows old new × (new.closed ≡ false) × (new.passed ≡ old.passed)
-Steps comes shows old new (Ok (Some word)) = KeepsBehind comes shows (change_of word) old new × (is_close word.body ≡ true) × (new.closed ≡ true)
+Steps comes shows old new (Ok (Some word)) =
+    KeepsBehind comes shows (change_of word) old new × (is_close word.body ≡ true) × (new.closed ≡ true)
 Steps comes shows old new (Err refused) = Keeps comes shows old new × (new.closed ≡ false) × (new.passed ≡ old.passed)

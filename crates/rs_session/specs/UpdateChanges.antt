@@ -34,13 +34,15 @@ abbrev pub announcements : ℕ → Option PathAttributes → List IpPrefix → L
 announcements time None prefixes = []
 announcements time (Some attributes) prefixes = map (announces time attributes) prefixes
 
--- the changes of an UPDATE, each with the time of its record: first what it withdraws, then what it announces (our choice), in order
+-- the changes of an UPDATE, each with the time of its record: first what it withdraws, then what it announces
+-- (our choice), in order
 abbrev pub changes_of_update : ℕ → UpdateContent → List Change
 changes_of_update time update =
     map (withdraws time) (withdrawn_only update.withdrawn update.nlri)
     ++ announcements time update.attributes (unicast update.nlri)
 
--- the changes of an UPDATE whose routes are all treated as withdrawn: first what it withdraws, then what it would announce (RFC 7606, section 2), in order
+-- the changes of an UPDATE whose routes are all treated as withdrawn: first what it withdraws, then what it
+-- would announce (RFC 7606, section 2), in order
 abbrev pub changes_of_treated : ℕ → TreatedContent → List Change
 changes_of_treated time treated =
     map (withdraws time) (withdrawn_only treated.withdrawn treated.nlri)

@@ -1,8 +1,9 @@
-//! What a record says to the session of one peer (RFC 6396, sections 4.4.3 and 4.4.4; RFC 4271, sections 4.2 to 4.5 and 6).
+//! What a record says to the session of one peer (RFC 6396, sections 4.4.3 and 4.4.4; RFC 4271, sections 4.2
+//! to 4.5 and 6).
 //!
-//! Our choices: a record of another kind or of another peer is passed over; only the loss of Established counts among changes of
-//! state; after a loss and after a NOTIFICATION reading goes on, whatever the recorded state is; a fault of the recording or of a
-//! message ends the session.
+//! Our choices: a record of another kind or of another peer is passed over; only the loss of Established
+//! counts among changes of state; after a loss and after a NOTIFICATION reading goes on, whatever the
+//! recorded state is; a fault of the recording or of a message ends the session.
 
 ghost use Rattle.std.specs.Prelude.{◌≡◌, IsTrue, IfOk};
 ghost use Rattle.rs_mrt.specs.Record.{record_of};
@@ -31,7 +32,8 @@ pub(crate) enum Effect {
     Ends(Reason),
 }
 
-// What a record says to the session of a peer, faults in messages being handled by one of the standards. Nothing is allocated for a record that is passed over.
+// What a record says to the session of a peer, faults in messages being handled by one of the standards.
+// Nothing is allocated for a record that is passed over.
 #[tactic(auto, unfolding(crate::specs::Effect::effect_of))]
 pub(crate) fn read_record(
     alloc: Global,

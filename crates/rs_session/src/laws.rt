@@ -1,6 +1,7 @@
 //! What holds of the definitions that the contracts cite: each law is the contract of a function that does nothing.
 
-ghost use Rattle.rs_session.specs.Laws.{ClosesOnce, SaysNoMoreThanOctets, FrontSuffices, SomethingMayCome, GivesFileOrFails, FailedReadCloses};
+ghost use Rattle.rs_session.specs.Laws.{ClosesOnce, SaysNoMoreThanOctets, FrontSuffices, SomethingMayCome};
+ghost use Rattle.rs_session.specs.Laws.{GivesFileOrFails, FailedReadCloses};
 
 use crate::session::Session;
 use rs_mrt::{Read, Source, front_of_a_record_says_the_same};
@@ -27,8 +28,9 @@ pub fn something_may_come<S: Source>(_session: &Session<S>)
     ensures { SomethingMayCome S.comes S.shows _session.now }
 {}
 
-/// A session over a `RecordReader` says what a file says which the reader may give, the file being read no further than the record that
-/// ends the session; or else, behind the changes of the whole records that came, that a read failed.
+/// A session over a `RecordReader` says what a file says which the reader may give, the file being read no
+/// further than the record that ends the session; or else, behind the changes of the whole records that came,
+/// that a read failed.
 pub fn a_reader_gives_a_file_or_fails<R: Read>(_reader: &R)
     ensures { GivesFileOrFails R.gives _reader.now }
 {

@@ -1,8 +1,8 @@
 //! What one recorded session says: the route changes of one peer, in order (RFC 4271; RFC 6396).
 //!
-//! Reading order: `word` (a change), `closing` (which one closes a ring), `peer` (whose), `withdrawn` and `pending` (the changes of one
-//! record), `effect` (what one record says), `session` (one change after another), `laws` (what holds of the definitions that the
-//! contracts cite).
+//! Reading order: `word` (a change), `closing` (which one closes a ring), `peer` (whose), `withdrawn` and
+//! `pending` (the changes of one record), `effect` (what one record says), `session` (one change after
+//! another), `laws` (what holds of the definitions that the contracts cite).
 #![tactic(auto)]
 
 mod closing;

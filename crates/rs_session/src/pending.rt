@@ -1,7 +1,7 @@
 //! The changes of one record, given one after another (RFC 4271, sections 3.1, 4.3 and 8.2.2).
 //!
-//! Our choices: of an UPDATE first what is withdrawn, then what is announced; a multicast prefix gives no change. Where an UPDATE is treated
-//! as withdrawn, what it announces is withdrawn too (RFC 7606, section 2).
+//! Our choices: of an UPDATE first what is withdrawn, then what is announced; a multicast prefix gives no
+//! change. Where an UPDATE is treated as withdrawn, what it announces is withdrawn too (RFC 7606, section 2).
 
 ghost use Rattle.std.specs.Prelude.{◌≡◌, false, [], ◌∷◌, IfOk, IfSome, OnErr};
 ghost use Rattle.std.specs.Option.{option_map};
@@ -91,7 +91,8 @@ impl Pending {
         withdrawn: Vec<Prefix>,
         nlri: Vec<Prefix>,
     ) -> Result<Pending, AllocError>
-        ensures { IfOk result (λ changes. changes ≡ changes_of_treated time (record { withdrawn = withdrawn.items; nlri = nlri.items })) }
+        ensures { IfOk result (λ changes. changes
+            ≡ changes_of_treated time (record { withdrawn = withdrawn.items; nlri = nlri.items })) }
     {
         let mut treated = withdrawn;
         let mut announced = nlri;

@@ -1,9 +1,10 @@
 //! One peer's session in a recording, given change by change (RFC 4271, section 3.1; RFC 6396, section 4.4).
 //!
-//! Our choices: the session is open at the first record; records of other peers are passed over and counted; nothing is read after
-//! the close.
+//! Our choices: the session is open at the first record; records of other peers are passed over and counted;
+//! nothing is read after the close.
 
-ghost use Rattle.std.specs.Prelude.{◌≡◌, ◌+◌, ◌<◌, ◌≤◌, ℕ, Bool, true, false, List, [], None, Option, Result, OnErr, IfOk, IfSome, IfNone, is_none};
+ghost use Rattle.std.specs.Prelude.{◌≡◌, ◌+◌, ◌<◌, ◌≤◌, ℕ, Bool, true, false, List, [], None, Option, Result, OnErr};
+ghost use Rattle.std.specs.Prelude.{IfOk, IfSome, IfNone, is_none};
 ghost use Rattle.rs_mrt.specs.declared.fault.SourceFault.{SourceFault};
 ghost use Rattle.rs_update.specs.declared.errors.Errors.TheVariants.{Rfc4271};
 ghost use Rattle.std.specs.Option.{option_map};
@@ -11,7 +12,8 @@ ghost use Rattle.rs_mrt.specs.Record.{reading_of, record_of};
 ghost use Rattle.rs_mrt.specs.Source.{CountsFailure};
 ghost use Rattle.rs_session.specs.FileChanges.{changes_in, passed_in};
 ghost use Rattle.rs_session.specs.Laws.{SomethingMayCome};
-ghost use Rattle.rs_session.specs.Stage.{fresh, May, Says, SaysJust, Closes, Fewer, GoesOn, answer_behind, most_changes};
+ghost use Rattle.rs_session.specs.Stage.{fresh, May, Says, SaysJust, Closes, Fewer, GoesOn, answer_behind};
+ghost use Rattle.rs_session.specs.Stage.{most_changes};
 ghost use Rattle.rs_session.specs.Change.{Change, closing_word};
 ghost use Rattle.rs_session.specs.Steps.{Fetches, GivesWaiting, ReadsShown, Steps, answer_of_fetch, closed_by};
 ghost use Rattle.rs_session.specs.Counts.{held_count};
@@ -86,8 +88,8 @@ impl<S: Source> Session<S> {
         Session::over_by(alloc, source, peer, Errors::Rfc4271)
     }
 
-    /// Begins at the next record of the source, faults in messages being handled by one of the standards: by RFC 7606 many UPDATEs at fault
-    /// close nothing, and their routes are withdrawn. It takes no memory.
+    /// Begins at the next record of the source, faults in messages being handled by one of the standards: by
+    /// RFC 7606 many UPDATEs at fault close nothing, and their routes are withdrawn. It takes no memory.
     pub fn over_by(alloc: Global, source: S, peer: PeerId, errors: Errors) -> Session<S>
         ensures { result ≡ fresh source peer errors }
     {
@@ -104,14 +106,16 @@ impl<S: Source> Session<S> {
         }
     }
 
-    /// Gives the next change; after the close none. A close says the end of the records, or why the session ended before it. Refused, the session is as before: nothing is lost, and the same call gives the same
+    /// Gives the next change; after the close none. A close says the end of the records, or why the session
+    /// ended before it. Refused, the session is as before: nothing is lost, and the same call gives the same
     /// change once there is memory.
     pub fn next_word(&mut self) -> Result<Option<Word>, AllocError>
         ensures says { Says S.comes S.shows self.old self.new result }
         ensures closes { Closes self.old.closed self.new.closed result }
         // A source of so many octets gives no more changes before the close.
         ensures fewer { Fewer (most_changes S.room S.shows self.old) (most_changes S.room S.shows self.new) result }
-        // A close for want of readable records comes only where a read failed, or where the source takes no more octets.
+        // A close for want of readable records comes only where a read failed, or where the source takes no
+        // more octets.
         ensures failures { CountsFailure (S.failures self.old.source) (S.failures self.new.source)
             (S.full self.new.source) (S.stopped self.old.source) (answer_behind result) }
         ensures goes_on { GoesOn (S.stopped self.old.source) (S.stopped self.new.source) result }
@@ -132,13 +136,15 @@ impl<S: Source> Session<S> {
     /// How many records were passed over before the change given last; after the close, in all.
     pub fn passed_over(&self) -> u64
         ensures value { result ≡ self.now.passed }
-        ensures at_most { (changes : List Change) (passed : ℕ) → May S.comes S.shows self.now changes passed → result ≤ passed }
+        ensures at_most { (changes : List Change) (passed : ℕ) → May S.comes S.shows self.now changes passed
+            → result ≤ passed }
         ensures in_the_end { (passed : ℕ) → May S.comes S.shows self.now [] passed → result ≡ passed }
     {
         self.passed
     }
 
-    /// The record that is read: after a change was given, the one that gave it. None before the first one, and after a close that no whole record gave.
+    /// The record that is read: after a change was given, the one that gave it. None before the first one,
+    /// and after a close that no whole record gave.
     pub fn shown(&self) -> Option<Record<'_>>
         ensures { option_map record_of result ≡ S.shows self.now.source }
     {

@@ -6,7 +6,8 @@ use std::sync::Arc;
 /// One change of a peer's routes, as a recorded session says it.
 #[derive(Drop)]
 pub struct Word {
-    /// When it was recorded: the Timestamp of its record, in seconds since 1970. 0 for a close that no whole record gave (our choice).
+    /// When it was recorded: the Timestamp of its record, in seconds since 1970. 0 for a close that no whole
+    /// record gave (our choice).
     pub time: u32,
     /// What changed.
     pub body: Body,
@@ -19,8 +20,8 @@ pub enum Body {
     Announce(Prefix, Arc<Attributes>),
     /// The peer withdraws the prefix.
     Withdraw(Prefix),
-    /// The session goes down and all its routes with it (RFC 4271, section 8.2.2): its state left Established, or the peer sent a
-    /// NOTIFICATION. It may come up again.
+    /// The session goes down and all its routes with it (RFC 4271, section 8.2.2): its state left
+    /// Established, or the peer sent a NOTIFICATION. It may come up again.
     Down,
     /// The session ends, and nothing follows.
     Close(Reason),

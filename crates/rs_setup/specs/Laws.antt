@@ -7,9 +7,11 @@ use Rattle.rs_setup.specs.Setup.{IsSetup}
 -- a configuration sets up no more than one plan, and no more than one file for each peer
 abbrev pub SetsUpOnce : Type 0
 SetsUpOnce =
-    (keys : Members) (plan other : Plan) (files others : List (List ℕ)) → IsSetup keys plan files → IsSetup keys other others →
+    (keys : Members) (plan other : Plan) (files others : List (List ℕ)) → IsSetup keys plan files
+    → IsSetup keys other others →
     (plan ≡ other) × (files ≡ others)
 
 -- a configuration sets up as many recorded files as peers
 abbrev pub HasFileForEachPeer : Type 0
-HasFileForEachPeer = (keys : Members) (plan : Plan) (files : List (List ℕ)) → IsSetup keys plan files → length files ≡ length plan.peers
+HasFileForEachPeer =
+    (keys : Members) (plan : Plan) (files : List (List ℕ)) → IsSetup keys plan files → length files ≡ length plan.peers

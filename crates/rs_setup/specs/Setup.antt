@@ -1,4 +1,5 @@
--- What a configuration sets up: the server, its peers and their recorded files (our choice: RFC 4271 leaves configuration to the implementation).
+-- What a configuration sets up: the server, its peers and their recorded files (our choice: RFC 4271 leaves
+-- configuration to the implementation).
 use Rattle.std.specs.Prelude.{◌≡◌, ℕ, List, [], ◌∷◌, codes, None}
 use Rattle.toml.specs.Data.{Data, table, array, Items, no_items, item, Members}
 use Rattle.rs_choice.specs.Plan.{Peer, Plan}
@@ -13,7 +14,9 @@ abbrev pub server_keys : List (List ℕ)
 server_keys = codes "address" ∷ codes "as" ∷ codes "id" ∷ codes "subnet" ∷ []
 
 abbrev pub peer_keys : List (List ℕ)
-peer_keys = codes "address" ∷ codes "as" ∷ codes "file" ∷ codes "id" ∷ codes "name" ∷ codes "preference" ∷ codes "refuse_from" ∷ []
+peer_keys =
+    codes "address" ∷ codes "as" ∷ codes "file" ∷ codes "id" ∷ codes "name" ∷ codes "preference"
+    ∷ codes "refuse_from" ∷ []
 
 -- the preference of a peer that is configured none of its own
 abbrev pub default_preference : ℕ
@@ -27,8 +30,8 @@ pub record IsServerOf (keys : Members) (server : Local) : Type 0 where
   pub id : MayHave keys (codes "id") IsAddress server.address server.id
   pub subnet : MayHave keys (codes "subnet") IsSomeSubnet None server.subnet
 
--- a peer and the path of its recorded file by the peer's keys; where nothing else is configured its identifier is its address, its preference is the default
--- and it refuses no routes
+-- a peer and the path of its recorded file by the peer's keys; where nothing else is configured its
+-- identifier is its address, its preference is the default and it refuses no routes
 pub record IsPeerOf (keys : Members) (peer : Peer) (path : List ℕ) : Type 0 where
   pub known : HasOnly peer_keys keys
   pub name : Needs keys (codes "name") IsText peer.name
@@ -57,7 +60,8 @@ ArePeers _ _ _ = ⊥
 abbrev pub ArePeersOf : Data → List Peer × List (List ℕ) → Type 0
 ArePeersOf value (peers, files) = (values : Items) × (value ≡ array values) × ArePeers values peers files
 
--- what a configuration's table sets up: the plan of the exchange, and the path of each peer's recorded file in the order of the peers
+-- what a configuration's table sets up: the plan of the exchange, and the path of each peer's recorded file
+-- in the order of the peers
 pub record IsSetup (keys : Members) (plan : Plan) (files : List (List ℕ)) : Type 0 where
   pub known : HasOnly top_keys keys
   pub server : Needs keys (codes "server") IsServer plan.local

@@ -1,5 +1,7 @@
--- What the values of a configuration stand for, and the keys that its tables have (our choice: RFC 4271 leaves configuration to the implementation).
-use Rattle.std.specs.Prelude.{◌≡◌, ℕ, ◌<◌, ◌≤◌, ◌^◌, pos, List, ◌++◌, map, codes, decimal, Option, IsSomeAnd, MatchOption}
+-- What the values of a configuration stand for, and the keys that its tables have (our choice: RFC 4271
+-- leaves configuration to the implementation).
+use Rattle.std.specs.Prelude.{◌≡◌, ℕ, ◌<◌, ◌≤◌, ◌^◌, pos, List, ◌++◌, map, codes, decimal, Option, IsSomeAnd}
+use Rattle.std.specs.Prelude.{MatchOption}
 use Rattle.std.specs.Int.{w32, from_be_bytes}
 use Rattle.std.specs.List.{Contains}
 use Rattle.std.specs.Net.Grammar.{IsDotted}
@@ -20,7 +22,8 @@ IsDottedAddress text address = (octets : List ℕ) × IsDotted text octets × (a
 abbrev pub IsAddress : Data → ℕ → Type 0
 IsAddress value address = (text : List ℕ) × (value ≡ string text) × IsDottedAddress text address
 
--- a text that writes a subnet as an address, a slash and a length of at most 32 bits; the address's host bits are cleared
+-- a text that writes a subnet as an address, a slash and a length of at most 32 bits; the address's host bits
+-- are cleared
 abbrev pub IsSlashedSubnet : List ℕ → IpPrefix → Type 0
 IsSlashedSubnet text prefix =
     (front : List ℕ) × (address len : ℕ) × (text ≡ front ++ codes "/" ++ decimal len)
@@ -50,7 +53,8 @@ Needs members key StandsFor found = IsSomeAnd (get_member key members) (λ value
 
 -- a key that may be there: what the value at it stands for, or the default
 abbrev pub MayHave : {A : Type 0} → Members → List ℕ → (Data → A → Type 0) → A → A → Type 0
-MayHave members key StandsFor default found = MatchOption (get_member key members) (found ≡ default) (λ value. StandsFor value found)
+MayHave members key StandsFor default found =
+    MatchOption (get_member key members) (found ≡ default) (λ value. StandsFor value found)
 
 -- each key of a table is one of those that are known
 abbrev pub HasOnly : List (List ℕ) → Members → Type 0

@@ -3,7 +3,8 @@
 ghost use Rattle.std.specs.Prelude.{◌≡◌, IfOk, None, Some, [], map, option_map, string_bytes};
 ghost use Rattle.toml.specs.Data.{get_member};
 ghost use Rattle.toml.specs.View.{table_view, view};
-ghost use Rattle.rs_setup.specs.Values.{HasOnly, IsAddress, IsSomeSubnet, IsText, IsTexts, IsWholeNumber, MayHave, Needs};
+ghost use Rattle.rs_setup.specs.Values.{HasOnly, IsAddress, IsSomeSubnet, IsText, IsTexts, IsWholeNumber, MayHave};
+ghost use Rattle.rs_setup.specs.Values.{Needs};
 
 use crate::setup::SetupFault;
 use crate::values::{address, subnet, texts, whole_number};
@@ -35,8 +36,9 @@ impl Place {
 
 /// A table of a configuration, and where it stands.
 ///
-/// A key that must be there and isn't is refused as `Missing`, one whose value is of another type or out of its range as `NotValid`. `Memory` is answered where
-/// the text of a fault or a copy of a text finds no memory.
+/// A key that must be there and isn't is refused as `Missing`, one whose value is of another type or out of
+/// its range as `NotValid`. `Memory` is answered where the text of a fault or a copy of a text finds no
+/// memory.
 #[derive(Drop)]
 pub struct Section<'a> {
     place: Place,
@@ -53,7 +55,8 @@ impl<'a> Section<'a> {
         Section { place, table }
     }
 
-    /// Tests that the table has no key but the known ones. Else it is refused as `Unknown`, which names the least unknown key by its bytes.
+    /// Tests that the table has no key but the known ones. Else it is refused as `Unknown`, which names the
+    /// least unknown key by its bytes.
     pub fn has_only(&self, alloc: Global, known: &[&str]) -> Result<(), SetupFault>
         ensures { IfOk result (λ _. HasOnly (map (λ key. key.now) known.now) (members_in self.now)) }
     {
@@ -146,7 +149,8 @@ impl<'a> Section<'a> {
 
     /// The texts of the list at a key, none where the key isn't there.
     pub fn texts(&self, alloc: Global, key: &str) -> Result<Vec<String>, SetupFault>
-        ensures { IfOk result (λ texts. MayHave (members_in self.now) key.now IsTexts [] (map string_bytes texts.items)) }
+        ensures { IfOk result (λ texts. MayHave (members_in self.now) key.now IsTexts []
+            (map string_bytes texts.items)) }
     {
         match self.get(key) {
             Some(value) => {

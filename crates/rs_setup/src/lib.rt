@@ -1,8 +1,8 @@
 //! What the configuration of an exchange sets up: the server, its peers, and the path of each peer's recorded file.
 //!
-//! Reading order: `setup` (what is set up, and why a configuration is refused), `peers` (the server's table and those of the peers), `keys` (a table's keys),
-//! `values`, `laws`.
-//! A configuration is a TOML table (our choice: RFC 4271 leaves configuration to the implementation).
+//! Reading order: `setup` (what is set up, and why a configuration is refused), `peers` (the server's table
+//! and those of the peers), `keys` (a table's keys), `values`, `laws`. A configuration is a TOML table (our
+//! choice: RFC 4271 leaves configuration to the implementation).
 #![tactic(auto)]
 
 mod keys;

@@ -39,7 +39,8 @@ pub fn read_server(alloc: Global, top: &Section) -> Result<Local, SetupFault>
 
 /// Reads the peers and the paths of their files, in order, out of the configuration's table.
 pub fn read_peers(alloc: Global, top: &Section) -> Result<(Vec<PeerSpec>, Vec<String>), SetupFault>
-    ensures { IfOk result (λ (peers, files). MayHave (members_in top.now) (codes "peer") ArePeersOf ([], []) (map peer_of peers.items, map string_bytes files.items)) }
+    ensures { IfOk result (λ (peers, files). MayHave (members_in top.now) (codes "peer") ArePeersOf ([], [])
+        (map peer_of peers.items, map string_bytes files.items)) }
 {
     match top.get("peer") {
         Some(value) => read_list(alloc, top.valid(alloc, "peer", value.as_array())?),
@@ -49,7 +50,8 @@ pub fn read_peers(alloc: Global, top: &Section) -> Result<(Vec<PeerSpec>, Vec<St
 
 // Reads the peers of a list.
 fn read_list(alloc: Global, values: &[Value]) -> Result<(Vec<PeerSpec>, Vec<String>), SetupFault>
-    ensures { IfOk result (λ (peers, files). ArePeers (items_view values.now) (map peer_of peers.items) (map string_bytes files.items)) }
+    ensures { IfOk result (λ (peers, files). ArePeers (items_view values.now) (map peer_of peers.items)
+        (map string_bytes files.items)) }
 {
     let mut peers = Vec::new(alloc);
     let mut files = Vec::new(alloc);

@@ -1,7 +1,7 @@
 //! What a configuration sets up: the plan of the exchange and each peer's recorded file.
 //!
-//! A configuration is a TOML table (our choice: RFC 4271 leaves configuration to the implementation). Tests come in its order: the keys of the whole table; the
-//! server; one peer after another; then the plan.
+//! A configuration is a TOML table (our choice: RFC 4271 leaves configuration to the implementation). Tests
+//! come in its order: the keys of the whole table; the server; one peer after another; then the plan.
 
 ghost use Rattle.std.specs.Prelude.{◌≡◌, IfOk, Some, map, string_bytes};
 ghost use Rattle.toml.specs.Data.{Members};
@@ -72,10 +72,12 @@ impl From<PlanFault> for SetupFault {
 
 /// Reads a configuration.
 ///
-/// The first fault refuses it: that of the text, then of the keys and values in the order of the tests, then of the plan. Of several unknown keys in one table the
-/// least by its bytes is named. `Memory` says nothing of the text.
+/// The first fault refuses it: that of the text, then of the keys and values in the order of the tests, then
+/// of the plan. Of several unknown keys in one table the least by its bytes is named. `Memory` says nothing
+/// of the text.
 pub fn read_setup(alloc: Global, text: &[u8]) -> Result<Setup, SetupFault>
-    ensures { IfOk result (λ setup. (table : Members) × (parse_document text.now ≡ Some table) × IsSetup table setup.plan.value (map string_bytes setup.files.items)) }
+    ensures { IfOk result (λ setup. (table : Members) × (parse_document text.now ≡ Some table)
+        × IsSetup table setup.plan.value (map string_bytes setup.files.items)) }
 {
     let table = read_table(alloc, text)?;
     let top = Section::new(Place::Top, &table);

@@ -1,4 +1,5 @@
-//! What the values of a configuration stand for: whole numbers, addresses, subnets and texts (our choice: RFC 4271 leaves configuration to the implementation).
+//! What the values of a configuration stand for: whole numbers, addresses, subnets and texts (our choice: RFC
+//! 4271 leaves configuration to the implementation).
 
 ghost use Rattle.std.specs.Prelude.{◌≡◌, ◌++◌, IfOk, IfSome, codes, decimal, map, string_bytes};
 ghost use Rattle.toml.specs.Data.{string};
@@ -20,7 +21,8 @@ pub fn whole_number(value: &Value) -> Option<u32>
     }
 }
 
-/// The address, in host order, that a value writes as four decimal numbers from 0 to 255 with dots between them and without needless zeros.
+/// The address, in host order, that a value writes as four decimal numbers from 0 to 255 with dots between
+/// them and without needless zeros.
 pub fn address(value: &Value) -> Option<u32>
     ensures { IfSome result (IsAddress (view value.now)) }
 {
@@ -30,7 +32,8 @@ pub fn address(value: &Value) -> Option<u32>
     }
 }
 
-/// The subnet that a value writes as an address, a slash and a length from 0 to 32 without needless zeros. Its host bits are cleared.
+/// The subnet that a value writes as an address, a slash and a length from 0 to 32 without needless zeros.
+/// Its host bits are cleared.
 pub fn subnet(value: &Value) -> Option<Prefix>
     ensures { IfSome result (IsSubnet (view value.now)) }
 {
@@ -54,7 +57,8 @@ pub fn texts(alloc: Global, value: &Value) -> Result<Option<Vec<String>>, AllocE
 
 // The texts that the values are; none where one of them isn't a text.
 fn list_of_texts(alloc: Global, values: &[Value]) -> Result<Option<Vec<String>>, AllocError>
-    ensures { IfOk result (λ found. IfSome found (λ texts. items_view values.now ≡ items_of (map string (map string_bytes texts.items)))) }
+    ensures { IfOk result (λ found. IfSome found
+        (λ texts. items_view values.now ≡ items_of (map string (map string_bytes texts.items)))) }
 {
     let mut texts = Vec::with_capacity(alloc, values.len())?;
     for value in values {
@@ -76,7 +80,8 @@ fn dotted_address(text: &str) -> Option<u32>
     }
 }
 
-/// The prefix that a text writes as an address, a slash and a length from 0 to 32 without needless zeros. Its host bits are cleared.
+/// The prefix that a text writes as an address, a slash and a length from 0 to 32 without needless zeros. Its
+/// host bits are cleared.
 pub fn slashed_subnet(text: &str) -> Option<Prefix>
     ensures { IfSome result (IsSlashedSubnet text.now) }
 {

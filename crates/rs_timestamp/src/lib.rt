@@ -9,7 +9,8 @@ use jiff::civil::DateTime;
 use jiff::tz::Offset;
 use std::fmt;
 
-/// What a clock in UTC shows at a time in seconds since 1970. Its parts, `date` and `time`, are shown as `2026-11-22` and `06:36:20`.
+/// What a clock in UTC shows at a time in seconds since 1970. Its parts, `date` and `time`, are shown as
+/// `2026-11-22` and `06:36:20`.
 pub fn civil_time(seconds: u32) -> DateTime
     ensures { civil_nanos result ≡ pos (seconds * 1_000_000_000) }
 {
@@ -31,13 +32,25 @@ impl fmt::Display for Utc {
     }
 }
 
-/// The time that a text is: seconds since 1970, or an instant as `2026-11-22T06:36:20Z`, whole seconds of the years that a Timestamp of 32 bits holds.
+/// The time that a text is: seconds since 1970, an instant as `2026-11-22T06:36:20Z`, or a time as it is shown,
+/// `2026-11-22 06:36:20`, in UTC, a date alone being its first second; whole seconds of the years that a
+/// Timestamp of 32 bits holds.
 pub fn read_time(text: &str) -> Option<u32> {
     if let Ok(seconds) = text.parse::<u32>() {
         return Some(seconds);
     }
-    match text.parse::<Timestamp>() {
-        Ok(instant) if instant.subsec_nanosecond() == 0 => u32::try_from(instant.as_second()).ok(),
-        _ => None,
+    let instant = read_instant(text)?;
+    if instant.subsec_nanosecond() != 0 {
+        return None;
     }
+    u32::try_from(instant.as_second()).ok()
+}
+
+// The instant that a text is: of a text that names no offset from UTC, in UTC.
+fn read_instant(text: &str) -> Option<Timestamp> {
+    if let Ok(instant) = text.parse::<Timestamp>() {
+        return Some(instant);
+    }
+    let shown = text.parse::<DateTime>().ok()?;
+    Offset::UTC.to_timestamp(shown).ok()
 }

@@ -7,9 +7,11 @@ use Rattle.std.proofs.lemmas.Bool.{cases_Bool}
 use Rattle.byteorder.specs.Endian.{big_number}
 use Rattle.rs_update.specs.declared.attribute_type.AttributeType.{AttributeType}
 use Rattle.rs_update.specs.declared.attribute_type.AttributeType.TheVariants as types
+use Rattle.rs_update.specs.declared.attribute_type.WantedFlags.{WantedFlags}
+use Rattle.rs_update.specs.declared.attribute_type.WantedFlags.TheVariants.{WellKnown, OptionalNonTransitive, OptionalTransitive, Optional, Any}
 use Rattle.rs_update.specs.declared.values.Aggregator.{Aggregator}
-use Rattle.rs_update.specs.AttributeType.{type_of, is_unrecognized, is_transitive, is_partial}
-use Rattle.rs_update.specs.Found.{kept_as, kept_in}
+use Rattle.rs_update.specs.AttributeType.{type_of, row_of, is_unrecognized, is_transitive, is_partial}
+use Rattle.rs_update.specs.Found.{kept_by, kept_as, kept_of, kept_in}
 use Rattle.rs_update.specs.Gathered.{look, aggregator_of, community_list_of, is_passed_on, passed_on_of, passed_on_in, others_of, attributes_from, attributes_of}
 use Rattle.rs_update.specs.Laws.{WrittenIsRead}
 use Rattle.rs_update.specs.Parts.{AreOctets, parts_of}
@@ -18,6 +20,7 @@ use Rattle.rs_update.specs.Section.{Item, FitsItsLength, item_at, items_of, rest
 use Rattle.rs_update.specs.Shapes.{passed_on_from}
 use Rattle.rs_update.specs.Spelling.{well_known, optional_transitive, spelled_item, written, written_items}
 use Rattle.rs_update.proofs.BoundLemmas.{written-shorter}
+use Rattle.rs_update.proofs.FoundLemmas.{known_number}
 use Rattle.rs_update.proofs.KeptLemmas.{written_items-kept}
 use Rattle.rs_update.proofs.KindLemmas.{cases_Option, All-range, filter_map-same, find-made, range-any}
 use Rattle.rs_update.proofs.SoundLemmas.{AreSound, sound_section, look_sound}
@@ -37,26 +40,35 @@ communities_again item = let same = written_partial (is_partial item.flags) item
 abbrev passes : Item → Option PassedOn
 passes item = if is_passed_on item then Some (passed_on_of item) else None
 
-recognized_passes_not : (type : AttributeType) (kind flags : ℕ) (value : List ℕ) → type_of kind ≡ type → is_unrecognized type ≡ false → passes (record { flags = flags; kind = kind; value = value }) ≡ None
-recognized_passes_not type kind flags value is known = let none : is_unrecognized (type_of kind) ≡ false = ap is_unrecognized is ∙ known in rw none refl
+recognized_passes_not : (kind flags : ℕ) (value : List ℕ) → is_unrecognized (type_of kind) ≡ false → passes (record { flags = flags; kind = kind; value = value }) ≡ None
+recognized_passes_not kind flags value known = rw known refl
 
-passes_again : (type : AttributeType) (item : Item) → type_of item.kind ≡ type → option_and_then passes (kept_as type item) ≡ passes item
-passes_again types.Origin item is = recognized_passes_not types.Origin item.kind _ item.value is refl ∙ sym (recognized_passes_not types.Origin item.kind item.flags item.value is refl)
-passes_again types.AsPath item is = recognized_passes_not types.AsPath item.kind _ item.value is refl ∙ sym (recognized_passes_not types.AsPath item.kind item.flags item.value is refl)
-passes_again types.NextHop item is = recognized_passes_not types.NextHop item.kind _ item.value is refl ∙ sym (recognized_passes_not types.NextHop item.kind item.flags item.value is refl)
-passes_again types.MultiExitDisc item is = recognized_passes_not types.MultiExitDisc item.kind _ item.value is refl ∙ sym (recognized_passes_not types.MultiExitDisc item.kind item.flags item.value is refl)
-passes_again types.LocalPref item is = sym (recognized_passes_not types.LocalPref item.kind item.flags item.value is refl)
-passes_again types.AtomicAggregate item is = recognized_passes_not types.AtomicAggregate item.kind _ item.value is refl ∙ sym (recognized_passes_not types.AtomicAggregate item.kind item.flags item.value is refl)
-passes_again types.Aggregator item is = recognized_passes_not types.Aggregator item.kind _ item.value is refl ∙ sym (recognized_passes_not types.Aggregator item.kind item.flags item.value is refl)
-passes_again types.Communities item is = recognized_passes_not types.Communities item.kind _ item.value is refl ∙ sym (recognized_passes_not types.Communities item.kind item.flags item.value is refl)
-passes_again types.MpReachNlri item is = sym (recognized_passes_not types.MpReachNlri item.kind item.flags item.value is refl)
-passes_again types.MpUnreachNlri item is = sym (recognized_passes_not types.MpUnreachNlri item.kind item.flags item.value is refl)
-passes_again types.As4Path item is = sym (recognized_passes_not types.As4Path item.kind item.flags item.value is refl)
-passes_again types.As4Aggregator item is = sym (recognized_passes_not types.As4Aggregator item.kind item.flags item.value is refl)
-passes_again types.Unrecognized item is =
+-- whatever the flags of a recognized type must say
+recognized_again : (wanted : WantedFlags) (item : Item) → is_unrecognized (type_of item.kind) ≡ false → option_and_then passes (kept_by wanted item) ≡ passes item
+recognized_again WellKnown item known = recognized_passes_not item.kind _ item.value known ∙ sym (recognized_passes_not item.kind item.flags item.value known)
+recognized_again OptionalNonTransitive item known = recognized_passes_not item.kind _ item.value known ∙ sym (recognized_passes_not item.kind item.flags item.value known)
+recognized_again OptionalTransitive item known = recognized_passes_not item.kind _ item.value known ∙ sym (recognized_passes_not item.kind item.flags item.value known)
+recognized_again Any item known = sym (recognized_passes_not item.kind item.flags item.value known)
+recognized_again Optional item known =
     elim (cases_Bool (is_transitive item.flags)) [
-      | inl passed ↦ let again = passed_on_transitive item.value in rw (passed, is, again) refl
-      | inr dropped ↦ rw (dropped, is) refl
+      | inl passed ↦ rw (passed, known) refl
+      | inr dropped ↦ rw (dropped, known) refl
+    ]
+
+passes_again : (item : Item) → option_and_then passes (kept_of item) ≡ passes item
+passes_again item =
+    elim (known_number item.kind) [
+      | inl is ↦
+          elim (cases_Bool (is_transitive item.flags)) [
+            | inl passed ↦
+                let kept : kept_of item ≡ Some (optional_transitive true item.kind item.value) = rw (is, passed) refl in
+                let again = passed_on_transitive item.value in
+                ap (option_and_then passes) kept ∙ rw (passed, is, again) refl
+            | inr dropped ↦
+                let kept : kept_of item ≡ None = rw (is, dropped) refl in
+                ap (option_and_then passes) kept ∙ rw (dropped, is) refl
+          ]
+      | inr row ↦ recognized_again (row_of (type_of item.kind)).flags item row.0
     ]
 
 passed-filter : (make : ℕ → Option Item) (kinds : List ℕ) → map passed_on_of (filter is_passed_on (filter_map make kinds)) ≡ filter_map (λ kind. option_and_then passes (make kind)) kinds
@@ -105,7 +117,7 @@ module _ (items : List Item) (sound : AreSound items) where
       ap (option_and_then passes) (look_again kind octet)
       ∙ elim (cases_Option (look kind items)) [
         | inl none ↦ rw none refl
-        | inr some ↦ rw some.1 (passes_again (type_of some.0.kind) some.0 refl)
+        | inr some ↦ rw some.1 (passes_again some.0)
       ]
 
   others_again : others_of again ≡ others_of items

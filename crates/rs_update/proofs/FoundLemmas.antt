@@ -1,6 +1,7 @@
 -- The attributes of a section one by one, and the numbers of their types.
-use Rattle.std.proofs.Common.{◌≡◌, ℕ, ◌⊎◌, true, false, List, [], ◌∷◌, Some, None, refl, sym, ap, ◌∙◌, inl, inr}
-use Rattle.std.proofs.lemmas.Bool.{cases_eq, ne_eqb}
+use Rattle.std.proofs.Common.{◌≡◌, ℕ, ◌==◌, ◌⊎◌, true, false, List, [], ◌∷◌, Some, None, refl, sym, ap, ◌∙◌, inl, inr}
+use Rattle.std.specs.Prelude.{if◌then◌else◌}
+use Rattle.std.proofs.lemmas.Bool.{cases_eq, eq-eqb, ne_eqb}
 use Rattle.rs_update.specs.declared.attribute_type.AttributeType.{AttributeType}
 use Rattle.rs_update.specs.declared.attribute_type.AttributeType.TheVariants as types
 use Rattle.rs_update.specs.AttributeType.{type_of, is_unrecognized}
@@ -33,62 +34,37 @@ number_of types.As4Path = 17
 number_of types.As4Aggregator = 18
 number_of types.Unrecognized = 0
 
-known_number : (kind : ℕ) → (type_of kind ≡ types.Unrecognized) ⊎ (kind ≡ number_of (type_of kind))
-known_number kind =
-    elim (cases_eq kind 1) [
-      | inl is ↦ inr (rw is refl)
-      | inr not1 ↦
-          elim (cases_eq kind 2) [
-            | inl is ↦ inr (rw is refl)
-            | inr not2 ↦
-                elim (cases_eq kind 3) [
-                  | inl is ↦ inr (rw is refl)
-                  | inr not3 ↦
-                      elim (cases_eq kind 4) [
-                        | inl is ↦ inr (rw is refl)
-                        | inr not4 ↦
-                            elim (cases_eq kind 5) [
-                              | inl is ↦ inr (rw is refl)
-                              | inr not5 ↦
-                                  elim (cases_eq kind 6) [
-                                    | inl is ↦ inr (rw is refl)
-                                    | inr not6 ↦
-                                        elim (cases_eq kind 7) [
-                                          | inl is ↦ inr (rw is refl)
-                                          | inr not7 ↦
-                                              elim (cases_eq kind 8) [
-                                                | inl is ↦ inr (rw is refl)
-                                                | inr not8 ↦
-                                                    elim (cases_eq kind 14) [
-                                                      | inl is ↦ inr (rw is refl)
-                                                      | inr not14 ↦
-                                                          elim (cases_eq kind 15) [
-                                                            | inl is ↦ inr (rw is refl)
-                                                            | inr not15 ↦
-                                                                elim (cases_eq kind 17) [
-                                                                  | inl is ↦ inr (rw is refl)
-                                                                  | inr not17 ↦
-                                                                      elim (cases_eq kind 18) [
-                                                                        | inl is ↦ inr (rw is refl)
-                                                                        | inr not18 ↦
-                                                                            inl (rw (ne_eqb kind 1 not1, ne_eqb kind 2 not2, ne_eqb kind 3 not3, ne_eqb kind 4 not4, ne_eqb kind 5 not5, ne_eqb kind 6 not6, ne_eqb kind 7 not7, ne_eqb kind 8 not8, ne_eqb kind 14 not14, ne_eqb kind 15 not15, ne_eqb kind 17 not17, ne_eqb kind 18 not18) refl)
-                                                                      ]
-                                                                ]
-                                                          ]
-                                                    ]
-                                              ]
-                                        ]
-                                  ]
-                            ]
-                      ]
-                ]
-          ]
+-- a type is unrecognized, or a recognized one that has this number
+abbrev pub KnowsNumber : ℕ → AttributeType → Type 0
+KnowsNumber kind type = (type ≡ types.Unrecognized) ⊎ ((is_unrecognized type ≡ false) × (kind ≡ number_of type))
+
+-- one more row of the types
+row_knows : (kind : ℕ) (here : AttributeType) {later : AttributeType} → is_unrecognized here ≡ false → KnowsNumber kind later → KnowsNumber kind (if kind == number_of here then here else later)
+row_knows kind here known behind =
+    elim (cases_eq kind (number_of here)) [
+      | inl same ↦ rw (eq-eqb kind (number_of here) same) (inr (known, same))
+      | inr other ↦ rw (ne_eqb kind (number_of here) other) behind
     ]
+
+pub known_number : (kind : ℕ) → KnowsNumber kind (type_of kind)
+known_number kind =
+    row_knows kind types.Origin refl (
+    row_knows kind types.AsPath refl (
+    row_knows kind types.NextHop refl (
+    row_knows kind types.MultiExitDisc refl (
+    row_knows kind types.LocalPref refl (
+    row_knows kind types.AtomicAggregate refl (
+    row_knows kind types.Aggregator refl (
+    row_knows kind types.Communities refl (
+    row_knows kind types.MpReachNlri refl (
+    row_knows kind types.MpUnreachNlri refl (
+    row_knows kind types.As4Path refl (
+    row_knows kind types.As4Aggregator refl (inl refl))))))))))))
 
 -- a known type has one number
 pub number_is : (kind : ℕ) (type : AttributeType) → type_of kind ≡ type → is_unrecognized type ≡ false → kind ≡ number_of type
 number_is kind type is known =
     elim (known_number kind) [
       | inl unknown ↦ let e : types.Unrecognized ≡ type = sym unknown ∙ is in let same : true ≡ false = ap is_unrecognized e ∙ known in absurd cc
-      | inr number ↦ number ∙ ap number_of is
+      | inr row ↦ row.1 ∙ ap number_of is
     ]

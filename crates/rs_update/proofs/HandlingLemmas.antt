@@ -123,49 +123,35 @@ asks_end seen octets so_far total none before = ap (stronger so_far) (sym (handl
 
 -- ---- what is kept
 
-again_is_not_kept : (type : AttributeType) → is_kept (handling_again type) ≡ false
-again_is_not_kept types.Origin = refl
-again_is_not_kept types.AsPath = refl
-again_is_not_kept types.NextHop = refl
-again_is_not_kept types.MultiExitDisc = refl
-again_is_not_kept types.LocalPref = refl
-again_is_not_kept types.AtomicAggregate = refl
-again_is_not_kept types.Aggregator = refl
-again_is_not_kept types.Communities = refl
-again_is_not_kept types.MpReachNlri = refl
-again_is_not_kept types.MpUnreachNlri = refl
-again_is_not_kept types.As4Path = refl
-again_is_not_kept types.As4Aggregator = refl
-again_is_not_kept types.Unrecognized = refl
-
-length_is_not_kept : (type : AttributeType) → is_kept (handling_of_fault type AttributeLength) ≡ false
-length_is_not_kept types.Origin = refl
-length_is_not_kept types.AsPath = refl
-length_is_not_kept types.NextHop = refl
-length_is_not_kept types.MultiExitDisc = refl
-length_is_not_kept types.LocalPref = refl
-length_is_not_kept types.AtomicAggregate = refl
-length_is_not_kept types.Aggregator = refl
-length_is_not_kept types.Communities = refl
-length_is_not_kept types.MpReachNlri = refl
-length_is_not_kept types.MpUnreachNlri = refl
-length_is_not_kept types.As4Path = refl
-length_is_not_kept types.As4Aggregator = refl
-length_is_not_kept types.Unrecognized = refl
+-- neither one that stood earlier nor one with a length at fault
+row_is_not_kept : (type : AttributeType) → (is_kept (handling_again type) ≡ false) × (is_kept (handling_of_fault type AttributeLength) ≡ false)
+row_is_not_kept types.Origin = (refl, refl)
+row_is_not_kept types.AsPath = (refl, refl)
+row_is_not_kept types.NextHop = (refl, refl)
+row_is_not_kept types.MultiExitDisc = (refl, refl)
+row_is_not_kept types.LocalPref = (refl, refl)
+row_is_not_kept types.AtomicAggregate = (refl, refl)
+row_is_not_kept types.Aggregator = (refl, refl)
+row_is_not_kept types.Communities = (refl, refl)
+row_is_not_kept types.MpReachNlri = (refl, refl)
+row_is_not_kept types.MpUnreachNlri = (refl, refl)
+row_is_not_kept types.As4Path = (refl, refl)
+row_is_not_kept types.As4Aggregator = (refl, refl)
+row_is_not_kept types.Unrecognized = (refl, refl)
 
 fault_is_not_kept : (type : AttributeType) (fault : UpdateFault) → is_kept (handling_of_fault type fault) ≡ false
 fault_is_not_kept type MalformedAttributeList = refl
 fault_is_not_kept type UnrecognizedWellKnown = refl
 fault_is_not_kept type MissingWellKnown = refl
 fault_is_not_kept type AttributeFlags = refl
-fault_is_not_kept type AttributeLength = length_is_not_kept type
+fault_is_not_kept type AttributeLength = (row_is_not_kept type).1
 fault_is_not_kept type InvalidOrigin = refl
 fault_is_not_kept type InvalidNextHop = refl
 fault_is_not_kept type InvalidNetworkField = refl
 fault_is_not_kept type MalformedAsPath = refl
 
 kept_by : (again : Bool) (type : AttributeType) (own : Option UpdateFault) → is_kept (if again then handling_again type else handling_of_own type own) ≡ true → (again ≡ false) × (own ≡ None)
-kept_by true type own e = absurd (true≢false (sym e ∙ again_is_not_kept type))
+kept_by true type own e = absurd (true≢false (sym e ∙ (row_is_not_kept type).0))
 kept_by false type None e = (refl, refl)
 kept_by false type (Some fault) e = absurd (true≢false (sym e ∙ fault_is_not_kept type fault))
 

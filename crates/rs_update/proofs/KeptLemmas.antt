@@ -1,6 +1,6 @@
 -- What is written of the attributes of a section without fault has the values that were received.
 use Rattle.std.proofs.Common.{◌≡◌, ℕ, ◌<◌, ◌==◌, true, List, [], ◌∷◌, ◌++◌, length, take, drop, Option, Some, None, refl, sym, ap, ◌∙◌, arith, inl, inr}
-use Rattle.std.specs.Prelude.{find, option_and_then, is_some, slice_index}
+use Rattle.std.specs.Prelude.{find, option_and_then, is_some, slice_index, if◌then◌else◌}
 use Rattle.std.specs.List.{filter_map, range_with_len, flat_map}
 use Rattle.std.specs.Option.{option_map}
 use Rattle.std.proofs.lemmas.Bool.{cases_Bool, cases_eq, ne_eqb, eqb-true}
@@ -10,18 +10,18 @@ use Rattle.rs_update.specs.declared.attribute_type.AttributeType.{AttributeType}
 use Rattle.rs_update.specs.declared.attribute_type.AttributeType.TheVariants as types
 use Rattle.rs_update.specs.AttributeType.{type_of, is_transitive, is_partial}
 use Rattle.rs_update.specs.Found.{kept_as, kept_in}
-use Rattle.rs_update.specs.Gathered.{look, origin_with, passed_on_in, others_of, attributes_from}
+use Rattle.rs_update.specs.Gathered.{look, origin_with, aggregator_of, community_list_of, passed_on_in, others_of, attributes_from}
 use Rattle.rs_update.specs.Parts.{AreOctets}
 use Rattle.rs_update.specs.PathAttributes.{PathAttributes, PassedOn}
 use Rattle.rs_update.specs.PathSegments.{segments_of, spelled_segment}
 use Rattle.rs_update.specs.Section.{Item, origin_of, is_origin, is_path}
-use Rattle.rs_update.specs.Spelling.{well_known, optional_non_transitive, optional_transitive, origin_code, passed_on_item, written_item, written_items}
+use Rattle.rs_update.specs.Spelling.{well_known, optional_non_transitive, optional_transitive, aggregator_item, communities_item, origin_code, passed_on_item, written_item, written_items}
 use Rattle.rs_update.proofs.FoundLemmas.{number_is}
 use Rattle.rs_update.proofs.KindLemmas.{cases_Option, find-made, range-any, All-range, filter_map-same}
 use Rattle.rs_update.proofs.OctetLemmas.{AreOctets-drop, big_bytes-big_number, spelled_numbers-all}
 use Rattle.rs_update.proofs.OthersLemmas.{passed_on_kind}
 use Rattle.rs_update.proofs.ReceivedLemmas.{value-is_spelled}
-use Rattle.rs_update.proofs.SoundLemmas.{AreSound, look_sound, origin_value, path_value, next_hop_value, med_value, atomic_value, aggregator_value, communities_value}
+use Rattle.rs_update.proofs.SoundLemmas.{AreSound, IsSound, look_sound, origin_value, path_value, next_hop_value, med_value, atomic_value, aggregator_value, communities_value}
 
 -- ---- the values
 
@@ -66,6 +66,10 @@ nothing_kept : (found : Option Item) (make : Item → Option Item) → ((item : 
 nothing_kept None make none = refl
 nothing_kept (Some item) make none = sym (none item)
 
+-- an attribute of the number and the value that were received
+value_as_received : (make : ℕ → List ℕ → Item) (kind : ℕ) (item : Item) (value : List ℕ) → item.kind ≡ kind → value ≡ item.value → Some (make kind value) ≡ Some (make item.kind item.value)
+value_as_received make kind item value same again = ap (λ (v : List ℕ). Some (make kind v)) again ∙ ap (λ (k : ℕ). Some (make k item.value)) (sym same)
+
 module _ (items : List Item) (sound : AreSound items) (origin path next_hop : Item) (has_origin : look 1 items ≡ Some origin) (has_path : look 2 items ≡ Some path) (has_next_hop : look 3 items ≡ Some next_hop) where
   abbrev the_attributes : PathAttributes
   the_attributes = attributes_from items origin path next_hop
@@ -91,49 +95,34 @@ module _ (items : List Item) (sound : AreSound items) (origin path next_hop : It
       let kind = is.has_kind in
       rw has_next_hop (ap (λ (v : List ℕ). Some (well_known 3 v)) value ∙ ap (λ (k : ℕ). Some (well_known k next_hop.value)) (sym kind))
 
+  -- one that may be missing is written where it was received
+  written_found : (kind : ℕ) (type : AttributeType) (write : Option Item → Option Item) → write None ≡ None → ((item : Item) → IsSound kind item → write (Some item) ≡ kept_as type item)
+      → write (look kind items) ≡ option_and_then (kept_as type) (look kind items)
+  written_found kind type write nothing one =
+      elim (cases_Option (look kind items)) [
+        | inl none ↦ ap write none ∙ nothing ∙ ap (option_and_then (kept_as type)) (sym none)
+        | inr some ↦ ap write some.1 ∙ one some.0 (look_sound items kind some.0 sound some.1) ∙ ap (option_and_then (kept_as type)) (sym some.1)
+      ]
+
   written_med : written_item the_attributes 4 types.MultiExitDisc ≡ option_and_then (kept_as types.MultiExitDisc) (look 4 items)
   written_med =
-      elim (cases_Option (look 4 items)) [
-        | inl none ↦ rw none refl
-        | inr some ↦
-            let item = some.0 in
-            let is = look_sound items 4 item sound some.1 in
-            let value = number_again item.value is.received.value_octets (med_value item is) in
-            rw some.1 (ap (λ (v : List ℕ). Some (optional_non_transitive 4 v)) value ∙ ap (λ (k : ℕ). Some (optional_non_transitive k item.value)) (sym is.has_kind))
-      ]
+      written_found 4 types.MultiExitDisc (λ found. option_map (λ med. optional_non_transitive 4 (big_bytes 4 med)) (option_map (λ (item : Item). big_number 4 item.value) found)) refl
+      (λ item is. value_as_received optional_non_transitive 4 item _ is.has_kind (number_again item.value is.received.value_octets (med_value item is)))
 
   written_atomic : written_item the_attributes 6 types.AtomicAggregate ≡ option_and_then (kept_as types.AtomicAggregate) (look 6 items)
   written_atomic =
-      elim (cases_Option (look 6 items)) [
-        | inl none ↦ rw none refl
-        | inr some ↦
-            let item = some.0 in
-            let is = look_sound items 6 item sound some.1 in
-            let value : [] ≡ item.value = sym (nil_from_length item.value (atomic_value item is)) in
-            rw some.1 (ap (λ (v : List ℕ). Some (well_known 6 v)) value ∙ ap (λ (k : ℕ). Some (well_known k item.value)) (sym is.has_kind))
-      ]
+      written_found 6 types.AtomicAggregate (λ found. if is_some found then Some (well_known 6 []) else None) refl
+      (λ item is. value_as_received well_known 6 item [] is.has_kind (sym (nil_from_length item.value (atomic_value item is))))
 
   written_aggregator : written_item the_attributes 7 types.Aggregator ≡ option_and_then (kept_as types.Aggregator) (look 7 items)
   written_aggregator =
-      elim (cases_Option (look 7 items)) [
-        | inl none ↦ rw none refl
-        | inr some ↦
-            let item = some.0 in
-            let is = look_sound items 7 item sound some.1 in
-            let value = two_numbers_again item.value is.received.value_octets (aggregator_value item is) in
-            rw some.1 (ap (λ (v : List ℕ). Some (optional_transitive (is_partial item.flags) 7 v)) value ∙ ap (λ (k : ℕ). Some (optional_transitive (is_partial item.flags) k item.value)) (sym is.has_kind))
-      ]
+      written_found 7 types.Aggregator (λ found. option_map (aggregator_item 7) (option_map aggregator_of found)) refl
+      (λ item is. value_as_received (optional_transitive (is_partial item.flags)) 7 item _ is.has_kind (two_numbers_again item.value is.received.value_octets (aggregator_value item is)))
 
   written_communities : written_item the_attributes 8 types.Communities ≡ option_and_then (kept_as types.Communities) (look 8 items)
   written_communities =
-      elim (cases_Option (look 8 items)) [
-        | inl none ↦ rw none refl
-        | inr some ↦
-            let item = some.0 in
-            let is = look_sound items 8 item sound some.1 in
-            let value = spelled_numbers-all item.value (communities_value item is) is.received.value_octets in
-            rw some.1 (ap (λ (v : List ℕ). Some (optional_transitive (is_partial item.flags) 8 v)) value ∙ ap (λ (k : ℕ). Some (optional_transitive (is_partial item.flags) k item.value)) (sym is.has_kind))
-      ]
+      written_found 8 types.Communities (λ found. option_map (communities_item 8) (option_map community_list_of found)) refl
+      (λ item is. value_as_received (optional_transitive (is_partial item.flags)) 8 item _ is.has_kind (spelled_numbers-all item.value (communities_value item is) is.received.value_octets))
 
   -- an attribute that is passed on
   passed_again : (kind : ℕ) → type_of kind ≡ types.Unrecognized → option_map passed_on_item (passed_on_in items kind) ≡ option_and_then (kept_as types.Unrecognized) (look kind items)

@@ -3,15 +3,16 @@ use Rattle.std.proofs.Common.{◌≡◌, ℕ, zero, suc, ◌+◌, ◌<◌, ◌&&
 use Rattle.std.specs.List.{filter_map, range_with_len, AllByRecursion}
 use Rattle.std.proofs.lemmas.Bool.{cases_Bool, cases_lt, ne_eqb, lt-ltb, le-ltb}
 use Rattle.rs_update.specs.declared.attribute_type.AttributeType.{AttributeType}
-use Rattle.rs_update.specs.declared.attribute_type.AttributeType.TheVariants as types
-use Rattle.rs_update.specs.declared.attribute_type.WantedFlags.TheVariants.{WellKnown, OptionalNonTransitive, OptionalTransitive}
+use Rattle.rs_update.specs.declared.attribute_type.WantedFlags.{WantedFlags}
+use Rattle.rs_update.specs.declared.attribute_type.WantedFlags.TheVariants.{WellKnown, OptionalNonTransitive, OptionalTransitive, Optional, Any}
 use Rattle.rs_update.specs.AttributeType.{type_of, flags_of, suits, is_unrecognized, is_optional, is_transitive, is_partial}
 use Rattle.rs_update.specs.Fault.{first_fault}
-use Rattle.rs_update.specs.Found.{IsPlain, kept_as, kept_of, kept_in}
+use Rattle.rs_update.specs.Found.{IsPlain, kept_by, kept_of, kept_in}
 use Rattle.rs_update.specs.Gathered.{look}
 use Rattle.rs_update.specs.Section.{Item, FitsItsLength, tests_of, suits_length, value_tests, own_fault_of, has_type, first_item_fault}
 use Rattle.rs_update.specs.Spelling.{written_flags}
 use Rattle.rs_update.proofs.BoundLemmas.{kept_as-is}
+use Rattle.rs_update.proofs.FoundLemmas.{known_number}
 use Rattle.rs_update.proofs.KindLemmas.{cases_Option, some_same}
 use Rattle.rs_update.proofs.SoundLemmas.{AreSound, IsSound, look_sound, tests_passed, received_short}
 
@@ -53,27 +54,29 @@ pub record SuitsType (type : AttributeType) (flags : ℕ) : Type 0 where
   pub class : (is_unrecognized type && not (is_optional flags)) ≡ false
   pub bits : suits (flags_of type) flags ≡ true
 
-kept_suits : (type : AttributeType) (item kept : Item) → kept_as type item ≡ Some kept → SuitsType type kept.flags
-kept_suits types.Origin item kept e = let is = some_same _ _ e in record { class = refl; bits = subst (λ (k : Item). suits WellKnown k.flags ≡ true) is (well_known_suits item.value) }
-kept_suits types.AsPath item kept e = let is = some_same _ _ e in record { class = refl; bits = subst (λ (k : Item). suits WellKnown k.flags ≡ true) is (well_known_suits item.value) }
-kept_suits types.NextHop item kept e = let is = some_same _ _ e in record { class = refl; bits = subst (λ (k : Item). suits WellKnown k.flags ≡ true) is (well_known_suits item.value) }
-kept_suits types.MultiExitDisc item kept e = let is = some_same _ _ e in record { class = refl; bits = subst (λ (k : Item). suits OptionalNonTransitive k.flags ≡ true) is (non_transitive_suits item.value) }
-kept_suits types.LocalPref item kept e = absurd cc
-kept_suits types.AtomicAggregate item kept e = let is = some_same _ _ e in record { class = refl; bits = subst (λ (k : Item). suits WellKnown k.flags ≡ true) is (well_known_suits item.value) }
-kept_suits types.Aggregator item kept e = let is = some_same _ _ e in record { class = refl; bits = subst (λ (k : Item). suits OptionalTransitive k.flags ≡ true) is (transitive_suits (is_partial item.flags) item.value) }
-kept_suits types.Communities item kept e = let is = some_same _ _ e in record { class = refl; bits = subst (λ (k : Item). suits OptionalTransitive k.flags ≡ true) is (transitive_suits (is_partial item.flags) item.value) }
-kept_suits types.MpReachNlri item kept e = absurd cc
-kept_suits types.MpUnreachNlri item kept e = absurd cc
-kept_suits types.As4Path item kept e = absurd cc
-kept_suits types.As4Aggregator item kept e = absurd cc
-kept_suits types.Unrecognized item kept e =
+-- the flags of what is kept are what they must say
+kept_bits : (wanted : WantedFlags) (item kept : Item) → kept_by wanted item ≡ Some kept → suits wanted kept.flags ≡ true
+kept_bits WellKnown item kept e = let is = some_same _ _ e in subst (λ (k : Item). suits WellKnown k.flags ≡ true) is (well_known_suits item.value)
+kept_bits OptionalNonTransitive item kept e = let is = some_same _ _ e in subst (λ (k : Item). suits OptionalNonTransitive k.flags ≡ true) is (non_transitive_suits item.value)
+kept_bits OptionalTransitive item kept e = let is = some_same _ _ e in subst (λ (k : Item). suits OptionalTransitive k.flags ≡ true) is (transitive_suits (is_partial item.flags) item.value)
+kept_bits Any item kept e = absurd cc
+kept_bits Optional item kept e =
     elim (cases_Bool (is_transitive item.flags)) [
-      | inl passed ↦
-          let is = some_same _ _ (rw passed at e) in
-          let optional : is_optional kept.flags ≡ true = subst (λ (k : Item). is_optional k.flags ≡ true) is (passed_on_optional item.value) in
-          record { class = rw optional refl; bits = optional }
+      | inl passed ↦ let is = some_same _ _ (rw passed at e) in subst (λ (k : Item). is_optional k.flags ≡ true) is (passed_on_optional item.value)
       | inr dropped ↦ let none = rw dropped at e in absurd cc
     ]
+
+kept_suits : (item kept : Item) → kept_of item ≡ Some kept → SuitsType (type_of item.kind) kept.flags
+kept_suits item kept e =
+    let bits : suits (flags_of (type_of item.kind)) kept.flags ≡ true = kept_bits (flags_of (type_of item.kind)) item kept e in
+    record {
+      class =
+          elim (known_number item.kind) [
+            | inl unknown ↦ let optional : is_optional kept.flags ≡ true = rw unknown at bits in rw (unknown, optional) refl
+            | inr row ↦ let known = row.0 in rw known refl
+          ];
+      bits = bits;
+    }
 
 no_fault : (type : AttributeType) (flags : ℕ) (value : List ℕ) → SuitsType type flags → suits_length type (length value) ≡ true → first_fault (value_tests type value) ≡ None → first_fault (tests_of type flags value) ≡ None
 no_fault type flags value suiting size tests =
@@ -103,7 +106,7 @@ kept_without kind item kept sound e =
     let type : type_of item.kind ≡ type_of kind = ap type_of sound.has_kind in
     let size : suits_length (type_of item.kind) (length item.value) ≡ true = rw type all.2 in
     let tests : first_fault (value_tests (type_of item.kind) item.value) ≡ None = rw type all.3 in
-    let none : first_fault (tests_of (type_of item.kind) kept.flags item.value) ≡ None = no_fault (type_of item.kind) kept.flags item.value (kept_suits (type_of item.kind) item kept e) size tests in
+    let none : first_fault (tests_of (type_of item.kind) kept.flags item.value) ≡ None = no_fault (type_of item.kind) kept.flags item.value (kept_suits item kept e) size tests in
     rw (same_kind, same_value) none
 
 -- where what is written of a type comes from

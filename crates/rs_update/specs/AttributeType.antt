@@ -2,14 +2,18 @@
 use Rattle.std.specs.Prelude.{ℕ, ◌%◌, Bool, true, false, not, ◌&&◌, ◌==◌, if◌then◌else◌}
 use Rattle.std.specs.Prelude.{bit_and}
 use Rattle.rs_update.specs.declared.attribute_type.AttributeType.{AttributeType}
-use Rattle.rs_update.specs.declared.attribute_type.AttributeType.TheVariants.{Origin, AsPath, NextHop, MultiExitDisc, LocalPref, AtomicAggregate, Aggregator, Communities, MpReachNlri, MpUnreachNlri, As4Path, As4Aggregator, Unrecognized}
+use Rattle.rs_update.specs.declared.attribute_type.AttributeType.TheVariants.{Origin, AsPath, NextHop, MultiExitDisc}
+use Rattle.rs_update.specs.declared.attribute_type.AttributeType.TheVariants.{LocalPref, AtomicAggregate, Aggregator}
+use Rattle.rs_update.specs.declared.attribute_type.AttributeType.TheVariants.{Communities, MpReachNlri, MpUnreachNlri}
+use Rattle.rs_update.specs.declared.attribute_type.AttributeType.TheVariants.{As4Path, As4Aggregator, Unrecognized}
 use Rattle.rs_update.specs.declared.attribute_type.Lengths.{Lengths}
 use Rattle.rs_update.specs.declared.attribute_type.Lengths.TheVariants.{Exactly, Fours, AnyLength}
 use Rattle.rs_update.specs.declared.attribute_type.Row.{Row}
 use Rattle.rs_update.specs.declared.attribute_type.ValueTest.{ValueTest}
 use Rattle.rs_update.specs.declared.attribute_type.ValueTest.TheVariants.{OriginCode, Segments, HostAddress, AnyValue}
 use Rattle.rs_update.specs.declared.attribute_type.WantedFlags.{WantedFlags}
-use Rattle.rs_update.specs.declared.attribute_type.WantedFlags.TheVariants.{WellKnown, OptionalNonTransitive, OptionalTransitive, Optional, Any}
+use Rattle.rs_update.specs.declared.attribute_type.WantedFlags.TheVariants.{WellKnown, OptionalNonTransitive}
+use Rattle.rs_update.specs.declared.attribute_type.WantedFlags.TheVariants.{OptionalTransitive, Optional, Any}
 use Rattle.rs_update.specs.declared.fault.UpdateFault.TheVariants.{MalformedAttributeList}
 use Rattle.rs_update.specs.declared.handling.Handling.{Handling}
 use Rattle.rs_update.specs.declared.handling.Handling.TheVariants.{AttributeDiscard, TreatAsWithdraw, SessionReset}
@@ -31,10 +35,12 @@ type_of number =
     else if number == 18 then As4Aggregator
     else Unrecognized
 
--- a row: what the flags must say, how many octets a value has, what a value must be, and what RFC 7606 does where the length is at fault (section 7) and where the
--- type stood earlier, even where that one was discarded (section 3, g)
+-- a row: what the flags must say, how many octets a value has, what a value must be, and what RFC 7606 does
+-- where the length is at fault (section 7) and where the type stood earlier, even where that one was
+-- discarded (section 3, g)
 abbrev pub row : WantedFlags → Lengths → ValueTest → Handling → Handling → Row
-row flags lengths value at_length again = record { flags = flags; lengths = lengths; value = value; at_length = at_length; again = again }
+row flags lengths value at_length again =
+    record { flags = flags; lengths = lengths; value = value; at_length = at_length; again = again }
 
 abbrev RESET : Handling
 RESET = SessionReset MalformedAttributeList

@@ -32,7 +32,8 @@ view_of fields = record {
   others = passed_on_from fields.spelling.items;
 }
 
--- the attributes are those of a section without fault that fits a message, and what is kept beside them agrees with them
+-- the attributes are those of a section without fault that fits a message, and what is kept beside them
+-- agrees with them
 pub record IsWhole (fields : Inside) : Type 0 where
   pub section : List ℕ
   pub are_octets : AreOctets section

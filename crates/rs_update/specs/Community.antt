@@ -5,7 +5,8 @@ use Rattle.rs_update.specs.PathAttributes.{CommunityList}
 
 -- the high half of a value is an AS number and the low half is that AS's own; a half above 65,535 stands in no value
 abbrev pub has_value : List ℕ → ℕ → ℕ → Bool
-has_value values high low = nat_lt high 65536 && (nat_lt low 65536 && list_any (λ value. value == high * 65536 + low) values)
+has_value values high low =
+    nat_lt high 65536 && (nat_lt low 65536 && list_any (λ value. value == high * 65536 + low) values)
 
 abbrev pub has_community_in : Option CommunityList → ℕ → ℕ → Bool
 has_community_in None high low = false

@@ -3,7 +3,10 @@ use Rattle.std.specs.Prelude.{ℕ, Bool, List, [], ◌∷◌, Option, Some, None
 use Rattle.rs_update.specs.declared.fault.HeaderFault.{HeaderFault}
 use Rattle.rs_update.specs.declared.fault.HeaderFault.TheVariants.{NotSynchronized, BadLength, BadType}
 use Rattle.rs_update.specs.declared.fault.UpdateFault.{UpdateFault}
-use Rattle.rs_update.specs.declared.fault.UpdateFault.TheVariants.{MalformedAttributeList, UnrecognizedWellKnown, MissingWellKnown, AttributeFlags, AttributeLength, InvalidOrigin, InvalidNextHop, InvalidNetworkField, MalformedAsPath}
+use Rattle.rs_update.specs.declared.fault.UpdateFault.TheVariants.{MalformedAttributeList, UnrecognizedWellKnown}
+use Rattle.rs_update.specs.declared.fault.UpdateFault.TheVariants.{MissingWellKnown, AttributeFlags, AttributeLength}
+use Rattle.rs_update.specs.declared.fault.UpdateFault.TheVariants.{InvalidOrigin, InvalidNextHop, InvalidNetworkField}
+use Rattle.rs_update.specs.declared.fault.UpdateFault.TheVariants.{MalformedAsPath}
 use Rattle.rs_update.specs.declared.fault.MessageFault.{MessageFault}
 use Rattle.rs_update.specs.declared.fault.MessageFault.TheVariants.{Bgp}
 

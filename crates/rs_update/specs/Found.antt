@@ -1,9 +1,11 @@
 -- What is found in a section of path attributes, and what is written of it (RFC 4271, section 5).
-use Rattle.std.specs.Prelude.{◌≡◌, ℕ, ◌+◌, ◌<◌, ◌≤◌, Bool, true, false, not, ◌&&◌, ◌==◌, List, [], length, slice_index_or, Option, Some, None, is_some, option_and_then, if◌then◌else◌}
+use Rattle.std.specs.Prelude.{◌≡◌, ℕ, ◌+◌, ◌<◌, ◌≤◌, Bool, true, false, not, ◌&&◌, ◌==◌, List, [], length}
+use Rattle.std.specs.Prelude.{slice_index_or, Option, Some, None, is_some, option_and_then, if◌then◌else◌}
 use Rattle.std.specs.List.{filter_map, flat_map, range_with_len}
 use Rattle.rs_update.specs.declared.attribute_type.AttributeType.{AttributeType}
 use Rattle.rs_update.specs.declared.attribute_type.WantedFlags.{WantedFlags}
-use Rattle.rs_update.specs.declared.attribute_type.WantedFlags.TheVariants.{WellKnown, OptionalNonTransitive, OptionalTransitive, Optional, Any}
+use Rattle.rs_update.specs.declared.attribute_type.WantedFlags.TheVariants.{WellKnown, OptionalNonTransitive}
+use Rattle.rs_update.specs.declared.attribute_type.WantedFlags.TheVariants.{OptionalTransitive, Optional, Any}
 use Rattle.rs_update.specs.declared.found.Found.{Found}
 use Rattle.rs_update.specs.declared.item.Item.{Item as ItemThere}
 use Rattle.rs_update.specs.AttributeType.{type_of, row_of, is_transitive, is_partial, is_extended}
@@ -14,21 +16,26 @@ use Rattle.rs_update.specs.Spelling.{well_known, optional_non_transitive, option
 
 -- a type has a place
 abbrev pub stands : Found → ℕ → Bool
-stands found kind = not (slice_index_or found.places kind 0 == 65535)
+stands found kind = not (slice_index_or found.places.now kind 0 == 65535)
 
 -- the attribute of each type begins at its place, and none has a type from the end on
-pub record Finds (found : Found) (section : List ℕ) : Type 0 where
-  pub at_each : (kind : ℕ) → kind < 256 → stands found kind ≡ is_some (look kind (items_of section))
-  pub at_place : (kind : ℕ) → kind < 256 → item_from section (slice_index_or found.places kind 0) ≡ look kind (items_of section)
-  pub none_behind : (kind : ℕ) → found.end ≤ kind → look kind (items_of section) ≡ None
-  pub end_fits : found.end ≤ 256
+pub record AreFound (places : List ℕ) (end : ℕ) (section : List ℕ) : Type 0 where
+  pub at_each : (kind : ℕ) → kind < 256
+      → not (slice_index_or places kind 0 == 65535) ≡ is_some (look kind (items_of section))
+  pub at_place : (kind : ℕ) → kind < 256
+      → item_from section (slice_index_or places kind 0) ≡ look kind (items_of section)
+  pub none_behind : (kind : ℕ) → end ≤ kind → look kind (items_of section) ≡ None
+  pub end_fits : end ≤ 256
+
+abbrev pub Finds : Found → List ℕ → Type 0
+Finds found section = AreFound found.places.now found.end section
 
 -- none of the mandatory ones misses
 abbrev pub has_mandatory : Found → Bool
 has_mandatory found = stands found 1 && stands found 2 && stands found 3
 
--- an attribute as it is written, by what its flags must say: its value as received; an unrecognized one is passed on where it is transitive, and one whose flags
--- are not looked at is dropped
+-- an attribute as it is written, by what its flags must say: its value as received; an unrecognized one is
+-- passed on where it is transitive, and one whose flags are not looked at is dropped
 abbrev pub kept_by : WantedFlags → Item → Option Item
 kept_by WellKnown item = Some (well_known item.kind item.value)
 kept_by OptionalNonTransitive item = Some (optional_non_transitive item.kind item.value)

@@ -1,11 +1,14 @@
 -- What RFC 7606 does for what it finds in the path attributes of an UPDATE (sections 2, 3 and 7).
-use Rattle.std.specs.Prelude.{ℕ, Bool, true, false, ◌==◌, List, [], ◌∷◌, ◌++◌, length, Option, Some, None, if◌then◌else◌}
+use Rattle.std.specs.Prelude.{ℕ, Bool, true, false, ◌==◌, List, [], ◌∷◌, ◌++◌, length, Option, Some, None}
+use Rattle.std.specs.Prelude.{if◌then◌else◌}
 use Rattle.std.specs.List.{flat_map}
 use Rattle.rs_update.specs.declared.attribute_type.AttributeType.{AttributeType}
 use Rattle.rs_update.specs.declared.fault.UpdateFault.{UpdateFault}
-use Rattle.rs_update.specs.declared.fault.UpdateFault.TheVariants.{MalformedAttributeList, UnrecognizedWellKnown, AttributeLength}
+use Rattle.rs_update.specs.declared.fault.UpdateFault.TheVariants.{MalformedAttributeList, UnrecognizedWellKnown}
+use Rattle.rs_update.specs.declared.fault.UpdateFault.TheVariants.{AttributeLength}
 use Rattle.rs_update.specs.declared.handling.Handling.{Handling}
-use Rattle.rs_update.specs.declared.handling.Handling.TheVariants.{Keep, AttributeDiscard, TreatAsWithdraw, SessionReset}
+use Rattle.rs_update.specs.declared.handling.Handling.TheVariants.{Keep, AttributeDiscard, TreatAsWithdraw}
+use Rattle.rs_update.specs.declared.handling.Handling.TheVariants.{SessionReset}
 use Rattle.rs_update.specs.AttributeType.{type_of, row_of}
 use Rattle.rs_update.specs.Section.{Item, has_type, items_of, rest_of, own_fault_of}
 use Rattle.rs_update.specs.Spelling.{spelled_item}
@@ -23,8 +26,9 @@ stronger (SessionReset fault) later = SessionReset fault
 abbrev pub handling_again : AttributeType → Handling
 handling_again kind = (row_of kind).again
 
--- the fault of an attribute by itself: one that is not recognized, though it says that it is well-known, resets; a wrong length is handled as its
--- type asks; all else is treated as withdrawn, also where nothing is announced (our choice)
+-- the fault of an attribute by itself: one that is not recognized, though it says that it is well-known,
+-- resets; a wrong length is handled as its type asks; all else is treated as withdrawn, also where nothing is
+-- announced (our choice)
 abbrev pub handling_of_fault : AttributeType → UpdateFault → Handling
 handling_of_fault kind UnrecognizedWellKnown = SessionReset UnrecognizedWellKnown
 handling_of_fault kind AttributeLength = (row_of kind).at_length
@@ -36,12 +40,15 @@ handling_of_own kind (Some fault) = handling_of_fault kind fault
 
 -- an attribute that stands behind others; the tests of its own aren't made where its type stood earlier
 abbrev pub handling_behind : List Item → Item → Handling
-handling_behind earlier item = if has_type item.kind earlier then handling_again (type_of item.kind) else handling_of_own (type_of item.kind) (own_fault_of item)
+handling_behind earlier item =
+    if has_type item.kind earlier then handling_again (type_of item.kind)
+    else handling_of_own (type_of item.kind) (own_fault_of item)
 
 -- the strongest of what attributes ask for that stand behind others
 unfoldable pub strongest_behind : List Item → List Item → Handling
 strongest_behind earlier [] = Keep
-strongest_behind earlier (item ∷ later) = stronger (handling_behind earlier item) (strongest_behind (earlier ++ item ∷ []) later)
+strongest_behind earlier (item ∷ later) =
+    stronger (handling_behind earlier item) (strongest_behind (earlier ++ item ∷ []) later)
 
 -- octets that are left over reset the session (our choice)
 abbrev pub handling_of_rest : List ℕ → Handling

@@ -1,5 +1,6 @@
 -- The header of a message (RFC 4271, sections 4.1 and 6.1): Marker, Length, Type.
-use Rattle.std.specs.Prelude.{ℕ, Bool, false, not, ◌&&◌, ◌==◌, nat_lt, nat_le, List, [], ◌∷◌, length, take, drop, slice_index, Option, Some, None, Result, Err, if◌then◌else◌}
+use Rattle.std.specs.Prelude.{ℕ, Bool, false, not, ◌&&◌, ◌==◌, nat_lt, nat_le, List, [], ◌∷◌, length, take, drop}
+use Rattle.std.specs.Prelude.{slice_index, Option, Some, None, Result, Err, if◌then◌else◌}
 use Rattle.std.specs.List.{list_all}
 use Rattle.std.specs.Option.{is_none, ok_or}
 use Rattle.byteorder.specs.Endian.{big_number}
@@ -19,7 +20,8 @@ length_field octets = big_number 2 (drop 16 octets)
 
 -- that is 19 to 4096, and as many octets are there
 abbrev pub has_length : List ℕ → Bool
-has_length octets = nat_le 19 (length_field octets) && nat_le (length_field octets) 4096 && (length_field octets == length octets)
+has_length octets =
+    nat_le 19 (length_field octets) && nat_le (length_field octets) 4096 && (length_field octets == length octets)
 
 abbrev pub type_field : List ℕ → ℕ
 type_field octets = slice_index octets 18
@@ -34,7 +36,8 @@ type_of number =
     else if number == 5 then Some Refresh
     else None
 
--- the length that a message of a type has: a KEEPALIVE is its header alone, and each other has at least the fields that it must have
+-- the length that a message of a type has: a KEEPALIVE is its header alone, and each other has at least the
+-- fields that it must have
 abbrev pub suits : MessageType → ℕ → Bool
 suits Open count = nat_le 29 count
 suits Update count = nat_le 23 count
@@ -61,4 +64,5 @@ header_fault octets = first_fault (header_tests octets)
 
 -- the type of a message, or the first fault of its header
 abbrev pub header_of : List ℕ → Result MessageType HeaderFault
-header_of octets = elim (header_fault octets) [ None ↦ ok_or (type_of (type_field octets)) BadType | Some fault ↦ Err fault ]
+header_of octets =
+    elim (header_fault octets) [ None ↦ ok_or (type_of (type_field octets)) BadType | Some fault ↦ Err fault ]

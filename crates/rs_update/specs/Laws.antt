@@ -1,12 +1,14 @@
 -- What holds of the definitions: each is the contract of a function that does nothing.
-use Rattle.std.specs.Prelude.{◌≡◌, ◌≢◌, ◌⊎◌, ℕ, ◌<◌, ◌≤◌, ◌↔◌, List, [], ◌∷◌, ◌++◌, length, Some, None, Ok, Err, IsOk, IsSome}
+use Rattle.std.specs.Prelude.{◌≡◌, ◌≢◌, ◌⊎◌, ℕ, ◌<◌, ◌≤◌, ◌↔◌, List, [], ◌∷◌, ◌++◌, length, Some, None, Ok, Err, IsOk}
+use Rattle.std.specs.Prelude.{IsSome}
 use Rattle.rs_update.specs.declared.errors.Errors.TheVariants.{Rfc4271, Rfc7606}
 use Rattle.rs_update.specs.declared.fault.MessageFault.{MessageFault}
 use Rattle.rs_update.specs.declared.fault.UpdateFault.{UpdateFault}
 use Rattle.rs_update.specs.declared.fault.UpdateFault.TheVariants.{MalformedAttributeList}
 use Rattle.rs_update.specs.Gathered.{attributes_of}
 use Rattle.rs_update.specs.declared.handling.Handling.{Handling}
-use Rattle.rs_update.specs.declared.handling.Handling.TheVariants.{Keep, AttributeDiscard, TreatAsWithdraw, SessionReset}
+use Rattle.rs_update.specs.declared.handling.Handling.TheVariants.{Keep, AttributeDiscard, TreatAsWithdraw}
+use Rattle.rs_update.specs.declared.handling.Handling.TheVariants.{SessionReset}
 use Rattle.rs_update.specs.Handling.{handling_behind, handling_of_rest, strongest_in}
 use Rattle.rs_update.specs.IpPrefix.{IpPrefix}
 use Rattle.rs_update.specs.Message.{MessageContent, UpdateContent, update_of, message_of, message_fault}
@@ -20,9 +22,12 @@ use Rattle.rs_update.specs.Treating.{message_by}
 
 -- a field lists at most one list of prefixes, and reading finds it exactly where there is one (RFC 4271, section 4.3)
 abbrev pub FieldIsRead : Type 0
-FieldIsRead = (octets : List ℕ) (prefixes : List IpPrefix) → AreOctets octets → (IsField octets prefixes ↔ (prefixes_of octets ≡ Some prefixes))
+FieldIsRead =
+    (octets : List ℕ) (prefixes : List IpPrefix) → AreOctets octets
+    → (IsField octets prefixes ↔ (prefixes_of octets ≡ Some prefixes))
 
--- a section is in just one way attributes and a rest no front of which spells one, and reading finds it (RFC 4271, section 4.3)
+-- a section is in just one way attributes and a rest no front of which spells one, and reading finds it (RFC
+-- 4271, section 4.3)
 abbrev pub SectionIsRead : Type 0
 SectionIsRead =
     (section : List ℕ) (items : List Item) (rest : List ℕ) → AreOctets section
@@ -30,24 +35,28 @@ SectionIsRead =
 
 -- a section is without fault where none of its attributes is at fault and no octet is left over (RFC 4271, section 6.3)
 abbrev pub SectionIsFaultless : Type 0
-SectionIsFaultless = (section : List ℕ) → (section_fault section ≡ None) ↔ (AreFaultless (items_of section) × (rest_of section ≡ []))
+SectionIsFaultless =
+    (section : List ℕ) → (section_fault section ≡ None) ↔ (AreFaultless (items_of section) × (rest_of section ≡ []))
 
 -- its fault is that of the first attribute at fault, or else that octets are left over
 abbrev pub SectionFaultIsFirst : Type 0
 SectionFaultIsFirst =
     (section : List ℕ) (fault : UpdateFault)
     → (section_fault section ≡ Some fault)
-    ↔ (IsFirstAtFault (items_of section) fault ⊎ (AreFaultless (items_of section) × (rest_of section ≢ []) × (fault ≡ MalformedAttributeList)))
+    ↔ (IsFirstAtFault (items_of section) fault
+    ⊎ (AreFaultless (items_of section) × (rest_of section ≢ []) × (fault ≡ MalformedAttributeList)))
 
 -- the value of an AS_PATH is in just one way segments and a rest no front of which spells one, and reading finds it
 abbrev pub PathIsRead : Type 0
 PathIsRead =
     (value : List ℕ) (segments : List PathSegment) (rest : List ℕ) → AreOctets value
-    → (IsWholeFront SpellsSegment value segments rest ↔ ((segments ≡ (segments_of value).0) × (rest ≡ (segments_of value).1)))
+    → (IsWholeFront SpellsSegment value segments rest
+    ↔ ((segments ≡ (segments_of value).0) × (rest ≡ (segments_of value).1)))
 
 -- a message is at fault by the first test that finds a fault (RFC 4271, section 6)
 abbrev pub FaultIsFirst : Type 0
-FaultIsFirst = (octets : List ℕ) (fault : MessageFault) → (message_of octets ≡ Err fault) ↔ (message_fault octets ≡ Some fault)
+FaultIsFirst =
+    (octets : List ℕ) (fault : MessageFault) → (message_of octets ≡ Err fault) ↔ (message_fault octets ≡ Some fault)
 
 -- and where no test does, the message is given
 abbrev pub NoFaultIsMessage : Type 0
@@ -55,14 +64,19 @@ NoFaultIsMessage = (octets : List ℕ) → IsOk (message_of octets) ↔ (message
 
 -- an UPDATE has attributes exactly where it announces prefixes
 abbrev pub AttributesAreForRoutes : Type 0
-AttributesAreForRoutes = (body : List ℕ) (content : UpdateContent) → update_of body ≡ Ok content → IsSome content.attributes ↔ (0 < length content.nlri)
+AttributesAreForRoutes =
+    (body : List ℕ) (content : UpdateContent) → update_of body ≡ Ok content
+    → IsSome content.attributes ↔ (0 < length content.nlri)
 
--- what is written of the attributes that a section without fault gives is a section without fault that gives the same attributes, Partial bits
--- included, and it is never longer
+-- what is written of the attributes that a section without fault gives is a section without fault that gives
+-- the same attributes, Partial bits included, and it is never longer
 abbrev pub WrittenIsRead : Type 0
 WrittenIsRead =
-    (section : List ℕ) (attributes : PathAttributes) → AreOctets section → section_fault section ≡ None → attributes_of (items_of section) ≡ Some attributes
-    → (section_fault (written attributes) ≡ None) × (attributes_of (items_of (written attributes)) ≡ Some attributes) × (length (written attributes) ≤ length section)
+    (section : List ℕ) (attributes : PathAttributes) → AreOctets section → section_fault section ≡ None
+    → attributes_of (items_of section) ≡ Some attributes
+    → (section_fault (written attributes) ≡ None)
+    × (attributes_of (items_of (written attributes)) ≡ Some attributes)
+    × (length (written attributes) ≤ length section)
 
 -- by RFC 4271 a message says what it says
 abbrev pub Rfc4271IsAsBefore : Type 0
@@ -70,7 +84,9 @@ Rfc4271IsAsBefore = (octets : List ℕ) → message_by Rfc4271 octets ≡ messag
 
 -- a message without a fault says the same by RFC 7606
 abbrev pub StandardsAgree : Type 0
-StandardsAgree = (octets : List ℕ) (content : MessageContent) → message_of octets ≡ Ok content → message_by Rfc7606 octets ≡ Ok content
+StandardsAgree =
+    (octets : List ℕ) (content : MessageContent) → message_of octets ≡ Ok content
+    → message_by Rfc7606 octets ≡ Ok content
 
 -- how strong a handling is
 abbrev pub strength : Handling → ℕ
@@ -82,6 +98,7 @@ strength (SessionReset fault) = 3
 -- no attribute of a section, and not what is left over, asks for more than is done
 abbrev pub StrongestIsFound : Type 0
 StrongestIsFound =
-    (section : List ℕ) (before : List Item) (item : Item) (after : List Item) → items_of section ≡ before ++ item ∷ after
+    (section : List ℕ) (before : List Item) (item : Item) (after : List Item)
+    → items_of section ≡ before ++ item ∷ after
     → (strength (handling_behind before item) ≤ strength (strongest_in section))
     × (strength (handling_of_rest (rest_of section)) ≤ strength (strongest_in section))

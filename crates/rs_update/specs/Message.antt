@@ -1,9 +1,11 @@
 -- A message and its first fault (RFC 4271, sections 4.1, 4.3, 6.1 and 6.3).
-use Rattle.std.specs.Prelude.{◌≡◌, ◌↔◌, ℕ, ◌+◌, ◌<◌, Bool, not, ◌&&◌, ◌==◌, nat_lt, List, [], ◌∷◌, length, take, drop, Option, Some, None, IsSome, Result, Ok, Err}
+use Rattle.std.specs.Prelude.{◌≡◌, ◌↔◌, ℕ, ◌+◌, ◌<◌, Bool, not, ◌&&◌, ◌==◌, nat_lt, List, [], ◌∷◌, length, take, drop}
+use Rattle.std.specs.Prelude.{Option, Some, None, IsSome, Result, Ok, Err}
 use Rattle.std.specs.Option.{is_none, option_map}
 use Rattle.byteorder.specs.Endian.{big_number}
 use Rattle.rs_update.specs.declared.fault.UpdateFault.{UpdateFault}
-use Rattle.rs_update.specs.declared.fault.UpdateFault.TheVariants.{MalformedAttributeList, MissingWellKnown, InvalidNetworkField}
+use Rattle.rs_update.specs.declared.fault.UpdateFault.TheVariants.{MalformedAttributeList, MissingWellKnown}
+use Rattle.rs_update.specs.declared.fault.UpdateFault.TheVariants.{InvalidNetworkField}
 use Rattle.rs_update.specs.declared.fault.MessageFault.{MessageFault}
 use Rattle.rs_update.specs.declared.fault.MessageFault.TheVariants as faults
 use Rattle.rs_update.specs.declared.header.MessageType.{MessageType}
@@ -25,7 +27,8 @@ pub record UpdateContent : Type 0 where
   pub attributes : Option PathAttributes
   pub nlri : List IpPrefix
 
--- an UPDATE whose routes are all treated as withdrawn (RFC 7606, section 2): the prefixes that it withdraws, and those that it announces
+-- an UPDATE whose routes are all treated as withdrawn (RFC 7606, section 2): the prefixes that it withdraws,
+-- and those that it announces
 pub record TreatedContent : Type 0 where
   pub withdrawn : List IpPrefix
   pub nlri : List IpPrefix
@@ -40,7 +43,8 @@ pub data MessageContent : Type 0 where
   IsRefresh : MessageContent
 
 abbrev pub update_content_of : Update → UpdateContent
-update_content_of update = record { withdrawn = update.withdrawn.items; attributes = update.attributes; nlri = update.nlri.items }
+update_content_of update =
+    record { withdrawn = update.withdrawn.items; attributes = update.attributes; nlri = update.nlri.items }
 
 abbrev pub content_of : Message → MessageContent
 content_of kinds.Open = IsOpen
@@ -50,7 +54,8 @@ content_of kinds.Notification = IsNotification
 content_of kinds.KeepAlive = IsKeepAlive
 content_of kinds.Refresh = IsRefresh
 
--- ---- an UPDATE behind its header (section 4.3): Withdrawn Routes Length, Withdrawn Routes, Total Path Attribute Length, Path Attributes, NLRI
+-- ---- an UPDATE behind its header (section 4.3): Withdrawn Routes Length, Withdrawn Routes, Total Path
+-- Attribute Length, Path Attributes, NLRI
 
 abbrev pub withdrawn_length : List ℕ → ℕ
 withdrawn_length body = big_number 2 body
@@ -76,7 +81,8 @@ length_tests body =
     (nat_lt (length body) (withdrawn_length body + 4), MalformedAttributeList)
     ∷ (nat_lt (length body) (withdrawn_length body + section_length body + 4), MalformedAttributeList) ∷ []
 
--- the attributes of the routes announced: there where any is, and then none of the mandatory ones may miss (section 6.3)
+-- the attributes of the routes announced: there where any is, and then none of the mandatory ones may miss
+-- (section 6.3)
 abbrev pub announced_attributes : List ℕ → List ℕ → Result (Option PathAttributes) UpdateFault
 announced_attributes section [] = Ok None
 announced_attributes section (octet ∷ nlri) =
@@ -96,7 +102,8 @@ abbrev pub ◌>>=◌ : {A B : Type 0} → Result A UpdateFault → (A → Result
 (Ok x) >>= f = f x
 (Err fault) >>= f = Err fault
 
--- what the body of an UPDATE says, or its first fault: lengths, attributes, mandatory attributes, withdrawn routes, NLRI, in this order (our choice)
+-- what the body of an UPDATE says, or its first fault: lengths, attributes, mandatory attributes, withdrawn
+-- routes, NLRI, in this order (our choice)
 unfoldable pub update_of : List ℕ → Result UpdateContent UpdateFault
 update_of body = do
   _lengths ← passes (first_fault (length_tests body))
@@ -120,7 +127,8 @@ typed_message types.Refresh body = Ok IsRefresh
 
 -- the message that octets are, or their first fault; the header takes 19 octets
 unfoldable pub message_of : List ℕ → Result MessageContent MessageFault
-message_of octets = elim (header_of octets) [ Ok kind ↦ typed_message kind (drop 19 octets) | Err fault ↦ Err (of_header fault) ]
+message_of octets =
+    elim (header_of octets) [ Ok kind ↦ typed_message kind (drop 19 octets) | Err fault ↦ Err (of_header fault) ]
 
 -- ---- the first fault, as a list of tests
 
@@ -137,7 +145,9 @@ field_tests body =
 
 -- lengths, path attributes, mandatory attributes, withdrawn routes, NLRI: the first test that finds a fault decides
 abbrev pub update_fault : List ℕ → Option UpdateFault
-update_fault body = or_else (first_fault (length_tests body)) (or_else (section_fault (section_field body)) (first_fault (field_tests body)))
+update_fault body =
+    or_else (first_fault (length_tests body))
+    (or_else (section_fault (section_field body)) (first_fault (field_tests body)))
 
 -- only the contents of an UPDATE can be at fault
 abbrev pub contents_fault : Option MessageType → List ℕ → Option UpdateFault
@@ -150,7 +160,9 @@ contents_fault (Some types.Refresh) body = None
 
 -- the first fault of a message: of its header, or else of its contents
 abbrev pub message_fault : List ℕ → Option MessageFault
-message_fault octets = or_else (option_map of_header (header_fault octets)) (option_map of_update (contents_fault (type_of (type_field octets)) (drop 19 octets)))
+message_fault octets =
+    or_else (option_map of_header (header_fault octets))
+    (option_map of_update (contents_fault (type_of (type_field octets)) (drop 19 octets)))
 
 -- ---- what a reader answers
 

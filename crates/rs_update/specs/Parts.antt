@@ -9,7 +9,8 @@ AreOctets octets = (i : ℕ) → slice_index octets i < 256
 abbrev pub IsSpelledBy : {A : Type 0} → (List ℕ → A → Type 0) → List ℕ → List A → List ℕ → Type 0
 IsSpelledBy Spells octets [] rest = octets ≡ rest
 IsSpelledBy Spells octets (part ∷ later) rest =
-    (front : List ℕ) × (behind : List ℕ) × (octets ≡ front ++ behind) × Spells front part × IsSpelledBy Spells behind later rest
+    (front : List ℕ) × (behind : List ℕ) × (octets ≡ front ++ behind) × Spells front part
+    × IsSpelledBy Spells behind later rest
 
 -- no front of the octets spells a part
 abbrev pub IsNoPart : {A : Type 0} → (List ℕ → A → Type 0) → List ℕ → Type 0
@@ -19,7 +20,8 @@ IsNoPart {A} Spells octets = (front behind : List ℕ) (part : A) → octets ≡
 abbrev pub IsWholeFront : {A : Type 0} → (List ℕ → A → Type 0) → List ℕ → List A → List ℕ → Type 0
 IsWholeFront Spells octets parts rest = IsSpelledBy Spells octets parts rest × IsNoPart Spells rest
 
--- the same computed: a reader gives the part that a front of the octets spells, with the octets behind it; a field has no more parts than octets
+-- the same computed: a reader gives the part that a front of the octets spells, with the octets behind it; a
+-- field has no more parts than octets
 unfoldable pub parts_within : {A : Type 0} → (List ℕ → Option (A × List ℕ)) → ℕ → List ℕ → List A × List ℕ
 parts_within read zero octets = ([], octets)
 parts_within read (suc fuel) octets =

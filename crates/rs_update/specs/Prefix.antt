@@ -1,5 +1,6 @@
 -- Address prefixes and the fields that list them (RFC 4271, section 4.3).
-use Rattle.std.specs.Prelude.{◌≡◌, ℕ, ◌+◌, ◌-◌, ◌*◌, ◌/◌, ◌^◌, Bool, ◌&&◌, nat_le, nat_lt, ◌==◌, List, [], ◌∷◌, length, take, drop, Option, Some, None, if◌then◌else◌}
+use Rattle.std.specs.Prelude.{◌≡◌, ℕ, ◌+◌, ◌-◌, ◌*◌, ◌/◌, ◌^◌, Bool, ◌&&◌, nat_le, nat_lt, ◌==◌, List, [], ◌∷◌, length}
+use Rattle.std.specs.Prelude.{take, drop, Option, Some, None, if◌then◌else◌}
 use Rattle.byteorder.specs.Endian.{big_number}
 use Rattle.rs_update.specs.IpPrefix.{IpPrefix, IsPrefix}
 use Rattle.rs_update.specs.Parts.{IsSpelledBy, parts_of}
@@ -12,8 +13,8 @@ network_of address len = record { address = address / 2 ^ (32 - len) * 2 ^ (32 -
 abbrev pub octets_for : ℕ → ℕ
 octets_for bits = (bits + 7) / 8
 
--- octets that spell a prefix: its length in bits, then the least number of octets that holds them, whose first bits are the
--- address's; bits behind those have no meaning
+-- octets that spell a prefix: its length in bits, then the least number of octets that holds them, whose
+-- first bits are the address's; bits behind those have no meaning
 abbrev pub Spells : List ℕ → IpPrefix → Type 0
 Spells [] prefix = ⊥
 Spells (len ∷ body) prefix =

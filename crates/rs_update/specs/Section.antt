@@ -1,15 +1,19 @@
 -- A section of path attributes, and its first fault (RFC 4271, sections 4.3, 5 and 6.3; RFC 6793; RFC 1997).
-use Rattle.std.specs.Prelude.{◌≡◌, ℕ, ◌+◌, ◌*◌, ◌<◌, Bool, false, not, ◌&&◌, ◌==◌, nat_lt, List, [], ◌∷◌, ◌++◌, length, take, drop, Option, Some, None, is_some, if◌then◌else◌}
+use Rattle.std.specs.Prelude.{◌≡◌, ℕ, ◌+◌, ◌*◌, ◌<◌, Bool, false, not, ◌&&◌, ◌==◌, nat_lt, List, [], ◌∷◌, ◌++◌, length}
+use Rattle.std.specs.Prelude.{take, drop, Option, Some, None, is_some, if◌then◌else◌}
 use Rattle.std.specs.List.{list_any}
 use Rattle.byteorder.specs.Endian.{big_bytes}
 use Rattle.rs_update.specs.declared.attribute_type.AttributeType.{AttributeType}
 use Rattle.rs_update.specs.declared.attribute_type.ValueTest.{ValueTest}
 use Rattle.rs_update.specs.declared.attribute_type.ValueTest.TheVariants.{OriginCode, Segments, HostAddress, AnyValue}
 use Rattle.rs_update.specs.declared.fault.UpdateFault.{UpdateFault}
-use Rattle.rs_update.specs.declared.fault.UpdateFault.TheVariants.{MalformedAttributeList, UnrecognizedWellKnown, AttributeFlags, AttributeLength, InvalidOrigin, InvalidNextHop, MalformedAsPath}
+use Rattle.rs_update.specs.declared.fault.UpdateFault.TheVariants.{MalformedAttributeList, UnrecognizedWellKnown}
+use Rattle.rs_update.specs.declared.fault.UpdateFault.TheVariants.{AttributeFlags, AttributeLength, InvalidOrigin}
+use Rattle.rs_update.specs.declared.fault.UpdateFault.TheVariants.{InvalidNextHop, MalformedAsPath}
 use Rattle.rs_update.specs.declared.values.Origin.{Origin}
 use Rattle.rs_update.specs.declared.values.Origin.TheVariants.{Igp, Egp, Incomplete}
-use Rattle.rs_update.specs.AttributeType.{type_of, row_of, flags_of, suits, admits, is_unrecognized, is_optional, is_extended}
+use Rattle.rs_update.specs.AttributeType.{type_of, row_of, flags_of, suits, admits, is_unrecognized, is_optional}
+use Rattle.rs_update.specs.AttributeType.{is_extended}
 use Rattle.rs_update.specs.Fault.{first_fault, or_else}
 use Rattle.rs_update.specs.Parts.{parts_of}
 use Rattle.rs_update.specs.PathSegments.{segments_of}
@@ -20,7 +24,8 @@ pub record Item : Type 0 where
   pub kind : ℕ
   pub value : List ℕ
 
--- the length of a value takes two octets where the Extended Length flag stands, else one; the flag may stand with any length
+-- the length of a value takes two octets where the Extended Length flag stands, else one; the flag may stand
+-- with any length
 abbrev pub spelled_length : Item → List ℕ
 spelled_length item = if is_extended item.flags then big_bytes 2 (length item.value) else length item.value ∷ []
 
@@ -50,7 +55,8 @@ short_item_at flags kind (count ∷ octets) = item_with flags kind count octets
 unfoldable pub item_at : List ℕ → Option (Item × List ℕ)
 item_at [] = None
 item_at (flags ∷ []) = None
-item_at (flags ∷ kind ∷ octets) = if is_extended flags then long_item_at flags kind octets else short_item_at flags kind octets
+item_at (flags ∷ kind ∷ octets) =
+    if is_extended flags then long_item_at flags kind octets else short_item_at flags kind octets
 
 -- the attributes of a section, and what is left over
 abbrev pub items_of : List ℕ → List Item
@@ -65,7 +71,8 @@ suits_length kind count = admits (row_of kind).lengths count
 
 -- the code of an origin (section 4.3)
 abbrev pub origin_of : ℕ → Option Origin
-origin_of code = if code == 0 then Some Igp else if code == 1 then Some Egp else if code == 2 then Some Incomplete else None
+origin_of code =
+    if code == 0 then Some Igp else if code == 1 then Some Egp else if code == 2 then Some Incomplete else None
 
 -- ORIGIN is one octet, the code of an origin
 abbrev pub is_origin : List ℕ → Bool
@@ -107,25 +114,30 @@ own_fault_of item = first_fault (tests_of (type_of item.kind) item.flags item.va
 abbrev pub has_type : ℕ → List Item → Bool
 has_type kind items = list_any (λ item. item.kind == kind) items
 
--- the fault of an attribute that stands behind others: its type stood earlier, whatever the type, or else the first of its own tests
+-- the fault of an attribute that stands behind others: its type stood earlier, whatever the type, or else the
+-- first of its own tests
 abbrev pub fault_behind : List Item → Item → Option UpdateFault
 fault_behind earlier item = if has_type item.kind earlier then Some MalformedAttributeList else own_fault_of item
 
 -- the fault of the first attribute at fault
 unfoldable pub first_item_fault : List Item → List Item → Option UpdateFault
 first_item_fault earlier [] = None
-first_item_fault earlier (item ∷ later) = or_else (fault_behind earlier item) (first_item_fault (earlier ++ item ∷ []) later)
+first_item_fault earlier (item ∷ later) =
+    or_else (fault_behind earlier item) (first_item_fault (earlier ++ item ∷ []) later)
 
 -- the first fault of a section: of its attributes front to back, or else that octets are left over
 abbrev pub section_fault : List ℕ → Option UpdateFault
 section_fault section =
-    or_else (first_item_fault [] (items_of section)) (if length (rest_of section) == 0 then None else Some MalformedAttributeList)
+    or_else (first_item_fault [] (items_of section))
+    (if length (rest_of section) == 0 then None else Some MalformedAttributeList)
 
 -- ---- the same by the places of attributes
 
 -- no attribute is at fault behind those that stand before it
 abbrev pub AreFaultless : List Item → Type 0
-AreFaultless items = (before : List Item) (item : Item) (after : List Item) → items ≡ before ++ item ∷ after → fault_behind before item ≡ None
+AreFaultless items =
+    (before : List Item) (item : Item) (after : List Item) → items ≡ before ++ item ∷ after
+    → fault_behind before item ≡ None
 
 -- one is, and none before it
 abbrev pub IsFirstAtFault : List Item → UpdateFault → Type 0

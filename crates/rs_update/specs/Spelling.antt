@@ -1,5 +1,6 @@
 -- The written form of a route's attributes (RFC 4271, section 4.3; RFC 6396, section 4.3.4).
-use Rattle.std.specs.Prelude.{ℕ, ◌+◌, Bool, true, nat_lt, ◌==◌, List, [], ◌∷◌, ◌++◌, length, Option, Some, None, find, if◌then◌else◌}
+use Rattle.std.specs.Prelude.{ℕ, ◌+◌, Bool, true, nat_lt, ◌==◌, List, [], ◌∷◌, ◌++◌, length, Option, Some, None, find}
+use Rattle.std.specs.Prelude.{if◌then◌else◌}
 use Rattle.std.specs.List.{flat_map, filter_map, range_with_len}
 use Rattle.std.specs.Option.{option_map}
 use Rattle.byteorder.specs.Endian.{big_bytes}
@@ -13,7 +14,8 @@ use Rattle.rs_update.specs.PathAttributes.{PathAttributes, CommunityList, Passed
 use Rattle.rs_update.specs.PathSegments.{spelled_segment, spelled_numbers}
 use Rattle.rs_update.specs.Section.{Item, spelled_length}
 
--- flags as written: the low four bits are 0, and Extended Length stands exactly where the value is longer than 255 octets
+-- flags as written: the low four bits are 0, and Extended Length stands exactly where the value is longer
+-- than 255 octets
 abbrev pub written_flags : ℕ → List ℕ → ℕ
 written_flags flags value = if nat_lt 255 (length value) then flags + 0x10 else flags
 
@@ -25,7 +27,8 @@ optional_non_transitive kind value = record { flags = written_flags 0x80 value; 
 
 -- the Partial bit as it was received
 abbrev pub optional_transitive : Bool → ℕ → List ℕ → Item
-optional_transitive partial kind value = record { flags = written_flags (if partial then 0xE0 else 0xC0) value; kind = kind; value = value }
+optional_transitive partial kind value =
+    record { flags = written_flags (if partial then 0xE0 else 0xC0) value; kind = kind; value = value }
 
 abbrev pub origin_code : Origin → ℕ
 origin_code Igp = 0
@@ -33,7 +36,8 @@ origin_code Egp = 1
 origin_code Incomplete = 2
 
 abbrev pub aggregator_item : ℕ → Aggregator → Item
-aggregator_item kind aggregator = optional_transitive aggregator.partial kind (big_bytes 4 aggregator.asn ++ big_bytes 4 aggregator.address)
+aggregator_item kind aggregator =
+    optional_transitive aggregator.partial kind (big_bytes 4 aggregator.asn ++ big_bytes 4 aggregator.address)
 
 abbrev pub communities_item : ℕ → CommunityList → Item
 communities_item kind list = optional_transitive list.partial kind (spelled_numbers list.values)
@@ -47,11 +51,13 @@ abbrev pub written_item : PathAttributes → ℕ → AttributeType → Option It
 written_item attributes kind types.Origin = Some (well_known kind (origin_code attributes.origin ∷ []))
 written_item attributes kind types.AsPath = Some (well_known kind (flat_map spelled_segment attributes.path))
 written_item attributes kind types.NextHop = Some (well_known kind (big_bytes 4 attributes.next_hop))
-written_item attributes kind types.MultiExitDisc = option_map (λ med. optional_non_transitive kind (big_bytes 4 med)) attributes.med
+written_item attributes kind types.MultiExitDisc =
+    option_map (λ med. optional_non_transitive kind (big_bytes 4 med)) attributes.med
 written_item attributes kind types.AtomicAggregate = if attributes.atomic then Some (well_known kind []) else None
 written_item attributes kind types.Aggregator = option_map (aggregator_item kind) attributes.aggregator
 written_item attributes kind types.Communities = option_map (communities_item kind) attributes.communities
-written_item attributes kind types.Unrecognized = option_map passed_on_item (find (λ other. other.kind == kind) attributes.others)
+written_item attributes kind types.Unrecognized =
+    option_map passed_on_item (find (λ other. other.kind == kind) attributes.others)
 written_item attributes kind dropped = None
 
 -- all of them in ascending type

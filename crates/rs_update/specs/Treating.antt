@@ -16,7 +16,9 @@ use Rattle.rs_update.specs.Gathered.{attributes_of}
 use Rattle.rs_update.specs.Handling.{kept_of, strongest_in}
 use Rattle.rs_update.specs.Header.{header_of}
 use Rattle.rs_update.specs.IpPrefix.{IpPrefix}
-use Rattle.rs_update.specs.Message.{MessageContent, IsOpen, IsUpdate, IsTreated, IsNotification, IsKeepAlive, IsRefresh, ◌>>=◌, passes, length_tests, listed_prefixes, withdrawn_field, section_field, nlri_field, update_message, update_of}
+use Rattle.rs_update.specs.Message.{MessageContent, IsOpen, IsUpdate, IsTreated, IsNotification, IsKeepAlive}
+use Rattle.rs_update.specs.Message.{IsRefresh, ◌>>=◌, passes, length_tests, listed_prefixes, withdrawn_field}
+use Rattle.rs_update.specs.Message.{section_field, nlri_field, update_message, update_of}
 use Rattle.rs_update.specs.PathAttributes.{PathAttributes}
 use Rattle.rs_update.specs.Section.{items_of}
 
@@ -25,7 +27,8 @@ abbrev pub reset_of : Handling → Option UpdateFault
 reset_of (SessionReset fault) = Some fault
 reset_of handling = None
 
--- the attributes of the routes announced: there where any is, and out of those that are kept; none at all where a mandatory one is missing among them
+-- the attributes of the routes announced: there where any is, and out of those that are kept; none at all
+-- where a mandatory one is missing among them
 abbrev pub kept_attributes : List ℕ → List ℕ → Option (Option PathAttributes)
 kept_attributes section [] = Some None
 kept_attributes section (octet ∷ nlri) = option_map Some (attributes_of (kept_of (items_of section)))
@@ -42,17 +45,19 @@ attributes_in (Stands attributes) = Some attributes
 -- an UPDATE stands with its attributes, or all its routes are treated as withdrawn
 abbrev pub content_with : Option (Option PathAttributes) → List IpPrefix → List IpPrefix → MessageContent
 content_with None withdrawn nlri = IsTreated (record { withdrawn = withdrawn; nlri = nlri })
-content_with (Some attributes) withdrawn nlri = IsUpdate (record { withdrawn = withdrawn; attributes = attributes; nlri = nlri })
+content_with (Some attributes) withdrawn nlri =
+    IsUpdate (record { withdrawn = withdrawn; attributes = attributes; nlri = nlri })
 
--- what the body of an UPDATE says by RFC 7606. What resets the session counts before all else, in this order (our choice): lengths, the section front to back and
--- its rest, withdrawn routes, NLRI
+-- what the body of an UPDATE says by RFC 7606. What resets the session counts before all else, in this order
+-- (our choice): lengths, the section front to back and its rest, withdrawn routes, NLRI
 unfoldable pub treating_update_of : List ℕ → Result MessageContent UpdateFault
 treating_update_of body = do
   _lengths ← passes (first_fault (length_tests body))
   _section ← passes (reset_of (strongest_in (section_field body)))
   withdrawn ← listed_prefixes (withdrawn_field body)
   nlri ← listed_prefixes (nlri_field body)
-  Ok (content_with (standing_attributes (strongest_in (section_field body)) (section_field body) (nlri_field body)) withdrawn nlri)
+  Ok (content_with
+      (standing_attributes (strongest_in (section_field body)) (section_field body) (nlri_field body)) withdrawn nlri)
 
 abbrev pub treating_message : Result MessageContent UpdateFault → Result MessageContent MessageFault
 treating_message (Ok content) = Ok content
@@ -72,4 +77,9 @@ typed_message_by errors types.Refresh body = Ok IsRefresh
 
 -- the message that octets are, or their first fault, by a standard of handling faults
 unfoldable pub message_by : Errors → List ℕ → Result MessageContent MessageFault
-message_by errors octets = elim (header_of octets) [ Ok kind ↦ typed_message_by errors kind (drop 19 octets) | Err fault ↦ Err (of_header fault) ]
+message_by errors octets =
+    elim (header_of octets) [
+      | Ok kind ↦ typed_message_by errors kind (drop 19 octets)
+      | Err fault ↦ Err
+          (of_header fault)
+    ]

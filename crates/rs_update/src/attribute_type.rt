@@ -1,5 +1,5 @@
-//! The types of path attributes, a row each: what an attribute must be, and what is done with it (RFC 4271, sections 4.3, 5 and 6.3;
-//! RFC 1997; RFC 4760; RFC 6793; RFC 7606).
+//! The types of path attributes, a row each: what an attribute must be, and what is done with it (RFC 4271,
+//! sections 4.3, 5 and 6.3; RFC 1997; RFC 4760; RFC 6793; RFC 7606).
 
 ghost use Rattle.std.specs.Prelude.{◌≡◌, if◌then◌else◌};
 ghost use Rattle.rs_update.specs.AttributeType.{type_of, row, row_of, suits, admits, is_unrecognized};
@@ -43,8 +43,9 @@ pub(crate) enum AttributeType {
     Unrecognized,
 }
 
-/// What the flags of an attribute must say, and so what a route keeps of it: what is well-known, non-transitive or transitive is kept and
-/// written as such, what is optional of either kind is passed on where it is transitive, and what isn't looked at is dropped.
+/// What the flags of an attribute must say, and so what a route keeps of it: what is well-known,
+/// non-transitive or transitive is kept and written as such, what is optional of either kind is passed on
+/// where it is transitive, and what isn't looked at is dropped.
 #[derive(Clone, Copy, Debug, PartialEq, Eq)]
 pub(crate) enum WantedFlags {
     /// Well-known: Optional 0, Transitive 1.

@@ -20,7 +20,8 @@ use std::marker::Model;
 // The numbers that half a community can hold.
 const HALF: u32 = 65536;
 
-/// COMMUNITIES (RFC 1997) where it stands in the written form: at least one value of four octets, in the order received.
+/// COMMUNITIES (RFC 1997) where it stands in the written form: at least one value of four octets, in the
+/// order received.
 #[derive(Clone, Copy, Debug)]
 pub struct Communities<'a> {
     /// Whether the Partial bit stood when it was received.
@@ -51,8 +52,8 @@ impl Communities<'_> {
     }
 }
 
-/// An optional transitive attribute that this crate doesn't recognize, where it stands in the written form: it is passed on (RFC 4271,
-/// section 5).
+/// An optional transitive attribute that this crate doesn't recognize, where it stands in the written form:
+/// it is passed on (RFC 4271, section 5).
 #[derive(Clone, Copy, Debug)]
 pub struct Unrecognized<'a> {
     /// The attribute's type.
@@ -61,7 +62,8 @@ pub struct Unrecognized<'a> {
     pub value: &'a [u8],
 }
 
-/// The unrecognized optional transitive attributes of a route: an iterator over them, in ascending type, that takes no memory.
+/// The unrecognized optional transitive attributes of a route: an iterator over them, in ascending type, that
+/// takes no memory.
 #[derive(Clone, Copy, Debug)]
 pub struct Others<'a> {
     octets: &'a [u8],
@@ -91,8 +93,9 @@ impl<'a> Iterator for Others<'a> {
     }
 }
 
-/// The path attributes of one UPDATE, as read: made by `read_message` alone. Their written form is all that they keep in memory of their
-/// own; beside it stand the numbers that decisions ask for, and where AS_PATH and COMMUNITIES begin in it.
+/// The path attributes of one UPDATE, as read: made by `read_message` alone. Their written form is all that
+/// they keep in memory of their own; beside it stand the numbers that decisions ask for, and where AS_PATH
+/// and COMMUNITIES begin in it.
 #[derive(Debug, Drop)]
 pub struct Attributes {
     pub(crate) origin: Origin,
@@ -187,7 +190,8 @@ impl Attributes {
         }
     }
 
-    /// How many AS numbers AS_PATH has, an AS_SET counting 1 (RFC 4271, section 9.1.2.2, a): below 65,536, since a message is short.
+    /// How many AS numbers AS_PATH has, an AS_SET counting 1 (RFC 4271, section 9.1.2.2, a): below 65,536,
+    /// since a message is short.
     pub fn path_length(&self) -> u32
         ensures value { result ≡ path_length_of self.now.path }
         ensures bound { result < 65536 }
@@ -195,7 +199,8 @@ impl Attributes {
         self.path_length
     }
 
-    /// The neighbour AS: the first AS number where the path begins with an AS_SEQUENCE, else `peer_as`, the sending peer's (our choice).
+    /// The neighbour AS: the first AS number where the path begins with an AS_SEQUENCE, else `peer_as`, the
+    /// sending peer's (our choice).
     pub fn neighbour(&self, peer_as: u32) -> u32
         ensures { result ≡ neighbour_of self.now.path peer_as }
     {
@@ -227,7 +232,8 @@ impl Attributes {
         holds_as(value_from(&self.spelling, self.path_place), asn)
     }
 
-    /// Whether the community (`high`, `low`) was received: the value `high` * 65,536 + `low`; no route has one with a half above 65,535.
+    /// Whether the community (`high`, `low`) was received: the value `high` * 65,536 + `low`; no route has
+    /// one with a half above 65,535.
     pub fn has_community(&self, high: u32, low: u32) -> bool
         ensures { result ≡ has_community_in self.now.communities high low }
     {

@@ -5,6 +5,7 @@
 pub enum Errors {
     /// RFC 4271, section 6.3: the first fault closes the session.
     Rfc4271,
-    /// RFC 7606: a repeated attribute, and a fault of one attribute, closes the session only where what was announced can't be known.
+    /// RFC 7606: a repeated attribute, and a fault of one attribute, closes the session only where what was
+    /// announced can't be known.
     Rfc7606,
 }

@@ -2,9 +2,9 @@
 //!
 //! One pass finds them, once for each message. A section without fault has one of each type at most.
 
-ghost use Rattle.std.specs.Prelude.{◌≡◌, ◌<◌, ◌≤◌, length, None};
+ghost use Rattle.std.specs.Prelude.{◌≡◌, ◌<◌, ◌≤◌, length, None, replicate};
 ghost use Rattle.std.specs.Option.{option_map};
-ghost use Rattle.rs_update.specs.Found.{Finds, stands, has_mandatory};
+ghost use Rattle.rs_update.specs.Found.{AreFound, Finds, stands, has_mandatory};
 ghost use Rattle.rs_update.specs.Gathered.{look};
 ghost use Rattle.rs_update.specs.Items.{item_of};
 ghost use Rattle.rs_update.specs.Section.{items_of, section_fault};
@@ -27,19 +27,19 @@ pub(crate) const AGGREGATOR: u8 = 7;
 
 pub(crate) const COMMUNITIES: u8 = 8;
 
-// A place behind the end of each section.
-const NOWHERE: u16 = u16::MAX;
+/// A place behind the end of each section.
+pub(crate) const NOWHERE: u16 = u16::MAX;
 
 /// Where the attributes of a section begin, by their types.
 #[derive(Clone, Copy)]
-pub(crate) struct Found {
+pub(crate) struct Found<'t> {
     /// A place for each type, `NOWHERE` where none stands.
-    pub(crate) places: [u16; TYPES],
+    pub(crate) places: &'t [u16; TYPES],
     /// No attribute has this type or a higher one.
     pub(crate) end: usize,
 }
 
-impl Found {
+impl Found<'_> {
     /// The attribute of a type.
     pub(crate) fn get<'a>(&self, section: &'a [u8], kind: u8) -> Option<Item<'a>>
         requires { Finds self.now section.now }
@@ -73,13 +73,13 @@ fn end_with(end: usize, kind: u8) -> usize
     if next > end { next } else { end }
 }
 
-/// Finds the attributes of a section.
-pub(crate) fn find_items(section: &[u8]) -> Found
+/// Finds the attributes of a section: fills in the place of each type, and answers the end of the types.
+pub(crate) fn find_items(section: &[u8], places: &mut [u16; TYPES]) -> usize
     requires faultless { section_fault section.now ≡ None }
     requires short { length section.now ≤ 4073 }
-    ensures { Finds result section.now }
+    requires nowhere { places.old ≡ replicate 256 65535 }
+    ensures { AreFound places.new result section.now }
 {
-    let mut places = [NOWHERE; TYPES];
     let mut end = 0;
     let mut rest = section;
     while let Some(front) = split_item(rest) {
@@ -88,5 +88,5 @@ pub(crate) fn find_items(section: &[u8]) -> Found
         end = end_with(end, front.0.kind);
         rest = front.1;
     }
-    Found { places, end }
+    end
 }

@@ -11,10 +11,12 @@ ghost use Rattle.rs_update.specs.Section.{items_of, section_fault};
 use crate::as_path::{first_as, path_length};
 use crate::attributes::Attributes;
 use crate::found::{
-    AGGREGATOR, AS_PATH, ATOMIC_AGGREGATE, COMMUNITIES, Found, MULTI_EXIT_DISC, NEXT_HOP, ORIGIN,
+    AGGREGATOR, AS_PATH, ATOMIC_AGGREGATE, COMMUNITIES, Found, MULTI_EXIT_DISC, NEXT_HOP, NOWHERE,
+    ORIGIN, find_items,
 };
 use crate::item::{Item, place_of};
 use crate::readers::{med_of, origin_of, read_aggregator};
+use crate::section::TYPES;
 use crate::spelling::spell;
 use byteorder::{BigEndian, ByteOrder};
 use std::alloc::{AllocError, Global};
@@ -23,7 +25,7 @@ use std::alloc::{AllocError, Global};
 fn whole(
     alloc: Global,
     section: &[u8],
-    found: &Found,
+    found: &Found<'_>,
     origin: Item<'_>,
     path: Item<'_>,
     next_hop: Item<'_>,
@@ -51,12 +53,12 @@ fn whole(
     })
 }
 
-/// The attributes that a section without fault gives a route, out of where they stand in it, or None where ORIGIN, AS_PATH or NEXT_HOP
-/// misses; then it takes no memory.
+/// The attributes that a section without fault gives a route, out of where they stand in it, or None where
+/// ORIGIN, AS_PATH or NEXT_HOP misses; then it takes no memory.
 pub(crate) fn gather(
     alloc: Global,
     section: &[u8],
-    found: &Found,
+    found: &Found<'_>,
 ) -> Result<Option<Attributes>, AllocError>
     requires faultless { section_fault section.now ≡ None }
     requires short { length section.now ≤ 4073 }
@@ -73,4 +75,25 @@ pub(crate) fn gather(
         return Ok(None);
     };
     Ok(Some(whole(alloc, section, found, origin, path, next_hop)?))
+}
+
+/// The same, where they are yet to be found.
+pub(crate) fn find_and_gather(
+    alloc: Global,
+    section: &[u8],
+) -> Result<Option<Attributes>, AllocError>
+    requires faultless { section_fault section.now ≡ None }
+    requires short { length section.now ≤ 4073 }
+    ensures { IfOk result (λ attributes. attributes ≡ attributes_of (items_of section.now)) }
+{
+    let mut places = [NOWHERE; TYPES];
+    let end = find_items(section, &mut places);
+    gather(
+        alloc,
+        section,
+        &Found {
+            places: &places,
+            end,
+        },
+    )
 }

@@ -1,6 +1,7 @@
 //! What RFC 7606 does for what it finds in the path attributes of an UPDATE (sections 2, 3 and 7).
 //!
-//! Our choice: a fault of the Optional or the Transitive bit, of a length or of a value is treated as withdrawal where nothing is announced, too.
+//! Our choice: a fault of the Optional or the Transitive bit, of a length or of a value is treated as
+//! withdrawal where nothing is announced, too.
 
 ghost use Rattle.std.specs.Prelude.{◌≡◌};
 ghost use Rattle.rs_update.specs.Handling.{handling_again, handling_of_fault, handling_of_own, is_kept, stronger};

@@ -1,7 +1,7 @@
 //! The header of a message: Marker, Length, Type (RFC 4271, sections 4.1 and 6.1).
 //!
-//! The standard leaves the order of its tests open. Ours: whether there are octets for a header, the Marker, the Length, the Type, and
-//! whether the Length suits the Type.
+//! The standard leaves the order of its tests open. Ours: whether there are octets for a header, the Marker,
+//! the Length, the Type, and whether the Length suits the Type.
 
 ghost use Rattle.std.specs.Prelude.{◌≡◌, ◌≤◌, length, Ok, IsOk, OnOk, IfOk};
 ghost use Rattle.rs_update.specs.declared.header.MessageType.TheVariants.{Update};
@@ -83,7 +83,8 @@ fn has_length(octets: &[u8]) -> bool
     HEADER_LEN <= length && length <= MOST_OCTETS && length == octets.len()
 }
 
-/// Reads the header of a message, the octets of which are `octets`: the message's type, or the first fault of the header.
+/// Reads the header of a message, the octets of which are `octets`: the message's type, or the first fault of
+/// the header.
 pub(crate) fn read_header(octets: &[u8]) -> Result<MessageType, HeaderFault>
     ensures answer { result ≡ spec.header_of octets.now }
     ensures header { OnOk result (HEADER_LEN ≤ length octets.now) }

@@ -24,7 +24,8 @@ pub struct Item<'a> {
     pub value: &'a [u8],
 }
 
-/// Takes the first attribute off a section: the attribute and the octets behind it, or None where no front of the octets spells one.
+/// Takes the first attribute off a section: the attribute and the octets behind it, or None where no front of
+/// the octets spells one.
 #[tactic(auto, unfolding(crate::specs::Section::item_at))]
 pub fn split_item(section: &[u8]) -> Option<(Item<'_>, &[u8])>
     ensures { option_map split_of result ≡ item_at section.now }

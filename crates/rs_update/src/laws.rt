@@ -3,7 +3,9 @@
 ghost use Rattle.std.specs.Prelude.{◌≡◌, None, Some};
 ghost use Rattle.rs_update.specs.Gathered.{attributes_of};
 ghost use Rattle.rs_update.specs.IpPrefix.{IpPrefix};
-ghost use Rattle.rs_update.specs.Laws.{FieldIsRead, SectionIsRead, SectionIsFaultless, SectionFaultIsFirst, PathIsRead, FaultIsFirst, NoFaultIsMessage, AttributesAreForRoutes, WrittenIsRead, Rfc4271IsAsBefore, StandardsAgree, StrongestIsFound};
+ghost use Rattle.rs_update.specs.Laws.{FieldIsRead, SectionIsRead, SectionIsFaultless, SectionFaultIsFirst, PathIsRead};
+ghost use Rattle.rs_update.specs.Laws.{FaultIsFirst, NoFaultIsMessage, AttributesAreForRoutes, WrittenIsRead};
+ghost use Rattle.rs_update.specs.Laws.{Rfc4271IsAsBefore, StandardsAgree, StrongestIsFound};
 ghost use Rattle.rs_update.specs.OriginOrder.{origin_cmp};
 ghost use Rattle.rs_update.specs.PrefixOrder.{prefix_cmp};
 ghost use Rattle.rs_update.specs.Section.{items_of, section_fault};
@@ -23,33 +25,33 @@ pub fn origins_are_ordered_by_code()
     ensures { (one other : Origin) → ⟦<Origin as Ord>⟧.cmp one other ≡ origin_cmp one other }
 {}
 
-/// A field of withdrawn routes or of NLRI lists at most one list of prefixes, and reading finds it exactly where there is one
-/// (RFC 4271, section 4.3).
+/// A field of withdrawn routes or of NLRI lists at most one list of prefixes, and reading finds it exactly
+/// where there is one (RFC 4271, section 4.3).
 pub fn a_field_is_one_list_of_prefixes()
     ensures { FieldIsRead }
 {}
 
-/// A section of path attributes is in just one way attributes and a rest no front of which spells one, and reading finds it (RFC 4271,
-/// section 4.3).
+/// A section of path attributes is in just one way attributes and a rest no front of which spells one, and
+/// reading finds it (RFC 4271, section 4.3).
 pub fn a_section_is_one_list_of_attributes()
     ensures { SectionIsRead }
 {}
 
-/// A section is at fault by the first of its attributes that is, or else by octets that are left over (RFC 4271, section 6.3). An
-/// attribute is at fault where its type stood earlier, or by its own tests.
+/// A section is at fault by the first of its attributes that is, or else by octets that are left over (RFC
+/// 4271, section 6.3). An attribute is at fault where its type stood earlier, or by its own tests.
 pub fn a_section_is_at_fault_by_its_first_attribute_at_fault()
     ensures none { SectionIsFaultless }
     ensures fault { SectionFaultIsFirst }
 {}
 
-/// The value of an AS_PATH is in just one way segments and a rest no front of which spells one, and reading finds it (RFC 4271,
-/// section 4.3; RFC 6793).
+/// The value of an AS_PATH is in just one way segments and a rest no front of which spells one, and reading
+/// finds it (RFC 4271, section 4.3; RFC 6793).
 pub fn a_path_is_one_list_of_segments()
     ensures { PathIsRead }
 {}
 
-/// A message is at fault by the first test that finds a fault, in the order of the tests, and without one the message is given
-/// (RFC 4271, section 6).
+/// A message is at fault by the first test that finds a fault, in the order of the tests, and without one the
+/// message is given (RFC 4271, section 6).
 pub fn a_message_is_at_fault_by_its_first_fault()
     ensures fault { FaultIsFirst }
     ensures none { NoFaultIsMessage }
@@ -65,8 +67,8 @@ pub fn without_a_fault_both_standards_agree()
     ensures { StandardsAgree }
 {}
 
-/// By RFC 7606 the strongest of what is found counts, wherever it stands in a section: nothing in it asks for more than is done
-/// (RFC 7606, sections 2 and 3).
+/// By RFC 7606 the strongest of what is found counts, wherever it stands in a section: nothing in it asks for
+/// more than is done (RFC 7606, sections 2 and 3).
 pub fn the_strongest_that_is_found_counts()
     ensures { StrongestIsFound }
 {}
@@ -76,8 +78,9 @@ pub fn attributes_are_for_announced_routes()
     ensures { AttributesAreForRoutes }
 {}
 
-/// What is written of the attributes that a section gives is a section without fault that gives the same attributes, Partial bits
-/// included, and it is never longer than the section received (RFC 4271, section 4.3). Written again after reading it is the same octets.
+/// What is written of the attributes that a section gives is a section without fault that gives the same
+/// attributes, Partial bits included, and it is never longer than the section received (RFC 4271, section
+/// 4.3). Written again after reading it is the same octets.
 pub fn what_is_written_reads_as_the_same_attributes()
     ensures { WrittenIsRead }
 {}

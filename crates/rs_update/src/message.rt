@@ -23,14 +23,16 @@ pub struct Update {
     pub nlri: Vec<Prefix>,
 }
 
-/// A message of one of the five types (RFC 4271, section 4.1; RFC 2918). The contents of the others than UPDATE aren't read.
+/// A message of one of the five types (RFC 4271, section 4.1; RFC 2918). The contents of the others than
+/// UPDATE aren't read.
 #[derive(Drop)]
 pub enum Message {
     /// OPEN, type 1.
     Open,
     /// UPDATE, type 2.
     Update(Update),
-    /// UPDATE, type 2, all of whose routes are treated as withdrawn (RFC 7606, section 2): only `read_message_by` gives it.
+    /// UPDATE, type 2, all of whose routes are treated as withdrawn (RFC 7606, section 2): only
+    /// `read_message_by` gives it.
     Treated {
         /// The withdrawn prefixes, in order, repeated ones too.
         withdrawn: Vec<Prefix>,
@@ -45,12 +47,12 @@ pub enum Message {
     Refresh,
 }
 
-/// Reads one message, the octets of which are `octets`, or answers its first fault (RFC 4271, section 6): `read_message_by` with
-/// `Errors::Rfc4271`.
+/// Reads one message, the octets of which are `octets`, or answers its first fault (RFC 4271, section 6):
+/// `read_message_by` with `Errors::Rfc4271`.
 ///
-/// The faults, in the order of testing: those of the header; of an UPDATE its lengths, its path attributes front to back, a mandatory
-/// attribute that misses, the withdrawn routes, the NLRI. `MessageFault::Memory` comes only where memory was refused, and only for an
-/// UPDATE without fault that lists a prefix.
+/// The faults, in the order of testing: those of the header; of an UPDATE its lengths, its path attributes
+/// front to back, a mandatory attribute that misses, the withdrawn routes, the NLRI. `MessageFault::Memory`
+/// comes only where memory was refused, and only for an UPDATE without fault that lists a prefix.
 pub fn read_message(alloc: Global, octets: &[u8]) -> Result<Message, MessageFault>
     ensures answer { Answers result (message_of octets.now) }
     ensures routes { IfOk result HasAttributesForRoutes }
@@ -59,13 +61,16 @@ pub fn read_message(alloc: Global, octets: &[u8]) -> Result<Message, MessageFaul
     read_message_by(alloc, Errors::Rfc4271, octets)
 }
 
-/// Reads one message, the octets of which are `octets`, with faults in path attributes handled by the standard `errors`.
+/// Reads one message, the octets of which are `octets`, with faults in path attributes handled by the
+/// standard `errors`.
 ///
-/// By RFC 7606 an attribute that is repeated, or ATOMIC_AGGREGATE or AGGREGATOR of a wrong length, is left out; for any other fault of
-/// an attribute, and where announced routes lack a mandatory one, the answer is `Message::Treated`. What still closes the session, in
-/// the order of testing: faults of the header; of an UPDATE its lengths, in its path attributes front to back a well-known one that isn't
-/// recognized and a repeated MP_REACH_NLRI or MP_UNREACH_NLRI, octets left over, the withdrawn routes, the NLRI.
-/// `MessageFault::Memory` comes only where memory was refused, and only for an UPDATE that closes no session and lists a prefix.
+/// By RFC 7606 an attribute that is repeated, or ATOMIC_AGGREGATE or AGGREGATOR of a wrong length, is left
+/// out; for any other fault of an attribute, and where announced routes lack a mandatory one, the answer is
+/// `Message::Treated`. What still closes the session, in the order of testing: faults of the header; of an
+/// UPDATE its lengths, in its path attributes front to back a well-known one that isn't recognized and a
+/// repeated MP_REACH_NLRI or MP_UNREACH_NLRI, octets left over, the withdrawn routes, the NLRI.
+/// `MessageFault::Memory` comes only where memory was refused, and only for an UPDATE that closes no session
+/// and lists a prefix.
 #[tactic(auto, unfolding(crate::specs::Treating::message_by))]
 pub fn read_message_by(
     alloc: Global,

@@ -11,7 +11,8 @@ use std::alloc::{AllocError, Global};
 // The octets of a number.
 pub(crate) const NUMBER_LEN: usize = 4;
 
-/// Numbers where they stand in the written form of a route's attributes: an iterator over them, in order, that takes no memory.
+/// Numbers where they stand in the written form of a route's attributes: an iterator over them, in order,
+/// that takes no memory.
 #[derive(Clone, Copy, Debug)]
 pub struct Numbers<'a> {
     pub(crate) count: usize,

@@ -62,7 +62,8 @@ impl Prefix {
         self.len
     }
 
-    /// Whether the prefix lies inside 224.0.0.0/4, the multicast addresses: at least four bits count, and the first four are 1110.
+    /// Whether the prefix lies inside 224.0.0.0/4, the multicast addresses: at least four bits count, and the
+    /// first four are 1110.
     pub fn is_multicast(&self) -> bool
         ensures { result ≡ spec.is_multicast self.now }
     {

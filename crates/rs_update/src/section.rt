@@ -1,7 +1,8 @@
 //! The first fault of a section of path attributes (RFC 4271, section 6.3).
 //!
-//! The standard leaves the order of the tests open. Ours: attributes front to back, and for each of them whether it passes the section's
-//! end, whether its type stood earlier (whatever the type), then the class, the flags, the length and the value.
+//! The standard leaves the order of the tests open. Ours: attributes front to back, and for each of them
+//! whether it passes the section's end, whether its type stood earlier (whatever the type), then the class,
+//! the flags, the length and the value.
 
 ghost use Rattle.std.specs.Prelude.{◌≡◌, Some, if◌then◌else◌, slice_index_or, false};
 ghost use Rattle.rs_update.specs.declared.fault.UpdateFault.TheVariants.{MalformedAttributeList};
@@ -38,7 +39,8 @@ pub(crate) fn section_fault(section: &[u8]) -> Option<UpdateFault>
 
 // The fault of one attribute, where `seen` tells which types stood earlier.
 fn item_fault(seen: &[bool; TYPES], item: &Item) -> Option<UpdateFault>
-    ensures { result ≡ (if slice_index_or seen.now item.now.kind false then Some MalformedAttributeList else own_fault_of (item_of item.now)) }
+    ensures { result ≡ (if slice_index_or seen.now item.now.kind false then Some MalformedAttributeList
+        else own_fault_of (item_of item.now)) }
 {
     if seen[usize::from(item.kind)] {
         return Some(UpdateFault::MalformedAttributeList);

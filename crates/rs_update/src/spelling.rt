@@ -1,6 +1,7 @@
 //! The written form of a route's attributes (RFC 4271, section 4.3).
 
-ghost use Rattle.std.specs.Prelude.{◌≡◌, ◌+◌, ◌≤◌, ◌<◌, ◌++◌, None, true, false, if◌then◌else◌, length, IfOk, OnOk, OnErr, IsOk, vec_len, vec_capacity, option_and_then};
+ghost use Rattle.std.specs.Prelude.{◌≡◌, ◌+◌, ◌≤◌, ◌<◌, ◌++◌, None, true, false, if◌then◌else◌, length, IfOk, OnOk};
+ghost use Rattle.std.specs.Prelude.{OnErr, IsOk, vec_len, vec_capacity, option_and_then};
 ghost use Rattle.std.specs.Option.{ForSome, option_map};
 ghost use Rattle.rs_update.specs.declared.attribute_type.WantedFlags.TheVariants.{Optional};
 ghost use Rattle.rs_update.specs.AttributeType.{is_extended};
@@ -31,8 +32,8 @@ const OPTIONAL_TRANSITIVE_PARTIAL: u8 = 0xE0;
 // Added where the length takes two octets.
 const EXTENDED_LENGTH: u8 = 0x10;
 
-/// Appends the written form of `attributes` to `out`, at most 4,073 octets. Refused, `out` is as before. Where the capacity of
-/// `out` has room, it takes no memory and succeeds.
+/// Appends the written form of `attributes` to `out`, at most 4,073 octets. Refused, `out` is as before.
+/// Where the capacity of `out` has room, it takes no memory and succeeds.
 pub fn write_attributes(attributes: &Attributes, out: &mut Vec<u8>) -> Result<(), AllocError>
     ensures ok { OnOk result (out.new.items ≡ out.old.items ++ written attributes.now) }
     ensures bound { length (written attributes.now) ≤ 4073 }
@@ -44,7 +45,7 @@ pub fn write_attributes(attributes: &Attributes, out: &mut Vec<u8>) -> Result<()
 }
 
 /// The written form of a section: its attributes in ascending type, each as it is kept. It takes memory once.
-pub(crate) fn spell(alloc: Global, section: &[u8], found: &Found) -> Result<Vec<u8>, AllocError>
+pub(crate) fn spell(alloc: Global, section: &[u8], found: &Found<'_>) -> Result<Vec<u8>, AllocError>
     requires faultless { section_fault section.now ≡ None }
     requires are_found { Finds found.now section.now }
     ensures { IfOk result (λ spelling. spelling.items ≡ spelled_section (items_of section.now)) }
@@ -56,11 +57,12 @@ pub(crate) fn spell(alloc: Global, section: &[u8], found: &Found) -> Result<Vec<
     Ok(out)
 }
 
-// Appends an attribute as it is written, where there is one and it is kept: its flags are those of its type, and one that is passed on
-// without being recognized has its Partial bit set (RFC 4271, section 5).
+// Appends an attribute as it is written, where there is one and it is kept: its flags are those of its type,
+// and one that is passed on without being recognized has its Partial bit set (RFC 4271, section 5).
 fn push_kept(out: &mut Vec<u8>, item: Option<Item<'_>>) -> Result<(), AllocError>
     requires { ForSome item IsSpellable }
-    ensures { OnOk result (out.new.items ≡ out.old.items ++ spelled_kept (option_and_then kept_of (option_map item_of item.entry))) }
+    ensures { OnOk result (out.new.items
+        ≡ out.old.items ++ spelled_kept (option_and_then kept_of (option_map item_of item.entry))) }
 {
     let Some(item) = item else {
         return Ok(());
@@ -111,7 +113,9 @@ fn optional_transitive(partial: bool) -> u8
 fn push_item(out: &mut Vec<u8>, flags: u8, kind: u8, value: &[u8]) -> Result<(), AllocError>
     requires plain { IsPlain flags }
     requires short { length value.now < 65536 }
-    ensures { OnOk result (out.new.items ≡ out.old.items ++ spelled_item (record { flags = written_flags flags value.now; kind = kind; value = value.now })) }
+    ensures { OnOk result (out.new.items
+        ≡ out.old.items ++ spelled_item
+        (record { flags = written_flags flags value.now; kind = kind; value = value.now })) }
 {
     if value.len() > MOST_SHORT {
         push_long(out, flags + EXTENDED_LENGTH, kind, value)
@@ -124,7 +128,8 @@ fn push_item(out: &mut Vec<u8>, flags: u8, kind: u8, value: &[u8]) -> Result<(),
 fn push_long(out: &mut Vec<u8>, flags: u8, kind: u8, value: &[u8]) -> Result<(), AllocError>
     requires extended { is_extended flags ≡ true }
     requires short { length value.now < 65536 }
-    ensures { OnOk result (out.new.items ≡ out.old.items ++ spelled_item (record { flags = flags; kind = kind; value = value.now })) }
+    ensures { OnOk result (out.new.items
+        ≡ out.old.items ++ spelled_item (record { flags = flags; kind = kind; value = value.now })) }
 {
     let mut head = [flags, kind, 0, 0];
     BigEndian::write_u16(&mut head[2..], value.len() as u16);
@@ -136,7 +141,8 @@ fn push_long(out: &mut Vec<u8>, flags: u8, kind: u8, value: &[u8]) -> Result<(),
 fn push_short(out: &mut Vec<u8>, flags: u8, kind: u8, value: &[u8]) -> Result<(), AllocError>
     requires extended { is_extended flags ≡ false }
     requires short { length value.now < 256 }
-    ensures { OnOk result (out.new.items ≡ out.old.items ++ spelled_item (record { flags = flags; kind = kind; value = value.now })) }
+    ensures { OnOk result (out.new.items
+        ≡ out.old.items ++ spelled_item (record { flags = flags; kind = kind; value = value.now })) }
 {
     out.extend_from_slice(&[flags, kind, value.len() as u8])?;
     out.extend_from_slice(value)

@@ -1,4 +1,5 @@
-//! A section of path attributes by RFC 7606: what it asks for, and what is left of it without the attributes that are discarded (sections 3 and 7).
+//! A section of path attributes by RFC 7606: what it asks for, and what is left of it without the attributes
+//! that are discarded (sections 3 and 7).
 
 ghost use Rattle.std.specs.Prelude.{◌≡◌, ◌≤◌, IfOk, length, slice_index_or, false, if◌then◌else◌, None};
 ghost use Rattle.rs_update.specs.AttributeType.{type_of};
@@ -33,7 +34,8 @@ pub(crate) fn section_handling(section: &[u8]) -> Handling
 
 // What one attribute asks for, where `seen` tells which types stood earlier.
 fn item_handling(seen: &[bool; TYPES], item: &Item) -> Handling
-    ensures { result ≡ (if slice_index_or seen.now item.now.kind false then handling_again (type_of item.now.kind) else handling_of_own (type_of item.now.kind) (own_fault_of (item_of item.now))) }
+    ensures { result ≡ (if slice_index_or seen.now item.now.kind false then handling_again (type_of item.now.kind)
+        else handling_of_own (type_of item.now.kind) (own_fault_of (item_of item.now))) }
 {
     let kind = AttributeType::of(item.kind);
     if seen[usize::from(item.kind)] {

@@ -1,7 +1,7 @@
 //! The fields of an UPDATE and their first fault (RFC 4271, sections 4.3 and 6.3).
 //!
-//! The standard leaves the order of the tests open. Ours: both lengths, the path attributes, the mandatory attributes, the withdrawn
-//! routes, the NLRI.
+//! The standard leaves the order of the tests open. Ours: both lengths, the path attributes, the mandatory
+//! attributes, the withdrawn routes, the NLRI.
 
 ghost use Rattle.std.specs.Prelude.{◌≡◌, ◌<◌, ◌≤◌, length, None, Some, IfOk, IfErr, OnOk, OnErr};
 ghost use Rattle.std.specs.Result.{is_err};
@@ -9,19 +9,20 @@ ghost use Rattle.rs_update.specs.Fault.{first_fault};
 ghost use Rattle.rs_update.specs.Handling.{kept_of, strongest_in};
 ghost use Rattle.rs_update.specs.Gathered.{attributes_of};
 ghost use Rattle.rs_update.specs.Message as spec;
-ghost use Rattle.rs_update.specs.Treating.{standing_attributes as standing_attributes_of, treating_update_of, treating_message, update_by, attributes_in, reset_of};
+ghost use Rattle.rs_update.specs.Treating.{standing_attributes as standing_attributes_of, treating_update_of};
+ghost use Rattle.rs_update.specs.Treating.{treating_message, update_by, attributes_in, reset_of};
 ghost use Rattle.rs_update.specs.Found.{Finds};
 ghost use Rattle.rs_update.specs.Section.{items_of, section_fault as section_fault_of};
 
 use crate::attributes::Attributes;
 use crate::errors::Errors;
 use crate::fault::{MessageFault, UpdateFault};
-use crate::found::{Found, find_items};
-use crate::gather::gather;
+use crate::found::{Found, NOWHERE, find_items};
+use crate::gather::{find_and_gather, gather};
 use crate::handling::Handling;
 use crate::message::{Message, Update};
 use crate::prefix::{count_prefixes, read_prefixes};
-use crate::section::section_fault;
+use crate::section::{TYPES, section_fault};
 use crate::treating::{keep_attributes, section_handling};
 use byteorder::{BigEndian, ByteOrder};
 use std::alloc::{AllocError, Global};
@@ -63,7 +64,7 @@ fn split_fields(body: &[u8]) -> Result<UpdateFields<'_>, UpdateFault>
 }
 
 // Whether routes are announced without one of the mandatory attributes.
-fn lacks_mandatory(fields: UpdateFields<'_>, found: &Found) -> bool
+fn lacks_mandatory(fields: UpdateFields<'_>, found: &Found<'_>) -> bool
     requires { Finds found.now fields.section.now }
     ensures { result ≡ is_err (spec.announced_attributes fields.entry.section.now fields.entry.nlri.now) }
 {
@@ -74,13 +75,15 @@ fn lacks_mandatory(fields: UpdateFields<'_>, found: &Found) -> bool
 fn announced_attributes(
     alloc: Global,
     fields: UpdateFields<'_>,
-    found: &Found,
+    found: &Found<'_>,
 ) -> Result<Option<Attributes>, AllocError>
     requires faultless { section_fault_of fields.section.now ≡ None }
     requires short { length fields.section.now ≤ 4073 }
     requires are_found { Finds found.now fields.section.now }
     ensures memory { OnErr result (0 < length fields.entry.nlri.now) }
-    ensures value { IfOk result (λ attributes. IfOk (spec.announced_attributes fields.entry.section.now fields.entry.nlri.now) (λ announced. attributes ≡ announced)) }
+    ensures value { IfOk result (λ attributes. IfOk
+        (spec.announced_attributes fields.entry.section.now fields.entry.nlri.now)
+        (λ announced. attributes ≡ announced)) }
 {
     if fields.nlri.is_empty() {
         return Ok(None);
@@ -99,7 +102,12 @@ fn read_update(alloc: Global, body: &[u8]) -> Result<Update, MessageFault>
     if let Some(fault) = section_fault(fields.section) {
         return Err(fault.into());
     }
-    let found = find_items(fields.section);
+    let mut places = [NOWHERE; TYPES];
+    let end = find_items(fields.section, &mut places);
+    let found = Found {
+        places: &places,
+        end,
+    };
     if lacks_mandatory(fields, &found) {
         return Err(UpdateFault::MissingWellKnown.into());
     }
@@ -134,7 +142,8 @@ fn standing_attributes(
     requires stands { reset_of handling ≡ None }
     requires short { length fields.section.now ≤ 4073 }
     ensures memory { OnErr result (0 < length fields.entry.nlri.now) }
-    ensures value { IfOk result (λ standing. attributes_in standing ≡ standing_attributes_of handling fields.entry.section.now fields.entry.nlri.now) }
+    ensures value { IfOk result (λ standing. attributes_in standing
+        ≡ standing_attributes_of handling fields.entry.section.now fields.entry.nlri.now) }
 {
     if let Handling::TreatAsWithdraw = handling {
         return Ok(Standing::Withdrawn);
@@ -148,7 +157,8 @@ fn standing_attributes(
     }
 }
 
-// The attributes that a section gives announced routes without those that are discarded, or None where a mandatory one misses.
+// The attributes that a section gives announced routes without those that are discarded, or None where a
+// mandatory one misses.
 fn kept_attributes(
     alloc: Global,
     section: &[u8],
@@ -159,10 +169,10 @@ fn kept_attributes(
     ensures { IfOk result (λ attributes. attributes ≡ attributes_of (kept_of (items_of section.now))) }
 {
     if handling.is_keep() {
-        return gather(alloc, section, &find_items(section));
+        return find_and_gather(alloc, section);
     }
     let kept = keep_attributes(alloc, section)?;
-    gather(alloc, &kept, &find_items(&kept))
+    find_and_gather(alloc, &kept)
 }
 
 // Reads an UPDATE behind its header by RFC 7606. Memory is taken only once no fault can close the session.

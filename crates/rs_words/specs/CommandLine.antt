@@ -2,7 +2,8 @@
 use Rattle.std.specs.Prelude.{◌≡◌, ◌≢◌, ◌≤◌, ℕ, ⊤, pos, true, List, [], ◌∷◌, Some, codes, option_map, string_bytes}
 use Rattle.std.specs.Str.Parse.{digits_value, without_leading_plus}
 use Rattle.clap.specs.Simple.{on_top}
-use Rattle.clap.specs.Words.{App, IsAmong, Kinds, Row, Rule, Text, fault_of, first_of, matches_of, new_app, new_rule, one_of, with_rule}
+use Rattle.clap.specs.Words.{App, IsAmong, Kinds, Row, Rule, Text, fault_of, first_of, matches_of, new_app, new_rule}
+use Rattle.clap.specs.Words.{one_of, with_rule}
 use Rattle.clap.specs.declared.builder.ArgAction.TheVariants.{Set}
 use Rattle.clap.specs.declared.builder.value_parser.ValueParser.TheVariants.{NonEmptyString, Signed, Unsigned}
 use Rattle.clap.specs.declared.error.kind.ErrorKind.{ErrorKind}
@@ -27,7 +28,8 @@ out_rule = record (required_option (codes "out")) { parser = Some NonEmptyString
 
 -- an option of one value, with the value that it has where the words don't give it
 abbrev pub option_or : Text → Text → Rule
-option_or name default = record (new_rule name) { long = Some name; action = Some Set; value_names = 1; defaults = default ∷ [] }
+option_or name default =
+    record (new_rule name) { long = Some name; action = Some Set; value_names = 1; defaults = default ∷ [] }
 
 -- the Timestamp of the records written: of 32 bits, 0 where the words don't give it (RFC 6396, section 2)
 abbrev pub time_rule : Rule
@@ -85,7 +87,8 @@ pub record HoldOptions (rows : List Row) (options : Options) : Type 0 where
 abbrev pub AreOptionsOf : List Text → Options → Type 0
 AreOptionsOf words options = HoldOptions (matches_of program words) options
 
--- what `clap` finds in the words, a request for help or for the version included: its error is of one of these kinds; none where it takes them
+-- what `clap` finds in the words, a request for help or for the version included: its error is of one of
+-- these kinds; none where it takes them
 abbrev pub faults_in : List Text → Kinds
 faults_in words = fault_of program words
 
@@ -96,7 +99,8 @@ IsToldAs kind (Version text) = kind ≡ DisplayVersion
 IsToldAs kind (Refused text) = (kind ≢ DisplayHelp) × (kind ≢ DisplayVersion) × (kind ≢ OutOfMemory)
 IsToldAs kind Memory = ⊤
 
--- words are answered with help or the version only where asking for it is among what is found in them, and aren't refused where it is all that is found
+-- words are answered with help or the version only where asking for it is among what is found in them, and
+-- aren't refused where it is all that is found
 abbrev pub SaysWhy : Kinds → WordsFault → Type 0
 SaysWhy kinds (Help text) = IsAmong DisplayHelp kinds
 SaysWhy kinds (Version text) = IsAmong DisplayVersion kinds

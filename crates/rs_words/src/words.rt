@@ -3,7 +3,9 @@
 ghost use Rattle.std.specs.Prelude.{◌≡◌, ◌≢◌, [], IfErr, IfOk, IfSome, None, OnOk, false, map, string_bytes};
 ghost use Rattle.clap.specs.Words.{app_of, found_of, kind_of, rows_of, rule_of};
 ghost use Rattle.rs_update.specs.declared.errors.Errors.TheVariants.{Rfc4271, Rfc7606};
-ghost use Rattle.rs_words.specs.CommandLine.{AreOptionsOf, HoldOptions, IsToldAs, SaysWhy, config_rule, errors_rule, faults_in, out_rule, program, ring_rule, shards_rule, standard_name, time_rule, with_manner};
+ghost use Rattle.rs_words.specs.CommandLine.{AreOptionsOf, HoldOptions, IsToldAs, SaysWhy, config_rule, errors_rule};
+ghost use Rattle.rs_words.specs.CommandLine.{faults_in, out_rule, program, ring_rule, shards_rule, standard_name};
+ghost use Rattle.rs_words.specs.CommandLine.{time_rule, with_manner};
 
 use clap::builder::ValueParser;
 use clap::error::ErrorKind;
@@ -58,8 +60,9 @@ For more information, try '--help'.
 /// [--ring N] [--shards N] [--errors rfc4271|rfc7606]`. DIR isn't empty; the time is from 0 to 4,294,967,295, the ring
 /// from 1 to 65,536, the shards from 1 to 16; where they aren't given they are 0, 1,024, 1 and RFC 4271.
 ///
-/// Answers `Help` or `Version` where that is asked for, and `Refused` where the words aren't such, each with the text of
-/// `clap`, or with one of our own where `--errors` names no standard; `Memory` where memory is refused.
+/// Answers `Help` or `Version` where that is asked for, and `Refused` where the words aren't such, each with
+/// the text of `clap`, or with one of our own where `--errors` names no standard; `Memory` where memory is
+/// refused.
 pub fn read_words(alloc: Global, words: Vec<String>) -> Result<Options, WordsFault>
     ensures options { IfOk result (λ options. AreOptionsOf (map string_bytes words.items) options) }
     ensures taken { OnOk result (faults_in (map string_bytes words.items) ≡ []) }
@@ -71,8 +74,8 @@ pub fn read_words(alloc: Global, words: Vec<String>) -> Result<Options, WordsFau
     }
 }
 
-// The options that the matches hold. `clap` gives each of the six a value, and numbers within their limits, so nothing is
-// refused here but memory and a word that names no standard.
+// The options that the matches hold. `clap` gives each of the six a value, and numbers within their limits,
+// so nothing is refused here but memory and a word that names no standard.
 fn options_of(alloc: Global, matches: &ArgMatches<'_>) -> Result<Options, WordsFault>
     ensures options { IfOk result (HoldOptions (rows_of (found_of matches.now))) }
     ensures refused { IfErr result (SaysWhy []) }

@@ -5,14 +5,15 @@ ghost use Rattle.rs_table.specs.RouteView.{row_of};
 
 use rs_choice::{Exchange, Local, PeerSpec};
 use rs_dump::write_dump;
-use rs_floor::{Floor, FloorRefused, Turn, replay};
-use rs_mrt::{Limits, MemoryWriter};
-use rs_table::Row;
+use rs_floor::{Floor, FloorRefused, Open, Served, Turn, replay, serve_sharded};
+use rs_mrt::{IoReader, Limits, MemoryWriter};
+use rs_table::{Row, Tables};
 use rs_update::Prefix;
 use std::alloc::Global;
 use std::process::Abort;
-use std::sync::Arc;
+use std::sync::{Arc, Wait};
 use std::test::*;
+use std::thread::Threads;
 
 // The peers by their numbers.
 const A: usize = 0;
@@ -31,7 +32,8 @@ const TWO: &[Peer<'static>] = &[
     ("b", 64502, 0xC000_020C, 0xC000_020C),
 ];
 
-// Three peers that send, of which two are of one AS and the identifiers are 0.0.0.1, 0.0.0.9 and 0.0.0.5, and one that doesn't.
+// Three peers that send, of which two are of one AS and the identifiers are 0.0.0.1, 0.0.0.9 and 0.0.0.5, and
+// one that doesn't.
 const FOUR: &[Peer<'static>] = &[
     ("a", 64501, 0xC000_020B, 1),
     ("b", 64501, 0xC000_020C, 9),
@@ -117,7 +119,8 @@ fn spelled(others: usize, texts: [&str; 3]) -> usize {
     others.saturating_add(digits.saturating_add(texts[2].len()) / 2)
 }
 
-// The record of an UPDATE of a peer, in digits (RFC 6396, section 4.4.3): what it withdraws, its attributes, and what it announces.
+// The record of an UPDATE of a peer, in digits (RFC 6396, section 4.4.3): what it withdraws, its attributes,
+// and what it announces.
 fn update(alloc: Global, time: u32, peer: &Peer, texts: [&str; 3]) -> Option<String> {
     let [withdrawn, attributes, nlri] = texts;
     let (_, asn, address, _) = *peer;
@@ -194,10 +197,11 @@ fn dump(
     rt: &impl Abort,
     alloc: Global,
     plan: &Exchange,
-    floor: &Floor,
+    tables: &Tables,
     client: usize,
 ) -> Option<Vec<u8>> {
-    let rows = floor.tables().rows(client).ok()?;
+    assert!(rt; client < tables.count());
+    let rows = tables.rows(client).ok()?;
     assert!(rt; client < plan.count());
     assert!(rt; are_known(plan, &rows));
     let mut out = MemoryWriter::new(alloc, Limits::none());
@@ -272,11 +276,12 @@ fn changes_are_in_the_tables_once_they_are_received(rt: HostRuntime) {
         assert_eq!(rt; floor.tables().is_closed(A), taken == 8);
     }
     let floor = run(&rt, alloc, &plan, &[&a, &[]], 2, &turns).expect(&rt, "a floor");
-    let written = dump(&rt, alloc, &plan, &floor, B).expect(&rt, "a dump");
+    let written = dump(&rt, alloc, &plan, floor.tables(), B).expect(&rt, "a dump");
     assert_eq!(rt; Some(written), octets(alloc, DUMP_OF_B));
 }
 
-// The files of four peers: by steps 1 to 3 all routes are alike, MED decides between the first two, and the identifier between the last.
+// The files of four peers: by steps 1 to 3 all routes are alike, MED decides between the first two, and the
+// identifier between the last.
 fn three_routes(alloc: Global) -> Option<Vec<Vec<u8>>> {
     let with_10 = format!(in alloc; "{PATH_64501_65010}{MED_10}").ok()?;
     let with_5 = format!(in alloc; "{PATH_64501_65010}{MED_5}").ok()?;
@@ -372,6 +377,15 @@ fn dozen(alloc: Global, peer: usize) -> Option<Vec<u8>> {
     octets(alloc, &text)
 }
 
+// The files of all eight peers.
+fn dozens(alloc: Global) -> Option<Vec<Vec<u8>>> {
+    let mut files = Vec::new(alloc);
+    for peer in 0..8 {
+        files.push(dozen(alloc, peer)?).ok()?;
+    }
+    Some(files)
+}
+
 // A schedule of turns that look random, of nine peers (multiplicative, modulo 2^32).
 fn random_turns(alloc: Global, count: usize) -> Option<Vec<Turn>> {
     let mut turns = Vec::new(alloc);
@@ -405,12 +419,7 @@ fn turns_by_peer(alloc: Global) -> Option<Vec<Turn>> {
 fn drained_schedules_give_the_same_dumps(rt: HostRuntime) {
     let alloc = rt.alloc();
     let plan = exchange(alloc, EIGHT).expect(&rt, "an exchange");
-    let mut files = Vec::new(alloc);
-    for peer in 0..8 {
-        files
-            .push(dozen(alloc, peer).expect(&rt, "a file"))
-            .expect(&rt, "memory");
-    }
+    let files = dozens(alloc).expect(&rt, "files");
     let slices = slices(alloc, &files).expect(&rt, "slices");
     let random = random_turns(alloc, 10_000).expect(&rt, "turns");
     let ordered = turns_by_peer(alloc).expect(&rt, "turns");
@@ -420,8 +429,52 @@ fn drained_schedules_give_the_same_dumps(rt: HostRuntime) {
         assert_eq!(rt; counts(&rt, &one, peer), (13, 13));
         assert_eq!(rt; counts(&rt, &other, peer), (13, 13));
         assert!(rt; shown(alloc, &one, peer).expect(&rt, "rows").len() > 3);
-        let written = dump(&rt, alloc, &plan, &one, peer).expect(&rt, "a dump");
-        let again = dump(&rt, alloc, &plan, &other, peer);
+        let written = dump(&rt, alloc, &plan, one.tables(), peer).expect(&rt, "a dump");
+        let again = dump(&rt, alloc, &plan, other.tables(), peer);
         assert_eq!(rt; Some(written), again, "of client {peer}");
+    }
+}
+
+// The end of a run on threads.
+fn serve<R: Threads + Wait + Sync + Abort>(
+    rt: &R,
+    alloc: Global,
+    plan: &Arc<Exchange>,
+    files: &[&[u8]],
+    capacity: usize,
+    shards: usize,
+) -> Result<Served, FloorRefused> {
+    let readers: Vec<IoReader<&[u8]>> = files
+        .iter()
+        .map(|file| IoReader::new(*file))
+        .collect(alloc)?;
+    assert!(rt; readers.len() == plan.count());
+    serve_sharded(rt, alloc, plan, readers, capacity, shards, &Open)
+}
+
+// Every client's dump.
+fn dumps(rt: &impl Abort, alloc: Global, plan: &Exchange, tables: &Tables) -> Option<Vec<Vec<u8>>> {
+    let mut dumps = Vec::new(alloc);
+    for client in 0..plan.count() {
+        dumps.push(dump(rt, alloc, plan, tables, client)?).ok()?;
+    }
+    Some(dumps)
+}
+
+#[test]
+fn runs_on_threads_give_the_dumps_of_a_schedule(rt: HostRuntime) {
+    let alloc = rt.alloc();
+    let plan = exchange(alloc, EIGHT).expect(&rt, "an exchange");
+    let files = dozens(alloc).expect(&rt, "files");
+    let slices = slices(alloc, &files).expect(&rt, "slices");
+    let ordered = turns_by_peer(alloc).expect(&rt, "turns");
+    let floor = run(&rt, alloc, &plan, &slices, 1, &ordered).expect(&rt, "a floor");
+    let wanted = dumps(&rt, alloc, &plan, floor.tables()).expect(&rt, "dumps");
+    for number in 0..200usize {
+        let capacity = number % 8 + 1;
+        let shards = number / 8 % 4 + 1;
+        let served = serve(&rt, alloc, &plan, &slices, capacity, shards).expect(&rt, "a run");
+        let given = dumps(&rt, alloc, &plan, served.tables()).expect(&rt, "dumps");
+        assert!(rt; given == wanted, "through {capacity}, with {shards} shards");
     }
 }

@@ -1,5 +1,5 @@
-//! UPDATEs by RFC 7606 and by RFC 4271, against a slow reading of lists of attributes, from the formats (RFC 4271, sections 4.3 and 6.3; RFC
-//! 7606, sections 3 and 7).
+//! UPDATEs by RFC 7606 and by RFC 4271, against a slow reading of lists of attributes, from the formats (RFC
+//! 4271, sections 4.3 and 6.3; RFC 7606, sections 3 and 7).
 
 use super::*;
 
@@ -30,9 +30,11 @@ const ATTRIBUTES: &[(u8, u8, &str)] = &[
     (0x80, 6, "00"),
     (0xC0, 7, "0000FBF5 C0000201"),
     (0xE0, 7, "FBF5 C0000201"),
+    (0xE0, 7, "0000FBF5 C0000201"),
     (0x80, 7, "0000FBF5 C0000201"),
     (0x40, 7, "FBF5 C0000201"),
     (0xC0, 8, "FBF4FBF6 FDE80001"),
+    (0xEF, 8, "00000007"),
     (0xC0, 8, ""),
     (0xC0, 8, "0000000700"),
     (0x80, 8, "00000007"),
@@ -43,6 +45,7 @@ const ATTRIBUTES: &[(u8, u8, &str)] = &[
     (0xC0, 32, "07"),
     (0x80, 32, "07"),
     (0x40, 32, "07"),
+    (0xE0, 255, ""),
     (0x20, 0, ""),
 ];
 
@@ -101,6 +104,22 @@ impl Received {
             8 => first(&[(!optional || !transitive, 4), (len == 0 || len % 4 != 0, 5)]),
             5 | 14 | 15 | 17 | 18 => None,
             _ => first(&[(!optional, 2)]),
+        }
+    }
+
+    // The flags that the attribute is written with, where its routes stand and it is kept: one at fault is
+    // discarded then.
+    fn written_flags(&self) -> Option<u8> {
+        if self.fault().is_some() {
+            return None;
+        }
+        match self.kind {
+            1 | 2 | 3 | 6 => Some(0x40),
+            4 => Some(0x80),
+            7 | 8 => Some(0xC0 | self.flags & 0x20),
+            5 | 14 | 15 | 17 | 18 => None,
+            _ if self.flags & 0x40 != 0 => Some(0xE0),
+            _ => None,
         }
     }
 }
@@ -193,17 +212,51 @@ fn slow_text(alloc: Global, found: (Option<u8>, bool), count: usize) -> Result<S
     Ok(text)
 }
 
-// Whether attributes are read as the slow reading reads them, by both standards, with a route and without one.
+// What is written of attributes whose routes stand: the first of each type, where it is kept, in ascending type.
+fn slow_written(alloc: Global, attributes: &[Received]) -> Result<Vec<u8>, Fail> {
+    let mut kept = Vec::new(alloc);
+    for kind in 0..=255 {
+        let first = attributes.iter().find(|one| one.kind == kind);
+        if let Some((one, flags)) = first.and_then(|one| Some((one, one.written_flags()?))) {
+            kept.extend_from_slice(&[flags, kind, u8::try_from(one.value.len())?])?;
+            kept.extend_from_slice(&one.value)?;
+        }
+    }
+    Ok(kept)
+}
+
+// What is written of the attributes of an UPDATE, nothing where no routes stand by a standard.
+fn written_by(alloc: Global, errors: Errors, message: &[u8]) -> Result<Vec<u8>, Fail> {
+    let mut written = Vec::new(alloc);
+    if let Ok(Message::Update(update)) = read_message_by(alloc, errors, message) {
+        if let Some(attributes) = &update.attributes {
+            write_attributes(attributes, &mut written)?;
+        }
+    }
+    Ok(written)
+}
+
+// Whether attributes are read as the slow reading reads them, by both standards, with a route and without one:
+// what is said of them, and what is written.
 fn are_read(alloc: Global, attributes: &[Received]) -> Result<bool, Fail> {
     let section = section(alloc, attributes)?;
+    let kept = slow_written(alloc, attributes)?;
     for (nlri, count) in [("", 0), (ROUTE, 1)] {
         let message = update(alloc, "", &section, nlri)?;
-        let by_4271 = slow_text(alloc, by_rfc_4271(attributes, count != 0), count)?;
-        let by_7606 = slow_text(alloc, by_rfc_7606(attributes, count != 0), count)?;
-        if says_by(alloc, Errors::Rfc4271, &message)? != by_4271
-            || says(alloc, &message)? != by_4271
-            || says_by(alloc, Errors::Rfc7606, &message)? != by_7606
-        {
+        for (errors, found) in [
+            (Errors::Rfc4271, by_rfc_4271(attributes, count != 0)),
+            (Errors::Rfc7606, by_rfc_7606(attributes, count != 0)),
+        ] {
+            let stands = count != 0 && found == (None, false);
+            let written = written_by(alloc, errors, &message)?;
+            if says_by(alloc, errors, &message)? != slow_text(alloc, found, count)?
+                || written.as_slice() != if stands { kept.as_slice() } else { &[] }
+            {
+                return Ok(false);
+            }
+        }
+        let found = by_rfc_4271(attributes, count != 0);
+        if says(alloc, &message)? != slow_text(alloc, found, count)? {
             return Ok(false);
         }
     }

@@ -1,6 +1,7 @@
 //! A refused allocation is answered as want of memory, and the same call again answers as if none had been refused.
 //!
-//! These tests pass whether or not one allocation of the process is refused: the answer is want of memory or the plain one, never a third.
+//! These tests pass whether or not one allocation of the process is refused: the answer is want of memory or
+//! the plain one, never a third.
 
 use super::*;
 

@@ -9,8 +9,8 @@ fn written(alloc: Global, attributes: &[u8]) -> Result<Vec<u8>, Fail> {
     Ok(out)
 }
 
-// Attributes behind ORIGIN, AS_PATH and NEXT_HOP as they are received and as they are written, and how many octets more their last
-// value has.
+// Attributes behind ORIGIN, AS_PATH and NEXT_HOP as they are received and as they are written, and how many
+// octets more their last value has.
 const OTHERS: &[(&str, &str, usize)] = &[
     // Dropped: LOCAL_PREF, MP_REACH_NLRI, AS4_PATH, AS4_AGGREGATOR, and an unknown attribute that isn't transitive.
     ("4005020000", "", 0),

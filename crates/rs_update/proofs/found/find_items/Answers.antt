@@ -8,7 +8,7 @@ use Rattle.rs_update.proofs.ItemLemmas.{item_at-takes}
 use Rattle.rs_update.proofs.found.find_items.Goals as goal
 
 pub loop-front-init : goal.loop-front-init
-loop-front-init c = finds_nothing c.args.section.now (λ place. omega (arith, c.type_inv.section place)) (omega (arith, c.requires.short))
+loop-front-init c = rw c.requires.nowhere (finds_nothing c.args.section.now (λ place. omega (arith, c.type_inv.section place)) (omega (arith, c.requires.short)))
 
 pub loop-front-smaller : goal.loop-front-smaller
 loop-front-smaller c = item_at-takes c.loop-front.rest.now (split_of c.in-Some.front) (sym c.in-Some.ensures)

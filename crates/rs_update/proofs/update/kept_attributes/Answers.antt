@@ -2,13 +2,8 @@ use Rattle.std.proofs.Common.{◌∙◌, sym}
 use Rattle.rs_update.proofs.HandlingLemmas.{is_kept-keep, nothing_discarded}
 use Rattle.rs_update.proofs.update.kept_attributes.Goals as goal
 
-pub find_items-requires-clause-faultless : goal.find_items-requires-clause-faultless
-find_items-requires-clause-faultless c =
-    let keep = is_kept-keep c.args.handling (sym c.is_keep.ensures ∙ c.if-is_keep.true) in
-    (nothing_discarded c.args.section.now (sym c.requires.handled ∙ keep)).1
-
-pub gather-requires-clause-faultless : goal.gather-requires-clause-faultless
-gather-requires-clause-faultless c =
+pub find_and_gather-requires-clause-faultless : goal.find_and_gather-requires-clause-faultless
+find_and_gather-requires-clause-faultless c =
     let keep = is_kept-keep c.args.handling (sym c.is_keep.ensures ∙ c.if-is_keep.true) in
     (nothing_discarded c.args.section.now (sym c.requires.handled ∙ keep)).1
 
@@ -16,4 +11,4 @@ pub returns-then-is_keep : goal.returns-then-is_keep
 returns-then-is_keep c =
     let keep = is_kept-keep c.args.handling (sym c.is_keep.ensures ∙ c.if-is_keep.true) in
     let all = (nothing_discarded c.args.section.now (sym c.requires.handled ∙ keep)).0 in
-    rw all c.gather.ensures
+    rw all c.find_and_gather.ensures

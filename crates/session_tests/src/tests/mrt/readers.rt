@@ -3,6 +3,7 @@
 use super::files::{TWO_RECORDS, count_records};
 use super::*;
 use std::io;
+use std::sync::atomic::{AtomicUsize, Ordering};
 
 #[test]
 fn a_reader_over_memory_gives_its_octets_in_pieces(rt: HostRuntime) {
@@ -142,5 +143,33 @@ fn a_reader_is_not_asked_again_after_a_failed_read(rt: HostRuntime) -> Result<()
     assert_eq!(rt; records.advance(), Err(SourceFault::Read));
     assert!(rt; records.shown().is_none());
     assert_eq!(rt; records.advance(), Err(SourceFault::Read));
+    Ok(())
+}
+
+// A reader of std over octets at hand, whose calls are counted.
+#[derive(Drop)]
+struct Counted<'a> {
+    left: &'a [u8],
+    calls: &'a AtomicUsize,
+}
+
+impl<'a> io::Read for Counted<'a> {
+    fn read(&mut self, into: &mut [u8]) -> io::Result<usize> {
+        self.calls.fetch_add(1, Ordering::SeqCst);
+        self.left.read(into)
+    }
+}
+
+#[test]
+fn a_file_that_the_buffer_holds_comes_in_one_call(rt: HostRuntime) -> Result<(), Fail> {
+    let file = octets(rt.alloc(), TWO_RECORDS)?;
+    let calls = AtomicUsize::new(0);
+    let reader = IoReader::new(Counted {
+        left: &file,
+        calls: &calls,
+    });
+    assert_eq!(rt; count_records(&mut RecordReader::new(reader)), (2, 3, None));
+    // One more tells that the file has ended.
+    assert_eq!(rt; calls.load(Ordering::SeqCst), 2);
     Ok(())
 }

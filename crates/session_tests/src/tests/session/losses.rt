@@ -31,8 +31,8 @@ fn a_lost_session_is_read_on(rt: HostRuntime) -> Result<(), Fail> {
     Ok(())
 }
 
-// Lost twice, and up again with other routes each time; the second time its change to Established isn't recorded, and the first time the
-// NOTIFICATION is followed by the change of state that it led to.
+// Lost twice, and up again with other routes each time; the second time its change to Established isn't
+// recorded, and the first time the NOTIFICATION is followed by the change of state that it led to.
 const LOST_TWICE: &[Recorded<'static>] = &[
     (100, BGP4MP, STATE_CHANGE_AS4, &[A, "0005 0006"]),
     (

@@ -46,8 +46,8 @@ fn a_failed_read_closes(rt: HostRuntime) -> Result<(), Fail> {
     Ok(())
 }
 
-// A KEEPALIVE of another peer at time 100; an UPDATE at time 101 that withdraws 1.0.0.0/8 to 13.0.0.0/8 and announces ten such prefixes,
-// eight of those among them.
+// A KEEPALIVE of another peer at time 100; an UPDATE at time 101 that withdraws 1.0.0.0/8 to 13.0.0.0/8 and
+// announces ten such prefixes, eight of those among them.
 const RECORDED: &[u8] = b"\x00\x00\x00\x64\x00\x10\x00\x04\x00\x00\x00\x27\
     \x00\x00\xFB\xF6\x00\x00\xFB\xF4\x00\x00\x00\x01\xC0\x00\x02\x0C\xC0\x00\x02\x01\
     \xFF\xFF\xFF\xFF\xFF\xFF\xFF\xFF\xFF\xFF\xFF\xFF\xFF\xFF\xFF\xFF\x00\x13\x04\

@@ -115,8 +115,8 @@ fn multicast_prefixes_give_no_change(rt: HostRuntime) -> Result<(), Fail> {
     Ok(())
 }
 
-// Withdrawn: 1/8, 2/8, .. 12/8, and 5/8 again; announced: 20/8, 2/8, 4/8, 6/8, 8/8, 10/8, 12/8, 14/8, 3/8, 2/8, of which seven were
-// withdrawn.
+// Withdrawn: 1/8, 2/8, .. 12/8, and 5/8 again; announced: 20/8, 2/8, 4/8, 6/8, 8/8, 10/8, 12/8, 14/8, 3/8,
+// 2/8, of which seven were withdrawn.
 const LONG_LISTS: &[Recorded<'static>] = &[(
     100,
     BGP4MP,

@@ -77,8 +77,8 @@ fn a_fault_closes_after_the_changes_before_it(rt: HostRuntime) -> Result<(), Fai
     Ok(())
 }
 
-// All peers in one file; of these records five are of others: of another peer, of IPv6, of a two-octet session, of another's state,
-// and another's KEEPALIVE.
+// All peers in one file; of these records five are of others: of another peer, of IPv6, of a two-octet
+// session, of another's state, and another's KEEPALIVE.
 pub const COLLECTED: &[Recorded<'static>] = &[
     (100, BGP4MP, MESSAGE_AS4, &[A, MARKER, UPDATE]),
     (100, BGP4MP, MESSAGE_AS4, &[B, MARKER, UPDATE]),
