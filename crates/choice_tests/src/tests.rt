@@ -1,5 +1,6 @@
-//! Worked exchanges: the server has AS 64500 and address 192.0.2.1 in 192.0.2.0/24; peers a, b, c and d have AS 64501 to 64504 and
-//! addresses 192.0.2.11 to 192.0.2.14, unless a test says otherwise. Routes are read from octets.
+//! Worked exchanges: the server has AS 64500 and address 192.0.2.1 in 192.0.2.0/24; peers a, b, c and d have
+//! AS 64501 to 64504 and addresses 192.0.2.11 to 192.0.2.14, unless a test says otherwise. Routes are read
+//! from octets.
 
 ghost use Rattle.std.specs.Prelude.{◌<◌, ◌↔◌, IsTrue, length};
 ghost use Rattle.std.specs.List.{All};

@@ -4,7 +4,6 @@ use Rattle.std.specs.Prelude.{slice_get, filter, IfSome, IsTrue}
 use Rattle.std.specs.List.{All, Contains}
 use Rattle.std.specs.Option.{option_map}
 use Rattle.std.proofs.lemmas.List.{length-map}
-use Rattle.std.proofs.lemmas.List.Elements.{All-filter}
 use Rattle.std.proofs.lemmas.Option.{slice_get-get_or, slice_get_within}
 use Rattle.rs_choice.specs.declared.candidate.Standing.{Standing}
 use Rattle.rs_choice.specs.declared.candidate.Placed.{Placed}
@@ -68,12 +67,6 @@ filter_passes {M} p (x ∷ xs) = go (filter_passes p xs) (p x) refl
 
 pub eligible_all : (plan : Plan) (routes : List SentRoute) → AreEligible plan (eligible_among plan routes)
 eligible_all plan routes = filter_passes (λ (sent : SentRoute). is_eligible plan sent.peer sent.attributes) routes
-
--- those of eligible routes that a test leaves are eligible
-pub eligible_still : (plan : Plan) (q : SentRoute → Bool) (some others routes : List SentRoute) → some ≡ filter q others → others ≡ eligible_among plan routes → AreEligible plan some
-eligible_still plan q some others routes kept is =
-    subst (AreEligible plan) (sym (kept ∙ ap (filter q) is))
-    (All-filter q (λ (sent : SentRoute). IsTrue (is_eligible plan sent.peer sent.attributes)) (eligible_among plan routes) (eligible_all plan routes))
 
 pub weighing_places : (held : List HeldRoute) (eligible weighing : List ℕ) → ArePlaces held eligible → All (λ place. Contains eligible place) weighing → ArePlaces held weighing
 weighing_places held eligible weighing all among k d within =

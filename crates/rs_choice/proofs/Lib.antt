@@ -2,6 +2,7 @@ pub mod BehindLemmas
 pub mod ChosenLemmas
 pub mod ClientLemmas
 pub mod CommunityLemmas
+pub mod ContenderLemmas
 pub mod Eliminations
 pub mod Examples
 pub mod GroupChoice

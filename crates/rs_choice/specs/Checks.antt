@@ -11,4 +11,5 @@ abbrev pub has_address_among : List PeerSpec → ℕ → Bool
 has_address_among peers address = list_any (λ peer. peer.address == address) peers
 
 abbrev pub refuses_spec : PeerSpec → PeerSpec → Bool
-refuses_spec client sender = list_any (λ name. bytes_eq (string_bytes name) (string_bytes sender.name)) client.refuse_from.items
+refuses_spec client sender =
+    list_any (λ name. bytes_eq (string_bytes name) (string_bytes sender.name)) client.refuse_from.items

@@ -1,7 +1,7 @@
 -- What each client gets of the routes on one prefix (RFC 4271, section 9.1; RFC 7947, section 2.3.2.1).
 --
--- Export policy comes before the decision, and each client has a decision of its own: a route that policy refuses to a client
--- hides no other route from it.
+-- Export policy comes before the decision, and each client has a decision of its own: a route that policy
+-- refuses to a client hides no other route from it.
 use Rattle.std.specs.Prelude.{◌≡◌, ◌<◌, ℕ, Bool, List, length, filter, Option, None, Some, slice_index_or}
 use Rattle.std.specs.Option.{option_map}
 use Rattle.rs_choice.specs.Decision.{SentRoute, standing_of, choice}
@@ -28,8 +28,10 @@ peer_or_own (Some peer) client = peer
 
 -- the peer whose route a client gets of the routes on a prefix
 abbrev pub best_peer_for : Plan → ℕ → List SentRoute → ℕ
-best_peer_for plan client routes = peer_or_own (option_map (λ sent. sent.peer) (chosen_for plan client (eligible_among plan routes))) client
+best_peer_for plan client routes =
+    peer_or_own (option_map (λ sent. sent.peer) (chosen_for plan client (eligible_among plan routes))) client
 
 -- for every client of a plan the number given is that of the peer whose route it gets
 abbrev pub AreBest : Plan → List SentRoute → List ℕ → Type 0
-AreBest plan routes bests = (client : ℕ) → client < length plan.peers → slice_index_or bests client 0 ≡ best_peer_for plan client routes
+AreBest plan routes bests =
+    (client : ℕ) → client < length plan.peers → slice_index_or bests client 0 ≡ best_peer_for plan client routes

@@ -1,4 +1,5 @@
--- Comparisons of two candidates by several steps of the decision process at once (RFC 4271, sections 9.1.1 and 9.1.2.2).
+-- Comparisons of two candidates by several steps of the decision process at once (RFC 4271, sections 9.1.1
+-- and 9.1.2.2).
 use Rattle.std.specs.Prelude.{◌≡◌, ◌<◌, ◌⊎◌}
 use Rattle.rs_choice.specs.declared.candidate.Standing.{Standing}
 use Rattle.rs_choice.specs.Decision.{origin_code}
@@ -33,7 +34,8 @@ IsAhead = FirstOrSecond IsPreferredOrShorter IsAsLong HasLowerOrigin
 -- equal by these three
 abbrev pub IsLevel : Standing → Standing → Type 0
 IsLevel one other =
-    (one.preference ≡ other.preference) × (one.path_length ≡ other.path_length) × (origin_code one.origin ≡ origin_code other.origin)
+    (one.preference ≡ other.preference) × (one.path_length ≡ other.path_length)
+    × (origin_code one.origin ≡ origin_code other.origin)
 
 abbrev pub HasLowerMed : Standing → Standing → Type 0
 HasLowerMed one other = (one.neighbour ≡ other.neighbour) × (one.med < other.med)

@@ -1,5 +1,6 @@
 -- The decision process (RFC 4271, sections 9.1.1 and 9.1.2.2).
-use Rattle.std.specs.Prelude.{ℕ, ◌==◌, nat_lt, Bool, not, ◌&&◌, List, [], ◌∷◌, filter, Option, None, Some, slice_get, unwrap_or}
+use Rattle.std.specs.Prelude.{ℕ, ◌==◌, nat_lt, Bool, not, ◌&&◌, List, [], ◌∷◌, filter, Option, None, Some, slice_get}
+use Rattle.std.specs.Prelude.{unwrap_or}
 use Rattle.std.specs.List.{list_any, enumerate_from}
 use Rattle.std.specs.Option.{option_map, option_map_or}
 use Rattle.rs_update.specs.declared.values.Origin.{Origin}
@@ -40,7 +41,8 @@ decision_steps = steps.Preference ∷ steps.PathLength ∷ steps.Origin ∷ step
 
 -- the members of a set that no member of that set beats at a step
 unfoldable pub unbeaten : {M : Type 0} → (M → Standing) → Step → List M → List M
-unbeaten standing step set = filter (λ one. not (list_any (λ other. beats step (standing other) (standing one)) set)) set
+unbeaten standing step set =
+    filter (λ one. not (list_any (λ other. beats step (standing other) (standing one)) set)) set
 
 -- what steps leave of a set, each looking at the whole set that the one before left
 unfoldable pub remaining : {M : Type 0} → (M → Standing) → List Step → List M → List M
@@ -58,7 +60,8 @@ choice standing set = first_member (remaining standing decision_steps set)
 
 -- the place of the choice in a list of members: the least one where several are left
 unfoldable pub place_of_choice : {M : Type 0} → (M → Standing) → List M → Option ℕ
-place_of_choice standing members = option_map (λ (place, member). place) (choice (λ (place, member). standing member) (enumerate_from 0 members))
+place_of_choice standing members =
+    option_map (λ (place, member). place) (choice (λ (place, member). standing member) (enumerate_from 0 members))
 
 -- the member at a place of a list, where there is a place
 abbrev pub member_at : {M : Type 0} → List M → Option ℕ → Option M
@@ -87,7 +90,8 @@ abbrev pub no_standing : Standing
 no_standing = record { preference = 0; path_length = 0; origin = Igp; neighbour = 0; med = 0; id = 0; address = 0 }
 
 abbrev pub standing_of : Plan → SentRoute → Standing
-standing_of plan route = option_map_or (λ sender. standing_from sender route.attributes) (slice_get plan.peers route.peer) no_standing
+standing_of plan route =
+    option_map_or (λ sender. standing_from sender route.attributes) (slice_get plan.peers route.peer) no_standing
 
 abbrev pub sent_route_of : Candidate → SentRoute
 sent_route_of candidate = record { peer = candidate.peer; attributes = candidate.attributes.now }

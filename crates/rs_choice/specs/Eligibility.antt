@@ -17,8 +17,8 @@ abbrev pub is_on_exchange : Option IpPrefix → ℕ → ℕ → Bool
 is_on_exchange None sender_address address = true
 is_on_exchange (Some subnet) sender_address address = address == sender_address || is_inside subnet address
 
--- a route of a sender is eligible where the server's AS is in no segment of its AS_PATH, and its NEXT_HOP isn't the server's
--- address, and its NEXT_HOP is on the exchange
+-- a route of a sender is eligible where the server's AS is in no segment of its AS_PATH, and its NEXT_HOP
+-- isn't the server's address, and its NEXT_HOP is on the exchange
 abbrev pub is_eligible_from : Local → Peer → PathAttributes → Bool
 is_eligible_from local sender attributes =
     not (holds_as_in attributes.path local.asn)

@@ -1,7 +1,8 @@
 -- The number of a plan's fault, and the peer at fault (our choice).
 use Rattle.std.specs.Prelude.{ℕ, Option, None, Some}
 use Rattle.rs_choice.specs.declared.fault.PlanFault.{PlanFault}
-use Rattle.rs_choice.specs.declared.fault.PlanFault.TheVariants.{NoPeer, TooManyPeers, InvalidName, RepeatedName, RepeatedAddress, ZeroAs, UnknownName, Memory}
+use Rattle.rs_choice.specs.declared.fault.PlanFault.TheVariants.{NoPeer, TooManyPeers, InvalidName, RepeatedName}
+use Rattle.rs_choice.specs.declared.fault.PlanFault.TheVariants.{RepeatedAddress, ZeroAs, UnknownName, Memory}
 
 -- 1 to 8, in the order of testing
 abbrev pub number_of_fault : PlanFault → ℕ

@@ -17,7 +17,8 @@ sent_of_held held = record { peer = held.peer; attributes = held.attributes.valu
 
 -- policy permits a route to every client but its sender (RFC 7947, section 2.3)
 abbrev pub IsOpen : Plan → ℕ → PathAttributes → Type 0
-IsOpen plan peer attributes = (client : ℕ) → client < length plan.peers → client ≢ peer → IsTrue (is_permitted plan client peer attributes)
+IsOpen plan peer attributes =
+    (client : ℕ) → client < length plan.peers → client ≢ peer → IsTrue (is_permitted plan client peer attributes)
 
 -- all are eligible
 abbrev pub AreEligible : Plan → List SentRoute → Type 0
@@ -36,11 +37,13 @@ standing_with sender held = record {
 }
 
 abbrev pub held_standing : Plan → HeldRoute → Standing
-held_standing plan held = option_map_or (λ sender. standing_with sender held) (slice_get plan.peers held.peer) no_standing
+held_standing plan held =
+    option_map_or (λ sender. standing_with sender held) (slice_get plan.peers held.peer) no_standing
 
 -- what is held of a route is true of it under a plan, and where it is eligible a decision needs no more
 pub record IsJudged (plan : Plan) (held : HeldRoute) : Type 0 where
   pub known : held.peer < length plan.peers
   pub eligible : is_candidate held.candidacy ≡ is_eligible plan held.peer held.attributes.value
-  pub unrestricted : IsTrue (is_open_candidate held.candidacy) ↔ (IsTrue (is_eligible plan held.peer held.attributes.value) × IsOpen plan held.peer held.attributes.value)
+  pub unrestricted : IsTrue (is_open_candidate held.candidacy)
+      ↔ (IsTrue (is_eligible plan held.peer held.attributes.value) × IsOpen plan held.peer held.attributes.value)
   pub standing : IsTrue (is_candidate held.candidacy) → held_standing plan held ≡ standing_of plan (sent_of_held held)

@@ -1,5 +1,6 @@
 -- Laws of the decision process, of export policy and of the faults of a plan.
-use Rattle.std.specs.Prelude.{◌≡◌, ◌<◌, ◌↔◌, ◌⊎◌, ℕ, Bool, true, IsTrue, IsFalse, List, [], ◌∷◌, ◌++◌, filter, None, Some, MatchOption, slice_get}
+use Rattle.std.specs.Prelude.{◌≡◌, ◌<◌, ◌↔◌, ◌⊎◌, ℕ, Bool, true, IsTrue, IsFalse, List, [], ◌∷◌, ◌++◌, filter, None}
+use Rattle.std.specs.Prelude.{Some, MatchOption, slice_get}
 use Rattle.std.specs.List.{Contains}
 use Rattle.rs_choice.specs.declared.plan.Local.{Local}
 use Rattle.rs_choice.specs.declared.step.Step.{Step}
@@ -13,7 +14,9 @@ use Rattle.rs_choice.specs.Decision.{SentRoute, beats, choice, decision_steps, r
 
 -- the choice is a member of the set, and there is one unless the set is empty
 abbrev pub ChoiceIsMember : Type 0
-ChoiceIsMember = (plan : Plan) (set : List SentRoute) → MatchOption (choice (standing_of plan) set) (set ≡ []) (λ chosen. Contains set chosen)
+ChoiceIsMember =
+    (plan : Plan) (set : List SentRoute)
+    → MatchOption (choice (standing_of plan) set) (set ≡ []) (λ chosen. Contains set chosen)
 
 -- at each step the choice is in the set that reached the step, and no member of that set beats it
 abbrev pub ChoiceIsUnbeaten : Type 0
@@ -21,7 +24,8 @@ ChoiceIsUnbeaten =
     (plan : Plan) (set : List SentRoute) (chosen : SentRoute) → choice (standing_of plan) set ≡ Some chosen →
     (before : List Step) (step : Step) (after : List Step) → decision_steps ≡ before ++ step ∷ after →
     Contains (remaining (standing_of plan) before set) chosen
-    × ((other : SentRoute) → Contains (remaining (standing_of plan) before set) other → IsFalse (beats step (standing_of plan other) (standing_of plan chosen)))
+    × ((other : SentRoute) → Contains (remaining (standing_of plan) before set) other
+    → IsFalse (beats step (standing_of plan other) (standing_of plan chosen)))
 
 -- two lists have the same members
 abbrev pub SameMembers : List SentRoute → List SentRoute → Type 0
@@ -42,7 +46,8 @@ ChoiceIgnoresOrder =
 -- whom the step by MED removes, another one from the same neighbour AS with a lower MED removes
 abbrev pub MedDecidesWithinNeighbour : Type 0
 MedDecidesWithinNeighbour =
-    (plan : Plan) (set : List SentRoute) (removed : SentRoute) → Contains set removed → (Contains (unbeaten (standing_of plan) steps.Med set) removed → ⊥) →
+    (plan : Plan) (set : List SentRoute) (removed : SentRoute) → Contains set removed
+    → (Contains (unbeaten (standing_of plan) steps.Med set) removed → ⊥) →
     (other : SentRoute) × Contains set other
     × ((standing_of plan other).neighbour ≡ (standing_of plan removed).neighbour)
     × ((standing_of plan other).med < (standing_of plan removed).med)
@@ -52,21 +57,23 @@ abbrev pub OpenPolicySharesChoice : Type 0
 OpenPolicySharesChoice =
     (plan : Plan) (client : ℕ) (set : List SentRoute) →
     ((route : SentRoute) → Contains set route → IsTrue (is_permitted plan client route.peer route.attributes)) →
-    choice (standing_of plan) (filter (λ route. is_permitted plan client route.peer route.attributes) set) ≡ choice (standing_of plan) set
+    choice (standing_of plan) (filter (λ route. is_permitted plan client route.peer route.attributes) set)
+    ≡ choice (standing_of plan) set
 
 -- the members that reach the step by MED
 abbrev pub reaching_med : Plan → List SentRoute → List SentRoute
 reaching_med plan set = remaining (standing_of plan) (steps.Preference ∷ steps.PathLength ∷ steps.Origin ∷ []) set
 
--- some members go, and the choice isn't one of them; of those that reach the step by MED, each one that stays and that it removes is
--- removed by one that stays: the choice stays
+-- some members go, and the choice isn't one of them; of those that reach the step by MED, each one that stays
+-- and that it removes is removed by one that stays: the choice stays
 abbrev pub ChoiceStays : Type 0
 ChoiceStays =
     (plan : Plan) (set : List SentRoute) (stays : SentRoute → Bool) (chosen : SentRoute) →
     choice (standing_of plan) set ≡ Some chosen → IsTrue (stays chosen) →
     ((one other : SentRoute) → Contains (reaching_med plan set) one → IsTrue (stays one) →
     Contains (reaching_med plan set) other → IsTrue (beats steps.Med (standing_of plan other) (standing_of plan one)) →
-    (third : SentRoute) × Contains (reaching_med plan set) third × IsTrue (stays third) × IsTrue (beats steps.Med (standing_of plan third) (standing_of plan one))) →
+    (third : SentRoute) × Contains (reaching_med plan set) third × IsTrue (stays third)
+    × IsTrue (beats steps.Med (standing_of plan third) (standing_of plan one))) →
     choice (standing_of plan) (filter stays set) ≡ Some chosen
 
 -- a candidate that the first three steps remove goes, wherever it stands: the choice stays
@@ -83,25 +90,29 @@ BehindIsNoMatter =
     Contains (before ++ after) other → IsAhead (standing_of plan other) (standing_of plan one) →
     choice (standing_of plan) (before ++ one ∷ after) ≡ choice (standing_of plan) (before ++ after)
 
--- and for each one that another candidate outdoes: one that is level with it, of the same neighbour AS, goes before it by MED or after it
+-- and for each one that another candidate outdoes: one that is level with it, of the same neighbour AS, goes
+-- before it by MED or after it
 abbrev pub OutdoneIsNoMatter : Type 0
 OutdoneIsNoMatter =
     (plan : Plan) (before after : List SentRoute) (one other : SentRoute) →
     Contains (before ++ after) other → Outdoes (standing_of plan other) (standing_of plan one) →
     choice (standing_of plan) (before ++ one ∷ after) ≡ choice (standing_of plan) (before ++ after)
 
--- a route that, beside others, isn't eligible, or isn't permitted to a client, or is outdone by one of the others that the client may get
+-- a route that, beside others, isn't eligible, or isn't permitted to a client, or is outdone by one of the
+-- others that the client may get
 abbrev pub IsNoMatterTo : Plan → ℕ → List SentRoute → SentRoute → Type 0
 IsNoMatterTo plan client others one =
     IsFalse (is_eligible plan one.peer one.attributes)
     ⊎ IsFalse (is_sent_to plan client one)
-    ⊎ ((other : SentRoute) × Contains others other × IsTrue (is_eligible plan other.peer other.attributes) × IsTrue (is_sent_to plan client other)
+    ⊎ ((other : SentRoute) × Contains others other × IsTrue (is_eligible plan other.peer other.attributes)
+    × IsTrue (is_sent_to plan client other)
     × Outdoes (standing_of plan other) (standing_of plan one))
 
 -- a client gets the same with such a route and without it, wherever it stands
 abbrev pub OthersAreNoMatter : Type 0
 OthersAreNoMatter =
-    (plan : Plan) (client : ℕ) (before after : List SentRoute) (one : SentRoute) → IsNoMatterTo plan client (before ++ after) one →
+    (plan : Plan) (client : ℕ) (before after : List SentRoute) (one : SentRoute)
+    → IsNoMatterTo plan client (before ++ after) one →
     best_peer_for plan client (before ++ one ∷ after) ≡ best_peer_for plan client (before ++ after)
 
 -- a fault is that of a test that is true, and all tests before it are false; without one all tests are false
@@ -110,10 +121,12 @@ FaultIsFirst =
     (tests : List Test) →
     MatchOption (first_fault tests)
     ((k : ℕ) (test : Test) → slice_get tests k ≡ Some test → IsFalse test.0)
-    (λ fault. (place : ℕ) × (slice_get tests place ≡ Some (true, fault)) × ((k : ℕ) (test : Test) → k < place → slice_get tests k ≡ Some test → IsFalse test.0))
+    (λ fault. (place : ℕ) × (slice_get tests place ≡ Some (true, fault))
+    × ((k : ℕ) (test : Test) → k < place → slice_get tests k ≡ Some test → IsFalse test.0))
 
 -- peers of a plan without a fault have addresses of their own
 abbrev pub PeersHaveOwnAddresses : Type 0
 PeersHaveOwnAddresses =
     (local : Local) (peers : List Peer) → plan_fault local peers ≡ None →
-    (i j : ℕ) (one other : Peer) → slice_get peers i ≡ Some one → slice_get peers j ≡ Some other → one.address ≡ other.address → i ≡ j
+    (i j : ℕ) (one other : Peer) → slice_get peers i ≡ Some one → slice_get peers j ≡ Some other
+    → one.address ≡ other.address → i ≡ j

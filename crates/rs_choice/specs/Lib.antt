@@ -2,6 +2,7 @@ pub mod Candidacy
 pub mod Checks
 pub mod Clients
 pub mod Comparison
+pub mod Contenders
 pub mod Decision
 pub mod Eligibility
 pub mod Entrants

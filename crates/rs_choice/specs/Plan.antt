@@ -1,5 +1,6 @@
 -- The plan of an exchange, and its first fault (our choice: RFC 4271 leaves configuration to the implementation).
-use Rattle.std.specs.Prelude.{◌≡◌, ℕ, ◌==◌, nat_lt, nat_le, Bool, not, ◌&&◌, ◌||◌, if◌then◌else◌, List, [], ◌∷◌, ◌++◌, length, map, take, Option, None, Some, string_bytes}
+use Rattle.std.specs.Prelude.{◌≡◌, ℕ, ◌==◌, nat_lt, nat_le, Bool, not, ◌&&◌, ◌||◌, if◌then◌else◌, List, [], ◌∷◌, ◌++◌}
+use Rattle.std.specs.Prelude.{length, map, take, Option, None, Some, string_bytes}
 use Rattle.std.specs.List.{list_any, list_all, flat_map, enumerate_from}
 use Rattle.std.specs.Char.{is_ascii_alphanumeric}
 use Rattle.std.specs.Str.{bytes_eq}
@@ -7,7 +8,8 @@ use Rattle.rs_choice.specs.declared.plan.Local.{Local}
 use Rattle.rs_choice.specs.declared.plan.PeerSpec.{PeerSpec}
 use Rattle.rs_choice.specs.declared.plan.TheConstants.{MAX_PEERS, MAX_NAME_LEN, HYPHEN, UNDERSCORE}
 use Rattle.rs_choice.specs.declared.fault.PlanFault.{PlanFault}
-use Rattle.rs_choice.specs.declared.fault.PlanFault.TheVariants.{NoPeer, TooManyPeers, InvalidName, RepeatedName, RepeatedAddress, ZeroAs, UnknownName, Memory}
+use Rattle.rs_choice.specs.declared.fault.PlanFault.TheVariants.{NoPeer, TooManyPeers, InvalidName, RepeatedName}
+use Rattle.rs_choice.specs.declared.fault.PlanFault.TheVariants.{RepeatedAddress, ZeroAs, UnknownName, Memory}
 
 -- a peer by its values: names are their octets
 pub record Peer : Type 0 where

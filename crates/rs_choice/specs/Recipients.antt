@@ -16,17 +16,21 @@ KeepMarks before after = (client : ℕ) → IsMarked before client → IsMarked 
 
 -- the peers of an AS have one
 abbrev pub AreMarked : Plan → ℕ → List Bool → Type 0
-AreMarked plan asn marks = (client : ℕ) (one : Peer) → slice_get plan.peers client ≡ Some one → one.asn ≡ asn → IsMarked marks client
+AreMarked plan asn marks =
+    (client : ℕ) (one : Peer) → slice_get plan.peers client ≡ Some one → one.asn ≡ asn → IsMarked marks client
 
 -- the clients have one that a value names, as (server's AS, client's AS)
 abbrev pub AreNamedMarked : Plan → List ℕ → List Bool → Type 0
 AreNamedMarked plan values marks =
-    (client : ℕ) (one : Peer) → slice_get plan.peers client ≡ Some one → IsTrue (has_value values plan.local.asn one.asn) → IsMarked marks client
+    (client : ℕ) (one : Peer) → slice_get plan.peers client ≡ Some one
+    → IsTrue (has_value values plan.local.asn one.asn) → IsMarked marks client
 
 -- the clients have one of which a route may be a candidate
 abbrev pub AreReached : Plan → HeldRoute → List Bool → Type 0
-AreReached plan one marks = (client : ℕ) → client < length plan.peers → IsMarked marks client ⊎ IsNoCandidate plan client one
+AreReached plan one marks =
+    (client : ℕ) → client < length plan.peers → IsMarked marks client ⊎ IsNoCandidate plan client one
 
 -- and so those of which one of the routes of a change may be
 abbrev pub AreRecipients : Plan → List HeldRoute → RouteChange → List Bool → Type 0
-AreRecipients plan held change marks = (client : ℕ) → client < length plan.peers → IsMarked marks client ⊎ AreNoCandidates plan held change client
+AreRecipients plan held change marks =
+    (client : ℕ) → client < length plan.peers → IsMarked marks client ⊎ AreNoCandidates plan held change client

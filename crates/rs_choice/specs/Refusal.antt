@@ -15,4 +15,5 @@ refusals_of peers = map (λ client. map (refuses client) peers) peers
 -- the answer is whether the client of one number refuses the sender of another
 abbrev pub IsRefusal : List Peer → ℕ → ℕ → Bool → Type 0
 IsRefusal peers client sender answer =
-    (one other : Peer) → slice_get peers client ≡ Some one → slice_get peers sender ≡ Some other → answer ≡ refuses one other
+    (one other : Peer) → slice_get peers client ≡ Some one → slice_get peers sender ≡ Some other
+    → answer ≡ refuses one other

@@ -1,5 +1,7 @@
--- A change of the route that one peer has left on a prefix, and the clients to which it is of no matter (RFC 7947, section 2.3.2.1).
-use Rattle.std.specs.Prelude.{◌≡◌, ◌≢◌, ◌<◌, ◌≤◌, ◌==◌, ◌⊎◌, ℕ, not, IfSome, IsTrue, IsFalse, List, length, map, filter, Option, Some, slice_get, slice_index_or}
+-- A change of the route that one peer has left on a prefix, and the clients to which it is of no matter (RFC
+-- 7947, section 2.3.2.1).
+use Rattle.std.specs.Prelude.{◌≡◌, ◌≢◌, ◌<◌, ◌≤◌, ◌==◌, ◌⊎◌, ℕ, not, IfSome, IsTrue, IsFalse, List, length, map}
+use Rattle.std.specs.Prelude.{filter, Option, Some, slice_get, slice_index_or}
 use Rattle.std.specs.List.{All, Contains}
 use Rattle.std.specs.Option.{option_and_then}
 use Rattle.rs_choice.specs.declared.candidate.Standing.{Standing}
@@ -22,13 +24,15 @@ IsRouteOf peer route held = (one : HeldRoute) → Contains held one → one.peer
 
 -- no two routes are of one peer
 abbrev pub HaveOwnPeers : List HeldRoute → Type 0
-HaveOwnPeers held = (one other : HeldRoute) → Contains held one → Contains held other → one.peer ≡ other.peer → one ≡ other
+HaveOwnPeers held =
+    (one other : HeldRoute) → Contains held one → Contains held other → one.peer ≡ other.peer → one ≡ other
 
 -- the route that a change brought among those that are held
 abbrev pub new_route : List HeldRoute → RouteChange → Option HeldRoute
 new_route held change = option_and_then (slice_get held) change.new
 
--- a change led to the routes that are held now, and before it each client got the route of the peer that is given for it
+-- a change led to the routes that are held now, and before it each client got the route of the peer that is
+-- given for it
 pub record IsChange (plan : Plan) (held : List HeldRoute) (change : RouteChange) (bests : List ℕ) : Type 0 where
   pub before : List HeldRoute
   pub judged : All (IsJudged plan) before
@@ -50,40 +54,47 @@ IsOneOf held change one = (change.old ≡ Some one) ⊎ (new_route held change �
 -- something outdoes both routes of a change, if they may be candidates
 abbrev pub AreBehindAll : Plan → List HeldRoute → RouteChange → Standing → Type 0
 AreBehindAll plan held change best =
-    (one : HeldRoute) → IsOneOf held change one → IsTrue (is_candidate one.candidacy) → Outdoes best (held_standing plan one)
+    (one : HeldRoute) → IsOneOf held change one → IsTrue (is_candidate one.candidacy)
+    → Outdoes best (held_standing plan one)
 
 -- the route of a peer outdoes another one
 abbrev pub IsBehind : Plan → List HeldRoute → ℕ → HeldRoute → Type 0
 IsBehind plan held peer one =
-    (other : HeldRoute) × Contains held other × (other.peer ≡ peer) × Outdoes (held_standing plan other) (held_standing plan one)
+    (other : HeldRoute) × Contains held other × (other.peer ≡ peer)
+    × Outdoes (held_standing plan other) (held_standing plan one)
 
 -- and of both routes of a change, if they may be candidates
 abbrev pub AreBehind : Plan → List HeldRoute → RouteChange → ℕ → Type 0
-AreBehind plan held change peer = (one : HeldRoute) → IsOneOf held change one → IsTrue (is_candidate one.candidacy) → IsBehind plan held peer one
+AreBehind plan held change peer =
+    (one : HeldRoute) → IsOneOf held change one → IsTrue (is_candidate one.candidacy) → IsBehind plan held peer one
 
 -- what is known of a peer's route: it outdoes both, and is not one of them
 abbrev pub KnowsBest : Plan → List HeldRoute → RouteChange → KnownBest → Type 0
-KnowsBest plan held change known = IsTrue known.outdoes → (known.peer ≢ change.peer) × AreBehind plan held change known.peer
+KnowsBest plan held change known =
+    IsTrue known.outdoes → (known.peer ≢ change.peer) × AreBehind plan held change known.peer
 
 -- a route is no candidate of a client
 abbrev pub IsNoCandidate : Plan → ℕ → HeldRoute → Type 0
-IsNoCandidate plan client one = IsFalse (is_candidate one.candidacy) ⊎ IsFalse (is_sent_to plan client (sent_of_held one))
+IsNoCandidate plan client one =
+    IsFalse (is_candidate one.candidacy) ⊎ IsFalse (is_sent_to plan client (sent_of_held one))
 
 -- neither route of a change is
 abbrev pub AreNoCandidates : Plan → List HeldRoute → RouteChange → ℕ → Type 0
 AreNoCandidates plan held change client = (one : HeldRoute) → IsOneOf held change one → IsNoCandidate plan client one
 
--- a change is of no matter to a client that got the route of a peer: neither of its routes is a candidate of the client, or another peer's
--- route that the client got outdoes both
+-- a change is of no matter to a client that got the route of a peer: neither of its routes is a candidate of
+-- the client, or another peer's route that the client got outdoes both
 abbrev pub IsUntouched : Plan → List HeldRoute → RouteChange → ℕ → ℕ → Type 0
 IsUntouched plan held change client best =
     AreNoCandidates plan held change client ⊎ ((best ≢ client) × (best ≢ change.peer) × AreBehind plan held change best)
 
 -- the next client, from one on, that isn't known to be untouched: all between are
-pub record IsNextTouched (plan : Plan) (held : List HeldRoute) (change : RouteChange) (bests : List ℕ) (from next : ℕ) : Type 0 where
+pub record IsNextTouched (plan : Plan) (held : List HeldRoute) (change : RouteChange) (bests : List ℕ)
+    (from next : ℕ) : Type 0 where
   pub after : from ≤ next
   pub within : next ≤ length plan.peers
-  pub untouched : (client : ℕ) → client < next → from ≤ client → IsUntouched plan held change client (slice_index_or bests client 0)
+  pub untouched : (client : ℕ) → client < next → from ≤ client
+      → IsUntouched plan held change client (slice_index_or bests client 0)
 
 -- the route of a peer stands at a place
 abbrev pub IsAt : List HeldRoute → ℕ → ℕ → Type 0

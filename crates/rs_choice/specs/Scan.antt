@@ -13,12 +13,14 @@ standing_of_candidate plan candidate = standing_of plan (sent_route_of candidate
 -- the candidate at a place has this standing
 abbrev pub IsStandingAt : Plan → List Candidate → ℕ → Standing → Type 0
 IsStandingAt plan candidates place one =
-    (candidate : Candidate) × (slice_get candidates place ≡ Some candidate) × (standing_of_candidate plan candidate ≡ one)
+    (candidate : Candidate) × (slice_get candidates place ≡ Some candidate)
+    × (standing_of_candidate plan candidate ≡ one)
 
 -- no candidate is ahead of this standing
 abbrev pub HasNoneAhead : Plan → List Candidate → Standing → Type 0
 HasNoneAhead plan candidates one =
-    (k : ℕ) (candidate : Candidate) → slice_get candidates k ≡ Some candidate → IsAhead (standing_of_candidate plan candidate) one → ⊥
+    (k : ℕ) (candidate : Candidate) → slice_get candidates k ≡ Some candidate
+    → IsAhead (standing_of_candidate plan candidate) one → ⊥
 
 -- no candidate that is level with this standing has a lower MED from the same neighbour AS
 abbrev pub HasLeastMed : Plan → List Candidate → Standing → Type 0
@@ -33,10 +35,12 @@ Leads one (Some leader) = IsAhead one leader
 
 -- the leader is the standing of a candidate that none of the first n is ahead of; none where there is no candidate
 abbrev pub IsLeader : Plan → List Candidate → ℕ → Option Standing → Type 0
-IsLeader plan candidates n None = (k : ℕ) → k < n → (candidate : Candidate) → slice_get candidates k ≡ Some candidate → ⊥
+IsLeader plan candidates n None =
+    (k : ℕ) → k < n → (candidate : Candidate) → slice_get candidates k ≡ Some candidate → ⊥
 IsLeader plan candidates n (Some leader) =
     ((place : ℕ) × IsStandingAt plan candidates place leader)
-    × ((k : ℕ) → k < n → (candidate : Candidate) → slice_get candidates k ≡ Some candidate → IsAhead (standing_of_candidate plan candidate) leader → ⊥)
+    × ((k : ℕ) → k < n → (candidate : Candidate) → slice_get candidates k ≡ Some candidate
+    → IsAhead (standing_of_candidate plan candidate) leader → ⊥)
 
 -- the first four steps leave a standing
 abbrev pub IsLeftByMed : Plan → List Candidate → Standing → Type 0
@@ -53,14 +57,16 @@ Holds best place other =
     Precedes best.standing other
     ⊎ ((best.standing.id ≡ other.id) × (best.standing.address ≡ other.address) × (best.place ≤ place))
 
--- the best is one of the first n, and of those that the first four steps leave, and holds against each such of the first n; none
--- where there is no such
+-- the best is one of the first n, and of those that the first four steps leave, and holds against each such
+-- of the first n; none where there is no such
 abbrev pub IsBest : Plan → List Candidate → ℕ → Option Placed → Type 0
 IsBest plan candidates n None =
-    (k : ℕ) → k < n → (candidate : Candidate) → slice_get candidates k ≡ Some candidate → IsLeftByMed plan candidates (standing_of_candidate plan candidate) → ⊥
+    (k : ℕ) → k < n → (candidate : Candidate) → slice_get candidates k ≡ Some candidate
+    → IsLeftByMed plan candidates (standing_of_candidate plan candidate) → ⊥
 IsBest plan candidates n (Some best) =
     (best.place < n)
     × IsStandingAt plan candidates best.place best.standing
     × IsLeftByMed plan candidates best.standing
     × ((k : ℕ) → k < n → (candidate : Candidate) → slice_get candidates k ≡ Some candidate →
-    IsLeftByMed plan candidates (standing_of_candidate plan candidate) → Holds best k (standing_of_candidate plan candidate))
+    IsLeftByMed plan candidates (standing_of_candidate plan candidate)
+    → Holds best k (standing_of_candidate plan candidate))

@@ -29,9 +29,11 @@ abbrev pub Weighs : Group → Option Placed → Type 0
 Weighs group first = IsTrue group.keeps_out ⊎ IsFirst group first
 
 -- of the places of the eligible routes, those of all groups that have a weight are there
-pub record AreWeighing (eligible : List ℕ) (groups : List Group) (first : Option Placed) (weighing : List ℕ) : Type 0 where
+pub record AreWeighing (eligible : List ℕ) (groups : List Group) (first : Option Placed)
+    (weighing : List ℕ) : Type 0 where
   pub among : All (λ place. Contains eligible place) weighing
-  pub all : (i : ℕ) (group : Group) → slice_get groups i ≡ Some group → Weighs group first → (place : ℕ) → slice_get eligible group.place ≡ Some place → Contains weighing place
+  pub all : (i : ℕ) (group : Group) → slice_get groups i ≡ Some group → Weighs group first → (place : ℕ)
+      → slice_get eligible group.place ≡ Some place → Contains weighing place
 
 -- a choice among routes rests on some of them: while these stay it stays, whatever others go
 abbrev pub RestsOn : Plan → List SentRoute → List SentRoute → Type 0
@@ -41,8 +43,7 @@ RestsOn plan set weighing =
 
 -- what is decided among all eligible routes
 pub record IsShared (plan : Plan) (held : List HeldRoute) (shared : Shared) : Type 0 where
-  pub places : ArePlaces held shared.eligible
-  pub eligible : sents_at held shared.eligible ≡ eligible_among plan (map sent_of_held held)
-  pub peer : shared.peer ≡ option_map (λ sent. sent.peer) (choice (standing_of plan) (sents_at held shared.eligible))
+  pub peer : shared.peer
+      ≡ option_map (λ sent. sent.peer) (choice (standing_of plan) (eligible_among plan (map sent_of_held held)))
   pub weighing : ArePlaces held shared.weighing
-  pub rests : RestsOn plan (sents_at held shared.eligible) (sents_at held shared.weighing)
+  pub rests : RestsOn plan (eligible_among plan (map sent_of_held held)) (sents_at held shared.weighing)

@@ -5,8 +5,8 @@ ghost use Rattle.rs_choice.specs.Candidacy.{origin_of_candidacy, is_candidate, i
 
 use rs_update::Origin;
 
-/// Whether a route may be a candidate at all, whether it may be one of every client but its sender, and with which ORIGIN. One octet
-/// holds it, where a flag for each would take three.
+/// Whether a route may be a candidate at all, whether it may be one of every client but its sender, and with
+/// which ORIGIN. One octet holds it, where a flag for each would take three.
 #[derive(Clone, Copy, Debug, PartialEq, Eq)]
 pub enum Candidacy {
     /// It isn't eligible (RFC 4271, section 9.1.2): it is a candidate of no client.

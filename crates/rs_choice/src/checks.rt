@@ -1,6 +1,7 @@
 //! The tests of a plan, in their order (our choice: RFC 4271 leaves configuration to the implementation).
 //!
-//! First those of the whole plan, then those of one peer after another, then the names that one peer after another refuses.
+//! First those of the whole plan, then those of one peer after another, then the names that one peer after
+//! another refuses.
 
 ghost use Rattle.std.specs.Prelude.{◌≡◌, map, string_bytes};
 ghost use Rattle.std.specs.List.{list_all};

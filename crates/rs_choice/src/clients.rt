@@ -1,21 +1,23 @@
-//! Who gets which of the routes on one prefix: a decision for each client, after that client's export policy (RFC 4271, section 9.1;
-//! RFC 7947, section 2.3.2.1).
+//! Who gets which of the routes on one prefix: a decision for each client, after that client's export policy
+//! (RFC 4271, section 9.1; RFC 7947, section 2.3.2.1).
 //!
-//! What is chosen among all eligible routes is shared. It rests on few of them: on the one that is chosen, and on those that keep
-//! out another one of their neighbour AS by its higher MED. A client that may get all of these gets the shared choice, whatever
-//! other routes are its own or refused to it; for each other client there is a decision of its own.
+//! What is chosen among all eligible routes is shared. It rests on few of them: on the one that is chosen,
+//! and on those that keep out another one of their neighbour AS by its higher MED. A client that may get all
+//! of these gets the shared choice, whatever other routes are its own or refused to it; for each other client
+//! there is a decision of its own.
 
 ghost use Rattle.std.specs.Prelude.{◌≡◌, ◌<◌, ◌≤◌, ◌↔◌, IfSome, IsTrue, filter, length, map};
 ghost use Rattle.std.specs.List.{All};
 ghost use Rattle.std.specs.Option.{option_map};
 ghost use Rattle.rs_choice.specs.Candidacy.{is_candidate};
-ghost use Rattle.rs_choice.specs.Clients.{best_peer_for, eligible_among, is_sent_to, peer_or_own, AreBest};
+ghost use Rattle.rs_choice.specs.Clients.{best_peer_for, is_sent_to, peer_or_own, AreBest};
+ghost use Rattle.rs_choice.specs.Contenders.{AreContenders, Contends, IsOutdone};
 ghost use Rattle.rs_choice.specs.Decision.{choice, member_at, standing_of};
 ghost use Rattle.rs_choice.specs.Entrants.{chosen_of};
 ghost use Rattle.rs_choice.specs.Held.{sent_of_held, AreEligible, IsJudged};
 ghost use Rattle.rs_choice.specs.Sharing.{sents_at, ArePlaces, AreWeighing, IsFirst, IsShared};
 
-use crate::candidate::Placed;
+use crate::candidate::{Placed, Standing};
 use crate::decision::{first_of, group_all};
 use crate::entrants::Chosen;
 use crate::exchange::Exchange;
@@ -27,8 +29,6 @@ use crate::plan::MAX_PEERS;
 // What is decided among all eligible routes.
 #[derive(Drop)]
 pub(crate) struct Shared {
-    // The places of the eligible routes.
-    eligible: Places,
     // The number of the peer whose route is chosen.
     peer: Option<u8>,
     // The places of the routes on which the choice rests.
@@ -36,9 +36,9 @@ pub(crate) struct Shared {
 }
 
 impl Exchange {
-    /// Writes for each client the number of the peer whose route it gets of those held on one prefix, or its own number where it gets
-    /// none: the choice among those that are eligible and that export policy permits to it. No client gets a route of its own.
-    /// It takes no memory.
+    /// Writes for each client the number of the peer whose route it gets of those held on one prefix, or its
+    /// own number where it gets none: the choice among those that are eligible and that export policy permits
+    /// to it. No client gets a route of its own. It takes no memory.
     pub fn choose_for_all(&self, held: &[HeldRoute], bests: &mut Vec<u8>)
         requires judged { All (IsJudged self.now) held.now }
         requires bound { length held.now ≤ MAX_PEERS }
@@ -53,8 +53,8 @@ impl Exchange {
         }
     }
 
-    // What is decided among all eligible routes. The groups are those of some other decision before and of this one after: so their
-    // arrays are filled once for all clients.
+    // What is decided among all eligible routes. The groups are those of some other decision before and of
+    // this one after: so their arrays are filled once for all clients.
     pub(crate) fn share(&self, held: &[HeldRoute], groups: &mut NeighbourGroups) -> Shared
         requires judged { All (IsJudged self.now) held.now }
         requires bound { length held.now ≤ MAX_PEERS }
@@ -71,11 +71,7 @@ impl Exchange {
         let first = first_of(&entrants, groups);
         let weighing = weighing(&eligible, groups, &first);
         let peer = first_peer(held, &eligible, &first);
-        Shared {
-            eligible,
-            peer,
-            weighing,
-        }
+        Shared { peer, weighing }
     }
 
     // The same where it is wanted.
@@ -96,7 +92,8 @@ impl Exchange {
         }
     }
 
-    // The number of the peer whose route a client gets, or its own number where it gets none, with what is shared or without it.
+    // The number of the peer whose route a client gets, or its own number where it gets none, with what is
+    // shared or without it.
     pub(crate) fn choose_with(
         &self,
         held: &[HeldRoute],
@@ -111,10 +108,7 @@ impl Exchange {
         ensures { result ≡ best_peer_for self.now client (map sent_of_held held.now) }
     {
         match shared {
-            None => {
-                let eligible = eligible(held);
-                self.choose_among(held, &eligible, client, groups)
-            }
+            None => self.choose_alone(held, client, groups),
             Some(shared) => self.choose_for(held, shared, client, groups),
         }
     }
@@ -128,6 +122,7 @@ impl Exchange {
         groups: &mut NeighbourGroups,
     ) -> u8
         requires judged { All (IsJudged self.now) held.now }
+        requires bound { length held.now ≤ MAX_PEERS }
         requires shared { IsShared self.now held.now shared.now }
         requires client_known { client < length self.now.peers }
         ensures { result ≡ best_peer_for self.now client (map sent_of_held held.now) }
@@ -136,26 +131,19 @@ impl Exchange {
         if self.are_permitted(held, &shared.weighing, client) {
             return number(shared.peer, client);
         }
-        self.choose_among(held, &shared.eligible, client, groups)
+        self.choose_alone(held, client, groups)
     }
 
-    // The same by a decision of its own, among the eligible routes.
-    fn choose_among(
-        &self,
-        held: &[HeldRoute],
-        eligible: &Places,
-        client: usize,
-        groups: &mut NeighbourGroups,
-    ) -> u8
+    // The same by a decision of its own.
+    fn choose_alone(&self, held: &[HeldRoute], client: usize, groups: &mut NeighbourGroups) -> u8
         requires judged { All (IsJudged self.now) held.now }
-        requires places { ArePlaces held.now eligible.now }
-        requires eligible { sents_at held.now eligible.now ≡ eligible_among self.now (map sent_of_held held.now) }
+        requires bound { length held.now ≤ MAX_PEERS }
         requires client_known { client < length self.now.peers }
         ensures { result ≡ best_peer_for self.now client (map sent_of_held held.now) }
     {
         let _peers = self.count();
-        let permitted = self.permitted(held, eligible, client);
-        number(self.chosen_peer(held, &permitted, groups), client)
+        let contenders = self.contenders(held, client);
+        number(self.chosen_peer(held, &contenders, groups), client)
     }
 
     // The peer whose route is chosen among those at some places.
@@ -168,7 +156,8 @@ impl Exchange {
         requires judged { All (IsJudged self.now) held.now }
         requires places { ArePlaces held.now places.now }
         requires eligible { AreEligible self.now (sents_at held.now places.now) }
-        ensures { result ≡ option_map (λ sent. sent.peer) (choice (standing_of self.now) (sents_at held.now places.now)) }
+        ensures { result ≡ option_map (λ sent. sent.peer)
+            (choice (standing_of self.now) (sents_at held.now places.now)) }
     {
         let _count = places.len();
         let entrants = Chosen {
@@ -186,7 +175,8 @@ impl Exchange {
         requires judged { All (IsJudged self.now) held.now }
         requires places { ArePlaces held.now places.now }
         requires client_known { client < length self.now.peers }
-        ensures { IsTrue result → All (λ sent. IsTrue (is_sent_to self.now client sent)) (sents_at held.now places.now) }
+        ensures { IsTrue result → All (λ sent. IsTrue (is_sent_to self.now client sent))
+            (sents_at held.now places.now) }
     {
         for number in 0..places.len() {
             if !self.permits_held(client, &held[places.place(number)]) {
@@ -196,22 +186,50 @@ impl Exchange {
         true
     }
 
-    // The places of the routes that are permitted to a client, of those at some places.
-    fn permitted(&self, held: &[HeldRoute], places: &Places, client: usize) -> Places
+    // The places of a client's candidates without those that one before them outdoes: of these it isn't asked
+    // whether they are permitted to the client.
+    fn contenders(&self, held: &[HeldRoute], client: usize) -> Places
         requires judged { All (IsJudged self.now) held.now }
-        requires places { ArePlaces held.now places.now }
+        requires bound { length held.now ≤ MAX_PEERS }
         requires client_known { client < length self.now.peers }
-        ensures places { ArePlaces held.now result }
-        ensures permitted { sents_at held.now result ≡ filter (is_sent_to self.now client) (sents_at held.now places.now) }
+        ensures { AreContenders self.now client held.now result }
     {
-        let mut permitted = Places::new();
-        for number in 0..places.len() {
-            let place = places.place(number);
-            if self.permits_held(client, &held[place]) {
-                permitted.push(place);
+        let mut contenders = Places::new();
+        let mut last = None;
+        for place in 0..held.len() {
+            if let Some(standing) = self.contends(client, &held[place], &last) {
+                contenders.push(place);
+                last = Some(standing);
             }
         }
-        permitted
+        contenders
+    }
+
+    // What the decision process asks of a route, where it is a candidate of a client that the last candidate
+    // doesn't outdo.
+    fn contends(&self, client: usize, one: &HeldRoute, last: &Option<Standing>) -> Option<Standing>
+        requires client_known { client < length self.now.peers }
+        requires judged { IsJudged self.now one.now }
+        ensures { Contends self.now client (sent_of_held one.now) last.now result }
+    {
+        if !one.candidacy.is_eligible() {
+            return None;
+        }
+        let standing = self.held_standing(one);
+        if is_outdone(&standing, last) || !self.permits_held(client, one) {
+            return None;
+        }
+        Some(standing)
+    }
+}
+
+// Whether another candidate, if there is one, outdoes a route.
+fn is_outdone(standing: &Standing, other: &Option<Standing>) -> bool
+    ensures { IsTrue result ↔ IsOutdone standing.now other.now }
+{
+    match other {
+        None => false,
+        Some(other) => other.outdoes(standing),
     }
 }
 
@@ -219,7 +237,8 @@ impl Exchange {
 fn first_peer(held: &[HeldRoute], places: &Places, first: &Option<Placed>) -> Option<u8>
     requires places { ArePlaces held.now places.now }
     requires first { IfSome first.now (λ first. first.place < length places.now) }
-    ensures { result ≡ option_map (λ held. held.peer) (member_at (chosen_of held.now places.now) (option_map (λ first. first.place) first.now)) }
+    ensures { result ≡ option_map (λ held. held.peer)
+        (member_at (chosen_of held.now places.now) (option_map (λ first. first.place) first.now)) }
 {
     match first {
         None => None,
@@ -242,7 +261,8 @@ fn eligible(held: &[HeldRoute]) -> Places
     eligible
 }
 
-// The places of the routes on which a choice rests: the chosen one, and those that keep out another one of their neighbour AS.
+// The places of the routes on which a choice rests: the chosen one, and those that keep out another one of
+// their neighbour AS.
 fn weighing(eligible: &Places, groups: &NeighbourGroups, first: &Option<Placed>) -> Places
     requires { All (λ group. group.place < length eligible.now) groups.now }
     ensures { AreWeighing eligible.now groups.now first.now result }

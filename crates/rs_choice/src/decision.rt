@@ -1,13 +1,15 @@
-//! The decision process (RFC 4271, sections 9.1.1 and 9.1.2.2), in one pass over at most 256 entrants: those that the six steps leave.
+//! The decision process (RFC 4271, sections 9.1.1 and 9.1.2.2), in one pass over at most 256 entrants: those
+//! that the six steps leave.
 //!
-//! MED is compared within one neighbour AS alone. So of the entrants that the first three steps leave, the pass keeps for each
-//! neighbour AS the one of least MED, and among equals the one that goes before by identifier, address and place. The choice is the
-//! one of these that goes before all others.
+//! MED is compared within one neighbour AS alone. So of the entrants that the first three steps leave, the
+//! pass keeps for each neighbour AS the one of least MED, and among equals the one that goes before by
+//! identifier, address and place. The choice is the one of these that goes before all others.
 
 ghost use Rattle.std.specs.Prelude.{◌≡◌, ◌<◌, ◌≤◌, ◌+◌, ◌↔◌, IsTrue, Some, length, map};
 ghost use Rattle.std.specs.List.{All};
 ghost use Rattle.rs_choice.specs.Decision.{choice, member_at, place_of_choice, sent_route_of, standing_of};
-ghost use Rattle.rs_choice.specs.Grouping.{places_of, standing_in, AreGroups, BeatsInGroup, GoesBeforeSome, IsFirstOf, IsJoined, IsLevelWithSome, IsNeighboursGroup, LeadsAll};
+ghost use Rattle.rs_choice.specs.Grouping.{places_of, standing_in, AreGroups, BeatsInGroup, GoesBeforeSome, IsFirstOf};
+ghost use Rattle.rs_choice.specs.Grouping.{IsJoined, IsLevelWithSome, IsNeighboursGroup, LeadsAll};
 
 use crate::candidate::{Candidate, Placed, Standing};
 use crate::entrants::{Entrants, Listed};
@@ -21,7 +23,8 @@ impl Exchange {
         requires known { All (λ candidate. candidate.peer < length self.now.peers) candidates.now }
         requires bound { length candidates.now ≤ MAX_PEERS }
         ensures place { result ≡ place_of_choice (standing_of self.now) (map sent_route_of candidates.now) }
-        ensures member { member_at (map sent_route_of candidates.now) result ≡ choice (standing_of self.now) (map sent_route_of candidates.now) }
+        ensures member { member_at (map sent_route_of candidates.now) result
+            ≡ choice (standing_of self.now) (map sent_route_of candidates.now) }
     {
         let entrants = Listed {
             plan: self,
@@ -45,8 +48,9 @@ pub(crate) fn group_all<E: Entrants>(entrants: &E, groups: &mut NeighbourGroups)
     }
 }
 
-// Takes one more entrant into the groups: it begins them anew, joins them or is left out. The leader is one that is level with all
-// that stand for groups, and none where there is no group; so is the answer, of the groups that come out.
+// Takes one more entrant into the groups: it begins them anew, joins them or is left out. The leader is one
+// that is level with all that stand for groups, and none where there is no group; so is the answer, of the
+// groups that come out.
 fn take_in<E: Entrants>(
     entrants: &E,
     groups: &mut NeighbourGroups,
@@ -120,8 +124,10 @@ fn group_of(groups: &NeighbourGroups, neighbour: u32) -> Option<usize>
 
 // Of the entrants that stand for groups, the one that goes before all others.
 pub(crate) fn first_of<E: Entrants>(entrants: &E, groups: &NeighbourGroups) -> Option<Placed>
-    requires grouped { AreGroups (standing_in (E.standings entrants.now)) (length (E.standings entrants.now)) groups.now }
-    ensures { IsFirstOf (standing_in (E.standings entrants.now)) (places_of groups.now) (length (places_of groups.now)) result }
+    requires grouped { AreGroups (standing_in (E.standings entrants.now))
+        (length (E.standings entrants.now)) groups.now }
+    ensures { IsFirstOf (standing_in (E.standings entrants.now)) (places_of groups.now)
+        (length (places_of groups.now)) result }
 {
     let mut first: Option<Placed> = None;
     for number in 0..groups.len() {

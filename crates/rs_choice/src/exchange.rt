@@ -33,8 +33,8 @@ impl Model for Exchange {
 }
 
 impl Exchange {
-    /// The exchange of a plan. A plan with a fault is refused by its first one; `Memory` is answered only of a plan without a fault.
-    /// Refused, the peers are dropped.
+    /// The exchange of a plan. A plan with a fault is refused by its first one; `Memory` is answered only of
+    /// a plan without a fault. Refused, the peers are dropped.
     pub fn new(alloc: Global, local: Local, peers: Vec<PeerSpec>) -> Result<Exchange, PlanFault>
         ensures plan { IfOk result (λ exchange. exchange ≡ record { local = local; peers = map peer_of peers.items }) }
         ensures faultless { OnOk result (plan_fault local (map peer_of peers.items) ≡ None) }

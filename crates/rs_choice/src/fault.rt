@@ -6,8 +6,9 @@ ghost use Rattle.rs_choice.specs.declared.fault.PlanFault.TheVariants.{Memory};
 use std::alloc::{AllocError, AllocFailed};
 use thiserror::Error;
 
-/// The first fault of a plan, in the order of the variants: first those of the whole plan, with `ZeroAs` of the server as the last of
-/// them; then `InvalidName` to `ZeroAs` of one peer after another; then `UnknownName` of one peer after another.
+/// The first fault of a plan, in the order of the variants: first those of the whole plan, with `ZeroAs` of
+/// the server as the last of them; then `InvalidName` to `ZeroAs` of one peer after another; then
+/// `UnknownName` of one peer after another.
 #[derive(Clone, Copy, Debug, PartialEq, Eq, Error)]
 pub enum PlanFault {
     /// There is no peer.
@@ -16,8 +17,10 @@ pub enum PlanFault {
     /// There are more than 256 peers.
     #[error("there are more than 256 peers")]
     TooManyPeers,
-    /// The name of this peer is empty, has more than 64 octets, or has one that isn't an ASCII letter, a digit, `-` or `_`.
-    #[error("the name of peer {0} is empty, longer than 64 octets, or has other characters than letters, digits, hyphens and underscores")]
+    /// The name of this peer is empty, has more than 64 octets, or has one that isn't an ASCII letter, a
+    /// digit, `-` or `_`.
+    #[error("the name of peer {0} is empty, longer than 64 octets, or has other characters than \
+        letters, digits, hyphens and underscores")]
     InvalidName(usize),
     /// An earlier peer has the name of this one.
     #[error("an earlier peer has the name of peer {0}")]

@@ -1,5 +1,6 @@
-//! Routes as they are held for decisions: what each decision asks of a route by itself is found once, when the route comes, and stands
-//! beside it. A decision among held routes looks at no attributes but those of a route that export policy refuses to someone.
+//! Routes as they are held for decisions: what each decision asks of a route by itself is found once, when
+//! the route comes, and stands beside it. A decision among held routes looks at no attributes but those of a
+//! route that export policy refuses to someone.
 
 ghost use Rattle.std.specs.Prelude.{◌≡◌, ◌<◌, ◌↔◌, IsTrue, length};
 ghost use Rattle.rs_update.specs.AsPath.{path_length_of};
@@ -65,7 +66,8 @@ impl Exchange {
     fn candidacy(&self, peer: usize, attributes: &Attributes) -> Candidacy
         requires { peer < length self.now.peers }
         ensures eligible { is_candidate result ≡ is_eligible self.now peer attributes.now }
-        ensures unrestricted { IsTrue (is_open_candidate result) ↔ (IsTrue (is_eligible self.now peer attributes.now) × IsOpen self.now peer attributes.now) }
+        ensures unrestricted { IsTrue (is_open_candidate result)
+            ↔ (IsTrue (is_eligible self.now peer attributes.now) × IsOpen self.now peer attributes.now) }
         ensures origin { IsTrue (is_candidate result) → origin_of_candidacy result ≡ attributes.now.origin }
     {
         if self.eligible(peer, attributes) {
@@ -103,7 +105,8 @@ impl Exchange {
     }
 }
 
-// How many AS numbers AS_PATH has, an AS_SET counting 1. A spelling of at most 4,073 octets has room for some 1,018 AS numbers.
+// How many AS numbers AS_PATH has, an AS_SET counting 1. A spelling of at most 4,073 octets has room for some
+// 1,018 AS numbers.
 fn path_length(attributes: &Attributes) -> u16
     ensures { result ≡ path_length_of attributes.now.path }
 {

@@ -1,9 +1,12 @@
 //! What holds of the definitions that the contracts cite: each law is the contract of a function that does nothing.
 
-ghost use Rattle.rs_choice.specs.Laws.{BehindIsNoMatter, ChoiceIgnoresOrder, ChoiceIsMember, ChoiceIsUnbeaten, ChoiceStays, FaultIsFirst, MedDecidesWithinNeighbour, OpenPolicySharesChoice, OthersAreNoMatter, OutdoneIsNoMatter, PeersHaveOwnAddresses, RemovedIsNoMatter};
+ghost use Rattle.rs_choice.specs.Laws.{BehindIsNoMatter, ChoiceIgnoresOrder, ChoiceIsMember, ChoiceIsUnbeaten};
+ghost use Rattle.rs_choice.specs.Laws.{ChoiceStays, FaultIsFirst, MedDecidesWithinNeighbour, OpenPolicySharesChoice};
+ghost use Rattle.rs_choice.specs.Laws.{OthersAreNoMatter, OutdoneIsNoMatter, PeersHaveOwnAddresses, RemovedIsNoMatter};
 
-/// The choice among candidates is one of them, and there is one unless there is no candidate; at each step of the decision process
-/// it is in the set that reached the step, and no member of that set beats it (RFC 4271, section 9.1.2.2).
+/// The choice among candidates is one of them, and there is one unless there is no candidate; at each step of
+/// the decision process it is in the set that reached the step, and no member of that set beats it (RFC 4271,
+/// section 9.1.2.2).
 pub fn the_choice_is_unbeaten()
     ensures member { ChoiceIsMember }
     ensures unbeaten { ChoiceIsUnbeaten }
@@ -19,22 +22,26 @@ pub fn med_decides_within_a_neighbour_as()
     ensures { MedDecidesWithinNeighbour }
 {}
 
-/// A client to which export policy permits all routes of a set gets the choice among all of them (RFC 7947, section 2.3.2.1).
+/// A client to which export policy permits all routes of a set gets the choice among all of them (RFC 7947,
+/// section 2.3.2.1).
 pub fn an_open_policy_shares_the_choice()
     ensures { OpenPolicySharesChoice }
 {}
 
-/// Members that go without the choice leave it as it is, unless they kept out one that stays: as long as each one that stays and that
-/// the step by MED removes is still removed by one that stays (RFC 4271, section 9.1.2.2, c). So clients that lack nothing else share a choice.
+/// Members that go without the choice leave it as it is, unless they kept out one that stays: as long as each
+/// one that stays and that the step by MED removes is still removed by one that stays (RFC 4271, section
+/// 9.1.2.2, c). So clients that lack nothing else share a choice.
 pub fn the_choice_stays_without_those_of_no_weight()
     ensures { ChoiceStays }
 {}
 
-/// A candidate that the first three steps of the decision process remove is of no matter to the choice, wherever it stands: the step
-/// by MED never sees it (RFC 4271, section 9.1.2.2). So it is with each one that another candidate is ahead of by these steps, and with each one that another candidate of its
-/// neighbour AS, level with it by these steps, goes before by MED, identifier and address. A client
-/// gets the same with such a route and without it, and with a route and without it that isn't eligible or isn't permitted to the client:
-/// a change of one route can be looked at by itself, and only a client that the old route or the new one may matter to is decided anew.
+/// A candidate that the first three steps of the decision process remove is of no matter to the choice,
+/// wherever it stands: the step by MED never sees it (RFC 4271, section 9.1.2.2). So it is with each one that
+/// another candidate is ahead of by these steps, and with each one that another candidate of its neighbour
+/// AS, level with it by these steps, goes before by MED, identifier and address. A client gets the same with
+/// such a route and without it, and with a route and without it that isn't eligible or isn't permitted to the
+/// client: a change of one route can be looked at by itself, and only a client that the old route or the new
+/// one may matter to is decided anew.
 pub fn those_behind_are_no_matter()
     ensures removed { RemovedIsNoMatter }
     ensures behind { BehindIsNoMatter }

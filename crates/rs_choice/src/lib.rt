@@ -1,11 +1,14 @@
-//! A route server's decisions: its plan, which routes are eligible, to whom they are exported, and which one a client gets.
+//! A route server's decisions: its plan, which routes are eligible, to whom they are exported, and which one
+//! a client gets.
 //!
-//! Standards: RFC 4271, section 9.1 (eligible routes, decision process); RFC 7947, section 2.3 (a decision for each client, after
-//! that client's export policy).
+//! Standards: RFC 4271, section 9.1 (eligible routes, decision process); RFC 7947, section 2.3 (a decision
+//! for each client, after that client's export policy).
 //!
-//! Reading order: `plan` (the server and its peers), `fault` and `checks` (which plans are refused), `exchange` (a plan that is
-//! not), `eligibility`, `policy`, `candidate`, `step`, `decision` (the pass that decides), `entrants`, `candidacy`, `held_route` and `clients` (the
-//! decisions of all clients), `recipients` and `route_change` (which of them a change may touch), `scan` (the same decision for lists of any length), `laws`.
+//! Reading order: `plan` (the server and its peers), `fault` and `checks` (which plans are refused),
+//! `exchange` (a plan that is not), `eligibility`, `policy`, `candidate`, `step`, `decision` (the pass that
+//! decides), `entrants`, `candidacy`, `held_route` and `clients` (the decisions of all clients), `recipients`
+//! and `route_change` (which of them a change may touch), `scan` (the same decision for lists of any length),
+//! `laws`.
 #![tactic(auto)]
 
 mod candidacy;

@@ -39,8 +39,8 @@ pub(crate) struct Mark {
     keeps_out: bool,
 }
 
-/// At most 256 groups, in order. The neighbour ASes have an array of their own: they alone are looked through, and two small arrays are
-/// filled more quickly than one of padded groups.
+/// At most 256 groups, in order. The neighbour ASes have an array of their own: they alone are looked
+/// through, and two small arrays are filled more quickly than one of padded groups.
 #[derive(Drop)]
 pub(crate) struct NeighbourGroups {
     marks: [Mark; MAX_PEERS],

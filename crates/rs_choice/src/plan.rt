@@ -26,7 +26,8 @@ pub struct Local {
     pub subnet: Option<Prefix>,
 }
 
-/// A peer: a neighbour that sends routes, and a client with a table of its own. Peers are numbered from 0 in their order.
+/// A peer: a neighbour that sends routes, and a client with a table of its own. Peers are numbered from 0 in
+/// their order.
 #[derive(Debug, Drop)]
 pub struct PeerSpec {
     /// Its name: 1 to 64 ASCII letters, digits, `-` and `_`.

@@ -13,9 +13,10 @@ use rs_update::{Attributes, Communities};
 pub(crate) const HALF: u32 = 65536;
 
 impl Exchange {
-    /// Whether the peer of number `client` may get a route of the peer of number `peer`; no client gets a route of its own. The
-    /// first case that holds decides: the client refuses all routes of that peer; the community (0, client's AS) refuses;
-    /// (server's AS, client's AS) permits; (0, server's AS) refuses; else the route is permitted. It takes no memory.
+    /// Whether the peer of number `client` may get a route of the peer of number `peer`; no client gets a
+    /// route of its own. The first case that holds decides: the client refuses all routes of that peer; the
+    /// community (0, client's AS) refuses; (server's AS, client's AS) permits; (0, server's AS) refuses; else
+    /// the route is permitted. It takes no memory.
     pub fn permits(&self, client: usize, peer: usize, attributes: &Attributes) -> bool
         requires client_known { client < length self.now.peers }
         requires peer_known { peer < length self.now.peers }
@@ -26,8 +27,9 @@ impl Exchange {
             && permitted_by_communities(self.local().asn, self.peer(client).asn, attributes)
     }
 
-    // Whether every client but the peer of number `peer` may get a route of that peer. Only a community (0, AS) refuses, and most
-    // routes have none: so the communities are looked through once, and for each client only where there is one.
+    // Whether every client but the peer of number `peer` may get a route of that peer. Only a community (0,
+    // AS) refuses, and most routes have none: so the communities are looked through once, and for each client
+    // only where there is one.
     pub(crate) fn is_open(&self, peer: usize, attributes: &Attributes) -> bool
         requires { peer < length self.now.peers }
         ensures { IsTrue result ↔ IsOpen self.now peer attributes.now }

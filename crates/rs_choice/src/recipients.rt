@@ -1,5 +1,6 @@
-//! The clients that a change may reach: a route for named clients alone, of which a community (0, server's AS) and communities
-//! (server's AS, client's AS) tell, reaches no other, and no more is asked of it for these.
+//! The clients that a change may reach: a route for named clients alone, of which a community (0, server's
+//! AS) and communities (server's AS, client's AS) tell, reaches no other, and no more is asked of it for
+//! these.
 
 ghost use Rattle.std.specs.Prelude.{◌≡◌, ◌<◌, IfSome, length};
 ghost use Rattle.std.specs.List.{All};

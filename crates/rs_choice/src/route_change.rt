@@ -1,10 +1,12 @@
 //! What a change of one peer's route makes of the decisions on a prefix: few clients can get another route by it.
 //!
-//! A client gets what it got where neither the route that went nor the one that came is a candidate of it, or where the route that it
-//! got is another peer's and outdoes both: it is ahead of them by preference, path length and origin, or goes before them in its own
-//! neighbour AS. For all other clients there is a decision anew.
+//! A client gets what it got where neither the route that went nor the one that came is a candidate of it, or
+//! where the route that it got is another peer's and outdoes both: it is ahead of them by preference, path
+//! length and origin, or goes before them in its own neighbour AS. For all other clients there is a decision
+//! anew.
 
-ghost use Rattle.std.specs.Prelude.{◌≡◌, ◌≢◌, ◌<◌, ◌≤◌, ◌↔◌, ◌&&◌, ◌||◌, not, IfSome, IsTrue, IsFalse, Some, length, map, slice_get, slice_index_or};
+ghost use Rattle.std.specs.Prelude.{◌≡◌, ◌≢◌, ◌<◌, ◌≤◌, ◌↔◌, ◌&&◌, ◌||◌, not, IfSome, IsTrue, IsFalse, Some, length};
+ghost use Rattle.std.specs.Prelude.{map, slice_get, slice_index_or};
 ghost use Rattle.std.specs.List.{All};
 ghost use Rattle.rs_choice.specs.declared.held_route.HeldRoute.{HeldRoute};
 ghost use Rattle.rs_choice.specs.Candidacy.{is_candidate};
@@ -12,7 +14,8 @@ ghost use Rattle.rs_choice.specs.Clients.{is_sent_to, AreBest};
 ghost use Rattle.rs_choice.specs.Comparison.{Outdoes};
 ghost use Rattle.rs_choice.specs.Held.{held_standing, sent_of_held, IsJudged};
 ghost use Rattle.rs_choice.specs.Recipients.{AreRecipients};
-ghost use Rattle.rs_choice.specs.RouteChanges.{AreBehind, AreBehindAll, AreNoCandidates, IsAt, IsChange, IsKnown, IsNextTouched, IsUntouched, KnowsBest};
+ghost use Rattle.rs_choice.specs.RouteChanges.{AreBehind, AreBehindAll, AreNoCandidates, IsAt, IsChange, IsKnown};
+ghost use Rattle.rs_choice.specs.RouteChanges.{IsNextTouched, IsUntouched, KnowsBest};
 
 use crate::candidate::Standing;
 use crate::exchange::Exchange;
@@ -39,8 +42,9 @@ pub(crate) struct KnownBest {
 }
 
 impl Exchange {
-    /// Writes the same as `choose_for_all`, where each client's peer stands that it had before a change of one peer's route. There is a decision anew
-    /// for those clients alone to which the change may be of matter. It takes no memory.
+    /// Writes the same as `choose_for_all`, where each client's peer stands that it had before a change of
+    /// one peer's route. There is a decision anew for those clients alone to which the change may be of
+    /// matter. It takes no memory.
     pub fn choose_after(&self, held: &[HeldRoute], change: &RouteChange, bests: &mut Vec<u8>)
         requires judged { All (IsJudged self.now) held.now }
         requires bound { length held.now ≤ MAX_PEERS }
@@ -62,7 +66,8 @@ impl Exchange {
             return;
         }
         let mut groups = NeighbourGroups::new();
-        // A route for all marks every place, the last one too. Else few clients are touched, and each has a decision of its own.
+        // A route for all marks every place, the last one too. Else few clients are touched, and each has a
+        // decision of its own.
         let are_all = recipients[MAX_PEERS - 1];
         let shared = self.share_if(are_all, held, &mut groups);
         while client < count {
@@ -71,8 +76,8 @@ impl Exchange {
         }
     }
 
-    // The first client, from one on, to which a change may be of matter; the count of clients where there is none. Nothing is asked of
-    // clients that the change doesn't reach.
+    // The first client, from one on, to which a change may be of matter; the count of clients where there is
+    // none. Nothing is asked of clients that the change doesn't reach.
     fn next_touched(
         &self,
         held: &[HeldRoute],
@@ -100,8 +105,8 @@ impl Exchange {
         count
     }
 
-    // Whether a change may be of matter to a client that got the route of a peer. Most clients got that of one peer, of which all is known
-    // but at the first of them: so no more is looked at here.
+    // Whether a change may be of matter to a client that got the route of a peer. Most clients got that of
+    // one peer, of which all is known but at the first of them: so no more is looked at here.
     fn is_touched(
         &self,
         held: &[HeldRoute],
@@ -233,7 +238,8 @@ impl Exchange {
     // Whether a route is no candidate of any client, or something outdoes it.
     fn is_behind(&self, one: &HeldRoute, standing: &Standing) -> bool
         requires { one.now.peer < length self.now.peers }
-        ensures { IsTrue result → IsTrue (is_candidate one.now.candidacy) → Outdoes standing.now (held_standing self.now one.now) }
+        ensures { IsTrue result → IsTrue (is_candidate one.now.candidacy)
+            → Outdoes standing.now (held_standing self.now one.now) }
     {
         !one.candidacy.is_eligible() || standing.outdoes(&self.held_standing(one))
     }

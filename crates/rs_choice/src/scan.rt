@@ -1,5 +1,6 @@
-//! The decision process for lists of any length (RFC 4271, sections 9.1.1 and 9.1.2.2): the list is gone over once for a candidate that
-//! the first three steps leave, and once more for the choice, with a look at all others for a lower MED.
+//! The decision process for lists of any length (RFC 4271, sections 9.1.1 and 9.1.2.2): the list is gone over
+//! once for a candidate that the first three steps leave, and once more for the choice, with a look at all
+//! others for a lower MED.
 
 ghost use Rattle.std.specs.Prelude.{◌≡◌, ◌<◌, ◌↔◌, IsTrue, length, map};
 ghost use Rattle.std.specs.List.{All};
@@ -11,18 +12,20 @@ use crate::exchange::Exchange;
 use crate::step::Step;
 
 impl Exchange {
-    /// The place of the choice among the candidates: of the one that the six steps of the decision process leave, each step looking
-    /// at the whole set that the one before left. Where several candidates of one peer are left it is the least place; None for an
-    /// empty list. It takes no memory.
+    /// The place of the choice among the candidates: of the one that the six steps of the decision process
+    /// leave, each step looking at the whole set that the one before left. Where several candidates of one
+    /// peer are left it is the least place; None for an empty list. It takes no memory.
     pub fn choose(&self, candidates: &[Candidate]) -> Option<usize>
         requires { All (λ candidate. candidate.peer < length self.now.peers) candidates.now }
         ensures place { result ≡ place_of_choice (standing_of self.now) (map sent_route_of candidates.now) }
-        ensures member { member_at (map sent_route_of candidates.now) result ≡ choice (standing_of self.now) (map sent_route_of candidates.now) }
+        ensures member { member_at (map sent_route_of candidates.now) result
+            ≡ choice (standing_of self.now) (map sent_route_of candidates.now) }
     {
         self.best(candidates).map(|best| best.place)
     }
 
-    // The first in order of those that the first four steps leave, by identifier, address and place; None of an empty list.
+    // The first in order of those that the first four steps leave, by identifier, address and place; None of
+    // an empty list.
     fn best(&self, candidates: &[Candidate]) -> Option<Placed>
         requires { All (λ candidate. candidate.peer < length self.now.peers) candidates.now }
         ensures { IsBest self.now candidates.now (length candidates.now) result }

@@ -69,8 +69,8 @@ impl Standing {
             || (self.id == other.id && Step::Address.beats(self, other))
     }
 
-    // Whether the six steps, one after another, remove the other and keep this one. Between different neighbour ASes the first three
-    // alone say so, since a third route of this one's AS may remove it by MED.
+    // Whether the six steps, one after another, remove the other and keep this one. Between different
+    // neighbour ASes the first three alone say so, since a third route of this one's AS may remove it by MED.
     pub(crate) fn outdoes(&self, other: &Standing) -> bool
         ensures { IsTrue result ↔ Outdoes self.now other.now }
     {

@@ -14,7 +14,9 @@ use Rattle.rs_dump.specs.Rib.{spelled_prefix}
 
 -- a prefix stands in a dump as it would in an UPDATE (RFC 6396, section 4.3.2; RFC 4271, section 4.3)
 abbrev pub PrefixIsSpelled : Type 0
-PrefixIsSpelled = (prefix : IpPrefix) → prefix.address < 2 ^ 32 → IsPrefix prefix.address prefix.len → Spells (spelled_prefix prefix) prefix
+PrefixIsSpelled =
+    (prefix : IpPrefix) → prefix.address < 2 ^ 32 → IsPrefix prefix.address prefix.len
+    → Spells (spelled_prefix prefix) prefix
 
 -- a row that fits its record: at most 32 bits of prefix, and attributes that fit a message
 pub record Fits (row : TableRow) : Type 0 where

@@ -1,9 +1,10 @@
 //! The dump of one client's table (RFC 6396, section 4.3).
 //!
-//! Our choices: one buffer, taken before the first write, in which records are spelled; it is written in pieces of 64 KiB or
-//! more, and nothing is flushed.
+//! Our choices: one buffer, taken before the first write, in which records are spelled; it is written in
+//! pieces of 64 KiB or more, and nothing is flushed.
 
-ghost use Rattle.std.specs.Prelude.{◌≡◌, ◌+◌, ◌<◌, ◌≤◌, ◌↔◌, All, length, map, IfOk, OnOk, OnErr, IsErrOf, vec_capacity};
+ghost use Rattle.std.specs.Prelude.{◌≡◌, ◌+◌, ◌<◌, ◌≤◌, ◌↔◌, All, length, map, IfOk, OnOk, OnErr, IsErrOf};
+ghost use Rattle.std.specs.Prelude.{vec_capacity};
 ghost use Rattle.std.specs.Io.KnownBytes.{Appends};
 ghost use Rattle.rs_mrt.specs.Stream.{AppendsBeginning};
 ghost use Rattle.rs_table.specs.RouteView.{row_of};
@@ -25,12 +26,12 @@ const PIECE_LEN: usize = 65536;
 // How many octets the buffer holds: room for any record is left where fewer than a piece wait.
 const BUFFER_LEN: usize = 69640;
 
-/// Writes the dump of a client's table to `out` and answers the number of rows: a PEER_INDEX_TABLE record of the plan's peers,
-/// then a RIB_IPV4_UNICAST record for each row, in the order given (RFC 6396, sections 4.3.1 and 4.3.2). `time`, in seconds
-/// since 1970, is the Timestamp of every record. It doesn't flush.
+/// Writes the dump of a client's table to `out` and answers the number of rows: a PEER_INDEX_TABLE record of
+/// the plan's peers, then a RIB_IPV4_UNICAST record for each row, in the order given (RFC 6396, sections
+/// 4.3.1 and 4.3.2). `time`, in seconds since 1970, is the Timestamp of every record. It doesn't flush.
 ///
-/// `TooManyRows` comes exactly where there are more than 4,294,967,295 rows, and is tested first. `TooManyRows` and `Memory`
-/// leave `out` as it was; after `Write` a beginning of the dump is out.
+/// `TooManyRows` comes exactly where there are more than 4,294,967,295 rows, and is tested first.
+/// `TooManyRows` and `Memory` leave `out` as it was; after `Write` a beginning of the dump is out.
 pub fn write_dump<W: Write>(
     alloc: Global,
     out: &mut W,
@@ -43,12 +44,14 @@ pub fn write_dump<W: Write>(
     requires peers_known { All (λ row. row.route.peer < length plan.now.peers) (map row_of rows.now) }
     requires failures { W.failures out.old < u64.MAX }
     ensures count { IfOk result (λ count. count ≡ length rows.now) }
-    ensures written { OnOk result (Appends (W.taken out.old) (W.taken out.new) (dumped plan.now client (map row_of rows.now) time)) }
+    ensures written { OnOk result (Appends (W.taken out.old) (W.taken out.new)
+        (dumped plan.now client (map row_of rows.now) time)) }
     ensures written_failures { OnOk result (W.failures out.new ≡ W.failures out.old) }
     ensures too_many { IsErrOf result DumpFault.TooManyRows ↔ (u32.MAX < length rows.now) }
     ensures too_many_writes_nothing { IsErrOf result DumpFault.TooManyRows → out.new ≡ out.old }
     ensures memory_writes_nothing { IsErrOf result DumpFault.Memory → out.new ≡ out.old }
-    ensures failed { IsErrOf result DumpFault.Write → AppendsBeginning (W.taken out.old) (W.taken out.new) (dumped plan.now client (map row_of rows.now) time) }
+    ensures failed { IsErrOf result DumpFault.Write
+        → AppendsBeginning (W.taken out.old) (W.taken out.new) (dumped plan.now client (map row_of rows.now) time) }
     ensures failed_failures { IsErrOf result DumpFault.Write → W.failures out.new ≡ W.failures out.old + 1 }
 {
     let Ok(count) = u32::try_from(rows.len()) else {

@@ -1,7 +1,7 @@
 //! The PEER_INDEX_TABLE record, the first one of a dump (RFC 6396, section 4.3.1).
 //!
-//! Our choices: the View Name is the client's name, and the Collector BGP ID the server's identifier; all peers are listed,
-//! also those that sent no route.
+//! Our choices: the View Name is the client's name, and the Collector BGP ID the server's identifier; all
+//! peers are listed, also those that sent no route.
 
 ghost use Rattle.std.specs.Prelude.{◌≡◌, ◌+◌, ◌*◌, ◌<◌, ◌≤◌, length};
 ghost use Rattle.std.specs.List.{flat_map};

@@ -1,7 +1,7 @@
 //! The RIB_IPV4_UNICAST record of one row (RFC 6396, sections 4.3.2 and 4.3.4).
 //!
-//! Our choices: one RIB entry for each record, since a client's table has one route for each prefix; the Originated Time is
-//! when the sending peer announced the route.
+//! Our choices: one RIB entry for each record, since a client's table has one route for each prefix; the
+//! Originated Time is when the sending peer announced the route.
 
 ghost use Rattle.std.specs.Prelude.{◌≡◌, ◌+◌, ◌<◌, ◌≤◌, length};
 ghost use Rattle.rs_mrt.specs.Record.{record_spelling};
@@ -22,8 +22,8 @@ const RIB_IPV4_UNICAST: u16 = 2;
 // How many RIB entries a record has.
 const ENTRY_COUNT: u16 = 1;
 
-// How many octets the body has beside the prefix's address and the attributes: Sequence Number, Prefix Length, Entry Count,
-// Peer Index, Originated Time, Attribute Length.
+// How many octets the body has beside the prefix's address and the attributes: Sequence Number, Prefix
+// Length, Entry Count, Peer Index, Originated Time, Attribute Length.
 const FIXED_LEN: usize = 15;
 
 /// The most octets that the record can have.

@@ -20,10 +20,14 @@ pub record FloorContent : Type 0 where
   pub counts : List Counts
 
 abbrev pub counts_code : Coded Counts
-counts_code = code_by (ℕ × ℕ) (coded× coded_ℕ coded_ℕ) (λ c. (c.sent, c.received)) (λ p. record { sent = p.0; received = p.1 }) (λ _. refl)
+counts_code =
+    code_by (ℕ × ℕ) (coded× coded_ℕ coded_ℕ) (λ c. (c.sent, c.received))
+    (λ p. record { sent = p.0; received = p.1 }) (λ _. refl)
 
 abbrev pub floor_code : Coded FloorContent
-floor_code = code_by (TablesContent × List Counts) (coded× tables_code (coded_list counts_code)) (λ f. (f.tables, f.counts)) (λ p. record { tables = p.0; counts = p.1 }) (λ _. refl)
+floor_code =
+    code_by (TablesContent × List Counts) (coded× tables_code (coded_list counts_code)) (λ f. (f.tables, f.counts))
+    (λ p. record { tables = p.0; counts = p.1 }) (λ _. refl)
 
 -- who a peer is in a recording
 abbrev pub id_of : Peer → PeerId
@@ -40,19 +44,22 @@ FitAll files = All (λ file. length file.now < 2 ^ 50) files
 -- a lane for each peer, before the first turn
 abbrev pub AreFresh : Plan → List (List ℕ) → ℕ → List LaneContent → Type 0
 AreFresh plan files capacity lanes =
-    (number : ℕ) (peer : Peer) (file : List ℕ) → slice_get plan.peers number ≡ Some peer → slice_get files number ≡ Some file
+    (number : ℕ) (peer : Peer) (file : List ℕ) → slice_get plan.peers number ≡ Some peer
+    → slice_get files number ≡ Some file
     → slice_get lanes number ≡ Some (fresh_lane capacity (id_of peer) file)
 
 abbrev pub counts_of : List Counts → ℕ → Counts
 counts_of counts peer = slice_index_or counts peer at_start
 
--- a peer with these changes at the end of a schedule: its counts, and the tables hold what the changes that were received leave
+-- a peer with these changes at the end of a schedule: its counts, and the tables hold what the changes that
+-- were received leave
 pub record IsPeerReplayed (changes : List Change) (counts : Counts) (floor : FloorContent) (peer : ℕ) : Type 0 where
   pub counts_are : slice_get floor.counts peer ≡ Some counts
   pub rib : slice_get floor.tables.ribs peer ≡ Some (rib_left (take counts.received changes))
 
 -- the end of a schedule of peers that say so: each has come as far as the turns say, from nothing sent
-pub record IsReplayed (plan : Plan) (recorded : List (List Change)) (capacity : ℕ) (turns : List Turn) (floor : FloorContent) : Type 0 where
+pub record IsReplayed (plan : Plan) (recorded : List (List Change)) (capacity : ℕ) (turns : List Turn)
+    (floor : FloorContent) : Type 0 where
   pub plan_is : floor.tables.plan ≡ plan
   pub as_many : length floor.tables.ribs ≡ length recorded
   pub counted : length floor.counts ≡ length recorded

@@ -21,7 +21,8 @@ pub record LaneContent : Type 0 where
 
 -- the changes of a file in memory that its session hasn't given yet
 abbrev pub to_come : Stage Reading → List Change
-to_come stage = changes_left stage (to_read stage.held stage.source.shown stage.source.left) (source_end stage.source.end)
+to_come stage =
+    changes_left stage (to_read stage.held stage.source.shown stage.source.left) (source_end stage.source.end)
 
 -- the changes that were sent
 abbrev pub sent_changes : List Word → List Change
@@ -37,10 +38,12 @@ fresh_lane capacity peer file = record { recorded = changes_in peer file; capaci
 
 -- after a turn, and after several
 abbrev pub lane_after : ℕ → LaneContent → Turn → LaneContent
-lane_after peer lane turn = record lane { counts = after_turn lane.capacity (length lane.recorded) peer lane.counts turn }
+lane_after peer lane turn =
+    record lane { counts = after_turn lane.capacity (length lane.recorded) peer lane.counts turn }
 
 abbrev pub lane_through : List Turn → ℕ → LaneContent → LaneContent
-lane_through turns peer lane = record lane { counts = after_turns lane.capacity (length lane.recorded) peer lane.counts turns }
+lane_through turns peer lane =
+    record lane { counts = after_turns lane.capacity (length lane.recorded) peer lane.counts turns }
 
 -- the changes that were received
 abbrev pub received_of : LaneContent → List Change

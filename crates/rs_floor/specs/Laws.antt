@@ -10,7 +10,8 @@ use Rattle.rs_floor.specs.declared.turn.Turn.{Turn}
 -- all that is recorded was received
 abbrev pub IsDrained : List (List Change) → FloorContent → Type 0
 IsDrained recorded floor =
-    (peer : ℕ) (changes : List Change) (counts : Counts) → slice_get recorded peer ≡ Some changes → slice_get floor.counts peer ≡ Some counts
+    (peer : ℕ) (changes : List Change) (counts : Counts) → slice_get recorded peer ≡ Some changes
+    → slice_get floor.counts peer ≡ Some counts
     → counts.received ≡ length changes
 
 -- the tables of a plan whose peers say so, whatever the order

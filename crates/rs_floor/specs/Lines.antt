@@ -21,7 +21,8 @@ abbrev pub IsReadyJob : {R : Type 0} → Job (RecordReading R) → Type 0
 IsReadyJob job = (job.out.sent ≡ []) × (room_left job.source ≤ 2 ^ 50)
 
 -- a worker's job is to read a reader for a peer, and to send through a ring of which the receiving end is here
-pub record IsLine {R : Type 0} (gives : R → List ℕ → ReadEnd → Type 0) (peer : Peer) (reader : R) (job : Job (RecordReading R)) (receiver : Receiving Word) : Type 0 where
+pub record IsLine {R : Type 0} (gives : R → List ℕ → ReadEnd → Type 0) (peer : Peer) (reader : R)
+    (job : Job (RecordReading R)) (receiver : Receiving Word) : Type 0 where
   pub source : job.source ≡ unread reader
   pub says : GivesFileOrFails gives reader
   pub id : job.id ≡ id_of peer
@@ -36,7 +37,8 @@ pub record CanWork {R : Type 0} (jobs : List (Job (RecordReading R))) (receivers
   pub unreceived : All (λ receiver. receiver.received ≡ []) receivers
 
 -- and each job is the one of a peer
-pub record AreLines {R : Type 0} (gives : R → List ℕ → ReadEnd → Type 0) (plan : Plan) (readers : List R) (jobs : List (Job (RecordReading R))) (receivers : List (Receiving Word)) : Type 0 where
+pub record AreLines {R : Type 0} (gives : R → List ℕ → ReadEnd → Type 0) (plan : Plan) (readers : List R)
+    (jobs : List (Job (RecordReading R))) (receivers : List (Receiving Word)) : Type 0 where
   pub sources : map (λ job. job.source) jobs ≡ map unread readers
   pub says : All (GivesFileOrFails gives) readers
   pub peers : map (λ job. job.id) jobs ≡ map id_of plan.peers
@@ -44,7 +46,8 @@ pub record AreLines {R : Type 0} (gives : R → List ℕ → ReadEnd → Type 0)
 
 -- ---- of the shards
 
--- a shard's job is to receive through a ring of which the sending end is here, into tables of the plan of which no peer has a route yet
+-- a shard's job is to receive through a ring of which the sending end is here, into tables of the plan of
+-- which no peer has a route yet
 pub record IsRing (plan : Plan) (job : ShardJob) (sender : Sending Routed) : Type 0 where
   pub tables : IsOfPlan plan job.tables
   pub ring : job.from.ring ≡ sender.ring

@@ -12,7 +12,8 @@ pub record IsLeastPlace (value other : Bool) (values : List Bool) (place : ℕ) 
 abbrev pub IsVerdict : Bool → List Bool → List Bool → Result (Unit {0}) FloorRefused → Type 0
 IsVerdict memory failed settled (Err Memory) = memory ≡ true
 IsVerdict memory failed settled (Err (Read peer)) = (memory ≡ false) × IsLeastPlace true false failed peer
-IsVerdict memory failed settled (Err (Unsettled peer)) = (memory ≡ false) × All (λ v. v ≡ false) failed × IsLeastPlace false true settled peer
+IsVerdict memory failed settled (Err (Unsettled peer)) =
+    (memory ≡ false) × All (λ v. v ≡ false) failed × IsLeastPlace false true settled peer
 IsVerdict memory failed settled (Err Capacity) = ⊥
 IsVerdict memory failed settled (Err Shards) = ⊥
 IsVerdict memory failed settled (Ok done) = (memory ≡ false) × All (λ v. v ≡ false) failed × All (λ v. v ≡ true) settled

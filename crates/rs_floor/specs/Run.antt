@@ -20,9 +20,10 @@ use Rattle.rs_floor.specs.declared.ended.PeerEnd.{PeerEnd}
 use Rattle.rs_floor.specs.declared.fault.FloorRefused.{FloorRefused}
 use Rattle.rs_floor.specs.declared.fault.FloorRefused.TheVariants.{Memory, Unsettled, Capacity, Read, Shards}
 
--- What all receivers and shards took: each peer's changes up to its close, those of a settled worker being all that it sent; each shard
--- its cut of them, which its tables hold, unless a shard was refused memory.
-pub record HasRun {R : Type 0} (gives : R → List ℕ → ReadEnd → Type 0) (workers : List (Charge (RecordReading R))) (of_shards : List shards.Charge)
+-- What all receivers and shards took: each peer's changes up to its close, those of a settled worker being
+-- all that it sent; each shard its cut of them, which its tables hold, unless a shard was refused memory.
+pub record HasRun {R : Type 0} (gives : R → List ℕ → ReadEnd → Type 0) (workers : List (Charge (RecordReading R)))
+    (of_shards : List shards.Charge)
     (ends : List Joined) (parts : List TablesContent) (whole : Bool) : Type 0 where
   pub receivers : List (Receiving Word)
   pub sent : List (List Routed)
@@ -49,7 +50,8 @@ abbrev pub end_of : Joined → PeerEnd
 end_of end = record { changes = end.changes; passed = end.passed; reason = end.reason }
 
 -- all is well, and the parts are made one
-pub record IsAnswer (ends : List Joined) (parts : List TablesContent) (whole : Bool) (served : ServedContent) : Type 0 where
+pub record IsAnswer (ends : List Joined) (parts : List TablesContent) (whole : Bool)
+    (served : ServedContent) : Type 0 where
   pub whole_is : whole ≡ true
   pub well : All IsWell ends
   pub ends_are : served.ends ≡ map end_of ends

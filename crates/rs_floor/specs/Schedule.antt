@@ -8,14 +8,17 @@ use Rattle.rs_floor.specs.declared.turn.Turn.TheVariants.{Send, Receive}
 abbrev pub at_start : Counts
 at_start = record { sent = 0; received = 0 }
 
--- a send of a peer that has so many changes in all: where one is left, and fewer than the capacity wait, one more is sent
+-- a send of a peer that has so many changes in all: where one is left, and fewer than the capacity wait, one
+-- more is sent
 abbrev pub after_send : ℕ → ℕ → Counts → Counts
 after_send capacity total counts =
-    if nat_lt counts.sent total && nat_lt (counts.sent - counts.received) capacity then record counts { sent = counts.sent + 1 } else counts
+    if nat_lt counts.sent total && nat_lt (counts.sent - counts.received) capacity
+    then record counts { sent = counts.sent + 1 } else counts
 
 -- a receipt: where a change waits, one more is received
 abbrev pub after_receive : Counts → Counts
-after_receive counts = if nat_lt counts.received counts.sent then record counts { received = counts.received + 1 } else counts
+after_receive counts =
+    if nat_lt counts.received counts.sent then record counts { received = counts.received + 1 } else counts
 
 -- what a turn makes of the counts of one peer: turns of others change nothing
 abbrev pub after_turn : ℕ → ℕ → ℕ → Counts → Turn → Counts

@@ -23,13 +23,18 @@ pub record ServedContent : Type 0 where
   pub ends : List PeerEnd
 
 abbrev pub end_code : Coded PeerEnd
-end_code = code_by (ℕ × (ℕ × Reason)) (coded× coded_ℕ (coded× coded_ℕ reason.the_row.coded)) (λ e. (e.changes, (e.passed, e.reason)))
+end_code =
+    code_by (ℕ × (ℕ × Reason)) (coded× coded_ℕ (coded× coded_ℕ reason.the_row.coded))
+    (λ e. (e.changes, (e.passed, e.reason)))
     (λ p. record { changes = p.0; passed = p.1.0; reason = p.1.1 }) (λ _. refl)
 
 abbrev pub served_code : Coded ServedContent
-served_code = code_by (TablesContent × List PeerEnd) (coded× tables_code (coded_list end_code)) (λ s. (s.tables, s.ends)) (λ p. record { tables = p.0; ends = p.1 }) (λ _. refl)
+served_code =
+    code_by (TablesContent × List PeerEnd) (coded× tables_code (coded_list end_code)) (λ s. (s.tables, s.ends))
+    (λ p. record { tables = p.0; ends = p.1 }) (λ _. refl)
 
--- the changes that each peer's file says, in the order of the peers, faults in messages being handled by one of the standards
+-- the changes that each peer's file says, in the order of the peers, faults in messages being handled by one
+-- of the standards
 abbrev pub said_by : Errors → Plan → List (List ℕ) → List (List Change)
 said_by errors plan files = map (λ (peer, file). changes_in_by errors (id_of peer) file) (zip plan.peers files)
 
@@ -46,7 +51,8 @@ pub record IsServed (errors : Errors) (plan : Plan) (files : List (List ℕ)) (s
   pub tables_are : served.tables ≡ tables_of plan (said_by errors plan files)
   pub counted : length served.ends ≡ length plan.peers
   pub ends_are : (place : ℕ) (peer : Peer) (file : List ℕ) (end : PeerEnd)
-      → slice_get plan.peers place ≡ Some peer → slice_get files place ≡ Some file → slice_get served.ends place ≡ Some end
+      → slice_get plan.peers place ≡ Some peer → slice_get files place ≡ Some file
+      → slice_get served.ends place ≡ Some end
       → IsEndOf errors (id_of peer) file end
 
 -- it is so of files that the readers may give

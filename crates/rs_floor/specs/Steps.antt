@@ -7,10 +7,15 @@ use Rattle.rs_floor.specs.declared.turn.Turn.{Turn}
 
 -- of each peer the tables hold what the changes that were received leave
 abbrev pub HoldReceived : TablesContent → List LaneContent → Type 0
-HoldReceived tables lanes = (peer : ℕ) (lane : LaneContent) → slice_get lanes peer ≡ Some lane → rib_of tables peer ≡ rib_left (received_of lane)
+HoldReceived tables lanes =
+    (peer : ℕ) (lane : LaneContent) → slice_get lanes peer ≡ Some lane
+    → rib_of tables peer ≡ rib_left (received_of lane)
 
 -- after some turns each peer has come as far as they say, and the tables hold what the changes that were received leave
-pub record IsEnd (turns : List Turn) (lanes : List LaneContent) (counts : List Counts) (tables : TablesContent) : Type 0 where
+pub record IsEnd (turns : List Turn) (lanes : List LaneContent) (counts : List Counts)
+    (tables : TablesContent) : Type 0 where
   pub counted : length counts ≡ length lanes
-  pub counts_are : (peer : ℕ) (lane : LaneContent) → slice_get lanes peer ≡ Some lane → slice_get counts peer ≡ Some ((lane_through turns peer lane).counts)
-  pub held : (peer : ℕ) (lane : LaneContent) → slice_get lanes peer ≡ Some lane → rib_of tables peer ≡ rib_left (received_of (lane_through turns peer lane))
+  pub counts_are : (peer : ℕ) (lane : LaneContent) → slice_get lanes peer ≡ Some lane
+      → slice_get counts peer ≡ Some ((lane_through turns peer lane).counts)
+  pub held : (peer : ℕ) (lane : LaneContent) → slice_get lanes peer ≡ Some lane
+      → rib_of tables peer ≡ rib_left (received_of (lane_through turns peer lane))

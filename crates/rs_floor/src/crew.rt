@@ -1,6 +1,7 @@
 //! The threads of a run: all that they take, their start, and their join.
 //!
-//! Our choices: the shards start before the workers; where the system refuses a thread, those that run are drained and joined.
+//! Our choices: the shards start before the workers; where the system refuses a thread, those that run are
+//! drained and joined.
 
 ghost use Rattle.std.specs.Prelude.{◌≡◌, ◌<◌, ◌≤◌, true, [], All, IfOk, IfSome, length, map, vec_len, vec_capacity};
 ghost use Rattle.rs_ring.specs.Items.{is_capacity};
@@ -28,7 +29,8 @@ use std::alloc::{AllocError, Global};
 use std::sync::{Arc, Wait};
 use std::thread::{PromisedHandle, Scope, Threads};
 
-// All that takes memory before the first thread starts: the rings, the empty tables, and room for what is known of each thread.
+// All that takes memory before the first thread starts: the rings, the empty tables, and room for what is
+// known of each thread.
 #[derive(Drop)]
 pub(crate) struct Crew<R: Read> {
     lines: Lines<R>,
@@ -80,11 +82,14 @@ impl<R: Read + Drop> Crew<R> {
         requires failures { All (λ reader. R.failures reader < u64.MAX) readers.items }
         requires capacity { is_capacity capacity ≡ true }
         requires shards { IsShardCount shards }
-        ensures lines { IfOk result (λ crew. AreLines R.gives plan.now.value readers.items crew.lines.jobs.items crew.lines.from.items) }
+        ensures lines { IfOk result (λ crew.
+            AreLines R.gives plan.now.value readers.items crew.lines.jobs.items crew.lines.from.items) }
         ensures rings { IfOk result (λ crew. AreRings plan.now.value crew.rings.jobs.items crew.rings.to.items) }
         ensures few { IfOk result (λ crew. length crew.lines.jobs.items ≤ 256) }
-        ensures room_for_handles { IfOk result (λ crew. (vec_len crew.lines.jobs ≤ vec_capacity crew.workers) × (vec_len crew.rings.jobs ≤ vec_capacity crew.shards)) }
-        ensures room_for_ends { IfOk result (λ crew. (vec_len crew.lines.jobs ≤ vec_capacity crew.ends) × (vec_len crew.rings.jobs ≤ vec_capacity crew.parts)) }
+        ensures room_for_handles { IfOk result (λ crew. (vec_len crew.lines.jobs ≤ vec_capacity crew.workers)
+            × (vec_len crew.rings.jobs ≤ vec_capacity crew.shards)) }
+        ensures room_for_ends { IfOk result (λ crew. (vec_len crew.lines.jobs ≤ vec_capacity crew.ends)
+            × (vec_len crew.rings.jobs ≤ vec_capacity crew.parts)) }
         ensures no_handles { IfOk result (λ crew. (crew.workers.items ≡ []) × (crew.shards.items ≡ [])) }
         ensures no_ends { IfOk result (λ crew. (crew.ends.items ≡ []) × (crew.parts.items ≡ [])) }
     {
@@ -110,7 +115,8 @@ pub(crate) fn run_ready<'s, E, T: Threads + Wait + Sync, R: Read + Send + Drop +
     errors: Errors,
     gate: &'s G,
 ) -> Option<Ran>
-    ensures { IfSome result (λ ran. HasRun R.gives (map (charge_of errors) ready.crew.lines.jobs.items) (map of_shards.charge_of ready.crew.rings.jobs.items) ran.ends.items ran.parts.items ran.whole) }
+    ensures { IfSome result (λ ran. HasRun R.gives (map (charge_of errors) ready.crew.lines.jobs.items)
+        (map of_shards.charge_of ready.crew.rings.jobs.items) ran.ends.items ran.parts.items ran.whole) }
 {
     let Ready { crew } = ready;
     run(scope, rt, alloc, crew, errors, gate)
@@ -128,11 +134,14 @@ fn run<'s, E, T: Threads + Wait + Sync, R: Read + Send + Drop + 's, G: Gate>(
     requires workers { CanWork crew.lines.jobs.items crew.lines.from.items }
     requires shards { CanShare crew.rings.jobs.items crew.rings.to.items }
     requires few { length crew.lines.jobs.items ≤ 256 }
-    requires room_for_handles { (vec_len crew.lines.jobs ≤ vec_capacity crew.workers) × (vec_len crew.rings.jobs ≤ vec_capacity crew.shards) }
-    requires room_for_ends { (vec_len crew.lines.jobs ≤ vec_capacity crew.ends) × (vec_len crew.rings.jobs ≤ vec_capacity crew.parts) }
+    requires room_for_handles { (vec_len crew.lines.jobs ≤ vec_capacity crew.workers)
+        × (vec_len crew.rings.jobs ≤ vec_capacity crew.shards) }
+    requires room_for_ends { (vec_len crew.lines.jobs ≤ vec_capacity crew.ends)
+        × (vec_len crew.rings.jobs ≤ vec_capacity crew.parts) }
     requires no_handles { (crew.workers.items ≡ []) × (crew.shards.items ≡ []) }
     requires no_ends { (crew.ends.items ≡ []) × (crew.parts.items ≡ []) }
-    ensures { IfSome result (λ ran. HasRun R.gives (map (charge_of errors) crew.lines.jobs.items) (map of_shards.charge_of crew.rings.jobs.items) ran.ends.items ran.parts.items ran.whole) }
+    ensures { IfSome result (λ ran. HasRun R.gives (map (charge_of errors) crew.lines.jobs.items)
+        (map of_shards.charge_of crew.rings.jobs.items) ran.ends.items ran.parts.items ran.whole) }
 {
     let Crew {
         lines,
@@ -174,12 +183,16 @@ fn join_all<T: Threads + Wait, R: Read>(
     requires peers { length from.items ≤ 256 }
     requires unreceived { All (λ receiver. receiver.received ≡ []) from.items }
     requires unsent { All (λ sender. sender.sent ≡ []) to.items }
-    requires worker_rings { map (λ handle. (charged handle.promise).ring) workers.items ≡ map (λ receiver. receiver.ring) from.items }
-    requires shard_rings { map (λ handle. (of_shards.charged handle.promise).ring) shards.items ≡ map (λ sender. sender.ring) to.items }
+    requires worker_rings { map (λ handle. (charged handle.promise).ring) workers.items
+        ≡ map (λ receiver. receiver.ring) from.items }
+    requires shard_rings { map (λ handle. (of_shards.charged handle.promise).ring) shards.items
+        ≡ map (λ sender. sender.ring) to.items }
     requires no_ends { (ends.items ≡ []) × (parts.items ≡ []) }
     requires room_for_ends { vec_len workers ≤ vec_capacity ends }
     requires room_for_parts { vec_len shards ≤ vec_capacity parts }
-    ensures { HasRun R.gives (map (λ handle. charged handle.promise) workers.items) (map (λ handle. of_shards.charged handle.promise) shards.items) result.ends.items result.parts.items result.whole }
+    ensures { HasRun R.gives (map (λ handle. charged handle.promise) workers.items)
+        (map (λ handle. of_shards.charged handle.promise) shards.items)
+        result.ends.items result.parts.items result.whole }
 {
     let mut from = from;
     let mut to = to;

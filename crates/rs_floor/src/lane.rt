@@ -1,6 +1,7 @@
 //! One peer of a schedule: its session, and the ring between it and the tables.
 
-ghost use Rattle.std.specs.Prelude.{◌≡◌, ◌+◌, ◌<◌, ◌≤◌, ◌^◌, false, true, length, take, slice_get, Some, IfOk, OnOk, IfSome, IfNone};
+ghost use Rattle.std.specs.Prelude.{◌≡◌, ◌+◌, ◌<◌, ◌≤◌, ◌^◌, false, true, length, take, slice_get, Some, IfOk, OnOk};
+ghost use Rattle.std.specs.Prelude.{IfSome, IfNone};
 ghost use Rattle.std.specs.List.{list_any};
 ghost use Rattle.rs_ring.specs.Items.{is_capacity};
 ghost use Rattle.rs_session.specs.Change.{change_of};
@@ -66,9 +67,11 @@ impl<'a> Lane<'a> {
         })
     }
 
-    // Sends the next change, where one is left and fewer than the capacity wait. Refused where the session is refused memory.
+    // Sends the next change, where one is left and fewer than the capacity wait. Refused where the session is
+    // refused memory.
     pub(crate) fn send(&mut self) -> Result<(), AllocError>
-        ensures { OnOk result (self.new ≡ record self.old { counts = after_send self.old.capacity (length self.old.recorded) self.old.counts }) }
+        ensures { OnOk result (self.new
+            ≡ record self.old { counts = after_send self.old.capacity (length self.old.recorded) self.old.counts }) }
     {
         if self.receiver.beside(&mut self.sender) >= self.capacity {
             return Ok(());
@@ -85,7 +88,8 @@ impl<'a> Lane<'a> {
     // Receives a change, where one waits.
     pub(crate) fn receive(&mut self) -> Option<Word>
         ensures counts { self.new ≡ record self.old { counts = after_receive self.old.counts } }
-        ensures given { IfSome result (λ word. slice_get self.old.recorded self.old.counts.received ≡ Some (change_of word)) }
+        ensures given { IfSome result (λ word. slice_get self.old.recorded self.old.counts.received
+            ≡ Some (change_of word)) }
         ensures more { IfSome result (λ word. self.new.counts.received ≡ self.old.counts.received + 1) }
         // Nothing closed before it.
         ensures open { IfSome result (λ word. list_any is_close (received_of self.old) ≡ false) }

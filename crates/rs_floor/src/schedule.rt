@@ -16,10 +16,12 @@ use rs_table::Tables;
 use std::alloc::Global;
 use std::sync::Arc;
 
-/// Runs a schedule: `files` has the recorded file of each peer, in the order of the peers, each shorter than 2^50 octets, and each
-/// peer has a ring of that capacity. A turn that cannot be taken does nothing, nor does one of a peer that isn't there.
+/// Runs a schedule: `files` has the recorded file of each peer, in the order of the peers, each shorter than
+/// 2^50 octets, and each peer has a ring of that capacity. A turn that cannot be taken does nothing, nor does
+/// one of a peer that isn't there.
 ///
-/// Fails with `Capacity` where the capacity isn't from 1 to 65,536, which is tested first, and with `Memory` where memory is refused.
+/// Fails with `Capacity` where the capacity isn't from 1 to 65,536, which is tested first, and with `Memory`
+/// where memory is refused.
 pub fn replay(
     alloc: Global,
     plan: &Arc<Exchange>,
@@ -29,7 +31,8 @@ pub fn replay(
 ) -> Result<Floor, FloorRefused>
     requires files { length files.now ≡ length plan.now.value.peers }
     requires limit { FitAll files.now }
-    ensures floor { IfOk result (IsReplayed plan.now.value (recorded_by plan.now.value (map (λ file. file.now) files.now)) capacity turns.now) }
+    ensures floor { IfOk result (IsReplayed plan.now.value
+        (recorded_by plan.now.value (map (λ file. file.now) files.now)) capacity turns.now) }
     ensures capacity { is_capacity capacity ≡ false → result ≡ Err Capacity }
     ensures memory { is_capacity capacity ≡ true → IfErr result (λ fault. fault ≡ Memory) }
 {

@@ -1,7 +1,8 @@
 //! Runs on threads: one for each peer's recorded session, and one for each shard of the tables.
 
 ghost use Rattle.std.specs.List.{list_any};
-ghost use Rattle.std.specs.Prelude.{◌≡◌, ◌<◌, ◌≤◌, ◌^◌, ◌||◌, ℕ, not, [], true, false, All, Err, IfErr, IfOk, IfSome, IsErrOf, IsTrue, length, map, vec_len, vec_capacity};
+ghost use Rattle.std.specs.Prelude.{◌≡◌, ◌<◌, ◌≤◌, ◌^◌, ◌||◌, ℕ, not, [], true, false, All, Err, IfErr, IfOk, IfSome};
+ghost use Rattle.std.specs.Prelude.{IsErrOf, IsTrue, length, map, vec_len, vec_capacity};
 ghost use Rattle.rs_ring.specs.Items.{is_capacity};
 ghost use Rattle.rs_session.specs.Change.{is_read};
 ghost use Rattle.rs_session.specs.Given.{MayFailAt};
@@ -34,13 +35,15 @@ use std::sync::{Arc, Wait};
 use std::thread;
 use std::thread::Threads;
 
-/// Runs the recorded sessions of all peers at once: a thread for each peer reads its file and sends the changes through a ring of this
-/// capacity, the calling thread routes them to the shards, and a thread for each shard holds the tables of its prefixes. `readers` has the
-/// reader of each peer's file, in the order of the peers. Faults in messages are handled by one of the standards.
+/// Runs the recorded sessions of all peers at once: a thread for each peer reads its file and sends the
+/// changes through a ring of this capacity, the calling thread routes them to the shards, and a thread for
+/// each shard holds the tables of its prefixes. `readers` has the reader of each peer's file, in the order of
+/// the peers. Faults in messages are handled by one of the standards.
 ///
-/// Fails with `Capacity` where the capacity isn't from 1 to 65,536, then with `Shards` where the number of shards isn't from 1 to 16, then
-/// with `Memory` where memory or a thread is refused, then with `Read` of the least peer of which a read failed, then with `Unsettled`
-/// of the least peer of which not all that was sent is known to have been received. All threads are joined before any answer.
+/// Fails with `Capacity` where the capacity isn't from 1 to 65,536, then with `Shards` where the number of
+/// shards isn't from 1 to 16, then with `Memory` where memory or a thread is refused, then with `Read` of the
+/// least peer of which a read failed, then with `Unsettled` of the least peer of which not all that was sent
+/// is known to have been received. All threads are joined before any answer.
 pub fn serve_by<T: Threads + Wait + Sync, R: Read + Send + Drop, G: Gate>(
     rt: &T,
     alloc: Global,
@@ -60,8 +63,10 @@ pub fn serve_by<T: Threads + Wait + Sync, R: Read + Send + Drop, G: Gate>(
     ensures shards_only { IsErrOf result Shards → is_shard_count shards ≡ false }
     ensures read_known { (peer : ℕ) → IsErrOf result (FloorRefused.Read peer) → peer < length plan.now.value.peers }
     // The reader of that peer may fail, and those of the peers before it may give files.
-    ensures read_fails { (peer : ℕ) → IsErrOf result (FloorRefused.Read peer) → MayFailAt R.gives errors (map id_of plan.now.value.peers) readers.items peer }
-    ensures unsettled_known { (peer : ℕ) → IsErrOf result (FloorRefused.Unsettled peer) → peer < length plan.now.value.peers }
+    ensures read_fails { (peer : ℕ) → IsErrOf result (FloorRefused.Read peer)
+        → MayFailAt R.gives errors (map id_of plan.now.value.peers) readers.items peer }
+    ensures unsettled_known { (peer : ℕ) → IsErrOf result (FloorRefused.Unsettled peer)
+        → peer < length plan.now.value.peers }
 {
     if !has_room(capacity) {
         return Err(FloorRefused::Capacity);
@@ -79,7 +84,8 @@ pub fn serve_by<T: Threads + Wait + Sync, R: Read + Send + Drop, G: Gate>(
         thread::scope_env(),
         rt,
         |scope| -> Option<Ran>
-            ensures { IfSome result (λ ran. HasRun R.gives (map (charge_of errors) ready.crew.lines.jobs.items) (map of_shards.charge_of ready.crew.rings.jobs.items) ran.ends.items ran.parts.items ran.whole) }
+            ensures { IfSome result (λ ran. HasRun R.gives (map (charge_of errors) ready.crew.lines.jobs.items)
+                (map of_shards.charge_of ready.crew.rings.jobs.items) ran.ends.items ran.parts.items ran.whole) }
         { run_ready(scope, rt, alloc, ready, errors, gate) },
     );
     match ran {
@@ -194,8 +200,10 @@ pub fn serve_sharded<T: Threads + Wait + Sync, R: Read + Send + Drop, G: Gate>(
     ensures shards_only { IsErrOf result Shards → is_shard_count shards ≡ false }
     ensures read_known { (peer : ℕ) → IsErrOf result (FloorRefused.Read peer) → peer < length plan.now.value.peers }
     // The reader of that peer may fail, and those of the peers before it may give files.
-    ensures read_fails { (peer : ℕ) → IsErrOf result (FloorRefused.Read peer) → MayFailAt R.gives default_standard (map id_of plan.now.value.peers) readers.items peer }
-    ensures unsettled_known { (peer : ℕ) → IsErrOf result (FloorRefused.Unsettled peer) → peer < length plan.now.value.peers }
+    ensures read_fails { (peer : ℕ) → IsErrOf result (FloorRefused.Read peer)
+        → MayFailAt R.gives default_standard (map id_of plan.now.value.peers) readers.items peer }
+    ensures unsettled_known { (peer : ℕ) → IsErrOf result (FloorRefused.Unsettled peer)
+        → peer < length plan.now.value.peers }
 {
     serve_by(
         rt,
@@ -225,8 +233,10 @@ pub fn serve_readers<T: Threads + Wait + Sync, R: Read + Send + Drop, G: Gate>(
     ensures capacity_only { IsErrOf result Capacity → is_capacity capacity ≡ false }
     ensures read_known { (peer : ℕ) → IsErrOf result (FloorRefused.Read peer) → peer < length plan.now.value.peers }
     // The reader of that peer may fail, and those of the peers before it may give files.
-    ensures read_fails { (peer : ℕ) → IsErrOf result (FloorRefused.Read peer) → MayFailAt R.gives default_standard (map id_of plan.now.value.peers) readers.items peer }
-    ensures unsettled_known { (peer : ℕ) → IsErrOf result (FloorRefused.Unsettled peer) → peer < length plan.now.value.peers }
+    ensures read_fails { (peer : ℕ) → IsErrOf result (FloorRefused.Read peer)
+        → MayFailAt R.gives default_standard (map id_of plan.now.value.peers) readers.items peer }
+    ensures unsettled_known { (peer : ℕ) → IsErrOf result (FloorRefused.Unsettled peer)
+        → peer < length plan.now.value.peers }
 {
     serve_sharded(rt, alloc, plan, readers, capacity, 1, gate)
 }
@@ -246,7 +256,8 @@ pub fn serve<T: Threads + Wait + Sync, G: Gate>(
     ensures capacity { is_capacity capacity ≡ false → result ≡ Err Capacity }
     ensures capacity_only { IsErrOf result Capacity → is_capacity capacity ≡ false }
     ensures read_known { (peer : ℕ) → IsErrOf result (FloorRefused.Read peer) → peer < length plan.now.value.peers }
-    ensures unsettled_known { (peer : ℕ) → IsErrOf result (FloorRefused.Unsettled peer) → peer < length plan.now.value.peers }
+    ensures unsettled_known { (peer : ℕ) → IsErrOf result (FloorRefused.Unsettled peer)
+        → peer < length plan.now.value.peers }
 {
     if !has_room(capacity) {
         return Err(FloorRefused::Capacity);
@@ -259,7 +270,8 @@ pub fn serve<T: Threads + Wait + Sync, G: Gate>(
 fn readers_of<'a>(alloc: Global, files: &[&'a [u8]]) -> Result<Vec<IoReader<&'a [u8]>>, AllocError>
     ensures count { IfOk result (λ readers. length readers.items ≡ length files.now) }
     ensures fresh { IfOk result (λ readers. All (λ reader. reader.failures ≡ 0) readers.items) }
-    ensures files { IfOk result (λ readers. readers.items ≡ map (λ file. record { inner = file; failures = 0 }) files.now) }
+    ensures files { IfOk result (λ readers. readers.items
+        ≡ map (λ file. record { inner = file; failures = 0 }) files.now) }
 {
     files.iter().map(|file| IoReader::new(*file)).collect(alloc)
 }

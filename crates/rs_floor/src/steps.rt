@@ -23,7 +23,8 @@ pub(crate) fn run_turns(
     requires count { length lanes.old ≡ length tables.old.plan.peers }
     requires held { HoldReceived tables.old lanes.old }
     ensures end { IfOk result (λ counts. IsEnd turns.now lanes.old counts.items tables.new) }
-    ensures plan { OnOk result ((tables.new.plan ≡ tables.old.plan) × (length tables.new.ribs ≡ length tables.old.ribs)) }
+    ensures plan { OnOk result ((tables.new.plan ≡ tables.old.plan)
+        × (length tables.new.ribs ≡ length tables.old.ribs)) }
 {
     take_turns(lanes, tables, turns)?;
     all_counts(alloc, lanes)
@@ -33,9 +34,11 @@ pub(crate) fn run_turns(
 fn take_turns(lanes: &mut [Lane<'_>], tables: &mut Tables, turns: &[Turn]) -> Result<(), AllocError>
     requires count { length lanes.old ≡ length tables.old.plan.peers }
     requires held { HoldReceived tables.old lanes.old }
-    ensures turns { OnOk result ((peer : ℕ) → slice_get lanes.new peer ≡ option_map (lane_through turns.now peer) (slice_get lanes.old peer)) }
+    ensures turns { OnOk result ((peer : ℕ)
+        → slice_get lanes.new peer ≡ option_map (lane_through turns.now peer) (slice_get lanes.old peer)) }
     ensures held { OnOk result (HoldReceived tables.new lanes.new) }
-    ensures plan { OnOk result ((tables.new.plan ≡ tables.old.plan) × (length tables.new.ribs ≡ length tables.old.ribs)) }
+    ensures plan { OnOk result ((tables.new.plan ≡ tables.old.plan)
+        × (length tables.new.ribs ≡ length tables.old.ribs)) }
 {
     for turn in turns {
         take_turn(lanes, tables, *turn)?;
@@ -47,9 +50,11 @@ fn take_turns(lanes: &mut [Lane<'_>], tables: &mut Tables, turns: &[Turn]) -> Re
 fn take_turn(lanes: &mut [Lane<'_>], tables: &mut Tables, turn: Turn) -> Result<(), AllocError>
     requires count { length lanes.old ≡ length tables.old.plan.peers }
     requires held { HoldReceived tables.old lanes.old }
-    ensures turn { OnOk result ((peer : ℕ) → slice_get lanes.new peer ≡ option_map (λ lane. lane_after peer lane turn) (slice_get lanes.old peer)) }
+    ensures turn { OnOk result ((peer : ℕ)
+        → slice_get lanes.new peer ≡ option_map (λ lane. lane_after peer lane turn) (slice_get lanes.old peer)) }
     ensures held { OnOk result (HoldReceived tables.new lanes.new) }
-    ensures plan { OnOk result ((tables.new.plan ≡ tables.old.plan) × (length tables.new.ribs ≡ length tables.old.ribs)) }
+    ensures plan { OnOk result ((tables.new.plan ≡ tables.old.plan)
+        × (length tables.new.ribs ≡ length tables.old.ribs)) }
 {
     match turn {
         Turn::Send(peer) => send(lanes, peer),
@@ -59,7 +64,9 @@ fn take_turn(lanes: &mut [Lane<'_>], tables: &mut Tables, turn: Turn) -> Result<
 
 // Sends the next change of a peer.
 fn send(lanes: &mut [Lane<'_>], peer: usize) -> Result<(), AllocError>
-    ensures { OnOk result ((other : ℕ) → slice_get lanes.new other ≡ option_map (λ lane. lane_after other lane (Send peer)) (slice_get lanes.old other)) }
+    ensures { OnOk result ((other : ℕ)
+        → slice_get lanes.new other
+        ≡ option_map (λ lane. lane_after other lane (Send peer)) (slice_get lanes.old other)) }
 {
     if peer >= lanes.len() {
         return Ok(());
@@ -71,9 +78,12 @@ fn send(lanes: &mut [Lane<'_>], peer: usize) -> Result<(), AllocError>
 fn receive(lanes: &mut [Lane<'_>], tables: &mut Tables, peer: usize) -> Result<(), AllocError>
     requires count { length lanes.old ≡ length tables.old.plan.peers }
     requires held { HoldReceived tables.old lanes.old }
-    ensures turn { OnOk result ((other : ℕ) → slice_get lanes.new other ≡ option_map (λ lane. lane_after other lane (Receive peer)) (slice_get lanes.old other)) }
+    ensures turn { OnOk result ((other : ℕ)
+        → slice_get lanes.new other
+        ≡ option_map (λ lane. lane_after other lane (Receive peer)) (slice_get lanes.old other)) }
     ensures held { OnOk result (HoldReceived tables.new lanes.new) }
-    ensures plan { OnOk result ((tables.new.plan ≡ tables.old.plan) × (length tables.new.ribs ≡ length tables.old.ribs)) }
+    ensures plan { OnOk result ((tables.new.plan ≡ tables.old.plan)
+        × (length tables.new.ribs ≡ length tables.old.ribs)) }
 {
     if peer >= lanes.len() {
         return Ok(());

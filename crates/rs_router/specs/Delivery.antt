@@ -23,7 +23,9 @@ SameSenders before after = map (λ sender. sender.ring) after ≡ map (λ sender
 
 -- each shard may be sent one item more: it wasn't sent the last one, and its ring is below its limit
 abbrev pub CanSend : List (Sending Routed) → Type 0
-CanSend senders = (shard : ℕ) (sender : Sending Routed) → slice_get senders shard ≡ Some sender → (has_close is_last sender.sent ≡ false) × (length sender.sent < 2 ^ 60)
+CanSend senders =
+    (shard : ℕ) (sender : Sending Routed) → slice_get senders shard ≡ Some sender
+    → (has_close is_last sender.sent ≡ false) × (length sender.sent < 2 ^ 60)
 
 -- an item of which each shard gets one
 abbrev pub item_of : Shared → Routed
@@ -37,8 +39,11 @@ IsSentToAll item before after = after ≡ map (λ sent. sent ++ item ∷ []) bef
 
 -- what one shard was sent with a peer's change, where it gets that
 abbrev pub with_word : ℕ → ℕ → Word → ℕ → List Routed → List Routed
-with_word shards peer word shard sent = if gets shards shard (change_of word) then sent ++ items.Word peer word ∷ [] else sent
+with_word shards peer word shard sent =
+    if gets shards shard (change_of word) then sent ++ items.Word peer word ∷ [] else sent
 
 -- each shard that gets a peer's change was sent it
 abbrev pub Delivered : ℕ → Word → List (List Routed) → List (List Routed) → Type 0
-Delivered peer word before after = (shard : ℕ) → slice_get after shard ≡ option_map (with_word (length before) peer word shard) (slice_get before shard)
+Delivered peer word before after =
+    (shard : ℕ) → slice_get after shard
+    ≡ option_map (with_word (length before) peer word shard) (slice_get before shard)

@@ -7,11 +7,13 @@ use Rattle.rs_session.specs.Change.{Change}
 use Rattle.rs_table.specs.Left.{left, is_close, is_loss}
 use Rattle.rs_router.specs.Cut.{IsShardCount, cut, shard_of}
 
--- what a list leaves is, over the shards, what its cuts leave, each on the prefixes of its shard; each cut has a loss and a close where
--- the list has one
+-- what a list leaves is, over the shards, what its cuts leave, each on the prefixes of its shard; each cut
+-- has a loss and a close where the list has one
 pub record IsCutByShards (shards : ℕ) (changes : List Change) : Type 0 where
-  pub own : (prefix : IpPrefix) → get (left (cut shards (shard_of prefix shards) changes)) prefix ≡ get (left changes) prefix
-  pub others : (prefix : IpPrefix) (shard : ℕ) → shard ≢ shard_of prefix shards → get (left (cut shards shard changes)) prefix ≡ None
+  pub own : (prefix : IpPrefix)
+      → get (left (cut shards (shard_of prefix shards) changes)) prefix ≡ get (left changes) prefix
+  pub others : (prefix : IpPrefix) (shard : ℕ) → shard ≢ shard_of prefix shards
+      → get (left (cut shards shard changes)) prefix ≡ None
   pub closes : (shard : ℕ) → list_any is_close (cut shards shard changes) ≡ list_any is_close changes
   pub losses : (shard : ℕ) → list_any is_loss (cut shards shard changes) ≡ list_any is_loss changes
 

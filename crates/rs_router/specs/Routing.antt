@@ -1,5 +1,6 @@
 -- The changes of all peers, as they go from their rings to the shards.
-use Rattle.std.specs.Prelude.{◌≡◌, ◌≤◌, ◌^◌, ◌++◌, ◌∷◌, [], ℕ, Bool, true, false, List, length, map, sum_by, slice_get, Some}
+use Rattle.std.specs.Prelude.{◌≡◌, ◌≤◌, ◌^◌, ◌++◌, ◌∷◌, [], ℕ, Bool, true, false, List, length, map, sum_by, slice_get}
+use Rattle.std.specs.Prelude.{Some}
 use Rattle.std.specs.List.{list_all, list_any}
 use Rattle.rs_ring.specs.Ends.{Receiving}
 use Rattle.rs_session.specs.Change.{change_of, is_close}
@@ -40,12 +41,14 @@ AreClosed received = (peer : ℕ) (words : List Word) → slice_get received pee
 -- of each peer each shard was sent the cut of what was received
 abbrev pub AreCuts : List (List Word) → List (List Routed) → Type 0
 AreCuts received sent =
-    (peer shard : ℕ) (words : List Word) (items : List Routed) → slice_get received peer ≡ Some words → slice_get sent shard ≡ Some items
+    (peer shard : ℕ) (words : List Word) (items : List Routed) → slice_get received peer ≡ Some words
+    → slice_get sent shard ≡ Some items
     → of_peer peer items ≡ cut (length sent) shard (map change_of words)
 
 -- no shard was sent a change of a peer that isn't there
 abbrev pub AreKnown : ℕ → List (List Routed) → Type 0
-AreKnown peers sent = (shard : ℕ) (items : List Routed) → slice_get sent shard ≡ Some items → list_all (is_known peers) items ≡ true
+AreKnown peers sent =
+    (shard : ℕ) (items : List Routed) → slice_get sent shard ≡ Some items → list_all (is_known peers) items ≡ true
 
 -- the last item is the one that says so, and none before it does
 pub record EndsLast (items : List Routed) : Type 0 where
@@ -57,12 +60,14 @@ pub record EndsLast (items : List Routed) : Type 0 where
 abbrev pub EndLast : List (List Routed) → Type 0
 EndLast sent = (shard : ℕ) (items : List Routed) → slice_get sent shard ≡ Some items → EndsLast items
 
--- between two changes of any peers: what was received of each peer is below its ring's limit, and closes at its end alone; what was sent to
--- each shard is its cut, and has as many changes as all peers at most
+-- between two changes of any peers: what was received of each peer is below its ring's limit, and closes at
+-- its end alone; what was sent to each shard is its cut, and has as many changes as all peers at most
 pub record IsRouted (received : List (List Word)) (sent : List (List Routed)) : Type 0 where
   pub cuts : AreCuts received sent
   pub known : AreKnown (length received) sent
   pub unended : (shard : ℕ) (items : List Routed) → slice_get sent shard ≡ Some items → list_any is_last items ≡ false
-  pub fits : (shard : ℕ) (items : List Routed) → slice_get sent shard ≡ Some items → length items ≤ sum_by length received
+  pub fits : (shard : ℕ) (items : List Routed) → slice_get sent shard ≡ Some items
+      → length items ≤ sum_by length received
   pub below : (peer : ℕ) (words : List Word) → slice_get received peer ≡ Some words → length words ≤ 2 ^ 51
-  pub at_end : (peer : ℕ) (words : List Word) → slice_get received peer ≡ Some words → is_closed words ≡ true → EndsClosed words
+  pub at_end : (peer : ℕ) (words : List Word) → slice_get received peer ≡ Some words → is_closed words ≡ true
+      → EndsClosed words

@@ -3,7 +3,8 @@
 ghost use Rattle.std.specs.Prelude.{◌≡◌, ◌≤◌, ◌<◌, [], true, All, length};
 ghost use Rattle.rs_router.specs.Cut.{IsShardCount};
 ghost use Rattle.rs_router.specs.Delivery.{sent_lists, SameSenders};
-ghost use Rattle.rs_router.specs.Routing.{AreClosed, AreCuts, AreKnown, EndLast, IsRouted, all_closed, received_lists, SameReceivers};
+ghost use Rattle.rs_router.specs.Routing.{AreClosed, AreCuts, AreKnown, EndLast, IsRouted, all_closed, received_lists};
+ghost use Rattle.rs_router.specs.Routing.{SameReceivers};
 
 use crate::delivery::{Shared, deliver, send_to_all};
 use crate::routed::Routed;
@@ -15,8 +16,9 @@ use std::sync::Wait;
 // How many changes of one peer are taken before the next peer's turn.
 const TURN: usize = 64;
 
-/// Routes the changes of all peers, at most 256, to the shards until each peer's session closed: each change to the shard of its prefix,
-/// each loss and close of a session to every shard, and after all of them `Last` to every shard. The changes of one peer stay in order.
+/// Routes the changes of all peers, at most 256, to the shards until each peer's session closed: each change
+/// to the shard of its prefix, each loss and close of a session to every shard, and after all of them `Last`
+/// to every shard. The changes of one peer stay in order.
 ///
 /// It takes no memory, and holds at most one change that it received and hasn't sent.
 pub fn route<R: Wait>(rt: &R, from: &mut [Receiver<Word>], to: &mut [Sender<Routed>])

@@ -8,7 +8,8 @@ use rs_update::Prefix;
 /// Into how many shards the prefixes are cut at most.
 pub const MAX_SHARDS: usize = 16;
 
-/// The number of the shard that holds the routes of a prefix: the first octet of its address modulo the number of shards (our choice).
+/// The number of the shard that holds the routes of a prefix: the first octet of its address modulo the
+/// number of shards (our choice).
 pub fn shard_of(prefix: Prefix, shards: usize) -> usize
     requires { spec.IsShardCount shards }
     ensures shard { result ≡ spec.shard_of prefix shards }

@@ -1,4 +1,5 @@
--- What recorded files make of an exchange: the routes that are held, of which the tables of its clients are chosen (RFC 4271, section 9.1).
+-- What recorded files make of an exchange: the routes that are held, of which the tables of its clients are
+-- chosen (RFC 4271, section 9.1).
 use Rattle.std.specs.Prelude.{ℕ, List, map}
 use Rattle.rs_choice.specs.Plan.{Plan}
 use Rattle.rs_floor.specs.FloorContent.{id_of}
@@ -10,7 +11,8 @@ use Rattle.rs_table.specs.Content.{TablesContent}
 use Rattle.rs_update.specs.declared.errors.Errors.{Errors}
 
 -- this holds of recorded files that the readers may give, one for each peer, in the order of the peers
-abbrev pub OverFiles : {R : Type 0} → (R → List ℕ → ReadEnd → Type 0) → Errors → Plan → List R → (List (List ℕ) → Type 0) → Type 0
+abbrev pub OverFiles : {R : Type 0} → (R → List ℕ → ReadEnd → Type 0) → Errors → Plan → List R
+    → (List (List ℕ) → Type 0) → Type 0
 OverFiles gives errors plan readers Holds = OverGivenFiles gives errors (map id_of plan.peers) readers Holds
 
 -- the reader of this peer may fail, and those of the peers before it may give their files

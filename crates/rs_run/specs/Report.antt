@@ -23,7 +23,10 @@ reason_text Read = codes "read"
 -- what the report says of a peer's session
 abbrev pub peer_line : List ℕ → PeerEnd → List ℕ
 peer_line name end =
-    codes "peer " ++ (name ++ (codes " changes " ++ (decimal end.changes ++ (codes " passed " ++ (decimal end.passed ++ (codes " close " ++ (reason_text end.reason ++ codes "\n")))))))
+    codes "peer " ++
+    (name ++ (codes " changes "
+    ++ (decimal end.changes
+    ++ (codes " passed " ++ (decimal end.passed ++ (codes " close " ++ (reason_text end.reason ++ codes "\n")))))))
 
 -- what it says of a client's table
 abbrev pub table_line : List ℕ → ℕ → List ℕ

@@ -18,7 +18,8 @@ dump_name client = client ++ codes ".mrt"
 
 -- the dump of a client, by its number, as it is kept
 abbrev pub kept_dump_of : Plan → TablesContent → ℕ → ℕ × Peer → KeptDump
-kept_dump_of plan tables time (client, peer) = record { name = dump_name peer.name; octets = dumped plan client (table_of tables client) time }
+kept_dump_of plan tables time (client, peer) =
+    record { name = dump_name peer.name; octets = dumped plan client (table_of tables client) time }
 
 -- the dumps of all clients, in their order
 abbrev pub dumps_of : Plan → TablesContent → ℕ → List KeptDump
@@ -49,8 +50,10 @@ IsFaultAt client rows before after Report = ⊥
 IsFaultAt client rows before after (Read peer) = ⊥
 
 -- how a run stops at the dumps of these tables
-abbrev pub IsStop : Plan → TablesContent → ℕ → Option (List KeptDump) → Option (List KeptDump) → ℕ → ℕ → RunFault → Type 0
-IsStop plan tables time kept later before after Memory = GrowsByBeginning kept later (dumps_of plan tables time) × (after ≡ before)
+abbrev pub IsStop : Plan → TablesContent → ℕ → Option (List KeptDump) → Option (List KeptDump) → ℕ → ℕ → RunFault
+    → Type 0
+IsStop plan tables time kept later before after Memory =
+    GrowsByBeginning kept later (dumps_of plan tables time) × (after ≡ before)
 IsStop plan tables time kept later before after (Dump client) =
     (client < length plan.peers)
     × Grows kept later (take client (dumps_of plan tables time))
@@ -68,6 +71,8 @@ IsReadStop gives errors plan readers Report = ⊥
 IsReadStop gives errors plan readers (Read peer) = (peer < length plan.peers) × FailsAt gives errors plan readers peer
 
 -- where memory is refused, nothing was kept, or a beginning of the dumps of files that the readers may give
-abbrev pub KeepsBeginning : {R : Type 0} → (R → List ℕ → ReadEnd → Type 0) → Errors → Plan → List R → ℕ → Option (List KeptDump) → Option (List KeptDump) → Type 0
+abbrev pub KeepsBeginning : {R : Type 0} → (R → List ℕ → ReadEnd → Type 0) → Errors → Plan → List R → ℕ
+    → Option (List KeptDump) → Option (List KeptDump) → Type 0
 KeepsBeginning gives errors plan readers time kept later =
-    (later ≡ kept) ⊎ OverFiles gives errors plan readers (λ files. GrowsByBeginning kept later (dumps_of_files errors plan files time))
+    (later ≡ kept) ⊎ OverFiles gives errors plan readers
+    (λ files. GrowsByBeginning kept later (dumps_of_files errors plan files time))

@@ -23,7 +23,8 @@ abbrev pub reason_in : List Change → Reason
 reason_in [] = EndOfFile
 reason_in (change ∷ later) = reason_or (reason_in later) change.body
 
--- how a peer's session ended: how many changes its file says, the close counted, how many records it passes over, and why it closed
+-- how a peer's session ended: how many changes its file says, the close counted, how many records it passes
+-- over, and why it closed
 abbrev pub end_in : Errors → PeerId → List ℕ → PeerEnd
 end_in errors peer file =
     let changes = changes_in_by errors peer file in

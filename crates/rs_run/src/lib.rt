@@ -1,4 +1,5 @@
-//! A run over recorded files: reads the sessions of all peers at once, keeps a dump of each client's table, and writes the report.
+//! A run over recorded files: reads the sessions of all peers at once, keeps a dump of each client's table,
+//! and writes the report.
 //!
 //! Reading order: `runner` (the run), `outlet` (where dumps go), `report` (the report's lines), `memory_outlet`.
 //!

@@ -20,8 +20,8 @@ pub struct Kept {
 /// When an outlet over memory, or a writer of its, fails.
 #[derive(Clone, Copy, Debug, Drop)]
 pub struct OutletLimits {
-    /// How many calls to start or to keep a dump go well before the one that is refused; without a number none is refused for this.
-    /// Calls after it go well.
+    /// How many calls to start or to keep a dump go well before the one that is refused; without a number
+    /// none is refused for this. Calls after it go well.
     pub calls_before_refusal: Option<u64>,
     /// How many dumps are kept before the one whose writer has limits.
     pub dumps_before_limits: usize,
@@ -97,7 +97,8 @@ impl MemoryOutlet {
 
     // Keeps a dump, unless the call is to be refused or there is no memory.
     fn try_keep(&mut self, name: &str, out: MemoryWriter) -> Result<(), Unopened>
-        ensures ok { OnOk result (self.new.kept ≡ self.old.kept ++ (record { name = name.now; octets = out.taken } ∷ [])) }
+        ensures ok { OnOk result (self.new.kept
+            ≡ self.old.kept ++ (record { name = name.now; octets = out.taken } ∷ [])) }
         ensures err { OnErr result (self.new.kept ≡ self.old.kept) }
         ensures failures { self.new.failures ≡ self.old.failures }
     {

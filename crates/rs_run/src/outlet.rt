@@ -31,7 +31,8 @@ pub trait Outlet {
         ensures err_failures { OnErr result (failures self.new ≡ failures self.old + 1) }
         ensures kept { kept self.new ≡ kept self.old };
 
-    /// Keeps what a writer has taken under this name, once the dump is written whole. Refused, it keeps nothing and counts one failure.
+    /// Keeps what a writer has taken under this name, once the dump is written whole. Refused, it keeps
+    /// nothing and counts one failure.
     fn keep(&mut self, name: &str, out: Self::Out) -> Result<(), Unopened>
         requires { failures self.old < u64.MAX }
         ensures ok { OnOk result (KeepsTaken (kept self.old) (kept self.new) name.now (Self.Out.taken out)) }

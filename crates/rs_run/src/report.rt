@@ -37,7 +37,8 @@ pub fn add_peer_lines(
 ) -> Result<(), AllocError>
     requires plan { served.now.tables.plan ≡ plan.now }
     requires one_for_each { length served.now.ends ≡ length plan.now.peers }
-    ensures { OnOk result (string_bytes report.new ≡ string_bytes report.old ++ peer_lines plan.now.peers served.now.ends) }
+    ensures { OnOk result (string_bytes report.new
+        ≡ string_bytes report.old ++ peer_lines plan.now.peers served.now.ends) }
 {
     for number in 0..plan.count() {
         add_peer_line(report, &plan.peer(number).name, served.end(number))?;

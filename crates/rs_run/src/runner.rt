@@ -1,9 +1,11 @@
 //! A run over recorded files: a dump for each client, and the report.
 //!
-//! Our choices: all sessions are read, at once and each on a thread of its own, before the first dump is started; all dumps are kept, in the order of the plan, before
-//! the first line of the report is written; the first failure ends the run.
+//! Our choices: all sessions are read, at once and each on a thread of its own, before the first dump is
+//! started; all dumps are kept, in the order of the plan, before the first line of the report is written; the
+//! first failure ends the run.
 
-ghost use Rattle.std.specs.Prelude.{◌≡◌, ◌+◌, ◌<◌, ◌≤◌, ℕ, [], ◌∷◌, All, IfOk, IfErr, OnOk, OnErr, IsErrOf, length, string_bytes, take};
+ghost use Rattle.std.specs.Prelude.{◌≡◌, ◌+◌, ◌<◌, ◌≤◌, ℕ, [], ◌∷◌, All, IfOk, IfErr, OnOk, OnErr, IsErrOf, length};
+ghost use Rattle.std.specs.Prelude.{string_bytes, take};
 ghost use Rattle.std.specs.Io.KnownBytes.{Appends};
 ghost use Rattle.rs_dump.specs.Dump.{dumped};
 ghost use Rattle.rs_mrt.specs.Stream.{AppendsBeginning};
@@ -11,7 +13,8 @@ ghost use Rattle.rs_table.specs.Table.{table_of};
 ghost use Rattle.rs_run.specs.Outlet.{Grows};
 ghost use Rattle.rs_run.specs.Recorded.{FailsAt, OverFiles, tables_of_files};
 ghost use Rattle.rs_run.specs.Report.{report_of, report_of_files};
-ghost use Rattle.rs_run.specs.Run.{dump_name, dumps_of, dumps_of_files, IsDumpFailure, IsFaultAt, IsReadStop, IsStop, KeepsBeginning};
+ghost use Rattle.rs_run.specs.Run.{dump_name, dumps_of, dumps_of_files, IsDumpFailure, IsFaultAt, IsReadStop, IsStop};
+ghost use Rattle.rs_run.specs.Run.{KeepsBeginning};
 ghost use Rattle.rs_run.specs.SessionEnd.{ends_of_files};
 
 use crate::outlet::Outlet;
@@ -32,16 +35,19 @@ use std::thread::Threads;
 // How many octets the report has at most for each peer: the line of its session, and that of its table.
 const LINES_LEN: usize = 256;
 
-/// Reads the recorded sessions of all peers at once, each on a thread of its own, keeps the dump of each client's table in `outlet` under the
-/// client's name with `.mrt`, and writes the report to `report`: a line for each peer's session, and then one for each client's table, all in the order of the plan.
+/// Reads the recorded sessions of all peers at once, each on a thread of its own, keeps the dump of each
+/// client's table in `outlet` under the client's name with `.mrt`, and writes the report to `report`: a line
+/// for each peer's session, and then one for each client's table, all in the order of the plan.
 ///
-/// `readers` gives the recorded file of each peer, in the order of the peers; of a file that has a record which closes the session, no more
-/// is read than up to a little behind that record. `Read` names the first peer whose file can't be read to its end or has 2^50 octets or
-/// more, unless a record closes the session before; nothing is kept, and nothing of the report is out. `Unsettled` names the first peer of
-/// which not all changes are known to have been applied; nothing is kept, and nothing of the report is out. `Dump` comes where the outlet
-/// failed, or the writer of a dump, or where a table has more than 4,294,967,295 rows; the dumps of the clients before that one are kept.
-/// `Report` comes where a write of the report failed; all dumps are kept, and a beginning of the report is out. `Memory` comes where memory
-/// was refused; a beginning of the dumps is kept, and nothing of the report is out.
+/// `readers` gives the recorded file of each peer, in the order of the peers; of a file that has a record
+/// which closes the session, no more is read than up to a little behind that record. `Read` names the first
+/// peer whose file can't be read to its end or has 2^50 octets or more, unless a record closes the session
+/// before; nothing is kept, and nothing of the report is out. `Unsettled` names the first peer of which not
+/// all changes are known to have been applied; nothing is kept, and nothing of the report is out. `Dump`
+/// comes where the outlet failed, or the writer of a dump, or where a table has more than 4,294,967,295 rows;
+/// the dumps of the clients before that one are kept. `Report` comes where a write of the report failed; all
+/// dumps are kept, and a beginning of the report is out. `Memory` comes where memory was refused; a beginning
+/// of the dumps is kept, and nothing of the report is out.
 pub fn run<T: Threads + Wait + Sync, O: Outlet, W: Write, R: Read + Send + Drop>(
     rt: &T,
     alloc: Global,
@@ -59,33 +65,48 @@ pub fn run<T: Threads + Wait + Sync, O: Outlet, W: Write, R: Read + Send + Drop>
     requires shards { (1 ≤ options.now.shards) × (options.now.shards ≤ 16) }
     // All dumps are kept, and the report is out, of files that the readers may give.
     ensures done { OnOk result (OverFiles R.gives options.now.errors setup.now.plan.value readers.items (λ files.
-        Grows (O.kept outlet.old) (O.kept outlet.new) (dumps_of_files options.now.errors setup.now.plan.value files options.now.time)
-        × Appends (W.taken report.old) (W.taken report.new) (report_of_files options.now.errors setup.now.plan.value files))) }
+        Grows (O.kept outlet.old) (O.kept outlet.new)
+        (dumps_of_files options.now.errors setup.now.plan.value files options.now.time)
+        × Appends (W.taken report.old) (W.taken report.new)
+        (report_of_files options.now.errors setup.now.plan.value files))) }
     ensures no_failure { OnOk result (O.failures outlet.new ≡ O.failures outlet.old) }
     ensures no_failed_write { OnOk result (W.failures report.new ≡ W.failures report.old) }
-    ensures memory_kept { IsErrOf result RunFault.Memory → KeepsBeginning R.gives options.now.errors setup.now.plan.value readers.items options.now.time (O.kept outlet.old) (O.kept outlet.new) }
+    ensures memory_kept { IsErrOf result RunFault.Memory
+        → KeepsBeginning R.gives options.now.errors setup.now.plan.value readers.items options.now.time
+        (O.kept outlet.old) (O.kept outlet.new) }
     ensures memory_failures { IsErrOf result RunFault.Memory → O.failures outlet.new ≡ O.failures outlet.old }
     ensures memory_reports_nothing { IsErrOf result RunFault.Memory → report.new ≡ report.old }
-    ensures dump_known { (client : ℕ) → IsErrOf result (RunFault.Dump client) → client < length setup.now.plan.value.peers }
-    // The dumps before that client's are kept, of files that the readers may give; over these its table has too many rows, or the outlet failed.
-    ensures dump { (client : ℕ) → IsErrOf result (RunFault.Dump client) → OverFiles R.gives options.now.errors setup.now.plan.value readers.items (λ files.
-        Grows (O.kept outlet.old) (O.kept outlet.new) (take client (dumps_of_files options.now.errors setup.now.plan.value files options.now.time))
-        × IsDumpFailure (O.failures outlet.old) (O.failures outlet.new) (length (table_of (tables_of_files options.now.errors setup.now.plan.value files) client))) }
+    ensures dump_known { (client : ℕ) → IsErrOf result (RunFault.Dump client)
+        → client < length setup.now.plan.value.peers }
+    // The dumps before that client's are kept, of files that the readers may give; over these its table has
+    // too many rows, or the outlet failed.
+    ensures dump { (client : ℕ) → IsErrOf result (RunFault.Dump client)
+        → OverFiles R.gives options.now.errors setup.now.plan.value readers.items (λ files.
+        Grows (O.kept outlet.old) (O.kept outlet.new)
+        (take client (dumps_of_files options.now.errors setup.now.plan.value files options.now.time))
+        × IsDumpFailure (O.failures outlet.old) (O.failures outlet.new)
+        (length (table_of (tables_of_files options.now.errors setup.now.plan.value files) client))) }
     ensures dump_reports_nothing { (client : ℕ) → IsErrOf result (RunFault.Dump client) → report.new ≡ report.old }
     // All dumps are kept, and a beginning of the report is out, of files that the readers may give.
-    ensures report { IsErrOf result RunFault.Report → OverFiles R.gives options.now.errors setup.now.plan.value readers.items (λ files.
-        Grows (O.kept outlet.old) (O.kept outlet.new) (dumps_of_files options.now.errors setup.now.plan.value files options.now.time)
-        × AppendsBeginning (W.taken report.old) (W.taken report.new) (report_of_files options.now.errors setup.now.plan.value files)) }
+    ensures report { IsErrOf result RunFault.Report
+        → OverFiles R.gives options.now.errors setup.now.plan.value readers.items (λ files.
+        Grows (O.kept outlet.old) (O.kept outlet.new)
+        (dumps_of_files options.now.errors setup.now.plan.value files options.now.time)
+        × AppendsBeginning (W.taken report.old) (W.taken report.new)
+        (report_of_files options.now.errors setup.now.plan.value files)) }
     ensures report_failures { IsErrOf result RunFault.Report → W.failures report.new ≡ W.failures report.old + 1 }
     ensures report_no_failure { IsErrOf result RunFault.Report → O.failures outlet.new ≡ O.failures outlet.old }
     ensures read_known { (peer : ℕ) → IsErrOf result (RunFault.Read peer) → peer < length setup.now.plan.value.peers }
     // The reader of that peer may fail while the session is open, and each before it may give its peer's file.
-    ensures read_fails { (peer : ℕ) → IsErrOf result (RunFault.Read peer) → FailsAt R.gives options.now.errors setup.now.plan.value readers.items peer }
+    ensures read_fails { (peer : ℕ) → IsErrOf result (RunFault.Read peer)
+        → FailsAt R.gives options.now.errors setup.now.plan.value readers.items peer }
     ensures read_keeps_nothing { (peer : ℕ) → IsErrOf result (RunFault.Read peer) → outlet.new ≡ outlet.old }
     ensures read_reports_nothing { (peer : ℕ) → IsErrOf result (RunFault.Read peer) → report.new ≡ report.old }
-    ensures unsettled_known { (peer : ℕ) → IsErrOf result (RunFault.Unsettled peer) → peer < length setup.now.plan.value.peers }
+    ensures unsettled_known { (peer : ℕ) → IsErrOf result (RunFault.Unsettled peer)
+        → peer < length setup.now.plan.value.peers }
     ensures unsettled_keeps_nothing { (peer : ℕ) → IsErrOf result (RunFault.Unsettled peer) → outlet.new ≡ outlet.old }
-    ensures unsettled_reports_nothing { (peer : ℕ) → IsErrOf result (RunFault.Unsettled peer) → report.new ≡ report.old }
+    ensures unsettled_reports_nothing { (peer : ℕ) → IsErrOf result (RunFault.Unsettled peer)
+        → report.new ≡ report.old }
 {
     let served = serve_files(rt, alloc, &setup.plan, readers, options)?;
     let text = keep_dumps(alloc, &setup.plan, &served, options.time, outlet)?;
@@ -108,7 +129,8 @@ fn serve_files<T: Threads + Wait + Sync, R: Read + Send + Drop>(
     requires ring { (1 ≤ options.now.ring) × (options.now.ring ≤ 65536) }
     requires shards { (1 ≤ options.now.shards) × (options.now.shards ≤ 16) }
     ensures served { IfOk result (λ served. OverFiles R.gives options.now.errors plan.now.value readers.items (λ files.
-        (served.tables ≡ tables_of_files options.now.errors plan.now.value files) × (served.ends ≡ ends_of_files options.now.errors plan.now.value files))) }
+        (served.tables ≡ tables_of_files options.now.errors plan.now.value files)
+        × (served.ends ≡ ends_of_files options.now.errors plan.now.value files))) }
     ensures fault { IfErr result (IsReadStop R.gives options.now.errors plan.now.value readers.items) }
 {
     a_session_closes_once();
@@ -143,9 +165,11 @@ fn keep_dumps<O: Outlet>(
     requires one_for_each { length served.now.ends ≡ length plan.now.peers }
     requires failures { O.failures outlet.old < u64.MAX }
     ensures report { IfOk result (λ text. string_bytes text ≡ report_of plan.now served.now.ends served.now.tables) }
-    ensures kept { OnOk result (Grows (O.kept outlet.old) (O.kept outlet.new) (dumps_of plan.now served.now.tables time)) }
+    ensures kept { OnOk result (Grows (O.kept outlet.old) (O.kept outlet.new)
+        (dumps_of plan.now served.now.tables time)) }
     ensures no_failure { OnOk result (O.failures outlet.new ≡ O.failures outlet.old) }
-    ensures fault { IfErr result (IsStop plan.now served.now.tables time (O.kept outlet.old) (O.kept outlet.new) (O.failures outlet.old) (O.failures outlet.new)) }
+    ensures fault { IfErr result (IsStop plan.now served.now.tables time (O.kept outlet.old) (O.kept outlet.new)
+        (O.failures outlet.old) (O.failures outlet.new)) }
 {
     let mut text = String::with_capacity(alloc, plan.count() * LINES_LEN)?;
     add_peer_lines(&mut text, plan, served)?;
@@ -171,10 +195,13 @@ fn keep_dump<O: Outlet>(
     requires client_known { client < length plan.now.peers }
     requires failures { O.failures outlet.old < u64.MAX }
     ensures count { IfOk result (λ rows. rows ≡ length (table_of tables.now client)) }
-    ensures kept { OnOk result (Grows (O.kept outlet.old) (O.kept outlet.new) (record { name = dump_name name.now; octets = dumped plan.now client (table_of tables.now client) time } ∷ [])) }
+    ensures kept { OnOk result (Grows (O.kept outlet.old) (O.kept outlet.new)
+        (record { name = dump_name name.now; octets = dumped plan.now client (table_of tables.now client) time }
+        ∷ [])) }
     ensures no_failure { OnOk result (O.failures outlet.new ≡ O.failures outlet.old) }
     ensures refused { OnErr result (O.kept outlet.new ≡ O.kept outlet.old) }
-    ensures fault { IfErr result (IsFaultAt client (length (table_of tables.now client)) (O.failures outlet.old) (O.failures outlet.new)) }
+    ensures fault { IfErr result (IsFaultAt client (length (table_of tables.now client)) (O.failures outlet.old)
+        (O.failures outlet.new)) }
 {
     table_is_computed();
     let rows = tables.rows(client)?;

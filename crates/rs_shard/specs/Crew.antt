@@ -33,5 +33,6 @@ pub record HasEnded (charge : Charge) (end : ShardEnd) : Type 0 where
 -- there is a part of each shard, which holds what was sent to the shard
 pub record AllHold (charges : List Charge) (sent : List (List Routed)) (parts : List TablesContent) : Type 0 where
   pub count : length parts ≡ length charges
-  pub each : (shard : ℕ) (charge : Charge) (items : List Routed) (part : TablesContent) → slice_get charges shard ≡ Some charge
+  pub each : (shard : ℕ) (charge : Charge) (items : List Routed) (part : TablesContent)
+      → slice_get charges shard ≡ Some charge
       → slice_get sent shard ≡ Some items → slice_get parts shard ≡ Some part → HoldReceived charge.tables items part

@@ -19,4 +19,6 @@ pub record HoldReceived (new : TablesContent) (items : List Routed) (held : Tabl
 
 -- tables that took some items take one more
 abbrev pub Takes : Routed → TablesContent → TablesContent → Type 0
-Takes item before after = (new : TablesContent) (items : List Routed) → HoldReceived new items before → HoldReceived new (items ++ item ∷ []) after
+Takes item before after =
+    (new : TablesContent) (items : List Routed) → HoldReceived new items before
+    → HoldReceived new (items ++ item ∷ []) after

@@ -16,18 +16,22 @@ pub record IsOfPlan (plan : Plan) (tables : TablesContent) : Type 0 where
   pub count : length tables.ribs ≡ length plan.peers
 
 -- the tables of one of some shards, where this was received of each peer: they hold what the shard's cut of that leaves
-pub record IsShardOf (plan : Plan) (received : List (List Word)) (shards shard : ℕ) (part : TablesContent) : Type 0 where
+pub record IsShardOf (plan : Plan) (received : List (List Word)) (shards shard : ℕ)
+    (part : TablesContent) : Type 0 where
   pub of_plan : IsOfPlan plan part
-  pub ribs : (peer : ℕ) (words : List Word) → slice_get received peer ≡ Some words → rib_of part peer ≡ rib_left (cut shards shard (map change_of words))
+  pub ribs : (peer : ℕ) (words : List Word) → slice_get received peer ≡ Some words
+      → rib_of part peer ≡ rib_left (cut shards shard (map change_of words))
 
 -- the tables of all shards
 pub record AreShardsOf (plan : Plan) (received : List (List Word)) (parts : List TablesContent) : Type 0 where
   pub counted : IsShardCount (length parts)
   pub peers : length received ≡ length plan.peers
-  pub each : (shard : ℕ) (part : TablesContent) → slice_get parts shard ≡ Some part → IsShardOf plan received (length parts) shard part
+  pub each : (shard : ℕ) (part : TablesContent) → slice_get parts shard ≡ Some part
+      → IsShardOf plan received (length parts) shard part
 
 -- as many shards as were routed to, which were charged with tables of the plan, hold what they were sent
-pub record IsRun (plan : Plan) (received : List (List Word)) (sent : List (List Routed)) (charges : List Charge) (parts : List TablesContent) : Type 0 where
+pub record IsRun (plan : Plan) (received : List (List Word)) (sent : List (List Routed)) (charges : List Charge)
+    (parts : List TablesContent) : Type 0 where
   pub counted : IsShardCount (length sent)
   pub peers : length received ≡ length plan.peers
   pub shards : length charges ≡ length sent
@@ -39,10 +43,12 @@ pub record IsRun (plan : Plan) (received : List (List Word)) (sent : List (List 
 -- shards that hold what they were sent have the tables of all shards
 abbrev pub RunShardsAreWhole : Type 0
 RunShardsAreWhole =
-    (plan : Plan) (received : List (List Word)) (sent : List (List Routed)) (charges : List Charge) (parts : List TablesContent) → IsRun plan received sent charges parts
+    (plan : Plan) (received : List (List Word)) (sent : List (List Routed)) (charges : List Charge)
+    (parts : List TablesContent) → IsRun plan received sent charges parts
     → AreShardsOf plan received parts
 
--- and these are parts that can be made one: the tables in which each peer has left what all that was received of it leaves
+-- and these are parts that can be made one: the tables in which each peer has left what all that was received
+-- of it leaves
 abbrev pub ShardsMerge : Type 0
 ShardsMerge =
     (plan : Plan) (received : List (List Word)) (parts : List TablesContent) → AreShardsOf plan received parts

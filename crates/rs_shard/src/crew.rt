@@ -36,10 +36,11 @@ impl Promise<ShardEnd> for ShardOf {
     ghost kept_by = { λ p end. HasEnded (charged p) end };
 }
 
-/// Starts all shards in a scope, one thread each, and keeps their handles: job `k` is the one of shard `k`. Answers whether all were
-/// started. It takes no memory but what the system takes for its threads.
+/// Starts all shards in a scope, one thread each, and keeps their handles: job `k` is the one of shard `k`.
+/// Answers whether all were started. It takes no memory but what the system takes for its threads.
 ///
-/// Where the system refuses a thread, no more are started: the handles are those of the first shards, and the other jobs are gone.
+/// Where the system refuses a thread, no more are started: the handles are those of the first shards, and the
+/// other jobs are gone.
 pub fn start_shards<'s, E, R: Wait + Sync, G: Gate>(
     scope: &'s Scope<'s, E>,
     rt: &'s R,
@@ -87,8 +88,8 @@ fn start_shard<'s, E, R: Wait + Sync, G: Gate>(
     scope.spawn_with(promise, run).ok()
 }
 
-/// Joins shards in their order, and keeps their tables: sender `k` is the one of shard `k`, and will send no more. Answers whether each
-/// shard has its tables, and received all that was sent to it. It takes no memory.
+/// Joins shards in their order, and keeps their tables: sender `k` is the one of shard `k`, and will send no
+/// more. Answers whether each shard has its tables, and received all that was sent to it. It takes no memory.
 pub fn join_shards(
     rt: &impl Threads,
     handles: Vec<PromisedHandle<ShardEnd, ShardOf>>,
@@ -99,7 +100,8 @@ pub fn join_shards(
     requires empty { parts.old.items ≡ [] }
     requires room { vec_len handles ≤ vec_capacity parts.old }
     // Part k is what shard k holds of all that was sent to it.
-    ensures parts { IsTrue result → AllHold (map (λ handle. charged handle.promise) handles.items) (sent_lists to.old) parts.new.items }
+    ensures parts { IsTrue result → AllHold (map (λ handle. charged handle.promise) handles.items)
+        (sent_lists to.old) parts.new.items }
     ensures same { SameSenders to.old to.new }
     ensures sent { sent_lists to.new ≡ sent_lists to.old }
 {

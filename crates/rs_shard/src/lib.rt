@@ -1,7 +1,8 @@
-//! The shards of the exchange: each holds the tables of its own prefixes, and takes the changes that the router hands it on a thread of
-//! its own.
+//! The shards of the exchange: each holds the tables of its own prefixes, and takes the changes that the
+//! router hands it on a thread of its own.
 //!
-//! Reading order: `taking` (what one item makes of the tables), `shard` (all of them), `crew` (all shards), `laws` (what their tables come to).
+//! Reading order: `taking` (what one item makes of the tables), `shard` (all of them), `crew` (all shards),
+//! `laws` (what their tables come to).
 #![tactic(auto)]
 
 mod crew;

@@ -23,11 +23,11 @@ pub struct ShardEnd {
     pub from: Receiver<Routed>,
 }
 
-/// Takes all items that come through a ring, up to the last one, into tables of which no peer has a route yet. A change of a peer that
-/// isn't there, or whose session closed, is dropped.
+/// Takes all items that come through a ring, up to the last one, into tables of which no peer has a route
+/// yet. A change of a peer that isn't there, or whose session closed, is dropped.
 ///
-/// It passes the gate once for each item, before it handles it. Refused memory it drops the tables and all later changes, but receives
-/// them, so that no other thread waits for it.
+/// It passes the gate once for each item, before it handles it. Refused memory it drops the tables and all
+/// later changes, but receives them, so that no other thread waits for it.
 pub fn shard_worker<G: Gate>(
     rt: &impl Wait,
     shard: usize,

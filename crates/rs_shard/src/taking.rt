@@ -11,7 +11,8 @@ use std::alloc::AllocError;
 
 // The tables after one item more, where there were any. None where memory is refused.
 pub(crate) fn after_item(tables: Option<Tables>, item: Routed) -> Option<Tables>
-    ensures { (before : TablesContent) → (items : List Routed) → IfSome tables (HoldReceived before items) → IfSome result (HoldReceived before (items ++ item ∷ [])) }
+    ensures { (before : TablesContent) → (items : List Routed) → IfSome tables (HoldReceived before items)
+        → IfSome result (HoldReceived before (items ++ item ∷ [])) }
 {
     let mut tables = tables?;
     match take(&mut tables, item) {

@@ -1,5 +1,6 @@
 -- What is kept of one prefix: the routes that peers have left there, and what each client gets of them.
-use Rattle.std.specs.Prelude.{◌<◌, ◌≤◌, ◌+◌, ◌≡◌, ℕ, suc, ◌==◌, nat_lt, not, if◌then◌else◌, List, [], ◌∷◌, length, map, filter, Option, None, Some, slice_get, refl}
+use Rattle.std.specs.Prelude.{◌<◌, ◌≤◌, ◌+◌, ◌≡◌, ℕ, suc, ◌==◌, nat_lt, not, if◌then◌else◌, List, [], ◌∷◌, length, map}
+use Rattle.std.specs.Prelude.{filter, Option, None, Some, slice_get, refl}
 use Rattle.std.specs.Coded.{Coded, code_by, coded×, coded_ℕ, coded_list}
 use Rattle.std.specs.List.{All}
 use Rattle.std.specs.Option.{option_map, option_map_or, option_and_then}
@@ -15,13 +16,16 @@ use Rattle.rs_choice.specs.RouteChanges.{IsAt}
 use Rattle.rs_table.specs.Left.{RouteLeft}
 use Rattle.rs_table.specs.Table.{PeerRoute, peer_route, sent_route}
 
--- the routes as they are held, and for each client the number of the peer whose route it gets: its own number where it gets none
+-- the routes as they are held, and for each client the number of the peer whose route it gets: its own number
+-- where it gets none
 pub record CellContent : Type 0 where
   pub held : List HeldRoute
   pub bests : List ℕ
 
 abbrev pub cell_code : Coded CellContent
-cell_code = code_by (List HeldRoute × List ℕ) (coded× (coded_list held_route.the_row.coded) (coded_list coded_ℕ)) (λ c. (c.held, c.bests)) (λ p. record { held = p.0; bests = p.1 }) (λ _. refl)
+cell_code =
+    code_by (List HeldRoute × List ℕ) (coded× (coded_list held_route.the_row.coded) (coded_list coded_ℕ))
+    (λ c. (c.held, c.bests)) (λ p. record { held = p.0; bests = p.1 }) (λ _. refl)
 
 -- a held route without what decisions ask of it, and all of them
 abbrev pub route_of_held : HeldRoute → PeerRoute
@@ -39,7 +43,8 @@ IsRow from to (route ∷ later) = (from ≤ route.peer) × (route.peer < to) × 
 abbrev pub route_at : List PeerRoute → ℕ → Option RouteLeft
 route_at [] peer = None
 route_at (route ∷ later) peer =
-    if route.peer == peer then Some (record { time = route.time; attributes = route.attributes }) else route_at later peer
+    if route.peer == peer then Some (record { time = route.time; attributes = route.attributes })
+    else route_at later peer
 
 -- one of a peer comes among those of others that ascend by peer, in the place of any that its peer has
 abbrev pub with_one : {M : Type 0} → (M → ℕ) → List M → M → List M
@@ -73,7 +78,8 @@ candidates_among plan client routes =
 
 -- and the one that it gets
 abbrev pub best_among : Plan → ℕ → List PeerRoute → Option PeerRoute
-best_among plan client routes = choice (λ route. standing_of plan (sent_route route)) (candidates_among plan client routes)
+best_among plan client routes =
+    choice (λ route. standing_of plan (sent_route route)) (candidates_among plan client routes)
 
 -- by the number of its peer, or the client's own where it gets none
 abbrev pub best_peer : Plan → ℕ → List PeerRoute → ℕ
@@ -81,7 +87,8 @@ best_peer plan client routes = option_map_or (λ route. route.peer) (best_among 
 
 -- the route that a client gets by what is kept
 abbrev pub route_unless_own : List PeerRoute → ℕ → ℕ → Option PeerRoute
-route_unless_own routes client peer = if peer == client then None else option_map (peer_route peer) (route_at routes peer)
+route_unless_own routes client peer =
+    if peer == client then None else option_map (peer_route peer) (route_at routes peer)
 
 abbrev pub stored_best : CellContent → ℕ → Option PeerRoute
 stored_best cell client = option_and_then (route_unless_own (routes_in cell) client) (slice_get cell.bests client)
@@ -94,7 +101,8 @@ IsAscending held = (to : ℕ) × IsRow 0 to (map route_of_held held)
 abbrev pub IsPut : List HeldRoute → HeldRoute → Option ℕ → Type 0
 IsPut held one new = (place : ℕ) × (new ≡ Some place) × (slice_get held place ≡ Some one)
 
--- the route that a change took from a peer is at the place of that peer's; where it took none, none of that peer stands there
+-- the route that a change took from a peer is at the place of that peer's; where it took none, none of that
+-- peer stands there
 abbrev pub IsTaken : List HeldRoute → ℕ → Option HeldRoute → Type 0
 IsTaken held peer (Some one) = slice_get held (place_of (λ one. one.peer) held peer) ≡ Some one
 IsTaken held peer None = IsAt held (place_of (λ one. one.peer) held peer) peer → ⊥

@@ -31,7 +31,9 @@ routes_at entries prefix = routes_of (cell_at entries prefix)
 -- the routes of one peer, by prefix
 abbrev pub routes_from : Entries → ℕ → Routes
 routes_from entries peer =
-    from_entries (filter_map (λ prefix. option_map (λ route. (prefix, route)) (route_at (routes_at entries prefix) peer)) (map (λ entry. entry.0) entries))
+    from_entries (filter_map
+    (λ prefix. option_map (λ route. (prefix, route)) (route_at (routes_at entries prefix) peer))
+    (map (λ entry. entry.0) entries))
 
 -- each one is a cell of the plan
 abbrev pub AreCells : Plan → Entries → Type 0
@@ -40,17 +42,21 @@ AreCells plan entries = AllByRecursion (λ (entry : IpPrefix × CellContent). Is
 -- what a peer's change makes of the routes on a prefix
 abbrev pub changed_routes_body : ℕ → ℕ → ChangeBody → IpPrefix → List PeerRoute → List PeerRoute
 changed_routes_body peer time (Announced announced attributes) prefix routes =
-    if same_prefix prefix announced then with_route routes (record { peer = peer; time = time; attributes = attributes }) else routes
-changed_routes_body peer time (Withdrawn withdrawn) prefix routes = if same_prefix prefix withdrawn then without_route routes peer else routes
+    if same_prefix prefix announced
+    then with_route routes (record { peer = peer; time = time; attributes = attributes }) else routes
+changed_routes_body peer time (Withdrawn withdrawn) prefix routes =
+    if same_prefix prefix withdrawn then without_route routes peer else routes
 changed_routes_body peer time Lost prefix routes = without_route routes peer
-changed_routes_body peer time (Closed reason) prefix routes = if reason_drops reason then without_route routes peer else routes
+changed_routes_body peer time (Closed reason) prefix routes =
+    if reason_drops reason then without_route routes peer else routes
 
 abbrev pub changed_routes : ℕ → Change → IpPrefix → List PeerRoute → List PeerRoute
 changed_routes peer change prefix routes = changed_routes_body peer change.time change.body prefix routes
 
 -- the entries became others by a peer's change
 abbrev pub ChangeTo : ℕ → Change → Entries → Entries → Type 0
-ChangeTo peer change before others = (prefix : IpPrefix) → routes_at others prefix ≡ changed_routes peer change prefix (routes_at before prefix)
+ChangeTo peer change before others =
+    (prefix : IpPrefix) → routes_at others prefix ≡ changed_routes peer change prefix (routes_at before prefix)
 
 -- a change announces a prefix on which no peer has a route
 abbrev pub IsFirstOn : Entries → ChangeBody → Type 0
@@ -61,4 +67,5 @@ IsFirstOn entries (Closed reason) = ⊥
 
 -- the cells of two maps came into one
 abbrev pub AreJoined : Entries → Entries → Entries → Type 0
-AreJoined one other joined = (prefix : IpPrefix) → cell_at joined prefix ≡ option_or (cell_at other prefix) (cell_at one prefix)
+AreJoined one other joined =
+    (prefix : IpPrefix) → cell_at joined prefix ≡ option_or (cell_at other prefix) (cell_at one prefix)

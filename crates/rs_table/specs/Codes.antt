@@ -11,16 +11,24 @@ use Rattle.rs_table.specs.Left.{Routes, RouteLeft}
 use Rattle.rs_table.specs.Content.{RibContent, TablesContent}
 
 abbrev pub prefix_code : Coded IpPrefix
-prefix_code = code_by (ℕ × ℕ) (coded× coded_ℕ coded_ℕ) (λ p. (p.address, p.len)) (λ p. record { address = p.0; len = p.1 }) (λ _. refl)
+prefix_code =
+    code_by (ℕ × ℕ) (coded× coded_ℕ coded_ℕ) (λ p. (p.address, p.len)) (λ p. record { address = p.0; len = p.1 })
+    (λ _. refl)
 
 abbrev pub route_code : Coded RouteLeft
-route_code = code_by (ℕ × PathAttributes) (coded× coded_ℕ attributes.the_row.coded) (λ r. (r.time, r.attributes)) (λ p. record { time = p.0; attributes = p.1 }) (λ _. refl)
+route_code =
+    code_by (ℕ × PathAttributes) (coded× coded_ℕ attributes.the_row.coded) (λ r. (r.time, r.attributes))
+    (λ p. record { time = p.0; attributes = p.1 }) (λ _. refl)
 
 abbrev pub routes_code : Coded Routes
 routes_code = map.code prefix_code route_code
 
 abbrev pub rib_code : Coded RibContent
-rib_code = code_by (Routes × Bool) (coded× routes_code coded_bool) (λ r. (r.routes, r.closed)) (λ p. record { routes = p.0; closed = p.1 }) (λ _. refl)
+rib_code =
+    code_by (Routes × Bool) (coded× routes_code coded_bool) (λ r. (r.routes, r.closed))
+    (λ p. record { routes = p.0; closed = p.1 }) (λ _. refl)
 
 abbrev pub tables_code : Coded TablesContent
-tables_code = code_by (Plan × List RibContent) (coded× exchange.the_row.coded (coded_list rib_code)) (λ t. (t.plan, t.ribs)) (λ p. record { plan = p.0; ribs = p.1 }) (λ _. refl)
+tables_code =
+    code_by (Plan × List RibContent) (coded× exchange.the_row.coded (coded_list rib_code)) (λ t. (t.plan, t.ribs))
+    (λ p. record { plan = p.0; ribs = p.1 }) (λ _. refl)

@@ -45,29 +45,49 @@ left_on_ten changes = get (left changes) ten
 pub record LeftExamples : Type 0 where
   pub nothing : left_on_ten [] ≡ None
   pub one : (a : PathAttributes) → left_on_ten (announced 100 ten a ∷ []) ≡ Some (record { time = 100; attributes = a })
-  pub replaced : (a b : PathAttributes) → left_on_ten (announced 100 ten a ∷ announced 101 ten b ∷ []) ≡ Some (record { time = 101; attributes = b })
+  pub replaced : (a b : PathAttributes)
+      → left_on_ten (announced 100 ten a ∷ announced 101 ten b ∷ []) ≡ Some (record { time = 101; attributes = b })
   pub removed : (a : PathAttributes) → left_on_ten (announced 100 ten a ∷ withdrawn 101 ten ∷ []) ≡ None
-  pub again : (a b : PathAttributes) → left_on_ten (announced 100 ten a ∷ withdrawn 101 ten ∷ announced 102 ten b ∷ []) ≡ Some (record { time = 102; attributes = b })
-  pub of_another_length : (a : PathAttributes) → left_on_ten (announced 100 ten a ∷ withdrawn 101 ten_long ∷ []) ≡ Some (record { time = 100; attributes = a })
+  pub again : (a b : PathAttributes)
+      → left_on_ten (announced 100 ten a ∷ withdrawn 101 ten ∷ announced 102 ten b ∷ [])
+      ≡ Some (record { time = 102; attributes = b })
+  pub of_another_length : (a : PathAttributes)
+      → left_on_ten (announced 100 ten a ∷ withdrawn 101 ten_long ∷ []) ≡ Some (record { time = 100; attributes = a })
   pub of_another_prefix : (a : PathAttributes) → left_on_ten (announced 100 documentation a ∷ []) ≡ None
-  pub at_the_end : (a : PathAttributes) → left_on_ten (announced 100 ten a ∷ ended ∷ []) ≡ Some (record { time = 100; attributes = a })
+  pub at_the_end : (a : PathAttributes)
+      → left_on_ten (announced 100 ten a ∷ ended ∷ []) ≡ Some (record { time = 100; attributes = a })
   pub after_a_fault : (a : PathAttributes) → left_on_ten (announced 100 ten a ∷ at_fault ∷ []) ≡ None
   pub after_a_loss : (a : PathAttributes) → left_on_ten (announced 100 ten a ∷ lost ∷ []) ≡ None
-  pub since_a_loss : (a b : PathAttributes) → left_on_ten (announced 100 ten a ∷ lost ∷ announced 104 ten b ∷ ended ∷ []) ≡ Some (record { time = 104; attributes = b })
-  pub not_where_another_came_back : (a b : PathAttributes) → left_on_ten (announced 100 ten a ∷ lost ∷ announced 104 documentation b ∷ []) ≡ None
-  pub by_its_last_place : (a : PathAttributes) → Leaves (announced 100 ten a ∷ ended ∷ []) ten (record { time = 100; attributes = a })
-  pub not_by_an_earlier_place : (a : PathAttributes) → Leaves (announced 100 ten a ∷ withdrawn 101 ten ∷ []) ten (record { time = 100; attributes = a }) → ⊥
-  pub not_before_a_loss : (a : PathAttributes) → Leaves (announced 100 ten a ∷ lost ∷ []) ten (record { time = 100; attributes = a }) → ⊥
-  pub not_after_a_fault : (a : PathAttributes) → Leaves (announced 100 ten a ∷ at_fault ∷ []) ten (record { time = 100; attributes = a }) → ⊥
+  pub since_a_loss : (a b : PathAttributes)
+      → left_on_ten (announced 100 ten a ∷ lost ∷ announced 104 ten b ∷ ended ∷ [])
+      ≡ Some (record { time = 104; attributes = b })
+  pub not_where_another_came_back : (a b : PathAttributes)
+      → left_on_ten (announced 100 ten a ∷ lost ∷ announced 104 documentation b ∷ []) ≡ None
+  pub by_its_last_place : (a : PathAttributes)
+      → Leaves (announced 100 ten a ∷ ended ∷ []) ten (record { time = 100; attributes = a })
+  pub not_by_an_earlier_place : (a : PathAttributes)
+      → Leaves (announced 100 ten a ∷ withdrawn 101 ten ∷ []) ten (record { time = 100; attributes = a }) → ⊥
+  pub not_before_a_loss : (a : PathAttributes)
+      → Leaves (announced 100 ten a ∷ lost ∷ []) ten (record { time = 100; attributes = a }) → ⊥
+  pub not_after_a_fault : (a : PathAttributes)
+      → Leaves (announced 100 ten a ∷ at_fault ∷ []) ten (record { time = 100; attributes = a }) → ⊥
 
 -- the exchange of AS 64500 at 192.0.2.1 in 192.0.2.0/24, and of peers of AS 64501 and on, at 192.0.2.11 and on
 abbrev pub peer_at : ℕ → ℕ → Peer
-peer_at asn address = record { name = []; asn = asn; address = address; id = address; preference = 100; refuse_from = [] }
+peer_at asn address =
+    record { name = []; asn = asn; address = address; id = address; preference = 100; refuse_from = [] }
 
 abbrev pub four_peers : Plan
 four_peers = record {
-  local = record { asn = 64500; address = 3221225985; id = 3221225985; subnet = Some (record { address = 3221225984; len = 24 }) };
-  peers = peer_at 64501 3221225995 ∷ peer_at 64502 3221225996 ∷ peer_at 64503 3221225997 ∷ peer_at 64504 3221225998 ∷ [];
+  local =
+      record {
+        asn = 64500;
+        address = 3221225985;
+        id = 3221225985;
+        subnet = Some (record { address = 3221225984; len = 24 });
+      };
+  peers =
+      peer_at 64501 3221225995 ∷ peer_at 64502 3221225996 ∷ peer_at 64503 3221225997 ∷ peer_at 64504 3221225998 ∷ [];
 }
 
 -- attributes of a path, a NEXT_HOP 192.0.2.11 and communities
@@ -91,7 +111,8 @@ abbrev pub hidden : TablesContent
 hidden = record {
   plan = four_peers;
   ribs =
-      after_changes (announced 100 documentation (attributes_of (64501 ∷ []) (Some (record { partial = false; values = 64502 ∷ [] }))) ∷ [])
+      after_changes (announced 100 documentation
+      (attributes_of (64501 ∷ []) (Some (record { partial = false; values = 64502 ∷ [] }))) ∷ [])
       ∷ after_changes []
       ∷ after_changes (announced 101 documentation (attributes_of (64503 ∷ 65010 ∷ []) None) ∷ [])
       ∷ after_changes [] ∷ [];
@@ -102,7 +123,8 @@ abbrev pub ineligible : TablesContent
 ineligible = record {
   plan = four_peers;
   ribs =
-      after_changes (announced 100 documentation (attributes_of (64501 ∷ []) None) ∷ announced 101 documentation (attributes_of (64501 ∷ 64500 ∷ []) None) ∷ [])
+      after_changes (announced 100 documentation (attributes_of (64501 ∷ []) None)
+      ∷ announced 101 documentation (attributes_of (64501 ∷ 64500 ∷ []) None) ∷ [])
       ∷ after_changes [] ∷ after_changes [] ∷ after_changes [] ∷ [];
 }
 

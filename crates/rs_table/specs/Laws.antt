@@ -9,21 +9,28 @@ use Rattle.rs_table.specs.Table.{TableRow, IsTable, table_of}
 
 -- what a list leaves by its last announcements is what is computed
 abbrev pub LeftByLastChanges : Type 0
-LeftByLastChanges = (changes : List Change) (prefix : IpPrefix) (route : RouteLeft) → Leaves changes prefix route ↔ (get (left changes) prefix ≡ Some route)
+LeftByLastChanges =
+    (changes : List Change) (prefix : IpPrefix) (route : RouteLeft)
+    → Leaves changes prefix route ↔ (get (left changes) prefix ≡ Some route)
 
 -- what a list with one more change leaves is one step from what the list leaves
 abbrev pub LeftAfterOneMore : Type 0
-LeftAfterOneMore = (changes : List Change) (change : Change) → HasNoClose changes → left (changes ++ change ∷ []) ≡ after (left changes) change
+LeftAfterOneMore =
+    (changes : List Change) (change : Change) → HasNoClose changes
+    → left (changes ++ change ∷ []) ≡ after (left changes) change
 
--- a part of a list leaves on a prefix what the list leaves there, where the part has every change on that prefix and every change on
--- no prefix: those are losses and closes
+-- a part of a list leaves on a prefix what the list leaves there, where the part has every change on that
+-- prefix and every change on no prefix: those are losses and closes
 abbrev pub LeftByPart : Type 0
 LeftByPart =
     (keeps : Change → Bool) (prefix : IpPrefix)
     → ((change : Change) → is_on prefix change ≡ true → keeps change ≡ true)
     → ((change : Change) → body_prefix change.body ≡ None → keeps change ≡ true)
-    → (changes : List Change) (route : RouteLeft) → Leaves changes prefix route ↔ Leaves (filter keeps changes) prefix route
+    → (changes : List Change) (route : RouteLeft)
+    → Leaves changes prefix route ↔ Leaves (filter keeps changes) prefix route
 
 -- there is one table of a client, the one that is computed
 abbrev pub TableIsComputed : Type 0
-TableIsComputed = (tables : TablesContent) (client : ℕ) (rows : List TableRow) → IsTable tables client rows ↔ (rows ≡ table_of tables client)
+TableIsComputed =
+    (tables : TablesContent) (client : ℕ) (rows : List TableRow)
+    → IsTable tables client rows ↔ (rows ≡ table_of tables client)

@@ -1,9 +1,11 @@
 -- The routes that a peer's list of changes leaves: its Adj-RIB-In (RFC 4271, sections 3.2 and 9.1).
 --
--- An announcement replaces the peer's earlier route on that prefix and a withdrawal removes it, so the last change on a prefix
--- decides. A session that is lost takes all routes with it that were announced before, and may announce others when it is up again.
--- Our choice: a session that closes at the end of its file leaves its routes, and one that closes for any other reason leaves none.
-use Rattle.std.specs.Prelude.{◌≡◌, ℕ, Bool, true, false, ◌||◌, List, [], ◌∷◌, ◌++◌, reverse, Option, Some, None, if◌then◌else◌}
+-- An announcement replaces the peer's earlier route on that prefix and a withdrawal removes it, so the last
+-- change on a prefix decides. A session that is lost takes all routes with it that were announced before, and
+-- may announce others when it is up again. Our choice: a session that closes at the end of its file leaves
+-- its routes, and one that closes for any other reason leaves none.
+use Rattle.std.specs.Prelude.{◌≡◌, ℕ, Bool, true, false, ◌||◌, List, [], ◌∷◌, ◌++◌, reverse, Option, Some, None}
+use Rattle.std.specs.Prelude.{if◌then◌else◌}
 use Rattle.std.specs.List.{find, filter_map, list_any}
 use Rattle.std.specs.Option.{option_map, option_and_then, option_map_or}
 use Rattle.std.specs.Ordering.{eq_by_cmp}
@@ -83,8 +85,9 @@ is_on prefix change = option_map_or (same_prefix prefix) (body_prefix change.bod
 abbrev pub HasNoClose : List Change → Type 0
 HasNoClose changes = list_any is_close changes ≡ false
 
--- what it means: a list leaves a route on a prefix where the route is announced at some place of the list, no later place has a
--- change on that prefix or a loss of the session, and nowhere does the session close but at the end of its file
+-- what it means: a list leaves a route on a prefix where the route is announced at some place of the list, no
+-- later place has a change on that prefix or a loss of the session, and nowhere does the session close but at
+-- the end of its file
 pub record Leaves (changes : List Change) (prefix : IpPrefix) (route : RouteLeft) : Type 0 where
   pub earlier : List Change
   pub later : List Change
@@ -113,7 +116,8 @@ left changes =
 
 -- what one more change makes of the routes that a list without a close left
 abbrev pub after_body : Routes → ℕ → ChangeBody → Routes
-after_body routes time (Announced prefix attributes) = insert routes prefix (record { time = time; attributes = attributes })
+after_body routes time (Announced prefix attributes) =
+    insert routes prefix (record { time = time; attributes = attributes })
 after_body routes time (Withdrawn prefix) = remove routes prefix
 after_body routes time Lost = empty
 after_body routes time (Closed reason) = if reason_drops reason then empty else routes
@@ -131,6 +135,8 @@ IsNewBody routes (Closed reason) = ⊥
 abbrev pub IsNewAnnouncement : Routes → Change → Type 0
 IsNewAnnouncement routes change = IsNewBody routes change.body
 
--- routes come to be others by a change: whatever list without a close has left the first, with the change it leaves the others
+-- routes come to be others by a change: whatever list without a close has left the first, with the change it
+-- leaves the others
 abbrev pub BecomeBy : Routes → Change → Routes → Type 0
-BecomeBy before change others = (changes : List Change) → HasNoClose changes → left changes ≡ before → left (changes ++ change ∷ []) ≡ others
+BecomeBy before change others =
+    (changes : List Change) → HasNoClose changes → left changes ≡ before → left (changes ++ change ∷ []) ≡ others

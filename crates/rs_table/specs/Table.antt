@@ -1,7 +1,7 @@
 -- What each client gets (RFC 4271, section 9.1; RFC 7947, section 2.3.2.1).
 --
--- Export policy comes before the decision, and each client has a decision of its own: a route that policy refuses to a client
--- hides no other route from it.
+-- Export policy comes before the decision, and each client has a decision of its own: a route that policy
+-- refuses to a client hides no other route from it.
 use Rattle.std.specs.Prelude.{◌≡◌, ℕ, ◌==◌, Bool, false, not, if◌then◌else◌, List, map, filter, Option, None, Some}
 use Rattle.std.specs.List.{enumerate_from, filter_map, flat_map}
 use Rattle.std.specs.List.Sorted.{IsStrictlySortedBy}
@@ -37,10 +37,12 @@ route_from tables prefix peer = option_map (peer_route peer) (get (rib_of tables
 
 -- the routes that peers have left on a prefix, in the order of the peers
 abbrev pub routes_on : IpPrefix → List RibContent → List PeerRoute
-routes_on prefix ribs = filter_map (λ (peer, rib). option_map (peer_route peer) (get rib.routes prefix)) (enumerate_from 0 ribs)
+routes_on prefix ribs =
+    filter_map (λ (peer, rib). option_map (peer_route peer) (get rib.routes prefix)) (enumerate_from 0 ribs)
 
--- the candidates of a client for a prefix: of the routes on it the eligible ones (RFC 4271, section 9.1.2), and of these the ones
--- that export policy permits to the client (RFC 7947, section 2.3); none of the client's own is, and none of an unknown client
+-- the candidates of a client for a prefix: of the routes on it the eligible ones (RFC 4271, section 9.1.2),
+-- and of these the ones that export policy permits to the client (RFC 7947, section 2.3); none of the
+-- client's own is, and none of an unknown client
 abbrev pub candidates_of : TablesContent → ℕ → IpPrefix → List PeerRoute
 candidates_of tables client prefix =
     filter (λ route. is_permitted tables.plan client route.peer route.attributes)
@@ -48,7 +50,8 @@ candidates_of tables client prefix =
 
 -- the route that a client gets on a prefix: the choice among its candidates
 abbrev pub best_of : TablesContent → ℕ → IpPrefix → Option PeerRoute
-best_of tables client prefix = choice (λ route. standing_of tables.plan (sent_route route)) (candidates_of tables client prefix)
+best_of tables client prefix =
+    choice (λ route. standing_of tables.plan (sent_route route)) (candidates_of tables client prefix)
 
 -- a row of a client's table
 pub record TableRow : Type 0 where
@@ -62,7 +65,8 @@ entry_of_row row = (row.prefix, row.route)
 abbrev pub route_in : List TableRow → IpPrefix → Option PeerRoute
 route_in rows prefix = find prefix_cmp prefix (map entry_of_row rows)
 
--- what it means: rows are a client's table where their prefixes ascend, each once, and on each prefix stands what the client gets
+-- what it means: rows are a client's table where their prefixes ascend, each once, and on each prefix stands
+-- what the client gets
 pub record IsTable (tables : TablesContent) (client : ℕ) (rows : List TableRow) : Type 0 where
   pub ascending : IsStrictlySortedBy prefix_cmp (map (λ row. row.prefix) rows)
   pub best : (prefix : IpPrefix) → route_in rows prefix ≡ best_of tables client prefix
@@ -74,7 +78,8 @@ prefixes_held ribs = keys (from_entries {R = prefix_cmp} (flat_map (λ rib. entr
 -- and on each of them what the client gets, where it gets a route
 unfoldable pub table_of : TablesContent → ℕ → List TableRow
 table_of tables client =
-    filter_map (λ prefix. option_map (λ route. record { prefix = prefix; route = route }) (best_of tables client prefix)) (prefixes_held tables.ribs)
+    filter_map (λ prefix. option_map (λ route. record { prefix = prefix; route = route })
+    (best_of tables client prefix)) (prefixes_held tables.ribs)
 
 -- why a client has the route of a peer on a prefix, or not: the first case that holds
 abbrev pub is_from : ℕ → Option PeerRoute → Bool

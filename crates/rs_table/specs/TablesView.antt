@@ -7,7 +7,9 @@ use Rattle.rs_table.specs.Cells.{Entries, AreCells, routes_from}
 
 -- what is held of each peer, from one number on
 abbrev pub ribs_from : Entries → ℕ → List Bool → List RibContent
-ribs_from entries first closed = map (λ (peer, is_closed). record { routes = routes_from entries peer; closed = is_closed }) (enumerate_from first closed)
+ribs_from entries first closed =
+    map (λ (peer, is_closed). record { routes = routes_from entries peer; closed = is_closed })
+    (enumerate_from first closed)
 
 abbrev pub tables_view : Inside → TablesContent
 tables_view fields = record { plan = fields.plan.value; ribs = ribs_from fields.cells.entries 0 fields.closed.items }

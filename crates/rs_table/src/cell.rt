@@ -1,4 +1,5 @@
-//! What is kept of one prefix: each peer's route there, and for each client the one that it gets (RFC 7947, section 2.3.2.1).
+//! What is kept of one prefix: each peer's route there, and for each client the one that it gets (RFC 7947,
+//! section 2.3.2.1).
 //!
 //! A cell is made whole, with room for a route of every peer, so that no later change of it takes memory.
 
@@ -6,7 +7,8 @@ ghost use Rattle.std.specs.Prelude.{◌≡◌, ◌<◌, ◌≤◌, ◌↔◌, �
 ghost use Rattle.std.specs.Option.{option_map};
 ghost use Rattle.rs_choice.specs.Held.{IsJudged};
 ghost use Rattle.rs_choice.specs.RouteChanges.{IsAt, IsChange, IsKnown};
-ghost use Rattle.rs_table.specs.Cell.{place_of, route_at, route_of_held, routes_in, stored_best, with_one, with_route, without_one, without_route, AreHeld, IsAscending, IsCell, IsPut, IsTaken};
+ghost use Rattle.rs_table.specs.Cell.{place_of, route_at, route_of_held, routes_in, stored_best, with_one, with_route};
+ghost use Rattle.rs_table.specs.Cell.{without_one, without_route, AreHeld, IsAscending, IsCell, IsPut, IsTaken};
 ghost use Rattle.rs_table.specs.RouteView.{peer_route_of};
 ghost use Rattle.rs_table.specs.Table.{peer_route};
 
@@ -16,8 +18,8 @@ use std::alloc::{AllocError, Global};
 use std::marker::Model;
 use std::mem::replace;
 
-// The routes on a prefix, in ascending order of their peers, and for each client the number of the peer whose route it gets: its own
-// number where it gets none, since no client gets a route of its own.
+// The routes on a prefix, in ascending order of their peers, and for each client the number of the peer whose
+// route it gets: its own number where it gets none, since no client gets a route of its own.
 #[derive(Drop)]
 pub(crate) struct Cell {
     held: Vec<HeldRoute>,

@@ -65,7 +65,10 @@ fn announce(
 ) -> Result<(), AllocError>
     requires judged { IsJudged plan.now route }
     requires cells { AreCells plan.now cells.old.entries }
-    ensures routes { OnOk result ((q : IpPrefix) → routes_at cells.new.entries q ≡ (if same_prefix q prefix then with_route (routes_at cells.old.entries q) (route_of_held route) else routes_at cells.old.entries q)) }
+    ensures routes { OnOk result ((q : IpPrefix)
+        → routes_at cells.new.entries q
+        ≡ (if same_prefix q prefix then with_route (routes_at cells.old.entries q) (route_of_held route)
+        else routes_at cells.old.entries q)) }
     ensures err { OnErr result (cells.new.entries ≡ cells.old.entries) }
     ensures first { OnErr result (cell_at cells.old.entries prefix ≡ None) }
     ensures cells { AreCells plan.now cells.new.entries }
@@ -82,7 +85,9 @@ fn announce(
 // Removes a peer's route on a prefix, if there is one, and the cell with its last route.
 fn withdraw(cells: &mut BTreeMap<Prefix, Cell>, plan: &Exchange, peer: usize, prefix: Prefix)
     requires { AreCells plan.now cells.old.entries }
-    ensures routes { (q : IpPrefix) → routes_at cells.new.entries q ≡ (if same_prefix q prefix then without_route (routes_at cells.old.entries q) peer else routes_at cells.old.entries q) }
+    ensures routes { (q : IpPrefix) → routes_at cells.new.entries q
+        ≡ (if same_prefix q prefix then without_route (routes_at cells.old.entries q) peer
+        else routes_at cells.old.entries q) }
     ensures cells { AreCells plan.now cells.new.entries }
 {
     let Some(cell) = cells.get_mut(&prefix) else {
@@ -108,7 +113,8 @@ pub(crate) fn join(
 // Removes all routes of a peer, and each cell with its last route.
 fn withdraw_all(cells: &mut BTreeMap<Prefix, Cell>, plan: &Exchange, peer: usize)
     requires { AreCells plan.now cells.old.entries }
-    ensures routes { (q : IpPrefix) → routes_at cells.new.entries q ≡ without_route (routes_at cells.old.entries q) peer }
+    ensures routes { (q : IpPrefix) → routes_at cells.new.entries q
+        ≡ without_route (routes_at cells.old.entries q) peer }
     ensures cells { AreCells plan.now cells.new.entries }
 {
     cells.retain(|_, cell| cell.withdraw(plan, peer));

@@ -3,8 +3,8 @@
 ghost use Rattle.rs_table.specs.Examples.{LeftExamples, TableExamples};
 ghost use Rattle.rs_table.specs.Laws.{LeftByLastChanges, LeftByPart, LeftAfterOneMore, TableIsComputed};
 
-/// The routes that a list of changes leaves are those announced last on their prefix and since the session was last lost (RFC 4271,
-/// section 9.1), none where the list closes but at the end of its file.
+/// The routes that a list of changes leaves are those announced last on their prefix and since the session
+/// was last lost (RFC 4271, section 9.1), none where the list closes but at the end of its file.
 pub fn left_by_last_changes()
     ensures { LeftByLastChanges }
 {}
@@ -14,13 +14,15 @@ pub fn left_after_one_more()
     ensures { LeftAfterOneMore }
 {}
 
-/// On a prefix a list of changes leaves what its part leaves that has every change on that prefix and every change on none: the losses
-/// and closes. So each of several workers may hold the routes of prefixes of its own.
+/// On a prefix a list of changes leaves what its part leaves that has every change on that prefix and every
+/// change on none: the losses and closes. So each of several workers may hold the routes of prefixes of its
+/// own.
 pub fn left_by_part()
     ensures { LeftByPart }
 {}
 
-/// A client has one table: the rows that ascend strictly and say of each prefix what the client gets are those that are computed.
+/// A client has one table: the rows that ascend strictly and say of each prefix what the client gets are
+/// those that are computed.
 pub fn table_is_computed()
     ensures { TableIsComputed }
 {}

@@ -1,11 +1,12 @@
 //! The routes that each peer has left, and the table that each client gets of them.
 //!
-//! Standards: RFC 4271, sections 3.2 (Adj-RIB-In) and 9.1 (decision process); RFC 7947, section 2.3 (a table for each client, its
-//! export policy before its decision).
+//! Standards: RFC 4271, sections 3.2 (Adj-RIB-In) and 9.1 (decision process); RFC 7947, section 2.3 (a table
+//! for each client, its export policy before its decision).
 //!
-//! Reading order: `tables` (what each peer has left, and what a client gets on a prefix), `route` (what is answered), `listing` (a
-//! client's whole table), `why` (and why not), `merge` (parts made one), `laws` (of the definitions). Below them `cells` (of all prefixes) and `cell` (of one;
-//! who gets which route on it is decided in `rs_choice`).
+//! Reading order: `tables` (what each peer has left, and what a client gets on a prefix), `route` (what is
+//! answered), `listing` (a client's whole table), `why` (and why not), `merge` (parts made one), `laws` (of
+//! the definitions). Below them `cells` (of all prefixes) and `cell` (of one; who gets which route on it is
+//! decided in `rs_choice`).
 #![tactic(auto)]
 
 mod cell;

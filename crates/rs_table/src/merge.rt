@@ -7,8 +7,9 @@ use crate::tables::Tables;
 use std::alloc::AllocError;
 
 impl Tables {
-    /// Makes parts one: tables over one plan, where no two have a route on the same prefix and the same peers are closed in all. Each
-    /// peer has left the routes that it has left in the parts. Nothing is decided anew.
+    /// Makes parts one: tables over one plan, where no two have a route on the same prefix and the same peers
+    /// are closed in all. Each peer has left the routes that it has left in the parts. Nothing is decided
+    /// anew.
     ///
     /// Refused memory, the parts are dropped.
     pub fn merge(parts: Vec<Tables>) -> Result<Tables, AllocError>

@@ -1,7 +1,8 @@
-//! The tables of an exchange: what each peer has left, and what each client gets of it (RFC 4271, sections 3.2 and 9.1).
+//! The tables of an exchange: what each peer has left, and what each client gets of it (RFC 4271, sections
+//! 3.2 and 9.1).
 //!
-//! They are kept by prefix: a cell has the routes of all peers on one prefix, and what each client gets of them, decided anew with
-//! each change.
+//! They are kept by prefix: a cell has the routes of all peers on one prefix, and what each client gets of
+//! them, decided anew with each change.
 
 ghost use Rattle.std.specs.Prelude.{◌≡◌, ◌≢◌, ◌<◌, ◌≤◌, ℕ, false, IfOk, OnOk, OnErr, None, Some, length};
 ghost use Rattle.std.specs.Option.{option_map};
@@ -29,7 +30,8 @@ use std::sync::Arc;
 
 /// The tables of an exchange.
 ///
-/// Of each peer they hold the routes that its changes have left, and whether its session closed. They keep the allocator.
+/// Of each peer they hold the routes that its changes have left, and whether its session closed. They keep
+/// the allocator.
 #[derive(Drop)]
 pub struct Tables {
     plan: Arc<Exchange>,
@@ -82,16 +84,19 @@ impl Tables {
         }
     }
 
-    /// Takes the next change of the peer of number `peer`: an announcement replaces the peer's route on that prefix, a withdrawal
-    /// removes it, a loss of the session removes all of the peer's routes and leaves it open, a close at the end of the file leaves the
-    /// peer's routes, and any other close drops them (our choice).
+    /// Takes the next change of the peer of number `peer`: an announcement replaces the peer's route on that
+    /// prefix, a withdrawal removes it, a loss of the session removes all of the peer's routes and leaves it
+    /// open, a close at the end of the file leaves the peer's routes, and any other close drops them (our
+    /// choice).
     ///
-    /// Refused memory, which only an announcement of a prefix on which no peer has a route can be, nothing changed, and the change
-    /// is dropped. An announcement of a prefix on which some peer has a route left, eligible or not, takes no memory and succeeds.
+    /// Refused memory, which only an announcement of a prefix on which no peer has a route can be, nothing
+    /// changed, and the change is dropped. An announcement of a prefix on which some peer has a route left,
+    /// eligible or not, takes no memory and succeeds.
     pub fn apply(&mut self, peer: usize, word: Word) -> Result<(), AllocError>
         requires known { peer < length self.old.plan.peers }
         requires open { (rib_of self.old peer).closed ≡ false }
-        ensures routes { OnOk result (BecomeBy (rib_of self.old peer).routes (change_of word) (rib_of self.new peer).routes) }
+        ensures routes { OnOk result (BecomeBy (rib_of self.old peer).routes (change_of word)
+            (rib_of self.new peer).routes) }
         ensures closed { OnOk result ((rib_of self.new peer).closed ≡ is_close (change_of word)) }
         ensures err { OnErr result (self.new ≡ self.old) }
         ensures succeeds { OnErr result (IsNewAnnouncement (rib_of self.old peer).routes (change_of word)) }
@@ -119,16 +124,17 @@ impl Tables {
         self.plan.count()
     }
 
-    /// The route that the peer of number `client` gets on a prefix: the choice of the decision process among the routes that other
-    /// peers have left there, that are eligible and that export policy permits to the client. None where there is none, or no such
-    /// peer. It takes no memory.
+    /// The route that the peer of number `client` gets on a prefix: the choice of the decision process among
+    /// the routes that other peers have left there, that are eligible and that export policy permits to the
+    /// client. None where there is none, or no such peer. It takes no memory.
     pub fn best(&self, client: usize, prefix: Prefix) -> Option<Route<'_>>
         ensures { option_map peer_route_of result ≡ best_of self.now client prefix }
     {
         self.cells.get(&prefix)?.best(client)
     }
 
-    /// The route that the peer of number `peer` has left on a prefix, eligible or not; none where it has none. It takes no memory.
+    /// The route that the peer of number `peer` has left on a prefix, eligible or not; none where it has
+    /// none. It takes no memory.
     pub fn route(&self, peer: usize, prefix: Prefix) -> Option<Route<'_>>
         requires { peer < length self.now.plan.peers }
         ensures { option_map peer_route_of result ≡ route_from self.now prefix peer }
@@ -136,10 +142,13 @@ impl Tables {
         self.cells.get(&prefix)?.route(peer)
     }
 
-    // The cells: where a prefix has none, no peer has left a route, and else each client gets what its cell keeps for it.
+    // The cells: where a prefix has none, no peer has left a route, and else each client gets what its cell
+    // keeps for it.
     pub(crate) fn cells(&self) -> &BTreeMap<Prefix, Cell>
-        ensures bests { (client : ℕ) → (prefix : IpPrefix) → (cell : CellContent) → cell_at result.now.entries prefix ≡ Some cell → stored_best cell client ≡ best_of self.now client prefix }
-        ensures none { (prefix : IpPrefix) → cell_at result.now.entries prefix ≡ None → is_held self.now.ribs prefix ≡ false }
+        ensures bests { (client : ℕ) → (prefix : IpPrefix) → (cell : CellContent)
+            → cell_at result.now.entries prefix ≡ Some cell → stored_best cell client ≡ best_of self.now client prefix }
+        ensures none { (prefix : IpPrefix) → cell_at result.now.entries prefix ≡ None
+            → is_held self.now.ribs prefix ≡ false }
     {
         &self.cells
     }

@@ -24,7 +24,8 @@ pub enum Why {
 }
 
 impl Tables {
-    /// Why the peer of number `client` has the route of the peer of number `peer` on a prefix, or not. It takes no memory.
+    /// Why the peer of number `client` has the route of the peer of number `peer` on a prefix, or not. It
+    /// takes no memory.
     pub fn why(&self, client: usize, peer: usize, prefix: Prefix) -> Why
         requires client_known { client < length self.now.plan.peers }
         requires peer_known { peer < length self.now.plan.peers }

@@ -23,7 +23,8 @@ abbrev pub charge_of : {S : Type 0} → Errors → Job S → Charge S
 charge_of errors job = record { source = job.source; peer = job.id; errors = errors; ring = job.out.ring }
 
 abbrev pub charged : {S : Type 0} → WorkerOf S → Charge S
-charged promise = record { source = promise.source.value; peer = promise.id; errors = promise.errors; ring = promise.out.value.ring }
+charged promise =
+    record { source = promise.source.value; peer = promise.id; errors = promise.errors; ring = promise.out.value.ring }
 
 -- what the session may say with which a worker is charged
 abbrev pub said_by : {S : Type 0} → Comes S → (S → Option MrtRecord) → Charge S → Saying
@@ -37,7 +38,8 @@ pub record HasJoined (may : Saying) (received : List Word) (end : Joined) : Type
   pub settles : end.settled ≡ true → received ≡ sent
 
 -- each worker sent what its session says, and what it tells of that is so of its peer's receiver
-abbrev pub AllJoined : {S : Type 0} → Comes S → (S → Option MrtRecord) → List (Charge S) → List (Receiving Word) → List Joined → Type 0
+abbrev pub AllJoined : {S : Type 0} → Comes S → (S → Option MrtRecord) → List (Charge S) → List (Receiving Word)
+    → List Joined → Type 0
 AllJoined {S = S} comes shows charges from ends =
     (peer : ℕ) (charge : Charge S) (receiver : Receiving Word) (end : Joined) →
     slice_get charges peer ≡ Some charge → slice_get from peer ≡ Some receiver → slice_get ends peer ≡ Some end →

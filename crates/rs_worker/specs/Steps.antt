@@ -18,7 +18,8 @@ reason_of (Withdraw prefix) = None
 reason_of Down = None
 
 -- something is still to come, though no word is given
-pub record IsUnfinished {S : Type 0} (comes : Comes S) (shows : S → Option MrtRecord) (old : Stage S) (passed : ℕ) : Type 0 where
+pub record IsUnfinished {S : Type 0} (comes : Comes S) (shows : S → Option MrtRecord) (old : Stage S)
+    (passed : ℕ) : Type 0 where
   pub rest : List Change
   pub total : ℕ
   pub may_come : May comes shows old rest total
@@ -26,17 +27,21 @@ pub record IsUnfinished {S : Type 0} (comes : Comes S) (shows : S → Option Mrt
   pub passed_within : passed ≤ total
 
 -- a word that doesn't close is the next one of an open session
-pub record GoesOn {S : Type 0} (comes : Comes S) (shows : S → Option MrtRecord) (room : S → ℕ) (old new : Stage S) (word : Word) : Type 0 where
+pub record GoesOn {S : Type 0} (comes : Comes S) (shows : S → Option MrtRecord) (room : S → ℕ) (old new : Stage S)
+    (word : Word) : Type 0 where
   pub keeps : KeepsBehind comes shows (change_of word) old new
   pub unclosed : new.closed ≡ false
   pub fewer : most_changes room shows new + 1 ≤ most_changes room shows old
 
 -- a word that closes is the last one of the session; or memory is refused, and it tells so
-pub record Ends {S : Type 0} (comes : Comes S) (shows : S → Option MrtRecord) (old new : Stage S) (word : Word) (reason : Reason) : Type 0 where
+pub record Ends {S : Type 0} (comes : Comes S) (shows : S → Option MrtRecord) (old new : Stage S) (word : Word)
+    (reason : Reason) : Type 0 where
   pub last : is_memory reason ≡ false → May comes shows old (change_of word ∷ []) new.passed
-  pub refused : is_memory reason ≡ true → (word ≡ closing_word 0 reasons.Memory) × IsUnfinished comes shows old new.passed
+  pub refused : is_memory reason ≡ true
+      → (word ≡ closing_word 0 reasons.Memory) × IsUnfinished comes shows old new.passed
 
 -- the next word of a session
-abbrev pub Takes : {S : Type 0} → Comes S → (S → Option MrtRecord) → (S → ℕ) → Stage S → Stage S → Word → Option Reason → Type 0
+abbrev pub Takes : {S : Type 0} → Comes S → (S → Option MrtRecord) → (S → ℕ) → Stage S → Stage S → Word
+    → Option Reason → Type 0
 Takes comes shows room old new word None = GoesOn comes shows room old new word
 Takes comes shows room old new word (Some reason) = Ends comes shows old new word reason

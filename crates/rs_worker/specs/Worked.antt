@@ -29,7 +29,8 @@ is_memory reasons.Read = false
 abbrev pub closes_any : List Word → Bool
 closes_any words = has_close (λ word. is_close word.body) words
 
--- the changes are a beginning of what the session may say, without its close, and a close that tells of the want of memory
+-- the changes are a beginning of what the session may say, without its close, and a close that tells of the
+-- want of memory
 pub record IsCutShort (may : Saying) (changes : List Change) (passed : ℕ) : Type 0 where
   pub given : List Change
   pub rest : List Change
@@ -39,7 +40,8 @@ pub record IsCutShort (may : Saying) (changes : List Change) (passed : ℕ) : Ty
   pub splits : changes ≡ given ++ close_at 0 reasons.Memory ∷ []
   pub passed_within : passed ≤ total
 
--- the words sent: some that don't close, and then the close for this reason; they are all that the session may say, or cut short
+-- the words sent: some that don't close, and then the close for this reason; they are all that the session
+-- may say, or cut short
 pub record HasSent (may : Saying) (sent : List Word) (reason : Reason) (passed : ℕ) : Type 0 where
   pub before : List Word
   pub time : ℕ
@@ -48,7 +50,8 @@ pub record HasSent (may : Saying) (sent : List Word) (reason : Reason) (passed :
   pub whole : is_memory reason ≡ false → may (map change_of sent) passed
   pub cut_short : is_memory reason ≡ true → IsCutShort may (map change_of sent) passed
 
--- what a worker answers: it tells how many words it sent and why the last one closes, and its token, where one came, shows them
+-- what a worker answers: it tells how many words it sent and why the last one closes, and its token, where
+-- one came, shows them
 pub record HasWorked (may : Saying) (ring : Ring) (end : WorkerEnd) : Type 0 where
   pub sent : List Word
   pub said : HasSent may sent end.reason end.passed

@@ -38,7 +38,8 @@ pub struct WorkerOf<S> {
 }
 
 impl<S: Source> Promise<WorkerEnd> for WorkerOf<S> {
-    ghost kept_by = { λ p end. HasWorked (May S.comes S.shows (fresh p.source.value p.id p.errors)) p.out.value.ring end };
+    ghost kept_by = { λ p end.
+        HasWorked (May S.comes S.shows (fresh p.source.value p.id p.errors)) p.out.value.ring end };
 }
 
 // Starts the worker of one peer. None where the system refuses a thread.
@@ -69,10 +70,12 @@ fn start_worker<'s, E, R: Wait + Sync, S: Source + Send + Drop + 's, G: Gate>(
     scope.spawn_with(promise, run).ok()
 }
 
-/// Starts the workers of all peers in a scope, one thread each, and keeps their handles: job `k` is the one of peer `k`. Answers
-/// whether all were started. It takes no memory but what the system takes for its threads.
+/// Starts the workers of all peers in a scope, one thread each, and keeps their handles: job `k` is the one
+/// of peer `k`. Answers whether all were started. It takes no memory but what the system takes for its
+/// threads.
 ///
-/// Where the system refuses a thread, no more are started: the handles are those of the first peers, and the other jobs are gone.
+/// Where the system refuses a thread, no more are started: the handles are those of the first peers, and the
+/// other jobs are gone.
 pub fn start_workers<'s, E, R: Wait + Sync, S: Source + Send + Drop + 's, G: Gate>(
     scope: &'s Scope<'s, E>,
     rt: &'s R,
@@ -86,7 +89,8 @@ pub fn start_workers<'s, E, R: Wait + Sync, S: Source + Send + Drop + 's, G: Gat
     requires empty { handles.old.items ≡ [] }
     requires room { vec_len jobs ≤ vec_capacity handles.old }
     // Handle k is the one of job k.
-    ensures tied { IsPrefix (map (λ handle. charged handle.promise) handles.new.items) (map (charge_of errors) jobs.items) }
+    ensures tied { IsPrefix (map (λ handle. charged handle.promise) handles.new.items)
+        (map (charge_of errors) jobs.items) }
     ensures all { IsTrue result → vec_len handles.new ≡ vec_len jobs }
 {
     for job in jobs {
@@ -150,20 +154,23 @@ fn is_settled(from: &mut Receiver<Word>, token: Finished<Word>) -> bool
     from.after(&mut token) == 0
 }
 
-/// Joins workers in the order of the peers, and asks of each whether all that it sent was received: receiver `k` is the one of peer `k`.
-/// It takes no memory.
+/// Joins workers in the order of the peers, and asks of each whether all that it sent was received: receiver
+/// `k` is the one of peer `k`. It takes no memory.
 pub fn join_workers<S: Source>(
     rt: &impl Threads,
     handles: Vec<PromisedHandle<WorkerEnd, WorkerOf<S>>>,
     from: &mut [Receiver<Word>],
     ends: &mut Vec<Joined>,
 )
-    requires rings { map (λ handle. (charged handle.promise).ring) handles.items ≡ map (λ receiver. receiver.ring) from.old }
+    requires rings { map (λ handle. (charged handle.promise).ring) handles.items
+        ≡ map (λ receiver. receiver.ring) from.old }
     requires empty { ends.old.items ≡ [] }
     requires room { vec_len handles ≤ vec_capacity ends.old }
     ensures count { vec_len ends.new ≡ vec_len handles }
-    ensures joined { AllJoined S.comes S.shows (map (λ handle. charged handle.promise) handles.items) from.new ends.new.items }
-    ensures same { (map (λ receiver. receiver.ring) from.new ≡ map (λ receiver. receiver.ring) from.old) × (map (λ receiver. receiver.received) from.new ≡ map (λ receiver. receiver.received) from.old) }
+    ensures joined { AllJoined S.comes S.shows
+        (map (λ handle. charged handle.promise) handles.items) from.new ends.new.items }
+    ensures same { (map (λ receiver. receiver.ring) from.new ≡ map (λ receiver. receiver.ring) from.old)
+        × (map (λ receiver. receiver.received) from.new ≡ map (λ receiver. receiver.received) from.old) }
 {
     for handle in handles {
         let peer = ends.len();

@@ -1,5 +1,6 @@
-//! How a thread waits for another one at a ring: some tens of tries, then it leaves the processor to others, then it sleeps, longer each
-//! time up to a limit. A thread that goes on soon loses little, and one that waits for long burns no processor.
+//! How a thread waits for another one at a ring: some tens of tries, then it leaves the processor to others,
+//! then it sleeps, longer each time up to a limit. A thread that goes on soon loses little, and one that
+//! waits for long burns no processor.
 //!
 //! Nothing is claimed of time.
 
@@ -14,8 +15,8 @@ const FIRST_SLEEP: u64 = 10;
 // The longest sleep of a thread that others wait for, in microseconds.
 const LONGEST_SLEEP: u64 = 320;
 
-// The longest sleep of one of many threads that wait for the same other one, in microseconds: as 256 workers at full rings
-// wait for one router, whose round takes tens of milliseconds.
+// The longest sleep of one of many threads that wait for the same other one, in microseconds: as 256 workers
+// at full rings wait for one router, whose round takes tens of milliseconds.
 const LONGEST_SLEEP_OF_MANY: u64 = 5120;
 
 /// How long a thread has waited for the same thing.

@@ -15,7 +15,7 @@ use Rattle.rs_table.specs.Merge.{AreParts}
 use Rattle.rs_table.proofs.LeftLemmas.{get-left}
 use Rattle.rs_table.proofs.MergeLemmas.{none-held}
 use Rattle.rs_table.proofs.PrefixLemmas.{same_prefix-true}
-use Rattle.table_tests.specs.Parts.{IsOnLength}
+use Rattle.table_tests.specs.Parts.{IsEmpty, IsOnLength, IsOnPrefix, IsOpen}
 
 nothing-left : left [] ≡ fin.empty
 unfolding left
@@ -26,9 +26,9 @@ pub one-route : (old new : TablesContent) (plan : Plan) (peer time : ℕ) (prefi
     let change : Change = record { time = time; body = Announced prefix attributes } in
     ((p : ℕ) → rib_of old p ≡ nothing_held) → new.plan ≡ plan →
     BecomeBy (rib_of old peer).routes change (rib_of new peer).routes → (rib_of new peer).closed ≡ false →
-    ((other : ℕ) → other ≢ peer → rib_of new other ≡ rib_of old other) → IsOnLength plan prefix.len new
+    ((other : ℕ) → other ≢ peer → rib_of new other ≡ rib_of old other) → IsOnPrefix plan prefix new
 one-route old new plan peer time prefix attributes empty over become unclosed others =
-    record { plan = over; unclosed = all_unclosed; held = on_length }
+    record { is_open = record { plan = over; unclosed = all_unclosed }; held = on_prefix }
   where
     by_peer : (p : ℕ) → (p ≡ peer) ⊎ (p ≢ peer)
     by_peer p = elim (eqb_tells p peer) [ inl same ↦ inl same.1 | inr apart ↦ inr apart.1 ]
@@ -52,11 +52,57 @@ one-route old new plan peer time prefix attributes empty over become unclosed ot
       | inr other ↦ ap (λ (rib : RibContent). fin.get rib.routes q) (others p other ∙ empty p) ∙ fin.get-empty prefix_cmp q
     ]
 
-    on_length : (q : IpPrefix) → is_held new.ribs q ≡ true → q.len ≡ prefix.len
-    on_length q held = elim (cases_Bool (same_prefix q prefix)) [
-      | inl same ↦ ap (λ (p : IpPrefix). p.len) (same_prefix-true q prefix same)
+    on_prefix : (q : IpPrefix) → is_held new.ribs q ≡ true → q ≡ prefix
+    on_prefix q held = elim (cases_Bool (same_prefix q prefix)) [
+      | inl same ↦ same_prefix-true q prefix same
       | inr apart ↦ absurd (cc (held, none-held new.ribs q (none_there q apart)))
     ]
+
+pub of-length : (plan : Plan) (prefix : IpPrefix) (tables : TablesContent) → IsOnPrefix plan prefix tables → IsOnLength plan prefix.len tables
+of-length plan prefix tables on = record {
+  plan = on.is_open.plan;
+  unclosed = on.is_open.unclosed;
+  held = λ q held. ap (λ (p : IpPrefix). p.len) (on.held q held);
+}
+
+-- a peer that said no close is open, and the others are as they were
+pub still-open : (old new : TablesContent) (peer : ℕ) → ((p : ℕ) → (rib_of old p).closed ≡ false) → (rib_of new peer).closed ≡ false →
+    ((other : ℕ) → other ≢ peer → rib_of new other ≡ rib_of old other) → (p : ℕ) → (rib_of new p).closed ≡ false
+still-open old new peer before unclosed others p = elim (eqb_tells p peer) [
+  | inl same ↦ ap (λ n. (rib_of new n).closed) same.1 ∙ unclosed
+  | inr apart ↦ ap (λ (rib : RibContent). rib.closed) (others p apart.1) ∙ before p
+]
+
+pub nothing-closed : (plan : Plan) (tables : TablesContent) → IsEmpty plan tables → (p : ℕ) → (rib_of tables p).closed ≡ false
+nothing-closed plan tables empty p = ap (λ (rib : RibContent). rib.closed) (empty.nothing p)
+
+-- nothing and something
+pub empty-part : (plan : Plan) (one other : TablesContent) → IsEmpty plan one → IsOpen plan other → AreParts one other
+empty-part plan one other empty opened = record {
+  plan = empty.plan ∙ sym opened.plan;
+  closed = λ peer. nothing-closed plan one empty peer ∙ sym (opened.unclosed peer);
+  apart = λ q held. absurd (cc (held, none-held one.ribs q (λ peer. ap (λ (rib : RibContent). fin.get rib.routes q) (empty.nothing peer) ∙ fin.get-empty prefix_cmp q)));
+}
+
+-- routes on two prefixes
+pub two-prefixes : (plan : Plan) (p r : IpPrefix) (one other : TablesContent) → (p.address ≡ r.address → ⊥) → IsOnPrefix plan p one → IsOnPrefix plan r other → AreParts one other
+two-prefixes plan p r one other apart first second = record {
+  plan = first.is_open.plan ∙ sym second.is_open.plan;
+  closed = λ peer. first.is_open.unclosed peer ∙ sym (second.is_open.unclosed peer);
+  apart = λ q held. elim (cases_Bool (is_held other.ribs q)) [
+    | inl too ↦ absurd (apart (ap (λ (p : IpPrefix). p.address) (sym (first.held q held) ∙ second.held q too)))
+    | inr not ↦ not
+  ];
+}
+
+pub two-parts : (first second : TablesContent) → AreParts first second → AllPairs AreParts (first ∷ second ∷ [])
+two-parts first second are zero zero d less within = absurd (omega (arith, less))
+two-parts first second are zero (suc zero) d less within = are
+two-parts first second are (suc zero) zero d less within = absurd (omega (arith, less))
+two-parts first second are (suc zero) (suc zero) d less within = absurd (omega (arith, less))
+two-parts first second are (suc (suc i)) zero d less within = absurd (omega (arith, less))
+two-parts first second are (suc (suc i)) (suc zero) d less within = absurd (omega (arith, less))
+two-parts first second are i (suc (suc j)) d less within = absurd (omega (arith, within))
 
 are-parts : (plan : Plan) (m n : ℕ) (one other : TablesContent) → (m ≡ n → ⊥) → IsOnLength plan m one → IsOnLength plan n other → AreParts one other
 are-parts plan m n one other apart first second = record {

@@ -1,4 +1,5 @@
-//! Exchanges whose routes are read from octets, in hexadecimal: which route each client gets, why, and how its table is dumped.
+//! Exchanges whose routes are read from octets, in hexadecimal: which route each client gets, why, and how
+//! its table is dumped.
 
 mod closed_sessions;
 mod decisions;
@@ -9,6 +10,7 @@ mod merged_parts;
 mod random_changes;
 mod refusals;
 mod slow_reading;
+mod worked_rows;
 mod writers;
 
 use rs_choice::{Exchange, Local, PeerSpec};
@@ -56,7 +58,8 @@ const BY_ANOTHER: &str = "40010100 4002060201 0000FBF5 400304C0000214";
 
 const BY_AN_OUTSIDER: &str = "40010100 4002060201 0000FBF5 400304C6336401";
 
-// The peers of an exchange, each by its name, AS number, address, identifier, and a peer whose routes it refuses or none.
+// The peers of an exchange, each by its name, AS number, address, identifier, and a peer whose routes it
+// refuses or none.
 type Peers<'a> = &'a [(&'a str, u32, u32, u32, &'a str)];
 
 // Four peers of AS 64501 and on, at 192.0.2.11 and on.

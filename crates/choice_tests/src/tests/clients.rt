@@ -1,5 +1,5 @@
-//! Who gets which of the routes held on one prefix, worked by hand: for each client the number of the peer whose route it gets, or its
-//! own number where it gets none.
+//! Who gets which of the routes held on one prefix, worked by hand: for each client the number of the peer
+//! whose route it gets, or its own number where it gets none.
 
 use super::*;
 

@@ -1,5 +1,5 @@
-//! Both bodies of the decision process on the same sets of up to 256 candidates, and what all clients of a crowd get beside the choice of
-//! each, with few distinct values, so that ties are common.
+//! Both bodies of the decision process on the same sets of up to 256 candidates, and what all clients of a
+//! crowd get beside the choice of each, with few distinct values, so that ties are common.
 
 ghost use Rattle.std.specs.Prelude.{◌<◌};
 
@@ -192,7 +192,8 @@ fn some_held(
     Ok(held)
 }
 
-// The number of the peer whose route is the choice among those that a client may get, or its own number where there is none.
+// The number of the peer whose route is the choice among those that a client may get, or its own number where
+// there is none.
 fn best_of_one(
     rt: &impl Abort,
     alloc: Global,

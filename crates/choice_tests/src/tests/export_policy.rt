@@ -1,5 +1,5 @@
-//! To whom a route is exported: by communities (RFC 1997), and by the names that a client refuses. The decision comes after the
-//! policy of each client (RFC 7947, section 2.3.2.1).
+//! To whom a route is exported: by communities (RFC 1997), and by the names that a client refuses. The
+//! decision comes after the policy of each client (RFC 7947, section 2.3.2.1).
 
 use super::*;
 

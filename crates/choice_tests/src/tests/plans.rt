@@ -164,7 +164,8 @@ const FAULTS: &[(PlanFault, u8, Option<usize>, &str)] = &[
         PlanFault::InvalidName(0),
         3,
         Some(0),
-        "the name of peer 0 is empty, longer than 64 octets, or has other characters than letters, digits, hyphens and underscores",
+        "the name of peer 0 is empty, longer than 64 octets, or has other characters than \
+         letters, digits, hyphens and underscores",
     ),
     (
         PlanFault::RepeatedName(1),

@@ -72,7 +72,8 @@ const FIRST: [Change; 8] = [
 
 const SECOND: [Change; 3] = [Announce(203), Down, Close(FAULT)];
 
-// What each of three shards gets of them: 198 and 0 are in shard 0, 1 in shard 1, 203 in shard 2. A change has its place as its time.
+// What each of three shards gets of them: 198 and 0 are in shard 0, 1 in shard 1, 203 in shard 2. A change
+// has its place as its time.
 const FIRST_CUT: [&[(u32, Change)]; 3] = [
     &[
         (0, Announce(198)),
@@ -203,7 +204,8 @@ fn receive_from(outside: &mut Outside, shard: usize, received: &mut Received) ->
     Some(())
 }
 
-// Sends the changes of both peers as there is room, and receives what comes for the shards, until each one was sent the last item.
+// Sends the changes of both peers as there is room, and receives what comes for the shards, until each one
+// was sent the last item.
 fn feed(
     rt: &impl Wait,
     alloc: Global,

@@ -427,7 +427,8 @@ fn add_loss(file: &mut Vec<u8>, peer: u32, time: u32) -> Result<(), AllocError> 
     file.extend_from_slice(&[0xC0, 0, 2, 1, 0, 6, 0, 1])
 }
 
-// The file of a peer that announces 198.51.100.0/24 and 203.0.113.0/24, is lost, and may announce the second of them again.
+// The file of a peer that announces 198.51.100.0/24 and 203.0.113.0/24, is lost, and may announce the second
+// of them again.
 fn lost(alloc: Global, peer: u32, comes_back: bool) -> Result<Vec<u8>, AllocError> {
     let mut file = Vec::new(alloc);
     add_announcement(&mut file, peer, 100, &[24, 198, 51, 100, 24, 203, 0, 113])?;

@@ -29,8 +29,8 @@ enum Change {
 
 use Change::{Announce, Close, Down, Withdraw};
 
-// What the shard is sent of three peers before the last item. A change has its place as its time. One follows its peer's close, and one
-// is of a peer that isn't there.
+// What the shard is sent of three peers before the last item. A change has its place as its time. One follows
+// its peer's close, and one is of a peer that isn't there.
 const CHANGES: [Change; 12] = [
     Announce(0, 10),
     Announce(1, 10),
@@ -207,8 +207,8 @@ fn a_shard_holds_what_each_peer_has_left_up_to_its_close(rt: HostRuntime) {
     }
 }
 
-// It holds whichever allocation is refused: then the shard has no tables, or all that it was sent, and in each case it received all items.
-// `tools/refuse_in_tests` refuses each in turn.
+// It holds whichever allocation is refused: then the shard has no tables, or all that it was sent, and in
+// each case it received all items. `tools/refuse_in_tests` refuses each in turn.
 #[test]
 fn refused_memory_ends_the_tables_of_a_shard(rt: HostRuntime) {
     let alloc = rt.alloc();

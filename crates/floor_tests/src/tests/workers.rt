@@ -321,7 +321,8 @@ fn a_worker_closes_at_a_message_that_is_too_long(rt: HostRuntime) -> Result<(), 
     Ok(())
 }
 
-// An UPDATE whose ORIGIN has a value that isn't one closes by RFC 4271 (section 6.3), and is withdrawn by RFC 7606 (section 7.1).
+// An UPDATE whose ORIGIN has a value that isn't one closes by RFC 4271 (section 6.3), and is withdrawn by RFC
+// 7606 (section 7.1).
 #[test]
 fn a_worker_handles_faults_as_it_is_told(rt: HostRuntime) -> Result<(), Fail> {
     let mut file = Vec::new(rt.alloc());
@@ -366,8 +367,8 @@ const SAID: [Given; 3] = [
     END,
 ];
 
-// It holds whichever allocation is refused: then no ring is made, or the worker sends a beginning of what its file says, and a close that
-// says so. `tools/refuse_in_tests` refuses each in turn.
+// It holds whichever allocation is refused: then no ring is made, or the worker sends a beginning of what its
+// file says, and a close that says so. `tools/refuse_in_tests` refuses each in turn.
 #[test]
 fn refused_memory_ends_the_changes_of_a_worker(rt: HostRuntime) {
     let Ok((out, from)) = ring::<Word>(rt.alloc(), 8) else {

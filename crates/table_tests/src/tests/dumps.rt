@@ -23,13 +23,16 @@ const FOUR_ROWS_DUMP: &str =
 
 // AS_PATH 64501 65010, a MED, LOCAL_PREF, two communities and an attribute of type 32, as received ..
 const FULL: &str =
-    "40010100 40020A02020000FBF50000FDF2 400304C000020B 80040400000007 400504000000C8 C00808FBF4FBF6FDE80001 C0200C0000FDE80000000100000002";
+    "40010100 40020A02020000FBF50000FDF2 400304C000020B 80040400000007 400504000000C8 C00808FBF4FBF6FDE80001 \
+    C0200C0000FDE80000000100000002";
 
-// .. and as dumped: without LOCAL_PREF, and with Partial set on the last one. The record's Length is 75, the Attribute Length 57.
+// .. and as dumped: without LOCAL_PREF, and with Partial set on the last one. The record's Length is 75, the
+// Attribute Length 57.
 const FULL_DUMP: &str =
     "00000000 000D 0001 00000023 C0000201 0001 62 0002 02 C000020B C000020B 0000FBF5 02 C000020C C000020C 0000FBF6
     00000000 000D 0002 0000004B 00000000 18CB0071 0001 0000 00000064 0039
-    40010100 40020A02020000FBF50000FDF2 400304C000020B 80040400000007 C00808FBF4FBF6FDE80001 E0200C0000FDE80000000100000002";
+    40010100 40020A02020000FBF50000FDF2 400304C000020B 80040400000007 C00808FBF4FBF6FDE80001 \
+    E0200C0000FDE80000000100000002";
 
 // Empty tables for a and for b of two peers, and for c of three.
 const EMPTY_OF_A: &str =
@@ -39,7 +42,8 @@ const EMPTY_OF_B: &str =
     "00000000 000D 0001 00000023 C0000201 0001 62 0002 02 C000020B C000020B 0000FBF5 02 C000020C C000020C 0000FBF6";
 
 const EMPTY_OF_C: &str =
-    "00000000 000D 0001 00000030 C0000201 0001 63 0003 02 C000020B C000020B 0000FBF5 02 C000020C C000020C 0000FBF6 02 C000020D C000020D 0000FBF7";
+    "00000000 000D 0001 00000030 C0000201 0001 63 0003 02 C000020B C000020B 0000FBF5 02 C000020C C000020C \
+    0000FBF6 02 C000020D C000020D 0000FBF7";
 
 /// A row of a's, announced at 100.
 pub fn row<'a>(prefix: Prefix, attributes: &'a Attributes) -> Row<'a> {
@@ -82,7 +86,8 @@ pub fn are_known(plan: &Exchange, rows: &[Row]) -> bool
     true
 }
 
-/// Writes a dump at that time to memory within the limits; answers what `write_dump` does, and what the writer has taken then.
+/// Writes a dump at that time to memory within the limits; answers what `write_dump` does, and what the
+/// writer has taken then.
 pub fn dump(
     rt: &impl Abort,
     alloc: Global,

@@ -1,5 +1,5 @@
-//! Which routes a client can get at all: an ineligible one takes the place of an eligible one of its peer, and without a subnet any
-//! next hop but the server's own will do.
+//! Which routes a client can get at all: an ineligible one takes the place of an eligible one of its peer,
+//! and without a subnet any next hop but the server's own will do.
 
 use super::*;
 

@@ -25,8 +25,8 @@ const TO_TWO_ASES: &str =
 const TO_64504: &str =
     "40010100 4002060201 0000FBF5 400304C000020B C0080C 0000FBF4 FBF4FBF8 0000FBF5";
 
-// Path lengths 1 and 2, three neighbour ASes, with and without MED, one refused to AS 64502, one to all, two for named clients alone, and one not
-// eligible.
+// Path lengths 1 and 2, three neighbour ASes, with and without MED, one refused to AS 64502, one to all, two
+// for named clients alone, and one not eligible.
 const ROUTES: [&str; 10] = [
     VIA_64501,
     MED_10,
@@ -63,7 +63,8 @@ fn four_prefixes() -> Option<[Prefix; 4]> {
     Some([Prefix::new(0, 0)?, ten()?, ten_long, documentation()?])
 }
 
-// Most changes announce, some withdraw, and now and then a session is lost or closes, at the end of its file or at a fault.
+// Most changes announce, some withdraw, and now and then a session is lost or closes, at the end of its file
+// or at a fault.
 fn some_body(
     random: &mut Random,
     prefixes: &[Prefix; 4],

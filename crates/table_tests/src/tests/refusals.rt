@@ -1,5 +1,6 @@
-//! Memory that is refused, whichever allocation of the process it is: nothing is changed, and the same call again answers as if none
-//! had been refused. One allocation is refused in a run at most, so what is asked a second time comes.
+//! Memory that is refused, whichever allocation of the process it is: nothing is changed, and the same call
+//! again answers as if none had been refused. One allocation is refused in a run at most, so what is asked a
+//! second time comes.
 
 ghost use Rattle.std.specs.Prelude.{None};
 
@@ -18,7 +19,8 @@ enum Says {
     Close(Reason),
 }
 
-// What peers say of which prefix, and whether memory may be refused then: a route on a prefix is taken with no memory where there is one.
+// What peers say of which prefix, and whether memory may be refused then: a route on a prefix is taken with
+// no memory where there is one.
 const CHANGES: [(usize, u32, Says, bool); 10] = [
     (A, 203, Says::Announce(NOT_TO_64502), true),
     (C, 203, Says::Announce(VIA_64503), false),
@@ -136,11 +138,26 @@ fn a_refused_change_changes_nothing_and_comes_when_taken_again(rt: HostRuntime) 
     }
 }
 
-// A writer that takes no memory: the first octets, and how many were written.
+/// A writer that takes no memory: the first octets, and how many were written.
 #[derive(Drop)]
-struct Fixed {
-    octets: [u8; 128],
+pub struct Fixed {
+    octets: [u8; 256],
     len: usize,
+}
+
+impl Fixed {
+    /// Begins with no octets.
+    pub fn new() -> Fixed {
+        Fixed {
+            octets: [0; 256],
+            len: 0,
+        }
+    }
+
+    /// The octets that were written; none where there are more than are kept.
+    pub fn octets(&self) -> Option<&[u8]> {
+        self.octets.get(..self.len)
+    }
 }
 
 impl Write for Fixed {
@@ -172,17 +189,14 @@ fn a_refused_dump_writes_nothing_and_comes_when_asked_again(rt: HostRuntime) {
         .or_else(|| octets(alloc, PLAIN_DUMP))
         .expect(&rt, "octets");
     let rows = [row(documentation().expect(&rt, "a prefix"), &route)];
-    let mut out = Fixed {
-        octets: [0; 128],
-        len: 0,
-    };
+    let mut out = Fixed::new();
     assert!(rt; 1 < plan.count());
     assert!(rt; are_known(&plan, &rows));
     let mut answer = write_dump(alloc, &mut out, &plan, 1, &rows, 0);
     if answer == Err(DumpFault::Memory) {
-        assert_eq!(rt; out.len, 0);
+        assert_eq!(rt; out.octets(), Some([].as_slice()));
         answer = write_dump(alloc, &mut out, &plan, 1, &rows, 0);
     }
     assert_eq!(rt; answer, Ok(1));
-    assert_eq!(rt; out.octets.get(..out.len), Some(wanted.as_slice()));
+    assert_eq!(rt; out.octets(), Some(wanted.as_slice()));
 }

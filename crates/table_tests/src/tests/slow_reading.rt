@@ -1,4 +1,5 @@
-//! The rules read slowly: all changes are kept in one list, and what a client gets is worked out from it anew each time.
+//! The rules read slowly: all changes are kept in one list, and what a client gets is worked out from it anew
+//! each time.
 
 use super::*;
 

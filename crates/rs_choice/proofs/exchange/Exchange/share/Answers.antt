@@ -1,7 +1,10 @@
-use Rattle.std.proofs.Common.{◌∙◌, sym, subst, arith, length, map}
+use Rattle.std.proofs.Common.{◌∙◌, ap, sym, subst, arith, length, map}
+use Rattle.std.specs.Option.{option_map}
+use Rattle.rs_choice.specs.Decision.{SentRoute, choice, standing_of}
 use Rattle.rs_choice.specs.Entrants.{chosen_of, standing_of_held}
 use Rattle.rs_choice.specs.Grouping.{places_of, standing_in}
 use Rattle.rs_choice.specs.Held.{sent_of_held, AreEligible}
+use Rattle.rs_choice.specs.Sharing.{sents_at, RestsOn}
 use Rattle.rs_choice.proofs.ClientLemmas.{chosen_is, eligible_all, eligible_sents, first_within, groups_within, rests, view_length, weighing_places}
 use Rattle.rs_choice.proofs.exchange.Exchange.share.Goals as goal
 
@@ -39,11 +42,12 @@ returns c =
     let held = c.args.held.now in
     let eligible = c.eligible-eligible.result in
     let weighing = weighing_places held eligible c.weighing-weighing.result c.eligible-eligible.ensures.places c.weighing-weighing.ensures.among in
+    let same = eligible_sents plan held eligible c.requires.judged c.eligible-eligible.ensures.eligible in
     record {
-      places = c.eligible-eligible.ensures.places;
-      eligible = eligible_sents plan held eligible c.requires.judged c.eligible-eligible.ensures.eligible;
-      peer = c.first_peer-peer.ensures ∙ chosen_is plan held eligible c.group_all.new.groups c.first_of-first.result c.group_all.ensures c.first_of-first.ensures;
+      peer = c.first_peer-peer.ensures ∙ chosen_is plan held eligible c.group_all.new.groups c.first_of-first.result c.group_all.ensures c.first_of-first.ensures
+          ∙ ap (λ list. option_map (λ (sent : SentRoute). sent.peer) (choice (standing_of plan) list)) same;
       weighing = weighing;
-      rests = rests plan held eligible c.group_all.new.groups c.first_of-first.result c.weighing-weighing.result c.eligible-eligible.ensures.places weighing
-          c.group_all.ensures c.first_of-first.ensures c.weighing-weighing.ensures;
+      rests = subst (λ list. RestsOn plan list (sents_at held c.weighing-weighing.result)) same
+          (rests plan held eligible c.group_all.new.groups c.first_of-first.result c.weighing-weighing.result c.eligible-eligible.ensures.places weighing
+          c.group_all.ensures c.first_of-first.ensures c.weighing-weighing.ensures);
     }

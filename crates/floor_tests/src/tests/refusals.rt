@@ -1,0 +1,330 @@
+//! Whole runs and schedules that are refused memory or a thread, whichever of the process it is, and runs of
+//! which a read fails, whichever it is. The answer is the refusal, or that of a run that is refused nothing.
+
+ghost use Rattle.std.specs.Prelude.{◌≡◌};
+
+use super::recordings::exchange;
+use rs_choice::Exchange;
+use rs_floor::{FloorRefused, Gate, Open, PeerEnd, Served, Turn, replay, serve_by};
+use rs_mrt::{MemoryReader, ReadLimits};
+use rs_session::Reason;
+use rs_table::Tables;
+use rs_update::Errors;
+use std::alloc::{AllocError, Global};
+use std::process::Abort;
+use std::sync::atomic::{AtomicU64, Ordering};
+use std::sync::{Arc, Wait};
+use std::test::*;
+use std::thread::Threads;
+
+// An exchange of four peers: what is recorded of each in hexadecimal digits, how many of its changes and of
+// the records that are passed over its session has, and the rows of each client: the first octet of the
+// prefix, and the peer that sent the route.
+#[derive(Clone, Copy)]
+struct Case {
+    recorded: [&'static str; 4],
+    counts: [(u64, u64); 4],
+    rows: [&'static [(u32, usize)]; 4],
+}
+
+// The best route on 203.0.113.0/24 isn't for the second peer, by its communities: it gets the other one.
+const NO_PATH_IS_HIDDEN: Case = Case {
+    recorded: [
+        "00000064001000040000004A0000FBF50000FBF400000001C000020BC0000201FFFFFFFFFFFFFFFFFFFFFFFF
+        FFFFFFFF0036020000001B4001010040020602010000FBF5400304C000020BC008040000FBF618CB0071",
+        "",
+        "0000006400100004000000470000FBF70000FBF400000001C000020DC0000201FFFFFFFFFFFFFFFFFFFFFFFF
+        FFFFFFFF003302000000184001010040020A02020000FBF70000FDF2400304C000020D18CB0071",
+        "",
+    ],
+    counts: [(2, 0), (1, 0), (2, 0), (1, 0)],
+    rows: [&[(203, 2)], &[(203, 2)], &[(203, 0)], &[(203, 0)]],
+};
+
+// A file of the first peer with records of others, of other families and of other forms between its own.
+const COLLECTORS_FILE: Case = Case {
+    recorded: [
+        "0000006400100004000000430000FBF50000FBF400000001C000020BC0000201FFFFFFFFFFFFFFFFFFFFFFFF
+        FFFFFFFF002F02000000144001010040020602010000FBF5400304C000020B18CB0071
+        0000006400100004000000430000FBF60000FBF400000001C000020CC0000201FFFFFFFFFFFFFFFFFFFFFFFF
+        FFFFFFFF002F02000000144001010040020602010000FBF6400304C000020C18CB0071
+        00000064001000040000005B0000FBF50000FBF4000000020000000000000000000000000000000000000000
+        000000000000000000000000FFFFFFFFFFFFFFFFFFFFFFFFFFFFFFFF002F0200000014400101004002060201
+        0000FBF5400304C000020B18CB0071
+        00000064001000010000003FFBF5FBF400000001C000020BC0000201FFFFFFFFFFFFFFFFFFFFFFFFFFFFFFFF
+        002F02000000144001010040020602010000FBF5400304C000020B18CB0071
+        0000006400100005000000180000FBF70000FBF400000001C000020DC000020100060001
+        0000006400100004000000270000FBF80000FBF400000001C000020EC0000201FFFFFFFFFFFFFFFFFFFFFFFF
+        FFFFFFFF001304
+        000000650011000400000047000000000000FBF50000FBF400000001C000020BC0000201FFFFFFFFFFFFFFFF
+        FFFFFFFFFFFFFFFF002F02000000144001010040020602010000FBF5400304C000020B18C63364",
+        "",
+        "",
+        "",
+    ],
+    counts: [(3, 5), (1, 0), (1, 0), (1, 0)],
+    rows: [
+        &[],
+        &[(198, 0), (203, 0)],
+        &[(198, 0), (203, 0)],
+        &[(198, 0), (203, 0)],
+    ],
+};
+
+// The octets that hexadecimal digits spell.
+fn octets(alloc: Global, text: &str) -> Result<Vec<u8>, AllocError> {
+    let mut octets = Vec::new(alloc);
+    let mut high = None;
+    for digit in text.chars().filter_map(|letter| letter.to_digit(16)) {
+        let digit = u8::try_from(digit).unwrap_or(0);
+        match high {
+            None => high = Some(digit),
+            Some(first) => {
+                octets.push((first & 15) << 4 | digit)?;
+                high = None;
+            }
+        }
+    }
+    Ok(octets)
+}
+
+// The files of a case.
+fn files(alloc: Global, case: &Case) -> Result<[Vec<u8>; 4], AllocError> {
+    let [a, b, c, d] = case.recorded;
+    Ok([
+        octets(alloc, a)?,
+        octets(alloc, b)?,
+        octets(alloc, c)?,
+        octets(alloc, d)?,
+    ])
+}
+
+// Whether a client's rows are those of the case. None where memory is refused.
+fn has_rows(rt: &impl Abort, tables: &Tables, case: &Case, client: usize) -> Option<bool> {
+    assert!(rt; client < tables.count());
+    let rows = tables.rows(client).ok()?;
+    let wanted = case.rows.get(client)?;
+    let same = rows.iter().zip(wanted.iter()).all(|(row, (octet, peer))| {
+        row.prefix.address() >> 24 == *octet && row.route.peer == *peer
+    });
+    Some(rows.len() == wanted.len() && same)
+}
+
+// Every client's rows are those of the case, where there is memory to see them.
+fn check_rows(rt: &impl Abort, tables: &Tables, case: &Case) {
+    for client in 0..4 {
+        assert!(rt;
+            has_rows(rt, tables, case, client) != Some(false),
+            "of client {client}"
+        );
+    }
+}
+
+// Counts the workers that came, and the changes and items that workers and shards were about to handle.
+#[derive(Drop)]
+struct Passes {
+    workers: AtomicU64,
+    changes: AtomicU64,
+    items: AtomicU64,
+}
+
+impl Passes {
+    fn none() -> Passes {
+        Passes {
+            workers: AtomicU64::new(0),
+            changes: AtomicU64::new(0),
+            items: AtomicU64::new(0),
+        }
+    }
+
+    // Each of two shards handled all that it was sent: the changes on its prefixes, every close and the last
+    // item. Where no worker came, there may be no shard, or one.
+    fn are_complete(&self) -> bool {
+        let workers = self.workers.load(Ordering::SeqCst);
+        let changes = self.changes.load(Ordering::SeqCst);
+        let items = self.items.load(Ordering::SeqCst);
+        if workers == 0 {
+            return changes == 0 && items <= 2;
+        }
+        items == changes.wrapping_add(workers).wrapping_add(2)
+    }
+}
+
+impl Gate for Passes {
+    fn pass(&self, _peer: usize, number: u64) {
+        if number == 0 {
+            self.workers.fetch_add(1, Ordering::SeqCst);
+        }
+        self.changes.fetch_add(1, Ordering::SeqCst);
+    }
+
+    fn shard_pass(&self, _shard: usize, _number: u64) {
+        self.items.fetch_add(1, Ordering::SeqCst);
+    }
+}
+
+// A run with two shards over files, each read after so many octets fails where a number is given: those of
+// one octet at once.
+fn run<R: Threads + Wait + Sync + Abort, G: Gate>(
+    rt: &R,
+    plan: &Arc<Exchange>,
+    alloc: Global,
+    files: &[Vec<u8>; 4],
+    failures: [Option<usize>; 4],
+    capacity: usize,
+    gate: &G,
+) -> Result<Served, FloorRefused> {
+    let readers: Vec<MemoryReader<'_>> = files
+        .iter()
+        .zip(failures)
+        .map(|(file, octets)| reader(file, octets))
+        .collect(alloc)?;
+    assert!(rt; readers.len() == plan.count());
+    serve_by(rt, alloc, plan, readers, capacity, 2, Errors::Rfc4271, gate)
+}
+
+// A reader of a file that gives one octet at once, and fails once so many came.
+fn reader(file: &[u8], octets_before_failure: Option<usize>) -> MemoryReader<'_>
+    ensures { result.failures ≡ 0 }
+{
+    let limits = ReadLimits {
+        octets_before_failure,
+        piece: 1,
+    };
+    MemoryReader::new(file, limits)
+}
+
+// What came of a run is its refusal, or what the case says.
+fn check_run(rt: &impl Abort, case: &Case, answer: Result<Served, FloorRefused>) {
+    let served = match answer {
+        Ok(served) => served,
+        Err(refused) => {
+            assert_eq!(rt; refused, FloorRefused::Memory);
+            return;
+        }
+    };
+    for (peer, (changes, passed)) in case.counts.iter().enumerate() {
+        assert!(rt; peer < served.tables().count());
+        let end = PeerEnd {
+            changes: *changes,
+            passed: *passed,
+            reason: Reason::EndOfFile,
+        };
+        assert_eq!(rt; served.end(peer), end);
+    }
+    check_rows(rt, served.tables(), case);
+}
+
+// Runs a case through rings of this capacity. A thread that is left would come to the gate after the answer.
+fn run_case<R: Threads + Wait + Sync + Abort>(rt: &R, alloc: Global, case: &Case, capacity: usize) {
+    let (Some(plan), Ok(files)) = (exchange(alloc, 4), files(alloc, case)) else {
+        return;
+    };
+    let gate = Passes::none();
+    let answer = run(rt, &plan, alloc, &files, [None; 4], capacity, &gate);
+    assert!(rt; gate.are_complete(), "through {capacity}");
+    check_run(rt, case, answer);
+}
+
+// It holds whichever allocation or thread is refused. `tools/refuse_in_tests` refuses each in turn.
+#[test]
+fn refused_memory_or_a_refused_thread_refuses_a_run(rt: HostRuntime) {
+    for case in [NO_PATH_IS_HIDDEN, COLLECTORS_FILE] {
+        for capacity in [1, 64] {
+            run_case(&rt, rt.alloc(), &case, capacity);
+        }
+    }
+}
+
+// A schedule that takes one peer after another, up to its close.
+fn turns(alloc: Global, case: &Case) -> Result<Vec<Turn>, AllocError> {
+    let mut turns = Vec::new(alloc);
+    for (peer, (changes, _)) in case.counts.iter().enumerate() {
+        for _ in 0..*changes {
+            turns.push(Turn::Send(peer))?;
+            turns.push(Turn::Receive(peer))?;
+        }
+    }
+    Ok(turns)
+}
+
+// Takes a case's schedule through rings of this capacity: it is refused, or the tables are those of the case.
+fn replay_case(rt: &impl Abort, alloc: Global, case: &Case, capacity: usize) {
+    let (Some(plan), Ok(files)) = (exchange(alloc, 4), files(alloc, case)) else {
+        return;
+    };
+    let Ok(turns) = turns(alloc, case) else {
+        return;
+    };
+    let [a, b, c, d] = &files;
+    assert!(rt; plan.count() == 4);
+    assert!(rt; a.len() < 1 << 50 && b.len() < 1 << 50 && c.len() < 1 << 50 && d.len() < 1 << 50);
+    match replay(alloc, &plan, &[a, b, c, d], capacity, &turns) {
+        Err(refused) => assert_eq!(rt; refused, FloorRefused::Memory),
+        Ok(floor) => {
+            for (peer, (changes, _)) in case.counts.iter().enumerate() {
+                assert!(rt; peer < floor.tables().count());
+                assert_eq!(rt; floor.sent(peer), *changes);
+                assert_eq!(rt; floor.received(peer), *changes);
+            }
+            check_rows(rt, floor.tables(), case);
+        }
+    }
+}
+
+// It holds whichever allocation is refused. `tools/refuse_in_tests` refuses each in turn.
+#[test]
+fn refused_memory_refuses_a_schedule(rt: HostRuntime) {
+    for case in [NO_PATH_IS_HIDDEN, COLLECTORS_FILE] {
+        for capacity in [1, 64] {
+            replay_case(&rt, rt.alloc(), &case, capacity);
+        }
+    }
+}
+
+// Where nothing is refused, neither is the run nor the schedule.
+#[test]
+fn nothing_is_refused_where_memory_and_threads_are_there(rt: HostRuntime) {
+    let alloc = rt.alloc();
+    let plan = exchange(alloc, 4).expect(&rt, "an exchange");
+    for case in [NO_PATH_IS_HIDDEN, COLLECTORS_FILE] {
+        let files = files(alloc, &case).expect(&rt, "memory");
+        for capacity in [1, 64] {
+            let answer = run(&rt, &plan, alloc, &files, [None; 4], capacity, &Open);
+            let served = answer.expect(&rt, "a run");
+            for client in 0..4 {
+                assert_eq!(rt; has_rows(&rt, served.tables(), &case, client), Some(true));
+            }
+            check_run(&rt, &case, Ok(served));
+        }
+    }
+}
+
+// Each read of the second reader fails in turn, the one that finds the end too, and the first read of the
+// last reader.
+#[test]
+fn whichever_read_fails_the_least_such_peer_is_told(rt: HostRuntime) {
+    let alloc = rt.alloc();
+    let plan = exchange(alloc, 4).expect(&rt, "an exchange");
+    let [file, ..] = files(alloc, &COLLECTORS_FILE).expect(&rt, "memory");
+    assert_eq!(rt; file.len(), 506);
+    let files = [
+        Vec::new(alloc),
+        file,
+        octets(alloc, NO_PATH_IS_HIDDEN.recorded[2]).expect(&rt, "memory"),
+        Vec::new(alloc),
+    ];
+    for before_failure in 0..508usize {
+        let failures = [None, Some(before_failure), None, Some(0)];
+        let gate = Passes::none();
+        let capacity = before_failure % 3 + 1;
+        let answer = run(&rt, &plan, alloc, &files, failures, capacity, &gate);
+        let least = if before_failure <= 506 { 1 } else { 3 };
+        assert_eq!(rt;
+            answer.err(),
+            Some(FloorRefused::Read(least)),
+            "after {before_failure} octets"
+        );
+        assert!(rt; gate.are_complete());
+    }
+}

@@ -1,0 +1,91 @@
+-- A client's candidates, gone over one after another, without those that one before them outdoes.
+use Rattle.std.proofs.Common.{◌≡◌, ◌∙◌, sym, ap, refl, Bool, true, false, ◌⊎◌, inl, inr, List, [], ◌∷◌, ◌++◌, Option, Some, None, ℕ}
+use Rattle.std.specs.Prelude.{IsTrue, IsFalse, filter}
+use Rattle.std.proofs.lemmas.List.{append_assoc}
+use Rattle.rs_choice.specs.declared.candidate.Standing.{Standing}
+use Rattle.rs_choice.specs.Clients.{eligible_among, is_sent_to}
+use Rattle.rs_choice.specs.Comparison.{Outdoes}
+use Rattle.rs_choice.specs.Contenders.{candidates_among, Contends}
+use Rattle.rs_choice.specs.Decision.{SentRoute, choice, standing_of}
+use Rattle.rs_choice.specs.Eligibility.{is_eligible}
+use Rattle.rs_choice.specs.Plan.{Plan}
+use Rattle.rs_choice.proofs.BehindLemmas.{outdone}
+use Rattle.rs_choice.proofs.ChosenLemmas.{filter_push, filter_skip}
+use Rattle.rs_choice.proofs.Members.{Mem}
+
+-- the last of some routes has a standing, where there is one
+abbrev pub HasLast : Plan → List SentRoute → Option Standing → Type 0
+HasLast plan some None = Unit {0}
+HasLast plan some (Some standing) = (one : SentRoute) × Mem some one × (standing ≡ standing_of plan one)
+
+-- the choice among two lists is the same, whatever comes after both
+abbrev pub ChooseSame : Plan → List SentRoute → List SentRoute → Type 0
+ChooseSame plan some others =
+    (later : List SentRoute) → choice (standing_of plan) (some ++ later) ≡ choice (standing_of plan) (others ++ later)
+
+pub mem_last : {M : Type 0} (xs : List M) (x : M) → Mem (xs ++ x ∷ []) x
+mem_last [] x = inl refl
+mem_last (y ∷ ys) x = inr (mem_last ys x)
+
+mem_before : {M : Type 0} (xs later : List M) (x : M) → Mem xs x → Mem (xs ++ later) x
+mem_before [] later x h = absurd h
+mem_before (y ∷ ys) later x (inl same) = inl same
+mem_before (y ∷ ys) later x (inr h) = inr (mem_before ys later x h)
+
+module _ (plan : Plan) (client : ℕ) (routes : List SentRoute) (one : SentRoute) where
+  abbrev is_fit : SentRoute → Bool
+  is_fit sent = is_eligible plan sent.peer sent.attributes
+
+  with_candidate : is_fit one ≡ true → is_sent_to plan client one ≡ true →
+      candidates_among plan client (routes ++ one ∷ []) ≡ candidates_among plan client routes ++ one ∷ []
+  with_candidate eligible permitted =
+      ap (filter (is_sent_to plan client)) (filter_push is_fit routes one eligible)
+      ∙ filter_push (is_sent_to plan client) (eligible_among plan routes) one permitted
+
+  without_ineligible : is_fit one ≡ false → candidates_among plan client (routes ++ one ∷ []) ≡ candidates_among plan client routes
+  without_ineligible ineligible = ap (filter (is_sent_to plan client)) (filter_skip is_fit routes one ineligible)
+
+  without_refused : is_sent_to plan client one ≡ false → candidates_among plan client (routes ++ one ∷ []) ≡ candidates_among plan client routes
+  without_refused refused = go (is_fit one) refl
+    where
+      go : (b : Bool) → is_fit one ≡ b → candidates_among plan client (routes ++ one ∷ []) ≡ candidates_among plan client routes
+      go true e =
+          ap (filter (is_sent_to plan client)) (filter_push is_fit routes one e)
+          ∙ filter_skip (is_sent_to plan client) (eligible_among plan routes) one refused
+      go false e = without_ineligible e
+
+  module _ (some : List SentRoute) (same : ChooseSame plan some (candidates_among plan client routes)) where
+    as_before : candidates_among plan client (routes ++ one ∷ []) ≡ candidates_among plan client routes → ChooseSame plan some (candidates_among plan client (routes ++ one ∷ []))
+    as_before is later = same later ∙ sym (ap (λ list. choice (standing_of plan) (list ++ later)) is)
+
+    -- what a list with a candidate more is, whatever comes after it
+    with_later : is_fit one ≡ true → is_sent_to plan client one ≡ true → (later : List SentRoute) →
+        choice (standing_of plan) (some ++ one ∷ later) ≡ choice (standing_of plan) (candidates_among plan client (routes ++ one ∷ []) ++ later)
+    with_later eligible permitted later =
+        same (one ∷ later)
+        ∙ sym (ap (choice (standing_of plan)) (append_assoc (candidates_among plan client routes) (one ∷ []) later))
+        ∙ sym (ap (λ list. choice (standing_of plan) (list ++ later)) (with_candidate eligible permitted))
+
+    -- a candidate is taken
+    pub with_one : is_fit one ≡ true → is_sent_to plan client one ≡ true → ChooseSame plan (some ++ one ∷ []) (candidates_among plan client (routes ++ one ∷ []))
+    with_one eligible permitted later =
+        ap (choice (standing_of plan)) (append_assoc some (one ∷ []) later) ∙ with_later eligible permitted later
+
+    -- one that the last one outdoes is left out, whether it is a candidate or not
+    without_outdone : (other : SentRoute) → Mem some other → Outdoes (standing_of plan other) (standing_of plan one) →
+        ChooseSame plan some (candidates_among plan client (routes ++ one ∷ []))
+    without_outdone other member outdoes = go (is_fit one) refl (is_sent_to plan client one) refl
+      where
+        go : (b : Bool) → is_fit one ≡ b → (c : Bool) → is_sent_to plan client one ≡ c → ChooseSame plan some (candidates_among plan client (routes ++ one ∷ []))
+        go true eligible true permitted = λ later.
+            sym (outdone (standing_of plan) some later one other (mem_before some later other member) outdoes) ∙ with_later eligible permitted later
+        go false ineligible c e = as_before (without_ineligible ineligible)
+        go true e false refused = as_before (without_refused refused)
+
+    -- one that doesn't contend is left out
+    pub without_one : (last : Option Standing) → HasLast plan some last → Contends plan client one last None → ChooseSame plan some (candidates_among plan client (routes ++ one ∷ []))
+    without_one last has (inl ineligible) = as_before (without_ineligible ineligible)
+    without_one last has (inr (inl refused)) = as_before (without_refused refused)
+    without_one None has (inr (inr outdone)) = absurd outdone
+    without_one (Some standing) has (inr (inr outdoes)) =
+        without_outdone has.0 has.1 (rw has.2 at outdoes)
