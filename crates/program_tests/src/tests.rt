@@ -1,5 +1,6 @@
-//! What no clause says: that calls succeed, texts, refused command lines and configurations, and runs whose outlet or report fails. Whole files and the dumps
-//! that they give stand in the folder `cases`, which the built program is run on.
+//! What no clause says: that calls succeed, texts, refused command lines and configurations, and runs whose
+//! outlet or report fails. Whole files and the dumps that they give stand in the folder `cases`, which the
+//! built program is run on.
 
 mod command_lines;
 mod configurations;

@@ -2,7 +2,10 @@
 //!
 //! Our choice: a file is known by its device and its number there, so that another path to it, or a link, is seen too.
 
-use std::fs::Metadata;
+use std::alloc::AllocError;
+use std::fs;
+use std::fs::{Files, Metadata};
+use std::io::ErrorKind;
 use std::os::unix::fs::MetadataExt;
 
 /// A file, by its device and its number there.
@@ -19,5 +22,14 @@ impl FileIdentity {
             device: found.dev(),
             number: found.ino(),
         }
+    }
+}
+
+/// What the path names; none where nothing is there, or nothing that can be told of. Fails where memory is refused.
+pub fn found_at<R: Files>(rt: &R, path: &str) -> Result<Option<Metadata>, AllocError> {
+    match fs::metadata(rt, path) {
+        Ok(found) => Ok(Some(found)),
+        Err(error) if error.kind() == ErrorKind::OutOfMemory => Err(AllocError),
+        Err(_) => Ok(None),
     }
 }

@@ -28,8 +28,9 @@ pub fn read_file<R: AllocGlobal + Files>(rt: &R, path: &str) -> Result<Vec<u8>, 
     }
 }
 
-/// Opens the files of these paths, in their order, and reads nothing yet. The first that can't be opened is named; where each is
-/// there, one that gives its octets only once, as a pipe does, and that an earlier path names too.
+/// Opens the files of these paths, in their order, and reads nothing yet. The first that can't be opened is
+/// named; where each is there, one that gives its octets only once, as a pipe does, and that an earlier path
+/// names too.
 pub fn open_files<R: AllocGlobal + Files>(
     rt: &R,
     paths: &[String],
@@ -49,8 +50,8 @@ pub fn open_files<R: AllocGlobal + Files>(
     Ok(files)
 }
 
-// Opens a file. One that can't be opened is named.
-fn open_file<R: AllocGlobal + Files>(
+/// Opens a file, and reads nothing yet. One that can't be opened is named.
+pub fn open_file<R: AllocGlobal + Files>(
     rt: &R,
     path: &str,
 ) -> Result<IoReader<BufReader<R::File>>, Ended>

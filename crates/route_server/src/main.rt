@@ -1,6 +1,7 @@
 //! A BGP-4 route server that replays recorded sessions: which routes does each client get?
 //!
-//! The program reads the configuration of an exchange and the recorded session of each peer, and writes a dump of each client's table and a report.
+//! The program reads the configuration of an exchange and the recorded session of each peer, and writes a
+//! dump of each client's table and a report.
 //!
 //! Supported standards: RFC 4271, RFC 6793, RFC 1997, RFC 7947, RFC 6396.
 #![tactic(auto)]
@@ -8,16 +9,22 @@
 ghost use Rattle.std.specs.Prelude.{◌≡◌, ◌≤◌, None, Some, IfErr, IfOk, length};
 ghost use Rattle.rs_ended.specs.Texts.{CanTell};
 
+mod copied;
 mod file_identity;
 mod files;
 mod folder_outlet;
+mod notes;
 mod overwritten;
 mod read_once;
 mod tried;
 
+use copied::Copied;
 use files::{open_files, read_file};
 use folder_outlet::FolderOutlet;
-use rs_ended::{Ended, FAILED, MEMORY_LINE, NOT_UTF_8, OUT_OF_MEMORY, OUTPUT_LINE, line, status};
+use notes::print_notes;
+use rs_ended::{
+    Ended, FAILED, MEMORY_LINE, NOT_UTF_8, OUT_OF_MEMORY, OUTPUT_LINE, line, on_one_line, status,
+};
 use rs_mrt::IoWriter;
 use rs_options::{Options, WordsFault};
 use rs_run::{RunFault, run};
@@ -52,11 +59,38 @@ fn command_line<R: AllocGlobal + Env>(rt: &R) -> Result<Options, WordsFault>
     ensures ring { IfOk result (λ options. (1 ≤ options.ring) × (options.ring ≤ 65536)) }
     ensures shards { IfOk result (λ options. (1 ≤ options.shards) × (options.shards ≤ 16)) }
 {
+    match read_words(rt.alloc(), words(rt)?) {
+        Ok(options) => Ok(options),
+        Err(fault) => Err(fault_on_one_line(rt, fault)?),
+    }
+}
+
+// The words of the command line.
+fn words<R: AllocGlobal + Env>(rt: &R) -> Result<Vec<String>, WordsFault> {
     let alloc = rt.alloc();
     match env::args(rt) {
-        Ok(words) => read_words(alloc, words.collect(alloc)?),
+        Ok(words) => Ok(words.collect(alloc)?),
         Err(error) if error.kind() == ErrorKind::OutOfMemory => Err(WordsFault::Memory),
         Err(_) => Err(WordsFault::Refused(String::from_str(alloc, NOT_UTF_8)?)),
+    }
+}
+
+// Why the command line gives no options, with a text that shows its words with their control characters escaped:
+// it is the text of words that are escaped before they are read.
+fn fault_on_one_line<R: AllocGlobal + Env>(
+    rt: &R,
+    fault: WordsFault,
+) -> Result<WordsFault, WordsFault> {
+    let alloc = rt.alloc();
+    let words = words(rt)?;
+    let mut escaped = Vec::with_capacity(alloc, words.len())?;
+    for word in &words {
+        let word = on_one_line(alloc, word)?;
+        escaped.push(word).map_err(|_| WordsFault::Memory)?;
+    }
+    match read_words(alloc, escaped) {
+        Ok(_) => Ok(fault),
+        Err(told) => Ok(told),
     }
 }
 
@@ -73,9 +107,10 @@ fn configuration<R: AllocGlobal + Files>(rt: &R, options: &Options) -> Result<Se
     }
 }
 
-// Opens the peers' files, and runs over them: dumps go to the folder of the options, the report to standard output. Where a dump
-// would take the place of a file that was read, or the folder takes no files, nothing is read or written.
-fn serve<R: AllocGlobal + Files + Print + Threads + Wait + Sync>(
+// Opens the peers' files, and runs over them: dumps go to the folder of the options, the report to standard
+// output; then notes on peers of whose files nothing was kept, to standard error. Where a dump would take the place
+// of a file that was read, or the folder takes no files, nothing is read or written.
+fn serve<R: AllocGlobal + Files + Print + Eprint + Threads + Wait + Sync>(
     rt: &R,
     setup: &Setup,
     options: &Options,
@@ -93,9 +128,14 @@ where
         return Err(Ended::Run(RunFault::Dump(client)));
     }
     let mut outlet = FolderOutlet::new(rt, alloc, &options.out);
-    let mut report = IoWriter::new(io::writer(rt));
+    let mut report = IoWriter::new(Copied::new(alloc, io::writer(rt)));
     match run(rt, alloc, setup, files, options, &mut outlet, &mut report) {
-        Ok(()) => Ok(()),
+        Ok(()) => {
+            if let Some(report) = report.into_inner().copy() {
+                print_notes(rt, setup, report);
+            }
+            Ok(())
+        }
         Err(fault) => Err(Ended::Run(fault)),
     }
 }

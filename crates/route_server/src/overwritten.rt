@@ -3,14 +3,12 @@
 ghost use Rattle.std.specs.Prelude.{◌≡◌, ◌<◌, None, IfErr, IfOk, IfSome, length};
 ghost use Rattle.rs_ended.specs.Texts.{CanTell};
 
-use crate::file_identity::FileIdentity;
+use crate::file_identity::{FileIdentity, found_at};
 use rs_ended::{Ended, dump_path};
 use rs_options::Options;
 use rs_setup::Setup;
 use std::alloc::AllocError;
-use std::fs;
 use std::fs::Files;
-use std::io::ErrorKind;
 
 /// The first client whose dump would be written over the configuration or over a peer's recorded file.
 pub fn first_overwritten<R: AllocGlobal + Files>(
@@ -59,9 +57,6 @@ fn is_among<R: Files>(rt: &R, path: &str, files: &[FileIdentity]) -> Result<bool
 
 // The file at a path, where there is one.
 fn file_at<R: Files>(rt: &R, path: &str) -> Result<Option<FileIdentity>, AllocError> {
-    match fs::metadata(rt, path) {
-        Ok(found) => Ok(Some(FileIdentity::of(&found))),
-        Err(error) if error.kind() == ErrorKind::OutOfMemory => Err(AllocError),
-        Err(_) => Ok(None),
-    }
+    let found = found_at(rt, path)?;
+    Ok(found.map(|found| FileIdentity::of(&found)))
 }

@@ -1,23 +1,23 @@
-//! Keeps several peers from reading one file that gives its octets only once, as a pipe does: the first would take them all.
+//! Keeps several peers from reading one file that gives its octets only once, as a pipe does: the first would
+//! take them all.
 //!
 //! Our choice: of the null device, which never gives any, several peers may read.
 
 ghost use Rattle.std.specs.Prelude.{◌≡◌, ◌<◌, None, IfErr, IfOk, IfSome, length};
 ghost use Rattle.rs_ended.specs.Texts.{CanTell};
 
-use crate::file_identity::FileIdentity;
+use crate::file_identity::{FileIdentity, found_at};
 use rs_ended::Ended;
 use std::alloc::AllocError;
-use std::fs;
 use std::fs::{Files, Metadata};
-use std::io::ErrorKind;
 use std::os::unix::fs::{FileTypeExt, MetadataExt};
 
 // The number of the null device.
 const NULL_DEVICE: u64 = 0x103;
 
-/// The first of these paths at which nothing is; where there is none, the first that names a file which gives its octets only once
-/// and which an earlier one names too. Nothing is opened, since that may wait for what writes into a pipe.
+/// The first of these paths at which nothing is; where there is none, the first that names a file which gives
+/// its octets only once and which an earlier one names too. Nothing is opened, since that may wait for what
+/// writes into a pipe.
 pub fn first_unreadable<R: AllocGlobal + Files>(
     rt: &R,
     paths: &[String],
@@ -73,13 +73,4 @@ fn read_once_at<R: Files>(rt: &R, path: &str) -> Result<Option<FileIdentity>, Al
 fn is_read_once(found: &Metadata) -> bool {
     let kind = found.file_type();
     kind.is_fifo() || kind.is_socket() || (kind.is_char_device() && found.rdev() != NULL_DEVICE)
-}
-
-// What is at the path.
-fn found_at<R: Files>(rt: &R, path: &str) -> Result<Option<Metadata>, AllocError> {
-    match fs::metadata(rt, path) {
-        Ok(found) => Ok(Some(found)),
-        Err(error) if error.kind() == ErrorKind::OutOfMemory => Err(AllocError),
-        Err(_) => Ok(None),
-    }
 }

@@ -1,11 +1,13 @@
-//! Tries the folder of the dumps before the recorded sessions are read, so that nobody waits for a run to learn of a mistyped path.
+//! Tries the folder of the dumps before the recorded sessions are read, so that nobody waits for a run to
+//! learn of a mistyped path.
 //!
-//! Our choice: a dump that stands there already is not touched before the run; where one doesn't, a file of another name is made
-//! in the folder and taken away again.
+//! Our choice: a dump that stands there already is not touched before the run; where one doesn't, a file of
+//! another name is made in the folder and taken away again.
 
 ghost use Rattle.std.specs.Prelude.{◌≡◌, ◌<◌, None, IfErr, IfOk, IfSome, length};
 ghost use Rattle.rs_ended.specs.Texts.{CanTell};
 
+use crate::file_identity::found_at;
 use crate::overwritten::first_overwritten;
 use rs_ended::{Ended, dump_path, path_in};
 use rs_options::Options;
@@ -18,8 +20,8 @@ use std::io::ErrorKind;
 // The file that is made to try a folder. No dump has this name.
 const TRIAL: &str = ".route_server";
 
-/// The first client whose dump can't be written: it would take the place of a file that is read, or it would have to be made in a
-/// folder that takes no files.
+/// The first client whose dump can't be written: it would take the place of a file that is read, or it would
+/// have to be made in a folder that takes no files.
 pub fn first_unwritable<R: AllocGlobal + Files>(
     rt: &R,
     setup: &Setup,
@@ -45,7 +47,7 @@ fn first_unmade<R: AllocGlobal + Files>(
 {
     for client in 0..setup.plan.count() {
         let path = dump_path(rt.alloc(), setup, options, client)?;
-        if !is_there(rt, &path)? {
+        if found_at(rt, &path)?.is_none() {
             return Ok(if can_make_files(rt, &options.out)? {
                 None
             } else {
@@ -54,15 +56,6 @@ fn first_unmade<R: AllocGlobal + Files>(
         }
     }
     Ok(None)
-}
-
-// Whether something is at the path.
-fn is_there<R: Files>(rt: &R, path: &str) -> Result<bool, AllocError> {
-    match fs::metadata(rt, path) {
-        Ok(_) => Ok(true),
-        Err(error) if error.kind() == ErrorKind::OutOfMemory => Err(AllocError),
-        Err(_) => Ok(false),
-    }
 }
 
 // Whether a file can be made in the folder. One that another run has just made shows it too.

@@ -1,5 +1,6 @@
--- The line that says why the program stops short (docs/FORMATS.md, "Texts on standard error").
-use Rattle.std.specs.Prelude.{◌<◌, ◌==◌, ◌+◌, ◌/◌, ◌%◌, ℕ, ⊤, List, [], ◌++◌, Option, None, Some, codes, encode_utf8, if◌then◌else◌, length, nat_lt, option_map, slice_get, string_bytes, unwrap_or}
+-- The line that says why the program stops short (docs/MANUAL.md, "Texts").
+use Rattle.std.specs.Prelude.{◌<◌, ◌==◌, ◌+◌, ◌/◌, ◌%◌, ℕ, ⊤, List, [], ◌++◌, Option, None, Some, codes, encode_utf8}
+use Rattle.std.specs.Prelude.{if◌then◌else◌, length, nat_lt, option_map, slice_get, string_bytes, unwrap_or}
 use Rattle.std.specs.Borrow.{Bor}
 use Rattle.std.specs.Fmt.{decimal}
 use Rattle.std.specs.Char.{is_control}
@@ -29,12 +30,17 @@ hex_digit value = if nat_lt value 10 then 48 + value else 87 + value
 
 -- a control character by its two hexadecimal digits
 abbrev pub escaped : ℕ → Text
-escaped control = codes "\\u{" ++ (encode_utf8 (hex_digit (control / 16 % 16)) ++ (encode_utf8 (hex_digit (control % 16)) ++ codes "}"))
+escaped control =
+    codes "\\u{" ++ (encode_utf8 (hex_digit (control / 16 % 16))
+    ++ (encode_utf8 (hex_digit (control % 16)) ++ codes "}"))
 
--- a character as it is shown: a line break as two characters, another control character by its number, any other as it is
+-- a character as it is shown: a line break as two characters, another control character by its number, any
+-- other as it is
 abbrev pub shown : ℕ → Text
 shown character =
-    if character == 10 then codes "\\n" else (if character == 13 then codes "\\r" else (if is_control character then escaped character else encode_utf8 character))
+    if character == 10 then codes "\\n"
+    else (if character == 13 then codes "\\r"
+    else (if is_control character then escaped character else encode_utf8 character))
 
 -- a text whose control characters are escaped, so that it stays on one line
 abbrev pub one_line : Text → Text
@@ -74,7 +80,8 @@ name_of peers number = unwrap_or (option_map (λ peer. peer.name) (slice_get pee
 
 -- the path of a client's dump
 abbrev pub dump_path : SetUp → Options → ℕ → Text
-dump_path set_up options client = path_in (string_bytes options.out) (name_of set_up.plan.value.peers client ++ codes ".mrt")
+dump_path set_up options client =
+    path_in (string_bytes options.out) (name_of set_up.plan.value.peers client ++ codes ".mrt")
 
 -- a file that can't be read is named
 abbrev pub unread_line : Text → Text
@@ -87,7 +94,8 @@ file_path set_up peer = unwrap_or (option_map string_bytes (slice_get set_up.fil
 abbrev pub run_line : RunFault → SetUp → Options → Text
 run_line run.Memory set_up options = out_of_memory_line
 run_line (run.Dump client) set_up options = named (codes "cannot write " ++ one_line (dump_path set_up options client))
-run_line (run.Unsettled peer) set_up options = named (codes "peer " ++ (name_of set_up.plan.value.peers peer ++ codes " unsettled"))
+run_line (run.Unsettled peer) set_up options =
+    named (codes "peer " ++ (name_of set_up.plan.value.peers peer ++ codes " unsettled"))
 run_line run.Report set_up options = named (codes "cannot write standard output")
 run_line (run.Read peer) set_up options = unread_line (file_path set_up peer)
 
@@ -103,7 +111,8 @@ line_of Memory set_up options = out_of_memory_line
 line_of (Run fault) (Some set_up) (Some options) = run_line fault set_up.now options.now
 line_of (Run fault) set_up options = []
 
--- the client that a run names is one of the plan, so is the peer that is unsettled, and the one of which a read failed has a recorded file
+-- the client that a run names is one of the plan, so is the peer that is unsettled, and the one of which a
+-- read failed has a recorded file
 abbrev pub NamesPeer : RunFault → SetUp → Type 0
 NamesPeer (run.Dump client) set_up = client < length set_up.plan.value.peers
 NamesPeer (run.Unsettled peer) set_up = peer < length set_up.plan.value.peers

@@ -43,8 +43,9 @@ pub const OUT_OF_MEMORY: u8 = 3;
 /// Not all changes of a peer are known to have been applied.
 pub const UNSETTLED: u8 = 4;
 
-/// The status with which the program ends: 0 where help or the version was asked for, 1 where the command line or the configuration is refused, 2 where a file, a
-/// folder or a device failed, 3 for want of memory, 4 where not all changes of a peer are known to have been applied.
+/// The status with which the program ends: 0 where help or the version was asked for, 1 where the command
+/// line or the configuration is refused, 2 where a file, a folder or a device failed, 3 for want of memory, 4
+/// where not all changes of a peer are known to have been applied.
 pub fn status(ended: &Ended) -> u8
     ensures { result ≡ status_of ended.now }
 {

@@ -1,7 +1,8 @@
 //! The line that says why the program stops short.
 
 ghost use Rattle.std.specs.Prelude.{◌≡◌, ◌++◌, ◌<◌, IfOk, OnOk, length, string_bytes};
-ghost use Rattle.rs_ended.specs.Texts.{CanTell, NamesPeer, dump_path, escaped, hex_digit, key_line, line_of, one_line, plan_line, run_line, setup_line, shown, unread_line};
+ghost use Rattle.rs_ended.specs.Texts.{CanTell, NamesPeer, dump_path, escaped, hex_digit, key_line, line_of, one_line};
+ghost use Rattle.rs_ended.specs.Texts.{plan_line, run_line, setup_line, shown, unread_line};
 
 use crate::ended::Ended;
 use crate::paths::path_in;
@@ -20,10 +21,11 @@ pub const OUTPUT_LINE: &str = "route_server: cannot write standard output";
 /// The text that refuses a command line of other words than texts.
 pub const NOT_UTF_8: &str = "error: an argument is not UTF-8\n";
 
-/// The line that says why the program stops short, without a line break at its end; for help, the version and a refused command line the whole text of `clap`.
+/// The line that says why the program stops short, without a line break at its end; for help, the version and
+/// a refused command line the whole text of `clap`.
 ///
-/// Of a run that stopped short, `setup` and `options` are those that it was given. Line breaks in a key or a path are shown as `\n` and `\r`, other control characters as `\u{1b}`. Fails
-/// where memory is refused.
+/// Of a run that stopped short, `setup` and `options` are those that it was given. Line breaks in a key or a
+/// path are shown as `\n` and `\r`, other control characters as `\u{1b}`. Fails where memory is refused.
 pub fn line(
     alloc: Global,
     ended: &Ended,
@@ -133,8 +135,9 @@ pub fn dump_path(
     path_in(alloc, &options.out, &file)
 }
 
-// The text with its line breaks and other control characters escaped, so that it stays on one line.
-fn on_one_line(alloc: Global, text: &str) -> Result<String, AllocError>
+/// The text with its line breaks shown as `\n` and `\r` and its other control characters as `\u{1b}`, so that it stays
+/// on one line. Fails where memory is refused.
+pub fn on_one_line(alloc: Global, text: &str) -> Result<String, AllocError>
     ensures { IfOk result (λ line. string_bytes line ≡ one_line text.now) }
 {
     let mut line = String::new(alloc);

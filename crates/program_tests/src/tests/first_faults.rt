@@ -146,7 +146,8 @@ const WHOLE: &[Change] = &[
         "peer[0] is not valid",
     ),
     (
-        "peer = [{ name = \"a\", as = 1, address = \"1.1.1.1\", file = \"\" }, \"b\"]\n[server]\nas = 64500\naddress = \"192.0.2.1\"\n",
+        "peer = [{ name = \"a\", as = 1, address = \"1.1.1.1\", file = \"\" }, \"b\"]\n\
+         [server]\nas = 64500\naddress = \"192.0.2.1\"\n",
         "peer[1] is not valid",
     ),
 ];

@@ -4,7 +4,8 @@ use super::configurations::{LAST, answer, changed};
 use std::process::Abort;
 use std::test::Fail;
 
-// A key: its line in that configuration, how faults write it, the answer where it isn't there, and values that it can't have.
+// A key: its line in that configuration, how faults write it, the answer where it isn't there, and values
+// that it can't have.
 struct Key {
     line: &'static str,
     name: &'static str,
