@@ -1,4 +1,5 @@
-//! Routes on one prefix, their attributes read from octets, in hexadecimal, and why each client has each of them or not.
+//! Routes on one prefix, their attributes read from octets, in hexadecimal, and why each client has each of
+//! them or not.
 
 mod last_said;
 mod reasons;
@@ -22,8 +23,8 @@ const C: usize = 2;
 
 const D: usize = 3;
 
-// A peer by its name, AS number, identifier, preference, and a peer whose routes it refuses or none. Its address is 192.0.2.11 and on, by
-// its number.
+// A peer by its name, AS number, identifier, preference, and a peer whose routes it refuses or none. Its
+// address is 192.0.2.11 and on, by its number.
 #[derive(Clone, Copy)]
 struct Row {
     name: &'static str,

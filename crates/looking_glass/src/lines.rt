@@ -9,8 +9,8 @@ use std::alloc::{AllocError, Global};
 /// The line of want of memory.
 pub const MEMORY_LINE: &str = "looking_glass: out of memory\n";
 
-/// The line that says why the program stops short, with its line break; for help and a refused command line the whole text. Control characters in a key, a name or a path
-/// are escaped, so that the line stays one.
+/// The line that says why the program stops short, with its line break; for help and a refused command line
+/// the whole text. Control characters in a key, a name or a path are escaped, so that the line stays one.
 pub fn line(alloc: Global, ended: &Ended) -> Result<String, AllocError> {
     match ended {
         Ended::Words(WordsFault::Shown(text)) => String::from_str(alloc, text),

@@ -1,11 +1,13 @@
-//! A looking glass for the recorded sessions of a route server: why is this route missing, since when, and what is in this file?
+//! A looking glass for the recorded sessions of a route server: why is this route missing, since when, and
+//! what is in this file?
 //!
-//! The program reads the configuration of an exchange and the recorded session of each peer, and prints the answer to one question.
+//! The program reads the configuration of an exchange and the recorded session of each peer, and prints the
+//! answer to one question.
 //!
 //! Supported standards: RFC 4271, RFC 6793, RFC 1997, RFC 7947, RFC 6396.
 #![tactic(auto)]
 
-ghost use Rattle.std.specs.Prelude.{◌≡◌, ◌<◌, IfOk, length};
+ghost use Rattle.std.specs.Prelude.{◌≡◌, ◌<◌, IfOk, IfSome, length, slice_get};
 
 mod ended;
 mod files;
@@ -70,7 +72,9 @@ fn configuration<R: AllocGlobal + Files>(rt: &R, path: &str) -> Result<Setup, En
 
 // The number of the peer of a name.
 fn peer_named<R: AllocGlobal>(rt: &R, setup: &Setup, name: &str) -> Result<usize, Ended>
-    ensures { IfOk result (λ number. number < length setup.now.plan.value.peers) }
+    ensures known { IfOk result (λ number. number < length setup.now.plan.value.peers) }
+    ensures named { IfOk result (λ number.
+        IfSome (slice_get setup.now.plan.value.peers number) (λ peer. peer.name ≡ name.now)) }
 {
     for number in 0..setup.plan.count() {
         if setup.plan.peer(number).name.as_str() == name {

@@ -1,4 +1,5 @@
--- The candidates of a client for a prefix, by what the decision process asks of them (RFC 4271, sections 9.1.1 and 9.1.2.2).
+-- The candidates of a client for a prefix, by what the decision process asks of them (RFC 4271, sections
+-- 9.1.1 and 9.1.2.2).
 use Rattle.std.specs.Prelude.{◌≡◌, ℕ, List, map, Option, None, Some, ◌&&◌, if◌then◌else◌, slice_get}
 use Rattle.rs_update.specs.IpPrefix.{IpPrefix}
 use Rattle.rs_choice.specs.declared.candidate.Standing.{Standing}
@@ -25,11 +26,13 @@ contenders_of tables client prefix = map (contender_of tables.plan) (candidates_
 abbrev pub contender_if : Plan → ℕ → Option PeerRoute → Option Contender
 contender_if plan client None = None
 contender_if plan client (Some route) =
-    if is_eligible plan route.peer route.attributes && is_permitted plan client route.peer route.attributes then Some (contender_of plan route) else None
+    if is_eligible plan route.peer route.attributes && is_permitted plan client route.peer route.attributes
+    then Some (contender_of plan route) else None
 
 abbrev pub contender_from : TablesContent → ℕ → IpPrefix → ℕ → Option Contender
 contender_from tables client prefix peer = contender_if tables.plan client (route_from tables prefix peer)
 
 -- its peer is one of the plan, and its address is that peer's
 abbrev pub HasOwnAddress : Plan → Contender → Type 0
-HasOwnAddress plan one = (sender : Peer) × (slice_get plan.peers one.peer ≡ Some sender) × (one.standing.address ≡ sender.address)
+HasOwnAddress plan one =
+    (sender : Peer) × (slice_get plan.peers one.peer ≡ Some sender) × (one.standing.address ≡ sender.address)

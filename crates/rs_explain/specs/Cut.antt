@@ -43,4 +43,6 @@ HasTaken until changes beginning = HasTakenIf until.passed until.time changes be
 
 -- what is taken is the longest beginning
 abbrev pub TakenIsCut : Type 0
-TakenIsCut = (until : UntilContent) (changes beginning : List Change) → HasTaken until changes beginning → IsCut until.time changes beginning
+TakenIsCut =
+    (until : UntilContent) (changes beginning : List Change) → HasTaken until changes beginning
+    → IsCut until.time changes beginning

@@ -1,6 +1,7 @@
--- Why a client has a peer's route on a prefix, or not, with the reason: the first case that holds (RFC 4271, section 9.1; RFC 7947,
--- section 2.3).
-use Rattle.std.specs.Prelude.{◌≡◌, ℕ, ◌==◌, true, false, not, if◌then◌else◌, List, map, filter, Option, None, Some, MatchOption}
+-- Why a client has a peer's route on a prefix, or not, with the reason: the first case that holds (RFC 4271,
+-- section 9.1; RFC 7947, section 2.3).
+use Rattle.std.specs.Prelude.{◌≡◌, ℕ, ◌==◌, true, false, not, if◌then◌else◌, List, map, filter, Option, None, Some}
+use Rattle.std.specs.Prelude.{MatchOption}
 use Rattle.std.specs.Option.{option_map, option_or}
 use Rattle.rs_update.specs.IpPrefix.{IpPrefix}
 use Rattle.rs_choice.specs.Decision.{decision_steps}
@@ -39,7 +40,8 @@ pub record IsLoss (tables : TablesContent) (client peer : ℕ) (prefix : IpPrefi
   pub is_candidate : contender_from tables client prefix peer ≡ Some loser
   pub gets : best_of tables client prefix ≡ Some best
   pub another : is_from peer (Some best) ≡ false
-  pub steps : IsRemoval decision_steps (contenders_of tables client prefix) (contender_of tables.plan best) loser removal
+  pub steps : IsRemoval decision_steps (contenders_of tables client prefix)
+      (contender_of tables.plan best) loser removal
 
 -- what the decision process makes of a candidate: the client gets it, of all its candidates, or it is removed
 abbrev pub IsDecided : TablesContent → ℕ → ℕ → IpPrefix → Explanation → Type 0
@@ -48,13 +50,15 @@ IsDecided tables client peer prefix Absent = ⊥
 IsDecided tables client peer prefix (Ineligible condition) = ⊥
 IsDecided tables client peer prefix (Refused refusal) = ⊥
 IsDecided tables client peer prefix (Best beaten) =
-    (is_from peer (best_of tables client prefix) ≡ true) × (beaten.items ≡ other_peers (contenders_of tables client prefix) peer)
+    (is_from peer (best_of tables client prefix) ≡ true)
+    × (beaten.items ≡ other_peers (contenders_of tables client prefix) peer)
 IsDecided tables client peer prefix (Lost removal) = IsLoss tables client peer prefix removal
 
 -- the explanation: the reason why the peer's route is no candidate, or else what was decided
 abbrev pub IsExplanation : TablesContent → ℕ → ℕ → IpPrefix → Explanation → Type 0
 IsExplanation tables client peer prefix explanation =
-    MatchOption (reason_before_decision tables client peer prefix) (IsDecided tables client peer prefix explanation) (λ reason. explanation ≡ reason)
+    MatchOption (reason_before_decision tables client peer prefix)
+    (IsDecided tables client peer prefix explanation) (λ reason. explanation ≡ reason)
 
 -- the answer that is explained
 abbrev pub answer_of : Explanation → Why

@@ -22,8 +22,8 @@ body_announces prefix (Closed reason) = false
 abbrev pub announces : IpPrefix → Change → Bool
 announces prefix change = body_announces prefix change.body
 
--- by what a change takes a peer's route on a prefix away, if it does: a withdrawal of it, a loss of the session, or a close but at the end
--- of the file
+-- by what a change takes a peer's route on a prefix away, if it does: a withdrawal of it, a loss of the
+-- session, or a close but at the end of the file
 abbrev pub body_ends_by : IpPrefix → ChangeBody → Option EndedBy
 body_ends_by prefix (Announced announced attributes) = None
 body_ends_by prefix (Withdrawn withdrawn) = if same_prefix prefix withdrawn then Some by.Withdrawal else None
@@ -42,7 +42,8 @@ pub record IsEnding (prefix : IpPrefix) (change : Change) (ending : Ending) : Ty
   pub by : ends_by prefix change ≡ Some ending.by
 
 -- changes announce a prefix last at a time, and something holds of those after that
-pub record IsAnnouncedLast (prefix : IpPrefix) (changes : List Change) (time : ℕ) (Then : List Change → Type 0) : Type 0 where
+pub record IsAnnouncedLast (prefix : IpPrefix) (changes : List Change) (time : ℕ)
+    (Then : List Change → Type 0) : Type 0 where
   pub earlier : List Change
   pub announcement : Change
   pub later : List Change
@@ -65,8 +66,8 @@ pub record EndRoute (prefix : IpPrefix) (ending : Ending) (changes : List Change
   pub first : KeepRoute prefix before
   pub ends : IsEnding prefix change ending
 
--- what changes say last of a prefix: no change announces it; or the last announcement of it, and what took the route away after it,
--- if anything did
+-- what changes say last of a prefix: no change announces it; or the last announcement of it, and what took
+-- the route away after it, if anything did
 abbrev pub IsSaidLast : IpPrefix → List Change → LastSaid → Type 0
 IsSaidLast prefix changes said.NeverAnnounced = list_any (announces prefix) changes ≡ false
 IsSaidLast prefix changes (said.Announced time) = IsAnnouncedLast prefix changes time (KeepRoute prefix)

@@ -23,27 +23,32 @@ ExplanationAgrees =
     client < length tables.plan.peers → peer < length tables.plan.peers →
     IsExplanation tables client peer prefix explanation → answer_of explanation ≡ why_of tables client peer prefix
 
--- the peer that is named as the rival of a route has a route on the prefix that is a candidate of the client too, and that beats it
+-- the peer that is named as the rival of a route has a route on the prefix that is a candidate of the client
+-- too, and that beats it
 abbrev pub RivalIsCandidate : Type 0
 RivalIsCandidate =
     (tables : TablesContent) (client peer : ℕ) (prefix : IpPrefix) (removal : Removal) →
     IsExplanation tables client peer prefix (Lost removal) →
-    ((route : PeerRoute) × Contains (candidates_of tables client prefix) route × (contender_of tables.plan route ≡ removal.rival))
+    ((route : PeerRoute) × Contains (candidates_of tables client prefix) route
+    × (contender_of tables.plan route ≡ removal.rival))
     × IsTrue (beats removal.step removal.rival.standing removal.loser.standing)
 
 -- where a list doesn't close but at the end of its file, what it says is announced is left, and announced at that time
 abbrev pub AnnouncedIsLeft : Type 0
 AnnouncedIsLeft =
-    (prefix : IpPrefix) (changes : List Change) (time : ℕ) → IsSaidLast prefix changes (said.Announced time) → list_any drops_routes changes ≡ false →
+    (prefix : IpPrefix) (changes : List Change) (time : ℕ) → IsSaidLast prefix changes (said.Announced time)
+    → list_any drops_routes changes ≡ false →
     (route : RouteLeft) × (route.time ≡ time) × Leaves changes prefix route
 
 -- what a list says was never announced is not left
 abbrev pub NeverAnnouncedIsNotLeft : Type 0
 NeverAnnouncedIsNotLeft =
-    (prefix : IpPrefix) (changes : List Change) → IsSaidLast prefix changes said.NeverAnnounced → (route : RouteLeft) → Leaves changes prefix route → ⊥
+    (prefix : IpPrefix) (changes : List Change) → IsSaidLast prefix changes said.NeverAnnounced
+    → (route : RouteLeft) → Leaves changes prefix route → ⊥
 
 -- nor is what it says was taken away
 abbrev pub EndedIsNotLeft : Type 0
 EndedIsNotLeft =
-    (prefix : IpPrefix) (changes : List Change) (time : ℕ) (ending : Ending) → IsSaidLast prefix changes (said.Ended time ending) →
+    (prefix : IpPrefix) (changes : List Change) (time : ℕ) (ending : Ending)
+    → IsSaidLast prefix changes (said.Ended time ending) →
     (route : RouteLeft) → Leaves changes prefix route → ⊥

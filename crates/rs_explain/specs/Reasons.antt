@@ -1,5 +1,6 @@
--- Why a route may be no candidate of a client: the condition of eligibility that fails (RFC 4271, section 9.1.2), and the rule of
--- export policy that refuses it (RFC 7947, section 2.3). Which conditions and rules there are is said in `rs_choice`.
+-- Why a route may be no candidate of a client: the condition of eligibility that fails (RFC 4271, section
+-- 9.1.2), and the rule of export policy that refuses it (RFC 7947, section 2.3). Which conditions and rules
+-- there are is said in `rs_choice`.
 use Rattle.std.specs.Prelude.{ℕ, ◌==◌, Bool, not, if◌then◌else◌, List, [], ◌∷◌, Option, None, Some, slice_get}
 use Rattle.std.specs.Option.{option_and_then}
 use Rattle.rs_update.specs.AsPath.{holds_as_in}
@@ -24,15 +25,17 @@ abbrev pub conditions : Local → Peer → PathAttributes → List (Bool × Cond
 conditions local sender attributes =
     (holds_as_in attributes.path local.asn, OwnAs local.asn)
     ∷ (attributes.next_hop == local.address, ServerAsNextHop attributes.next_hop)
-    ∷ (not (is_on_exchange local.subnet sender.address attributes.next_hop), NextHopOffExchange attributes.next_hop) ∷ []
+    ∷ (not (is_on_exchange local.subnet sender.address attributes.next_hop), NextHopOffExchange attributes.next_hop)
+    ∷ []
 
 -- the first condition that a route of a sender fails, by the sender's number
 abbrev pub failed_condition : Plan → ℕ → PathAttributes → Option Condition
 failed_condition plan number attributes =
     option_and_then (λ sender. first_answer (conditions plan.local sender attributes)) (slice_get plan.peers number)
 
--- the rules in their order, for a client of an AS number that refuses all routes of the sender by its name or not, and a route with
--- these communities: each rule by whether it speaks of the route, and by how it refuses it, or permits it
+-- the rules in their order, for a client of an AS number that refuses all routes of the sender by its name or
+-- not, and a route with these communities: each rule by whether it speaks of the route, and by how it refuses
+-- it, or permits it
 abbrev pub rules : Bool → ℕ → ℕ → Option CommunityList → List (Bool × Option Refusal)
 rules by_name local_asn client_asn communities =
     (by_name, Some ByName)
@@ -42,10 +45,12 @@ rules by_name local_asn client_asn communities =
 
 -- the first rule that speaks of the route decides
 abbrev pub ruling : Bool → ℕ → ℕ → Option CommunityList → Option Refusal
-ruling by_name local_asn client_asn communities = option_and_then (λ ruling. ruling) (first_answer (rules by_name local_asn client_asn communities))
+ruling by_name local_asn client_asn communities =
+    option_and_then (λ ruling. ruling) (first_answer (rules by_name local_asn client_asn communities))
 
 -- the refusal of a sender's route to a client, by their numbers
 abbrev pub refusal_of : Plan → ℕ → ℕ → PathAttributes → Option Refusal
 refusal_of plan client number attributes =
-    option_and_then (λ receiver. option_and_then (λ sender. ruling (refuses receiver sender) plan.local.asn receiver.asn attributes.communities)
+    option_and_then (λ receiver. option_and_then
+    (λ sender. ruling (refuses receiver sender) plan.local.asn receiver.asn attributes.communities)
     (slice_get plan.peers number)) (slice_get plan.peers client)

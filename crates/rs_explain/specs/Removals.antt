@@ -11,8 +11,10 @@ use Rattle.rs_explain.specs.Contenders.{standing_in}
 abbrev pub rival_of : Step → Contender → List Contender → Contender → Option Contender
 rival_of step best set loser = find (λ other. beats step other.standing loser.standing) (best ∷ set)
 
--- steps remove a candidate of a set: it is in what the steps before the one that is named leave of the set, and there it is beaten
-pub record IsRemoval (steps : List Step) (set : List Contender) (best loser : Contender) (removal : Removal) : Type 0 where
+-- steps remove a candidate of a set: it is in what the steps before the one that is named leave of the set,
+-- and there it is beaten
+pub record IsRemoval (steps : List Step) (set : List Contender) (best loser : Contender)
+    (removal : Removal) : Type 0 where
   pub before : List Step
   pub after : List Step
   pub order : steps ≡ before ++ removal.step ∷ after

@@ -1,4 +1,5 @@
-//! The candidates of a client for a prefix, by what the decision process asks of them (RFC 4271, sections 9.1.1 and 9.1.2.2).
+//! The candidates of a client for a prefix, by what the decision process asks of them (RFC 4271, sections
+//! 9.1.1 and 9.1.2.2).
 
 ghost use Rattle.std.specs.Prelude.{◌≡◌, ◌<◌, ℕ, IfOk, IfSome, Some, length};
 ghost use Rattle.std.specs.List.{All, Contains};
@@ -71,7 +72,8 @@ pub(crate) fn contenders(
     requires { client < length tables.now.plan.peers }
     ensures value { IfOk result (λ all. all.items ≡ contenders_of tables.now client prefix) }
     ensures addresses { IfOk result (λ all. All (HasOwnAddress tables.now.plan) all.items) }
-    ensures has { IfOk result (λ all. (peer : ℕ) → peer < length tables.now.plan.peers → (one : spec.Contender) → contender_from tables.now client prefix peer ≡ Some one → Contains all.items one) }
+    ensures has { IfOk result (λ all. (peer : ℕ) → peer < length tables.now.plan.peers → (one : spec.Contender)
+        → contender_from tables.now client prefix peer ≡ Some one → Contains all.items one) }
 {
     let mut all = Vec::new(alloc);
     for peer in 0..tables.count() {

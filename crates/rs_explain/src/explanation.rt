@@ -25,7 +25,8 @@ pub enum Explanation {
     Ineligible(Condition),
     /// Export policy refuses the peer's route to the client (RFC 7947, section 2.3): the rule that refuses it.
     Refused(Refusal),
-    /// The client's table has the peer's route: the numbers of the peers whose routes it beat, all other candidates of the client.
+    /// The client's table has the peer's route: the numbers of the peers whose routes it beat, all other
+    /// candidates of the client.
     Best(Vec<usize>),
     /// The decision process chose another peer's route (RFC 4271, section 9.1.2.2): the step that removed this one.
     Lost(Removal),

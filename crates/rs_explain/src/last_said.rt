@@ -48,9 +48,11 @@ impl LastSaid {
         LastSaid::NeverAnnounced
     }
 
-    /// What is said of a prefix with one change more: of whatever changes this is said last, the answer is said last of them and that one.
+    /// What is said of a prefix with one change more: of whatever changes this is said last, the answer is
+    /// said last of them and that one.
     pub fn after(self, prefix: Prefix, word: &Word) -> LastSaid
-        ensures { (changes : List Change) → IsSaidLast prefix changes self → IsSaidLast prefix (changes ++ change_of word.now ∷ []) result }
+        ensures { (changes : List Change) → IsSaidLast prefix changes self
+            → IsSaidLast prefix (changes ++ change_of word.now ∷ []) result }
     {
         if announces(prefix, word) {
             return LastSaid::Announced(word.time);

@@ -1,21 +1,23 @@
 //! Laws of this crate's definitions. Each function does nothing: its contract is the law.
 
 ghost use Rattle.rs_explain.specs.Cut.{TakenIsCut};
-ghost use Rattle.rs_explain.specs.Laws.{AnnouncedIsLeft, EndedIsNotLeft, ExplanationAgrees, NeverAnnouncedIsNotLeft, RivalIsCandidate};
+ghost use Rattle.rs_explain.specs.Laws.{AnnouncedIsLeft, EndedIsNotLeft, ExplanationAgrees, NeverAnnouncedIsNotLeft};
+ghost use Rattle.rs_explain.specs.Laws.{RivalIsCandidate};
 
 /// An explanation agrees with what `Tables::why` answers.
 pub fn an_explanation_agrees_with_why()
     ensures { ExplanationAgrees }
 {}
 
-/// The peer that an explanation names as the rival of a route has a route on the prefix which is a candidate of the client too, and
-/// which beats it at the step that is named.
+/// The peer that an explanation names as the rival of a route has a route on the prefix which is a candidate
+/// of the client too, and which beats it at the step that is named.
 pub fn the_rival_is_a_candidate()
     ensures { RivalIsCandidate }
 {}
 
-/// What a list of changes says last of a prefix agrees with the routes that it leaves: what is announced is left, unless the session
-/// closes but at the end of its file; what was never announced, or was taken away since, is not.
+/// What a list of changes says last of a prefix agrees with the routes that it leaves: what is announced is
+/// left, unless the session closes but at the end of its file; what was never announced, or was taken away
+/// since, is not.
 pub fn what_is_said_last_agrees_with_the_routes_left()
     ensures announced { AnnouncedIsLeft }
     ensures never { NeverAnnouncedIsNotLeft }

@@ -1,10 +1,11 @@
-//! Why a client of a route server has a peer's route on a prefix, or not, with the reason: the condition that fails, the rule that
-//! refuses, or the step of the decision process and the route that beats it there.
+//! Why a client of a route server has a peer's route on a prefix, or not, with the reason: the condition that
+//! fails, the rule that refuses, or the step of the decision process and the route that beats it there.
 //!
 //! Standards: RFC 4271, section 9.1 (eligible routes, decision process); RFC 7947, section 2.3 (export policy).
 //!
-//! Reading order: `condition`, `refusal`, `contender` (the candidates of a client), `removal` (the step that removes one),
-//! `explanation`, `last_said` (what a list of changes says last of a prefix), `until` (its beginning up to a time), `laws`.
+//! Reading order: `condition`, `refusal`, `contender` (the candidates of a client), `removal` (the step that
+//! removes one), `explanation`, `last_said` (what a list of changes says last of a prefix), `until` (its
+//! beginning up to a time), `laws`.
 #![tactic(auto)]
 
 mod condition;

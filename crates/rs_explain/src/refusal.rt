@@ -17,7 +17,8 @@ pub enum Refusal {
     ToAll(u32),
 }
 
-// The rule that refuses a route of a peer to another one as its client: the first of the rules that speaks of it, if it refuses.
+// The rule that refuses a route of a peer to another one as its client: the first of the rules that speaks of
+// it, if it refuses.
 pub(crate) fn refusing_rule(
     plan: &Exchange,
     client: usize,

@@ -40,7 +40,9 @@ pub(crate) fn removed_by(
     best: &Contender,
 ) -> Result<Option<Removal>, AllocError>
     requires { Contains contenders.items loser }
-    ensures { IfOk result (λ found. MatchOption found (Contains (remaining standing_in steps.now contenders.items) loser) (IsRemoval steps.now contenders.items best.now loser)) }
+    ensures { IfOk result (λ found. MatchOption found
+        (Contains (remaining standing_in steps.now contenders.items) loser)
+        (IsRemoval steps.now contenders.items best.now loser)) }
 {
     let mut set = contenders;
     for step in steps {

@@ -7,8 +7,8 @@ ghost use Rattle.rs_explain.specs.Cut.{is_later, HasTaken};
 use rs_session::Word;
 use std::marker::Model;
 
-/// Takes the changes of a list one after another, up to a time: the longest beginning of the list none of whose changes is later. All
-/// changes where no time is given.
+/// Takes the changes of a list one after another, up to a time: the longest beginning of the list none of
+/// whose changes is later. All changes where no time is given.
 #[derive(Drop)]
 pub struct Until {
     // In seconds since 1970.
@@ -42,7 +42,9 @@ impl Until {
     /// Whether the next change is taken. Once one is not, none is.
     pub fn takes(&mut self, word: &Word) -> bool
         ensures time { self.new.time ≡ self.old.time }
-        ensures taken { (changes beginning : List Change) → HasTaken self.old changes beginning → HasTaken self.new (changes ++ change_of word.now ∷ []) (if result then beginning ++ change_of word.now ∷ [] else beginning) }
+        ensures taken { (changes beginning : List Change) → HasTaken self.old changes beginning
+            → HasTaken self.new (changes ++ change_of word.now ∷ [])
+            (if result then beginning ++ change_of word.now ∷ [] else beginning) }
     {
         if self.passed {
             return false;

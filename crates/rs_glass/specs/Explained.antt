@@ -12,7 +12,8 @@ use Rattle.rs_glass.specs.declared.said.Said.{Said}
 abbrev pub best_from : TablesContent → ℕ → IpPrefix → Option ℕ
 best_from tables client prefix = option_map (λ route. route.peer) (best_of tables client prefix)
 
--- these are the answers for the peers below a number: each with its explanation, and with what the peer's changes say last
+-- these are the answers for the peers below a number: each with its explanation, and with what the peer's
+-- changes say last
 abbrev pub AreExplained : TablesContent → ℕ → IpPrefix → List Said → ℕ → List Answer → Type 0
 AreExplained tables client prefix all count answers =
     (number : ℕ) → number < count → (answer : Answer) → slice_get answers number ≡ Some answer

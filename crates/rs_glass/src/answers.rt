@@ -46,7 +46,8 @@ pub struct LessSpecific {
     pub best: Option<usize>,
 }
 
-/// Answers, of what recorded sessions say, why the client of number `client` has each peer's route on the prefix, or not.
+/// Answers, of what recorded sessions say, why the client of number `client` has each peer's route on the
+/// prefix, or not.
 pub fn explain_all(
     alloc: Global,
     reading: &Reading,
@@ -56,9 +57,12 @@ pub fn explain_all(
     requires client_known { client < length reading.now.tables.plan.peers }
     requires one_for_each { length reading.now.said.items ≡ length reading.now.tables.plan.peers }
     ensures as_many { IfOk result (λ answers. length answers.peers.items ≡ length reading.now.said.items) }
-    ensures explained { IfOk result (λ answers. AreExplained reading.now.tables client question.now.prefix reading.now.said.items (length answers.peers.items) answers.peers.items) }
+    ensures explained { IfOk result (λ answers.
+        AreExplained reading.now.tables client question.now.prefix reading.now.said.items
+        (length answers.peers.items) answers.peers.items) }
     ensures best { IfOk result (λ answers. answers.best ≡ best_from reading.now.tables client question.now.prefix) }
-    ensures asked { IfOk result (λ answers. (answers.client ≡ client) × (answers.prefix ≡ question.now.prefix) × (answers.until ≡ question.now.until)) }
+    ensures asked { IfOk result (λ answers. (answers.client ≡ client) × (answers.prefix ≡ question.now.prefix)
+        × (answers.until ≡ question.now.until)) }
 {
     let prefix = question.prefix;
     let tables = &reading.tables;

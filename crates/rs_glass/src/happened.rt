@@ -18,8 +18,8 @@ use std::alloc::Global;
 pub struct Happening {
     /// The number of the peer.
     pub peer: usize,
-    /// When it counts, in seconds since 1970: at its own time, or at the latest time before it in its file where that is later, as a close at the end of a file does,
-    /// which has no time of its own.
+    /// When it counts, in seconds since 1970: at its own time, or at the latest time before it in its file
+    /// where that is later, as a close at the end of a file does, which has no time of its own.
     pub time: u32,
     /// What changed.
     pub word: Word,
@@ -27,8 +27,8 @@ pub struct Happening {
     pub loss: Option<Loss>,
 }
 
-/// What happened on the prefix, of all peers, in the order of time; at one time by the peers in their order, and then in the order of the file. `readers` gives the recorded
-/// file of each peer.
+/// What happened on the prefix, of all peers, in the order of time; at one time by the peers in their order,
+/// and then in the order of the file. `readers` gives the recorded file of each peer.
 pub fn read_happenings<R: Read + Drop>(
     alloc: Global,
     plan: &Exchange,

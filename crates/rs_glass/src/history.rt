@@ -73,7 +73,8 @@ impl History {
     }
 }
 
-/// Replays what happened, one after another, and tells what the client gets after each. What happened before `from` counts and isn't shown.
+/// Replays what happened, one after another, and tells what the client gets after each. What happened before
+/// `from` counts and isn't shown.
 pub fn replay(
     alloc: Global,
     plan: &Arc<Exchange>,
@@ -90,7 +91,8 @@ pub fn replay(
     Ok(history)
 }
 
-// Takes what happened, and tells what the client gets from then on; nothing of a peer that isn't there, or behind its close.
+// Takes what happened, and tells what the client gets from then on; nothing of a peer that isn't there, or
+// behind its close.
 fn take(
     tables: &mut Tables,
     client: Option<usize>,

@@ -1,11 +1,15 @@
-//! A looking glass: why a client of a route server has each peer's route on a prefix, or not, and what happened there, from recorded sessions.
+//! A looking glass: why a client of a route server has each peer's route on a prefix, or not, and what
+//! happened there, from recorded sessions.
 //!
-//! Of the recorded files only what the prefix needs is kept: the changes on it and on the prefixes that cover it, the losses and the closes.
+//! Of the recorded files only what the prefix needs is kept: the changes on it and on the prefixes that cover
+//! it, the losses and the closes.
 //!
 //! Standards: RFC 4271, section 9.1; RFC 7947, section 2.3.
 //!
-//! Reading order: `question`, `covering` (the prefixes that count), `loss` (how a session was lost), `said` (what a peer's changes say last of the prefix), `reading` (of the
-//! recorded files), `answers`; `happened` (what happened on the prefix, in the order of time) and `history` (and what a client gets after each); `fault`.
+//! Reading order: `question`, `covering` (the prefixes that count), `loss` (how a session was lost), `said`
+//! (what a peer's changes say last of the prefix), `reading` (of the recorded files), `answers`; `happened`
+//! (what happened on the prefix, in the order of time) and `history` (and what a client gets after each);
+//! `fault`.
 #![tactic(auto)]
 
 mod answers;

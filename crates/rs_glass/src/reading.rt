@@ -41,7 +41,8 @@ pub fn read_sessions<R: Read + Drop>(
     requires reader_failures { All (λ reader. R.failures reader < u64.MAX) readers.items }
     ensures plan { IfOk result (λ reading. reading.tables.plan ≡ plan.now.value) }
     ensures as_many { IfOk result (λ reading. length reading.said.items ≡ length plan.now.value.peers) }
-    ensures says { IfOk result (λ reading. AreSaidOf R.gives question.now plan.now.value readers.items (length readers.items) reading.tables reading.said.items) }
+    ensures says { IfOk result (λ reading. AreSaidOf R.gives question.now plan.now.value readers.items
+        (length readers.items) reading.tables reading.said.items) }
 {
     let mut tables = Tables::new(alloc, plan.clone()?)?;
     let mut said = Vec::with_capacity(alloc, plan.count())?;
@@ -65,7 +66,8 @@ pub(crate) fn peer_id(plan: &Exchange, peer: usize) -> PeerId
     }
 }
 
-// Reads the recorded session of a peer up to the time that is asked for. Where a read failed, or memory is refused, some of its changes are applied.
+// Reads the recorded session of a peer up to the time that is asked for. Where a read failed, or memory is
+// refused, some of its changes are applied.
 fn read_session<R: Read + Drop>(
     alloc: Global,
     tables: &mut Tables,
@@ -141,7 +143,8 @@ fn take_change(
 ) -> Result<(), AllocError>
     requires known { peer < length tables.old.plan.peers }
     requires open { (rib_of tables.old peer).closed ≡ false }
-    ensures takes { OnOk result (BecomesIf (concerns prefix (change_of word)) (rib_of tables.old peer) (change_of word) (rib_of tables.new peer)) }
+    ensures takes { OnOk result (BecomesIf (concerns prefix (change_of word)) (rib_of tables.old peer)
+        (change_of word) (rib_of tables.new peer)) }
     ensures others { (other : ℕ) → other ≢ peer → rib_of tables.new other ≡ rib_of tables.old other }
     ensures plan { tables.new.plan ≡ tables.old.plan }
 {

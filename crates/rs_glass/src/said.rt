@@ -35,7 +35,8 @@ impl Said {
 
     // With one change more, and how the session was lost where that is the change.
     pub(crate) fn after(self, prefix: Prefix, word: &Word, loss: Option<Loss>) -> Said
-        ensures { (changes : List Change) → IsSaidLast prefix changes self.last → IsSaidLast prefix (changes ++ change_of word.now ∷ []) result.last }
+        ensures { (changes : List Change) → IsSaidLast prefix changes self.last
+            → IsSaidLast prefix (changes ++ change_of word.now ∷ []) result.last }
     {
         let last = self.last.after(prefix, word);
         Said {
@@ -45,7 +46,8 @@ impl Said {
         }
     }
 
-    /// When the peer's route on the prefix was announced, where it is there, or taken away: in seconds since 1970; none where that isn't known.
+    /// When the peer's route on the prefix was announced, where it is there, or taken away: in seconds since
+    /// 1970; none where that isn't known.
     pub fn time(&self) -> Option<u32> {
         match self.last {
             LastSaid::NeverAnnounced => None,

@@ -11,8 +11,8 @@ use rs_session::Reason;
 use rs_timestamp::{Utc, civil_time};
 use std::alloc::{AllocError, Global};
 
-/// The history as a text of several lines: for each thing that happened the time, the peer, whose route the client gets from then on where one is asked for, and
-/// what happened.
+/// The history as a text of several lines: for each thing that happened the time, the peer, whose route the
+/// client gets from then on where one is asked for, and what happened.
 pub fn history_text(
     alloc: Global,
     plan: &Exchange,

@@ -1,7 +1,8 @@
 //! The answers of the looking glass as texts and as JSON. Nothing here is of a standard: all of it is our choice.
 //!
-//! Reading order: `why_lines` and `why_object` (why a client has each peer's route, or not), `history_lines` and `history_object` (what happened on a prefix); below them `reasons`,
-//! `route_text`, `names`, `clock` (how times are shown) and `columns`.
+//! Reading order: `why_lines` and `why_object` (why a client has each peer's route, or not), `history_lines`
+//! and `history_object` (what happened on a prefix); below them `reasons`, `route_text`, `names`, `clock`
+//! (how times are shown) and `columns`.
 #![tactic(auto)]
 
 mod clock;

@@ -1,6 +1,7 @@
 //! The words of the command line of `looking_glass`: which question they ask.
 //!
-//! Reading order: `query` (the questions), `values` (what texts of values stand for), `command` (the program's command as `clap` knows it), `read_words`.
+//! Reading order: `query` (the questions), `values` (what texts of values stand for), `command` (the
+//! program's command as `clap` knows it), `read_words`.
 #![tactic(auto)]
 
 mod command;

@@ -1,5 +1,7 @@
--- How a compressed file begins (RFC 1952, section 2.3.1, for gzip; RFC 8878, section 3.1.1, for zstd; the formats of bzip2 and xz).
-use Rattle.std.specs.Prelude.{ℕ, ◌==◌, ◌&&◌, nat_le, Bool, if◌then◌else◌, List, [], ◌∷◌, drop, slice_index, Option, Some, None}
+-- How a compressed file begins (RFC 1952, section 2.3.1, for gzip; RFC 8878, section 3.1.1, for zstd; the
+-- formats of bzip2 and xz).
+use Rattle.std.specs.Prelude.{ℕ, ◌==◌, ◌&&◌, nat_le, Bool, if◌then◌else◌, List, [], ◌∷◌, drop, slice_index, Option}
+use Rattle.std.specs.Prelude.{Some, None}
 use Rattle.std.specs.List.{starts_with}
 use Rattle.rs_inventory.specs.declared.compression.Compression.{Compression}
 use Rattle.rs_inventory.specs.declared.compression.Compression.TheVariants as by

@@ -1,11 +1,13 @@
 -- What one record adds to an inventory (RFC 6396, section 4.4; RFC 4271, section 4).
-use Rattle.std.specs.Prelude.{ℕ, ◌+◌, ◌==◌, ◌&&◌, nat_le, nat_lt, not, Bool, true, false, if◌then◌else◌, List, length, drop, Option, Some, None, Result, Ok, Err}
+use Rattle.std.specs.Prelude.{ℕ, ◌+◌, ◌==◌, ◌&&◌, nat_le, nat_lt, not, Bool, true, false, if◌then◌else◌, List, length}
+use Rattle.std.specs.Prelude.{drop, Option, Some, None, Result, Ok, Err}
 use Rattle.std.specs.Option.{option_and_then}
 use Rattle.byteorder.specs.Endian.{big_number}
 use Rattle.rs_mrt.specs.Entry.{Meaning, Message, State, Other, entry_of, message_place, front_len, family_ipv4}
 use Rattle.rs_mrt.specs.Record.{MrtRecord, header_len}
 use Rattle.rs_mrt.specs.declared.fault.MrtFault.{MrtFault}
-use Rattle.rs_update.specs.Message.{MessageContent, IsOpen, IsUpdate, IsTreated, IsNotification, IsKeepAlive, IsRefresh, message_of}
+use Rattle.rs_update.specs.Message.{MessageContent, IsOpen, IsUpdate, IsTreated, IsNotification, IsKeepAlive}
+use Rattle.rs_update.specs.Message.{IsRefresh, message_of}
 use Rattle.rs_update.specs.declared.fault.MessageFault.{MessageFault}
 use Rattle.rs_inventory.specs.Kind.{fields_of, unread_kind}
 use Rattle.rs_inventory.specs.Opening.{identifier_of, sender_as}
@@ -19,7 +21,8 @@ use Rattle.rs_inventory.specs.declared.peer.Peer.{Peer}
 
 -- ---- a message
 
--- what a message is, and what it says of its sender: of an UPDATE how many prefixes it lists, of an OPEN its BGP Identifier
+-- what a message is, and what it says of its sender: of an UPDATE how many prefixes it lists, of an OPEN its
+-- BGP Identifier
 abbrev pub kind_of_message : Result MessageContent MessageFault → Kind
 kind_of_message (Ok IsOpen) = kinds.Open
 kind_of_message (Ok (IsUpdate update)) = kinds.Update
@@ -50,7 +53,8 @@ is_open (Err fault) = false
 
 -- ---- a change of state
 
--- a session comes up with a change to Established, state 6, and goes down with a change from it (RFC 6396, section 4.4.1)
+-- a session comes up with a change to Established, state 6, and goes down with a change from it (RFC 6396,
+-- section 4.4.1)
 abbrev pub news_of_states : ℕ → ℕ → News
 news_of_states old new =
     if (new == 6) && not (old == 6) then news.Up
@@ -73,19 +77,23 @@ recorder_in (Some fields) =
     if nat_lt (length fields) message_place then None
     else Some (record { address = big_number 4 (drop 16 fields); asn = big_number 4 (drop 4 fields) })
 
--- the fields of BGP4MP_MESSAGE: Peer AS of two octets at 0, Address Family at 6, Peer IP Address at 8, and of an IPv4 peer the message at 16
--- (RFC 6396, section 4.4.2)
+-- the fields of BGP4MP_MESSAGE: Peer AS of two octets at 0, Address Family at 6, Peer IP Address at 8, and of
+-- an IPv4 peer the message at 16 (RFC 6396, section 4.4.2)
 abbrev pub is_ipv4_message : List ℕ → Bool
 is_ipv4_message fields = nat_le 16 (length fields) && (big_number 2 (drop 6 fields) == family_ipv4)
 
 -- what an OPEN behind them says
 unfoldable pub opener_of : List ℕ → Note
-opener_of fields = note_of (big_number 4 (drop 8 fields)) (sender_as (big_number 2 fields) (drop 16 fields)) (news.TwoOctetOpen (identifier_of (drop 16 fields)))
+opener_of fields =
+    note_of (big_number 4 (drop 8 fields)) (sender_as (big_number 2 fields) (drop 16 fields))
+    (news.TwoOctetOpen (identifier_of (drop 16 fields)))
 
 abbrev pub two_octet_open : List ℕ → Option Note
-two_octet_open fields = if is_ipv4_message fields && is_open (message_of (drop 16 fields)) then Some (opener_of fields) else None
+two_octet_open fields =
+    if is_ipv4_message fields && is_open (message_of (drop 16 fields)) then Some (opener_of fields) else None
 
--- what a record of a session with two-octet AS numbers says: its messages have Subtype 1, and of those only an OPEN is read (our choice)
+-- what a record of a session with two-octet AS numbers says: its messages have Subtype 1, and of those only
+-- an OPEN is read (our choice)
 unfoldable pub two_octet_note : MrtRecord → Option Note
 two_octet_note r = if r.subtype == 1 then option_and_then two_octet_open (fields_of r) else None
 
@@ -105,8 +113,16 @@ finding_by r (Ok (State asn address old new)) = record {
   recorder = None;
   note = Some (note_of address asn (news_of_states old new));
 }
-finding_by r (Ok Other) = record { time = r.time; kind = unread_kind r; octets = known_octets r.body; recorder = None; note = two_octet_note r }
-finding_by r (Err fault) = record { time = r.time; kind = kinds.CutShort; octets = known_octets r.body; recorder = None; note = None }
+finding_by r (Ok Other) =
+    record {
+      time = r.time;
+      kind = unread_kind r;
+      octets = known_octets r.body;
+      recorder = None;
+      note = two_octet_note r;
+    }
+finding_by r (Err fault) =
+    record { time = r.time; kind = kinds.CutShort; octets = known_octets r.body; recorder = None; note = None }
 
 abbrev pub finding_of : MrtRecord → Finding
 finding_of r = finding_by r (entry_of r)

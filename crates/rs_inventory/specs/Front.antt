@@ -1,4 +1,5 @@
--- A reader whose first octets were taken, and which gives them again. Nothing here is of a standard: all of it is our choice.
+-- A reader whose first octets were taken, and which gives them again. Nothing here is of a standard: all of
+-- it is our choice.
 use Rattle.std.specs.Prelude.{◌≡◌, ℕ, ◌||◌, nat_le, Bool, true, false, List, [], ◌++◌, length, refl}
 use Rattle.rs_mrt.specs.Reader.{ReadEnd, FileEnds, SomethingIsGiven}
 
@@ -19,7 +20,8 @@ GivesUnlessEnded gives true inner octets end = (octets ≡ []) × (end ≡ FileE
 GivesUnlessEnded gives false inner octets end = gives inner octets end
 
 -- the octets that were taken may come, and then what the reader may give
-pub record RewoundGives {R : Type 0} (gives : R → List ℕ → ReadEnd → Type 0) (whole : Rewound R) (octets : List ℕ) (end : ReadEnd) : Type 0 where
+pub record RewoundGives {R : Type 0} (gives : R → List ℕ → ReadEnd → Type 0) (whole : Rewound R) (octets : List ℕ)
+    (end : ReadEnd) : Type 0 where
   pub later : List ℕ
   pub splits : octets ≡ whole.held ++ later
   pub given : GivesUnlessEnded gives whole.ended whole.inner later end
@@ -30,7 +32,8 @@ unless_ended gives true inner some = ([], FileEnds, (refl, refl))
 unless_ended gives false inner some = some
 
 -- something always may
-pub rewound_may_come : {R : Type 0} (gives : R → List ℕ → ReadEnd → Type 0) → ((inner : R) → SomethingIsGiven (gives inner))
+pub rewound_may_come : {R : Type 0} (gives : R → List ℕ → ReadEnd → Type 0)
+    → ((inner : R) → SomethingIsGiven (gives inner))
     → (whole : Rewound R) → SomethingIsGiven (RewoundGives gives whole)
 rewound_may_come gives some whole =
     let inner = unless_ended gives whole.ended whole.inner (some whole.inner) in
@@ -52,13 +55,15 @@ room_len = 12
 abbrev pub is_done : Taken → Bool
 is_done front = front.ended || nat_le front_len (length front.octets)
 
--- Whatever may come of the octets that were taken and then the reader might come of the reader before, and a reader without more is only
--- found at the end of its octets.
+-- Whatever may come of the octets that were taken and then the reader might come of the reader before, and a
+-- reader without more is only found at the end of its octets.
 abbrev pub IsFrontOf : {R : Type 0} → (R → List ℕ → ReadEnd → Type 0) → R → R → Taken → Type 0
-IsFrontOf gives old new front = (octets : List ℕ) → (end : ReadEnd) → RewoundGives gives (rewound front new) octets end → gives old octets end
+IsFrontOf gives old new front =
+    (octets : List ℕ) → (end : ReadEnd) → RewoundGives gives (rewound front new) octets end → gives old octets end
 
 -- one call took more
 abbrev pub TakesMore : {R : Type 0} → (R → List ℕ → ReadEnd → Type 0) → (R → ℕ) → Taken → R → Taken → R → Type 0
 TakesMore gives failures front old more new =
-    ((octets : List ℕ) → (end : ReadEnd) → RewoundGives gives (rewound more new) octets end → RewoundGives gives (rewound front old) octets end)
+    ((octets : List ℕ) → (end : ReadEnd) → RewoundGives gives (rewound more new) octets end
+    → RewoundGives gives (rewound front old) octets end)
     × (failures new ≡ failures old)

@@ -1,5 +1,6 @@
 -- What the records of a file hold, all of them.
-use Rattle.std.specs.Prelude.{◌≡◌, ◌≤◌, ℕ, ◌+◌, Bool, if◌then◌else◌, List, [], ◌∷◌, ◌++◌, All, Contains, length, map, min, max, slice_index, Option, Some, None, count_by, filter_map}
+use Rattle.std.specs.Prelude.{◌≡◌, ◌≤◌, ℕ, ◌+◌, Bool, if◌then◌else◌, List, [], ◌∷◌, ◌++◌, All, Contains, length, map}
+use Rattle.std.specs.Prelude.{min, max, slice_index, Option, Some, None, count_by, filter_map}
 use Rattle.std.specs.BTreeMap.{is_at}
 use Rattle.std.specs.List.{cons_option}
 use Rattle.std.specs.Map.{lookup}
@@ -74,11 +75,12 @@ known_sum (Some n ∷ later) = option_map (λ m. n + m) (known_sum later)
 
 -- ---- all records
 
--- what these records hold is this: as many records, as many of each kind, their earliest and latest times, their octets, the first recorder
--- that is named, and of each peer what its records say
+-- what these records hold is this: as many records, as many of each kind, their earliest and latest times,
+-- their octets, the first recorder that is named, and of each peer what its records say
 pub record Holds (findings : List Finding) (content : Content) : Type 0 where
   pub records : content.records ≡ counted (length findings)
-  pub kinds : (kind : Kind) → slice_index content.kinds (place_of kind) ≡ counted (count_by (λ f. is_kind kind f.kind) findings)
+  pub kinds : (kind : Kind)
+      → slice_index content.kinds (place_of kind) ≡ counted (count_by (λ f. is_kind kind f.kind) findings)
   pub first : IsEarliest (map (λ f. f.time) findings) content.first
   pub last : IsLatest (map (λ f. f.time) findings) content.last
   pub octets : content.octets ≡ option_map counted (known_sum (map (λ f. f.octets) findings))
@@ -118,7 +120,8 @@ pub record WithCounts (one : Finding) (old new : Content) : Type 0 where
   pub end : new.end ≡ old.end
   pub records : new.records ≡ counted (old.records + 1)
   pub kinds : (kind : Kind) → slice_index new.kinds (place_of kind)
-      ≡ (if is_kind kind one.kind then counted (slice_index old.kinds (place_of kind) + 1) else slice_index old.kinds (place_of kind))
+      ≡ (if is_kind kind one.kind then counted (slice_index old.kinds (place_of kind) + 1)
+      else slice_index old.kinds (place_of kind))
   pub first : new.first ≡ Some (earlier_of old.first one.time)
   pub last : new.last ≡ Some (later_of old.last one.time)
   pub octets : new.octets ≡ sum_of old.octets one.octets

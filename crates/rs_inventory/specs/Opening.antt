@@ -1,5 +1,6 @@
 -- What an OPEN tells of its sender (RFC 4271, section 4.2; RFC 5492, section 4; RFC 6793, sections 3 and 9).
-use Rattle.std.specs.Prelude.{ℕ, ◌==◌, ◌&&◌, nat_lt, if◌then◌else◌, List, [], ◌∷◌, length, take, drop, Option, Some, None}
+use Rattle.std.specs.Prelude.{ℕ, ◌==◌, ◌&&◌, nat_lt, if◌then◌else◌, List, [], ◌∷◌, length, take, drop, Option, Some}
+use Rattle.std.specs.Prelude.{None}
 use Rattle.std.specs.Option.{option_or}
 use Rattle.byteorder.specs.Endian.{big_number}
 use Rattle.rs_update.specs.Parts.{parts_of}
@@ -22,7 +23,8 @@ item_of item = record { kind = item.kind; value = item.value.now }
 abbrev pub item_at : List ℕ → Option (ItemContent × List ℕ)
 item_at [] = None
 item_at (kind ∷ []) = None
-item_at (kind ∷ len ∷ octets) = if nat_lt (length octets) len then None else Some (record { kind = kind; value = take len octets }, drop len octets)
+item_at (kind ∷ len ∷ octets) =
+    if nat_lt (length octets) len then None else Some (record { kind = kind; value = take len octets }, drop len octets)
 
 -- the items of a list, one after another; what is left over is no item
 abbrev pub items_of : List ℕ → List ItemContent
@@ -43,7 +45,8 @@ as_of_parameter item = if item.kind == 2 then first_found as_of_capability (item
 
 -- the AS number of four octets that an OPEN tells: its Optional Parameters stand behind their length
 abbrev pub four_octet_as : List ℕ → Option ℕ
-four_octet_as octets = if nat_lt (length octets) 29 then None else first_found as_of_parameter (items_of (drop 29 octets))
+four_octet_as octets =
+    if nat_lt (length octets) 29 then None else first_found as_of_parameter (items_of (drop 29 octets))
 
 -- 23456 stands for an AS number that two octets can't hold (RFC 6793, section 9)
 abbrev pub or_recorded : ℕ → Option ℕ → ℕ

@@ -1,5 +1,6 @@
 -- What the records of one peer say.
-use Rattle.std.specs.Prelude.{◌≡◌, ℕ, ◌==◌, ◌^◌, ◌+◌, ◌-◌, min, Bool, true, false, if◌then◌else◌, List, [], ◌∷◌, ◌++◌, length, slice_get, Option, Some, None, sum_by, count_by, filter_map}
+use Rattle.std.specs.Prelude.{◌≡◌, ℕ, ◌==◌, ◌^◌, ◌+◌, ◌-◌, min, Bool, true, false, if◌then◌else◌, List, [], ◌∷◌, ◌++◌}
+use Rattle.std.specs.Prelude.{length, slice_get, Option, Some, None, sum_by, count_by, filter_map}
 use Rattle.rs_inventory.specs.Sessions.{Event, Up, Down, sessions_of, with_end}
 use Rattle.rs_inventory.specs.declared.finding.News.{News}
 use Rattle.rs_inventory.specs.declared.finding.News.TheVariants as news
@@ -130,7 +131,8 @@ peer_content told = record {
 
 -- whatever records said this, with one record more they say that
 abbrev pub TellsMore : PeerContent → ℕ → News → PeerContent → Type 0
-TellsMore old time one new = (told : List Told) → old ≡ peer_content told → new ≡ peer_content (told ++ (time, one) ∷ [])
+TellsMore old time one new =
+    (told : List Told) → old ≡ peer_content told → new ≡ peer_content (told ++ (time, one) ∷ [])
 
 -- ---- one record more
 

@@ -9,19 +9,24 @@ use Rattle.rs_inventory.specs.Inventory.{Content, Holds}
 use Rattle.rs_inventory.specs.declared.finding.Finding.{Finding}
 
 -- it is what these records hold, which may come, all of them, and it says how they end
-pub record IsInventoryOf {S : Type 0} (comes : S → List MrtRecord → Option SourceFault → Type 0) (source : S) (content : Content) : Type 0 where
+pub record IsInventoryOf {S : Type 0} (comes : S → List MrtRecord → Option SourceFault → Type 0) (source : S)
+    (content : Content) : Type 0 where
   pub records : List MrtRecord
   pub come : comes source records (source_end content.end)
   pub holds : Holds (map finding_of records) content
 
 -- these records came so far, with whatever may still come behind them, and this is what they hold
-pub record Going {S : Type 0} (comes : S → List MrtRecord → Option SourceFault → Type 0) (initial now : S) (content : Content) : Type 0 where
+pub record Going {S : Type 0} (comes : S → List MrtRecord → Option SourceFault → Type 0) (initial now : S)
+    (content : Content) : Type 0 where
   pub done : List MrtRecord
-  pub behind : (later : List MrtRecord) (fault : Option SourceFault) → comes now later fault → comes initial (done ++ later) fault
+  pub behind : (later : List MrtRecord) (fault : Option SourceFault) → comes now later fault
+      → comes initial (done ++ later) fault
   pub holds : Holds (map finding_of done) content
 
 -- the next record may come, with whatever may come after it, and this is what it adds; or none may, and they end so
-abbrev pub GivesFinding : {S : Type 0} → (S → List MrtRecord → Option SourceFault → Type 0) → S → S → Option MrtFault → Option Finding → Type 0
+abbrev pub GivesFinding : {S : Type 0} → (S → List MrtRecord → Option SourceFault → Type 0) → S → S
+    → Option MrtFault → Option Finding → Type 0
 GivesFinding comes old new end (Some finding) =
-    (r : MrtRecord) × (finding ≡ finding_of r) × ((later : List MrtRecord) (fault : Option SourceFault) → comes new later fault → comes old (r ∷ later) fault)
+    (r : MrtRecord) × (finding ≡ finding_of r)
+    × ((later : List MrtRecord) (fault : Option SourceFault) → comes new later fault → comes old (r ∷ later) fault)
 GivesFinding comes old new end None = comes old [] (source_end end)

@@ -8,7 +8,8 @@ pub data Event : Type 0 where
   Up : ℕ → Event
   Down : ℕ → Event
 
--- when the session went down that came up before these events: with the first of them, where that is a loss (our choice)
+-- when the session went down that came up before these events: with the first of them, where that is a loss
+-- (our choice)
 abbrev pub end_by : List Event → Option ℕ
 end_by [] = None
 end_by (Up time ∷ later) = None

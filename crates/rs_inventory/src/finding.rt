@@ -3,7 +3,9 @@
 ghost use Rattle.std.specs.Prelude.{◌≡◌, ◌≤◌, length, IfOk, IsTrue};
 ghost use Rattle.rs_mrt.specs.Record.{record_of};
 ghost use Rattle.rs_update.specs.Message.{message_of};
-ghost use Rattle.rs_inventory.specs.Finding.{finding_of, is_ipv4_message, is_open, kind_of_message, known_octets, news_of_message, news_of_states, note_of, opener_of, recorder_in, two_octet_note, two_octet_open};
+ghost use Rattle.rs_inventory.specs.Finding.{finding_of, is_ipv4_message, is_open, kind_of_message, known_octets};
+ghost use Rattle.rs_inventory.specs.Finding.{news_of_message, news_of_states, note_of, opener_of, recorder_in};
+ghost use Rattle.rs_inventory.specs.Finding.{two_octet_note, two_octet_open};
 ghost use Rattle.rs_inventory.specs.Kind.{fields_of};
 ghost use Rattle.rs_inventory.specs.Opening.{sender_as};
 ghost use Rattle.rs_inventory.specs.declared.finding.News.TheVariants as news;

@@ -1,7 +1,8 @@
 //! A reader whose first octets were looked at.
 
 ghost use Rattle.std.specs.Prelude.{◌≡◌, ◌+◌, ◌<◌, ◌≤◌, ◌++◌, ◌==◌, false, drop, length, min, nat_lt, take, IfOk, OnOk};
-ghost use Rattle.rs_inventory.specs.Front.{IsFrontOf, RewoundGives, TakesMore, front_len, is_done, rewound, rewound_may_come};
+ghost use Rattle.rs_inventory.specs.Front.{IsFrontOf, RewoundGives, TakesMore, front_len, is_done, rewound};
+ghost use Rattle.rs_inventory.specs.Front.{rewound_may_come};
 
 use crate::compression::FRONT;
 use rs_mrt::{Failed, Read};

@@ -2,7 +2,8 @@
 
 ghost use Rattle.std.specs.Prelude.{◌≡◌, ◌+◌, [], ◌∷◌, ◌++◌, IfOk, OnOk, Some, None, List, slice_index};
 ghost use Rattle.std.specs.Option.{option_map};
-ghost use Rattle.rs_inventory.specs.Inventory.{Holds, TakesFinding, TakesNote, WithCounts, earlier_of, later_of, sum_of};
+ghost use Rattle.rs_inventory.specs.Inventory.{Holds, TakesFinding, TakesNote, WithCounts, earlier_of, later_of};
+ghost use Rattle.rs_inventory.specs.Inventory.{sum_of};
 ghost use Rattle.rs_inventory.specs.Kind.{place_of};
 ghost use Rattle.rs_inventory.specs.Peer.{counted};
 

@@ -4,7 +4,8 @@
 
 ghost use Rattle.std.specs.Prelude.{◌≡◌};
 ghost use Rattle.std.specs.Option.{option_map};
-ghost use Rattle.rs_inventory.specs.Opening.{as_of_capability, as_of_parameter, first_found, four_octet_as, identifier_of, item_at, item_of, items_of};
+ghost use Rattle.rs_inventory.specs.Opening.{as_of_capability, as_of_parameter, first_found, four_octet_as};
+ghost use Rattle.rs_inventory.specs.Opening.{identifier_of, item_at, item_of, items_of};
 
 use byteorder::{BigEndian, ByteOrder};
 

@@ -1,7 +1,9 @@
 //! What the records of one peer say.
 
 ghost use Rattle.std.specs.Prelude.{◌≡◌, ◌+◌, [], OnOk};
-ghost use Rattle.rs_inventory.specs.Peer.{TellsMore, announced_by, counted, identifier_in, is_faulty, is_message, is_same, is_state_change, peer_content, with_counts, with_identifier, with_session, withdrawn_by};
+ghost use Rattle.rs_inventory.specs.Peer.{TellsMore, announced_by, counted, identifier_in, is_faulty, is_message};
+ghost use Rattle.rs_inventory.specs.Peer.{is_same, is_state_change, peer_content, with_counts, with_identifier};
+ghost use Rattle.rs_inventory.specs.Peer.{with_session, withdrawn_by};
 
 use crate::finding::News;
 use crate::sessions::{SessionTimes, Sessions};

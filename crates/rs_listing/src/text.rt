@@ -6,6 +6,9 @@ use rs_mrt::MrtFault;
 use rs_timestamp::Utc;
 use std::alloc::{AllocError, Global};
 
+// The peer's address in a change of state that BIRD records when the connection is gone.
+const NO_ADDRESS: u32 = 0;
+
 /// What each file holds, in lines for people: the file; its records by kind and their times; how it ends; then each
 /// peer with its sessions.
 /// Between two files stands an empty line.
@@ -122,8 +125,20 @@ fn add_peer(
     )?;
     for session in records.sessions() {
         add_session(alloc, text, *session)?;
+        add_unread_loss(text, peer, *session)?;
     }
     Ok(())
+}
+
+// Adds the line of a loss that takes no route away, as its record lacks the peer's address.
+fn add_unread_loss(text: &mut String, peer: Peer, session: SessionTimes) -> Result<(), AllocError> {
+    if peer.address != NO_ADDRESS || session.down.is_none() {
+        return Ok(());
+    }
+    writeln!(
+        text,
+        "    recorded without the peer's address, so not read as its loss: its routes stay"
+    )
 }
 
 // The BGP Identifiers, in order.

@@ -59,6 +59,7 @@ ends within the body of record 9, which begins at octet 461
 peer             AS            records  announced  withdrawn  faulty  identifier
 0.0.0.0          64502               1          0          0       0  -
   session  up -                    down 2023-11-14 23:13:20
+    recorded without the peer's address, so not read as its loss: its routes stay
 192.0.2.11       64501               1          0          0       0  192.0.2.111
 192.0.2.12       64502               1          0          0       1  -
 192.0.2.16       4200000006          4          2          1       0  192.0.2.116
@@ -78,20 +79,22 @@ fn a_text_for_people(rt: HostRuntime) -> Result<(), Fail> {
 
 const JSON: &str = concat!(
     r#"{"files":[{"file":"a \"b\"\n.mrt","compressed":null,"first":1700000000,"last":1700003600,"#,
-    r#""records":{"all":8,"update":1,"open":1,"notification":1,"keepalive":0,"route_refresh":0,"faulty":1,"state_change":3,"#,
-    r#""two_octet":1,"add_path":0,"ipv6":0,"table_dump_v2":0,"cut_short":0,"other":0},"#,
+    r#""records":{"all":8,"update":1,"open":1,"notification":1,"keepalive":0,"route_refresh":0,"#,
+    r#""faulty":1,"state_change":3,"two_octet":1,"add_path":0,"ipv6":0,"table_dump_v2":0,"cut_short":0,"other":0},"#,
     r#""ends_within":{"record":9,"part":"body","octet":461},"peers":["#,
     r#"{"address":"0.0.0.0","as":64502,"records":1,"announced":0,"withdrawn":0,"faulty":0,"identifiers":[],"#,
     r#""sessions":[{"up":null,"down":1700003600}]},"#,
-    r#"{"address":"192.0.2.11","as":64501,"records":1,"announced":0,"withdrawn":0,"faulty":0,"identifiers":["192.0.2.111"],"#,
-    r#""sessions":[]},"#,
-    r#"{"address":"192.0.2.12","as":64502,"records":1,"announced":0,"withdrawn":0,"faulty":1,"identifiers":[],"sessions":[]},"#,
+    r#"{"address":"192.0.2.11","as":64501,"records":1,"announced":0,"withdrawn":0,"faulty":0,"#,
+    r#""identifiers":["192.0.2.111"],"sessions":[]},"#,
+    r#"{"address":"192.0.2.12","as":64502,"records":1,"announced":0,"withdrawn":0,"faulty":1,"#,
+    r#""identifiers":[],"sessions":[]},"#,
     r#"{"address":"192.0.2.16","as":4200000006,"records":4,"announced":2,"withdrawn":1,"faulty":0,"#,
     r#""identifiers":["192.0.2.116"],"#,
     r#""sessions":[{"up":1700000000,"down":1700000003},{"up":1700000004,"down":null}]}]},"#,
     r#"{"file":"c.mrt.gz","compressed":"gzip","first":null,"last":null,"#,
-    r#""records":{"all":0,"update":0,"open":0,"notification":0,"keepalive":0,"route_refresh":0,"faulty":0,"state_change":0,"#,
-    r#""two_octet":0,"add_path":0,"ipv6":0,"table_dump_v2":0,"cut_short":0,"other":0},"ends_within":null,"peers":[]}]}"#,
+    r#""records":{"all":0,"update":0,"open":0,"notification":0,"keepalive":0,"route_refresh":0,"#,
+    r#""faulty":0,"state_change":0,"two_octet":0,"add_path":0,"ipv6":0,"table_dump_v2":0,"cut_short":0,"other":0},"#,
+    r#""ends_within":null,"peers":[]}]}"#,
     "\n",
 );
 
