@@ -1,0 +1,46 @@
+//! A writer that takes the line of a progress away first.
+
+ghost use Rattle.std.specs.Prelude.{◌≡◌};
+
+use crate::progress::Progress;
+use std::io;
+use std::io::{Eprint, Write};
+use std::marker::Model;
+
+/// A writer, as to the terminal on which a progress is shown: its line is taken away before anything is
+/// written. It takes just what the writer takes.
+#[derive(Drop)]
+pub struct Cleared<'a, W, E> {
+    inner: W,
+    progress: Option<&'a Progress<E>>,
+}
+
+impl<'a, W, E> Model for Cleared<'a, W, E> {
+    ghost Value = { W };
+
+    ghost view = { λ cleared. cleared.inner };
+}
+
+impl<'a, W, E> Cleared<'a, W, E> {
+    /// Begins with a writer. Without a progress nothing is taken away.
+    pub fn new(inner: W, progress: Option<&'a Progress<E>>) -> Cleared<'a, W, E>
+        ensures { result ≡ inner }
+    {
+        Cleared { inner, progress }
+    }
+}
+
+impl<'a, W: Write, E: Eprint> Write for Cleared<'a, W, E> {
+    ghost contents = { λ inner. W.contents inner };
+
+    fn write(&mut self, buf: &[u8]) -> io::Result<usize> {
+        if let Some(progress) = self.progress {
+            progress.clear();
+        }
+        self.inner.write(buf)
+    }
+
+    fn flush(&mut self) -> io::Result<()> {
+        self.inner.flush()
+    }
+}

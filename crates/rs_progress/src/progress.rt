@@ -1,0 +1,62 @@
+//! The line on standard error.
+//!
+//! Our choices: a line that can't be written is left out. Where two threads pass marks at once, the
+//! lower one may be shown until the next.
+
+use crate::amount::Amount;
+use std::io::Eprint;
+use std::sync::atomic::{AtomicBool, AtomicU64, Ordering};
+
+/// How much of all files was read, shown on standard error in one line, whose place each later one
+/// takes.
+#[derive(Drop)]
+pub struct Progress<E> {
+    to: E,
+    total: Option<u64>,
+    read: AtomicU64,
+    // Whether the line is there.
+    shows: AtomicBool,
+}
+
+// Spaces, as many as the longest line has characters.
+const WIDTH: usize = 60;
+
+impl<E: Eprint> Progress<E> {
+    /// Begins with no octet read. All files have `total` octets, where that is known. It shows nothing
+    /// yet.
+    pub fn new(to: E, total: Option<u64>) -> Progress<E> {
+        Progress {
+            to,
+            total,
+            read: AtomicU64::new(0),
+            shows: AtomicBool::new(false),
+        }
+    }
+
+    /// Counts octets that were read, from any thread, and shows the line where they pass a mark.
+    pub fn count(&self, octets: usize) {
+        let octets = octets as u64;
+        let before = self.read.fetch_add(octets, Ordering::SeqCst);
+        let after = self.amount(before.saturating_add(octets));
+        if self.amount(before).marks() < after.marks() {
+            self.shows.store(true, Ordering::SeqCst);
+            // The blank covers the last character of a line that was longer.
+            let _ = eprint!(self.to; "\r{after} ");
+        }
+    }
+
+    /// Takes the line away, if it is there. No thread may count meanwhile.
+    pub fn clear(&self) {
+        if self.shows.swap(false, Ordering::SeqCst) {
+            let _ = eprint!(self.to; "\r{:1$}\r", "", WIDTH);
+        }
+    }
+
+    // What is told where so many octets were read.
+    fn amount(&self, read: u64) -> Amount {
+        Amount {
+            read,
+            total: self.total,
+        }
+    }
+}
