@@ -19,7 +19,7 @@ mod read_once;
 mod tried;
 
 use copied::Copied;
-use files::{open_files, read_file};
+use files::{octets_of, open_files, read_file};
 use folder_outlet::FolderOutlet;
 use notes::print_notes;
 use rs_ended::{
@@ -27,12 +27,13 @@ use rs_ended::{
 };
 use rs_mrt::IoWriter;
 use rs_options::{Options, WordsFault};
+use rs_progress::{Cleared, Progress};
 use rs_run::{RunFault, run};
 use rs_setup::{Setup, a_configuration_has_a_file_for_each_peer, read_setup};
 use rs_words::read_words;
 use std::env::Env;
 use std::fs::Files;
-use std::io::ErrorKind;
+use std::io::{ErrorKind, IsTerminal, Stderr};
 use std::process::ExitCode;
 use std::sync::Wait;
 use std::thread::Threads;
@@ -48,9 +49,18 @@ fn main(rt: HostRuntime) -> ExitCode {
         Ok(setup) => setup,
         Err(ended) => return end(&rt, &ended, None, None),
     };
-    match serve(&rt, &setup, &options) {
+    match serve(&rt, &setup, &options, terminal(rt.stderr())) {
         Ok(()) => ExitCode::SUCCESS,
         Err(ended) => end(&rt, &ended, Some(&setup), Some(&options)),
+    }
+}
+
+// Standard error, where it is a terminal.
+fn terminal(stderr: Stderr) -> Option<Stderr> {
+    if stderr.is_terminal() {
+        Some(stderr)
+    } else {
+        None
     }
 }
 
@@ -108,12 +118,14 @@ fn configuration<R: AllocGlobal + Files>(rt: &R, options: &Options) -> Result<Se
 }
 
 // Opens the peers' files, and runs over them: dumps go to the folder of the options, the report to standard
-// output; then notes on peers of whose files nothing was kept, to standard error. Where a dump would take the place
-// of a file that was read, or the folder takes no files, nothing is read or written.
+// output; then notes on peers of whose files nothing was kept, to standard error. On a terminal it is shown how much
+// was read, until something else is written. Where a dump would take the place of a file that was read, or the
+// folder takes no files, nothing is read or written.
 fn serve<R: AllocGlobal + Files + Print + Eprint + Threads + Wait + Sync>(
     rt: &R,
     setup: &Setup,
     options: &Options,
+    terminal: Option<Stderr>,
 ) -> Result<(), Ended>
 where
     R::File: Send,
@@ -123,13 +135,19 @@ where
     ensures { IfErr result (λ ended. CanTell ended (Some setup.entry) (Some options.entry)) }
 {
     let alloc = rt.alloc();
-    let files = open_files(rt, &setup.files)?;
+    let progress = terminal.map(|to| Progress::new(to, octets_of(rt, &setup.files)));
+    let files = open_files(rt, &setup.files, progress.as_ref())?;
     if let Some(client) = first_unwritable(rt, setup, options)? {
         return Err(Ended::Run(RunFault::Dump(client)));
     }
     let mut outlet = FolderOutlet::new(rt, alloc, &options.out);
-    let mut report = IoWriter::new(Copied::new(alloc, io::writer(rt)));
-    match run(rt, alloc, setup, files, options, &mut outlet, &mut report) {
+    let out = Cleared::new(io::writer(rt), progress.as_ref());
+    let mut report = IoWriter::new(Copied::new(alloc, out));
+    let ran = run(rt, alloc, setup, files, options, &mut outlet, &mut report);
+    if let Some(progress) = &progress {
+        progress.clear();
+    }
+    match ran {
         Ok(()) => {
             if let Some(report) = report.into_inner().copy() {
                 print_notes(rt, setup, report);
