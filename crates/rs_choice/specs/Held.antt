@@ -1,5 +1,5 @@
 -- Routes as they are held for decisions.
-use Rattle.std.specs.Prelude.{◌≡◌, ◌≢◌, ◌<◌, ◌↔◌, ℕ, IsTrue, List, length, slice_get}
+use Rattle.std.specs.Prelude.{◌≡◌, ◌≢◌, ◌<◌, ◌↔◌, ℕ, IsTrue, List, length, slice_get, slice_index_or}
 use Rattle.std.specs.List.{All}
 use Rattle.std.specs.Option.{option_map_or}
 use Rattle.rs_update.specs.PathAttributes.{PathAttributes}
@@ -19,6 +19,12 @@ sent_of_held held = record { peer = held.peer; attributes = held.attributes.valu
 abbrev pub IsOpen : Plan → ℕ → PathAttributes → Type 0
 IsOpen plan peer attributes =
     (client : ℕ) → client < length plan.peers → client ≢ peer → IsTrue (is_permitted plan client peer attributes)
+
+-- routes come in strictly ascending order of the numbers of their peers
+abbrev pub AscendByPeer : List HeldRoute → Type 0
+AscendByPeer held =
+    (i j : ℕ) (one : HeldRoute) → i < j → j < length held
+    → (slice_index_or held i one).peer < (slice_index_or held j one).peer
 
 -- all are eligible
 abbrev pub AreEligible : Plan → List SentRoute → Type 0

@@ -6,9 +6,9 @@
 //!
 //! Reading order: `plan` (the server and its peers), `fault` and `checks` (which plans are refused),
 //! `exchange` (a plan that is not), `eligibility`, `policy`, `candidate`, `step`, `decision` (the pass that
-//! decides), `entrants`, `candidacy`, `held_route` and `clients` (the decisions of all clients), `recipients`
-//! and `route_change` (which of them a change may touch), `scan` (the same decision for lists of any length),
-//! `laws`.
+//! decides), `entrants`, `candidacy`, `held_route`, `held_order` and `clients` (the decisions of all
+//! clients), `recipients` and `route_change` (which of them a change may touch), `scan` (the same decision
+//! for lists of any length), `laws`.
 #![tactic(auto)]
 
 mod candidacy;
@@ -20,6 +20,7 @@ mod eligibility;
 mod entrants;
 mod exchange;
 mod fault;
+mod held_order;
 mod held_route;
 mod laws;
 mod neighbour_groups;
@@ -35,6 +36,7 @@ pub use candidacy::Candidacy;
 pub use candidate::{Candidate, Standing};
 pub use exchange::Exchange;
 pub use fault::PlanFault;
+pub use held_order::{is_at, place_of_peer};
 pub use held_route::HeldRoute;
 pub use laws::{
     a_plan_is_refused_by_its_first_fault, an_open_policy_shares_the_choice,

@@ -19,6 +19,7 @@ ghost use Rattle.rs_choice.specs.RouteChanges.{IsNextTouched, IsUntouched, Knows
 
 use crate::candidate::Standing;
 use crate::exchange::Exchange;
+use crate::held_order::{is_at, place_of_peer};
 use crate::held_route::HeldRoute;
 use crate::neighbour_groups::NeighbourGroups;
 use crate::plan::MAX_PEERS;
@@ -249,10 +250,10 @@ impl Exchange {
 fn place_from(held: &[HeldRoute], peer: usize) -> Option<usize>
     ensures { IfSome result (λ place. IsAt held.now place peer) }
 {
-    for place in 0..held.len() {
-        if usize::from(held[place].peer) == peer {
-            return Some(place);
-        }
+    let place = place_of_peer(held, peer);
+    if is_at(held, place, peer) {
+        Some(place)
+    } else {
+        None
     }
-    None
 }

@@ -23,15 +23,15 @@ peer_of one = one.peer
 abbrev pub IsHeldRow : ℕ → ℕ → List HeldRoute → Type 0
 IsHeldRow from to held = IsRow from to (map route_of_held held)
 
-from_peer : (from to : ℕ) (held : List HeldRoute) (i : ℕ) (one : HeldRoute) → IsHeldRow from to held → i < length held → get_or held i one ≡ one → from ≤ one.peer
+pub from_peer : (from to : ℕ) (held : List HeldRoute) (i : ℕ) (one : HeldRoute) → IsHeldRow from to held → i < length held → get_or held i one ≡ one → from ≤ one.peer
 from_peer from to [] i one row within is = absurd (omega (arith, within))
 from_peer from to (x ∷ xs) zero one row within is = omega (arith, row.0, ap peer_of is)
 from_peer from to (x ∷ xs) (suc i) one row within is = omega (arith, row.0, from_peer (x.peer + 1) to xs i one row.2 (omega (arith, within)) is)
 
-is_below : (a b : ℕ) → a < b → nat_lt a b ≡ true
+pub is_below : (a b : ℕ) → a < b → nat_lt a b ≡ true
 is_below a b h = grind (arith, nat_tests)
 
-is_not_below : (a b : ℕ) → b ≤ a → nat_lt a b ≡ false
+pub is_not_below : (a b : ℕ) → b ≤ a → nat_lt a b ≡ false
 is_not_below a b h = grind (arith, nat_tests)
 
 -- each stands at the place of its peer's

@@ -9,6 +9,7 @@ pub mod LeftLemmas
 pub mod ListingLemmas
 pub mod MemberLemmas
 pub mod MergeLemmas
+pub mod PlaceLemmas
 pub mod PrefixLemmas
 pub mod PutLemmas
 pub mod RowLemmas

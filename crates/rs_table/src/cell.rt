@@ -6,14 +6,14 @@
 ghost use Rattle.std.specs.Prelude.{◌≡◌, ◌<◌, ◌≤◌, ◌↔◌, ◌∷◌, [], IfOk, IsTrue, IsFalse, None, length, vec_capacity};
 ghost use Rattle.std.specs.Option.{option_map};
 ghost use Rattle.rs_choice.specs.Held.{IsJudged};
-ghost use Rattle.rs_choice.specs.RouteChanges.{IsAt, IsChange, IsKnown};
+ghost use Rattle.rs_choice.specs.RouteChanges.{IsChange, IsKnown};
 ghost use Rattle.rs_table.specs.Cell.{place_of, route_at, route_of_held, routes_in, stored_best, with_one, with_route};
 ghost use Rattle.rs_table.specs.Cell.{without_one, without_route, AreHeld, IsAscending, IsCell, IsPut, IsTaken};
 ghost use Rattle.rs_table.specs.RouteView.{peer_route_of};
 ghost use Rattle.rs_table.specs.Table.{peer_route};
 
 use crate::route::Route;
-use rs_choice::{Exchange, HeldRoute, RouteChange};
+use rs_choice::{Exchange, HeldRoute, RouteChange, is_at, place_of_peer};
 use std::alloc::{AllocError, Global};
 use std::marker::Model;
 use std::mem::replace;
@@ -33,11 +33,11 @@ impl Model for Cell {
 
     ghost coded = { cell_code };
 
-    ghost use Rattle.rs_table.specs.CellView.{cell_view, HasRoom};
+    ghost use Rattle.rs_table.specs.CellView.{cell_view, IsKept};
 
     ghost view = { cell_view };
 
-    ghost invariant = { HasRoom };
+    ghost invariant = { IsKept };
 }
 
 impl Cell {
@@ -113,16 +113,16 @@ impl Cell {
     pub(crate) fn route(&self, peer: usize) -> Option<Route<'_>>
         ensures { option_map peer_route_of result ≡ option_map (peer_route peer) (route_at (routes_in self.now) peer) }
     {
-        for route in &self.held {
-            if usize::from(route.peer) == peer {
-                return Some(Route {
-                    peer,
-                    time: route.time,
-                    attributes: &route.attributes,
-                });
-            }
+        let place = place(&self.held, peer);
+        if !is_at(&self.held, place, peer) {
+            return None;
         }
-        None
+        let route = &self.held[place];
+        Some(Route {
+            peer,
+            time: route.time,
+            attributes: &route.attributes,
+        })
     }
 
     // The route that a client gets.
@@ -140,6 +140,7 @@ impl Cell {
 
 // Puts a route in the place of any that its peer has, where there is room for all routes.
 fn put(held: &mut Vec<HeldRoute>, route: HeldRoute) -> RouteChange
+    requires ascending { IsAscending held.old.items }
     requires room { length (with_one (λ one. one.peer) held.old.items route) ≤ vec_capacity held.old }
     ensures held { held.new.items ≡ with_one (λ one. one.peer) held.old.items route }
     ensures peer { result.peer ≡ route.peer }
@@ -184,22 +185,11 @@ fn take_out(held: &mut Vec<HeldRoute>, peer: usize) -> RouteChange
     }
 }
 
-// Whether the route at a place, if there is one, is a peer's.
-fn is_at(held: &[HeldRoute], place: usize, peer: usize) -> bool
-    ensures { IsTrue result ↔ IsAt held.now place peer }
-{
-    place < held.len() && usize::from(held[place].peer) == peer
-}
-
 // How many routes stand before that of a peer, or before the place where it would stand.
 fn place(held: &[HeldRoute], peer: usize) -> usize
+    requires { IsAscending held.now }
     ensures place { result ≡ place_of (λ one. one.peer) held.now peer }
     ensures within { result ≤ length held.now }
 {
-    for place in 0..held.len() {
-        if usize::from(held[place].peer) >= peer {
-            return place;
-        }
-    }
-    held.len()
+    place_of_peer(held, peer)
 }

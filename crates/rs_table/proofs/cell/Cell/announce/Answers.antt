@@ -6,11 +6,11 @@ use Rattle.rs_table.proofs.HeldLemmas.{few-held, held-with, routes-with}
 use Rattle.rs_table.proofs.MemberLemmas.{with-some}
 use Rattle.rs_table.proofs.cell.Cell.announce.Goals as goal
 
-pub put-change-requires : goal.put-change-requires
-put-change-requires c =
+pub put-change-requires-clause-room : goal.put-change-requires-clause-room
+put-change-requires-clause-room c =
     let plan = c.args.plan.now in
     let cell : IsCell plan (cell_view c.self.inside) = subst (IsCell plan) (sym c.self.view_is) c.requires.cell in
-    omega (arith, few-held plan _ (held-with plan c.self.inside.held.items _ c.args.route cell.held c.requires.judged refl), c.self.invariant, cell.count)
+    omega (arith, few-held plan _ (held-with plan c.self.inside.held.items _ c.args.route cell.held c.requires.judged refl), c.self.invariant.room, cell.count)
 
 pub decide_after-requires-clause-held : goal.decide_after-requires-clause-held
 decide_after-requires-clause-held c =
@@ -39,3 +39,12 @@ returns-clause-routes c =
     ap (map route_of_held) c.decide_after.ensures.held
     ∙ routes-with c.self.inside.held.items c.put-change.new.held.items c.args.route c.put-change.ensures.held
     ∙ ap (λ cell. with_route (map route_of_held cell.held) (route_of_held c.args.route)) c.self.view_is
+
+pub invariant_of-self : goal.invariant_of-self
+invariant_of-self c =
+    let plan = c.args.plan.now in
+    let cell : IsCell plan (cell_view c.self.inside) = subst (IsCell plan) (sym c.self.view_is) c.requires.cell in
+    record {
+      room = omega (arith, c.self.invariant.room, c.put-change.ensures.capacity);
+      ascending = (length plan.peers, (held-with plan c.self.inside.held.items c.put-change.new.held.items c.args.route cell.held c.requires.judged c.put-change.ensures.held).row);
+    }

@@ -1,4 +1,4 @@
-use Rattle.std.proofs.Common.{◌∙◌, ap, sym, subst, length, map}
+use Rattle.std.proofs.Common.{◌∙◌, ap, sym, subst, arith, length, map}
 use Rattle.rs_table.specs.Cell.{IsCell, route_of_held, without_route}
 use Rattle.rs_table.specs.CellView.{cell_view}
 use Rattle.rs_table.proofs.ChangeLemmas.{take-change, take-known}
@@ -40,3 +40,12 @@ returns-clause-routes c =
     ap (map route_of_held) c.decide_after.ensures.held
     ∙ routes-without c.self.inside.held.items c.take_out-change.new.held.items c.args.peer c.take_out-change.ensures.held
     ∙ ap (λ cell. without_route (map route_of_held cell.held) c.args.peer) c.self.view_is
+
+pub invariant_of-self-2 : goal.invariant_of-self-2
+invariant_of-self-2 c =
+    let plan = c.args.plan.now in
+    let cell : IsCell plan (cell_view c.self.inside) = subst (IsCell plan) (sym c.self.view_is) c.requires in
+    record {
+      room = omega (arith, c.self.invariant.room, c.take_out-change.ensures.capacity);
+      ascending = (length plan.peers, (held-without plan c.self.inside.held.items c.take_out-change.new.held.items c.args.peer cell.held c.take_out-change.ensures.held).row);
+    }
