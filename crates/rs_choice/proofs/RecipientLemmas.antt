@@ -1,19 +1,31 @@
 -- Marks of clients, and the clients that a route for named clients alone doesn't reach.
-use Rattle.std.proofs.Common.{◌≡◌, ◌∙◌, sym, refl, ℕ, suc, zero, replicate, Bool, true, false, ◌&&◌, ◌⊎◌, inl, inr, List, [], ◌∷◌, Option, Some, None}
+use Rattle.std.proofs.Common.{◌≡◌, ◌∙◌, ◌<◌, sym, subst, refl, length, ℕ, Bool, true, false, ◌&&◌, ◌⊎◌, inl, inr, List, [], Option, Some, None}
 use Rattle.std.specs.Prelude.{slice_index_or, nat_lt}
 use Rattle.rs_update.specs.Community.{has_value}
 use Rattle.rs_choice.specs.declared.held_route.HeldRoute.{HeldRoute}
+use Rattle.rs_choice.specs.declared.route_change.KnownBest.{KnownBest}
 use Rattle.rs_choice.specs.declared.route_change.RouteChange.{RouteChange}
 use Rattle.rs_choice.specs.Plan.{Plan}
-use Rattle.rs_choice.specs.Recipients.{IsMarked}
-use Rattle.rs_choice.specs.RouteChanges.{new_route, AreNoCandidates, IsNoCandidate}
+use Rattle.rs_choice.specs.Recipients.{AreRecipients, IsMarked, IsPassed}
+use Rattle.rs_choice.specs.RouteChanges.{new_route, AreBehind, AreNoCandidates, IsNoCandidate, IsUntouched, KnowsBest}
 use Rattle.rs_choice.proofs.Eliminations.{true_not_false}
 
--- where all are marked each one is
-pub all_marked : (n k : ℕ) → IsMarked (replicate n true) k
-all_marked zero k = refl
-all_marked (suc n) zero = refl
-all_marked (suc n) (suc k) = all_marked n k
+-- who is passed over is untouched
+pub passed_untouched : (plan : Plan) (held : List HeldRoute) (change : RouteChange) (bests : List ℕ) (marks : List Bool) (known : KnownBest) →
+    AreRecipients plan held change marks → KnowsBest plan held change known →
+    (client : ℕ) → client < length plan.peers → IsPassed bests marks known client → IsUntouched plan held change client (slice_index_or bests client 0)
+passed_untouched plan held change bests marks known recipients knows client within (inl unmarked) =
+    elim (recipients client within) [
+      | inl marked ↦ absurd (true_not_false (slice_index_or marks client true) marked unmarked)
+      | inr none ↦ inl none
+    ]
+passed_untouched plan held change bests marks known recipients knows client within (inr passed) =
+    let best = knows passed.0 in
+    inr (
+      (λ same. passed.2 (sym passed.1 ∙ same)),
+      (λ same. best.0 (sym passed.1 ∙ same)),
+      subst (AreBehind plan held change) (sym passed.1) best.1,
+    )
 
 -- no value is that of two halves where there is none
 pub none_of_none : (high low : ℕ) → has_value [] high low ≡ false

@@ -183,7 +183,7 @@ module _ (plan : Plan) (held : List HeldRoute) (change : RouteChange) (bests : L
       slice_index_or bests client 0 ≡ best_peer_for plan client (map sent_of_held held)
   stays_there all untouched = is.best client known ∙ stays all (subst (IsUntouched plan held change client) (is.best client known) untouched)
 
-either_side : (a b : ℕ) → (a < b) ⊎ (b ≤ a)
+pub either_side : (a b : ℕ) → (a < b) ⊎ (b ≤ a)
 either_side a b = go (nat_lt a b) refl
   where
     go : (t : Bool) → nat_lt a b ≡ t → (a < b) ⊎ (b ≤ a)
@@ -203,4 +203,16 @@ further plan held change bests is all items from next within first later untouch
       | inr above ↦
           later k above
           ∙ stays_there plan held change bests is k (omega (arith, below, within)) all (subst (IsUntouched plan held change k) (later k above) (untouched k below above))
+    ]
+
+-- what holds below a client, of it, and of those from the next on, holds of all
+pub of_all_below : (P : ℕ → Type 0) (client next : ℕ) → ((k : ℕ) → k < client → P k) → P client → ((k : ℕ) → k < next → client + 1 ≤ k → P k) →
+    (k : ℕ) → k < next → P k
+of_all_below P client next before here after k below =
+    elim (either_side k client) [
+      | inl less ↦ before k less
+      | inr above ↦ elim (eqb_tells k client) [
+        | inl same ↦ subst P (sym same.1) here
+        | inr apart ↦ after k below (omega (arith, above, apart.1))
+      ]
     ]

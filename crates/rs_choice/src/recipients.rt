@@ -2,11 +2,12 @@
 //! AS) and communities (server's AS, client's AS) tell, reaches no other, and no more is asked of it for
 //! these.
 
-ghost use Rattle.std.specs.Prelude.{◌≡◌, ◌<◌, IfSome, length};
+ghost use Rattle.std.specs.Prelude.{◌≡◌, ◌<◌, IfSome, IsTrue, length};
 ghost use Rattle.std.specs.List.{All};
 ghost use Rattle.rs_update.specs.Shapes.{numbers_in};
 ghost use Rattle.rs_choice.specs.Held.{IsJudged};
-ghost use Rattle.rs_choice.specs.Recipients.{AreMarked, AreNamedMarked, AreReached, AreRecipients, KeepMarks};
+ghost use Rattle.rs_choice.specs.Recipients.{AreForNamed, AreMarked, AreNamedMarked, AreReached};
+ghost use Rattle.rs_choice.specs.Recipients.{AreRecipients, IsForNamed, KeepMarks};
 ghost use Rattle.rs_choice.specs.RouteChanges.{IsKnown};
 
 use crate::exchange::Exchange;
@@ -17,6 +18,30 @@ use crate::route_change::RouteChange;
 use rs_update::Numbers;
 
 impl Exchange {
+    // Whether both routes of a change are for named clients alone.
+    pub(crate) fn are_for_named(&self, held: &[HeldRoute], change: &RouteChange) -> bool
+        requires { IsKnown self.now held.now change.now }
+        ensures { IsTrue result → AreForNamed self.now held.now change.now }
+    {
+        let old_is_for_named = match &change.old {
+            None => true,
+            Some(old) => self.is_for_named(old),
+        };
+        let new_is_for_named = match change.new {
+            None => true,
+            Some(place) => self.is_for_named(&held[place]),
+        };
+        old_is_for_named && new_is_for_named
+    }
+
+    // Whether a route is for named clients alone, if it may be a candidate at all.
+    fn is_for_named(&self, one: &HeldRoute) -> bool
+        ensures { IsTrue result → IsForNamed self.now one.now }
+    {
+        !one.candidacy.is_eligible()
+            || (!one.candidacy.is_open() && one.attributes.has_community(0, self.local().asn))
+    }
+
     // Marks the clients of which one of the routes of a change may be a candidate.
     pub(crate) fn mark_recipients(
         &self,
@@ -26,6 +51,7 @@ impl Exchange {
     )
         requires judged { All (IsJudged self.now) held.now }
         requires known { IsKnown self.now held.now change.now }
+        requires named { AreForNamed self.now held.now change.now }
         ensures { AreRecipients self.now held.now change.now marks.new }
     {
         if let Some(old) = &change.old {
@@ -38,19 +64,15 @@ impl Exchange {
 
     // Marks the clients of which a route may be a candidate; the others keep what they have.
     fn mark(&self, one: &HeldRoute, marks: &mut [bool; MAX_PEERS])
-        requires { IsJudged self.now one.now }
+        requires judged { IsJudged self.now one.now }
+        requires named { IsForNamed self.now one.now }
         ensures reached { AreReached self.now one.now marks.new }
         ensures kept { KeepMarks marks.old marks.new }
     {
         if !one.candidacy.is_eligible() {
             return;
         }
-        let attributes = &one.attributes;
-        if one.candidacy.is_open() || !attributes.has_community(0, self.local().asn) {
-            *marks = [true; MAX_PEERS];
-            return;
-        }
-        if let Some(list) = attributes.communities() {
+        if let Some(list) = one.attributes.communities() {
             self.mark_named(list.values, marks);
         }
     }

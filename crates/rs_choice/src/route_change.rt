@@ -6,14 +6,14 @@
 //! anew.
 
 ghost use Rattle.std.specs.Prelude.{◌≡◌, ◌≢◌, ◌<◌, ◌≤◌, ◌↔◌, ◌&&◌, ◌||◌, not, IfSome, IsTrue, IsFalse, Some, length};
-ghost use Rattle.std.specs.Prelude.{map, slice_get, slice_index_or};
+ghost use Rattle.std.specs.Prelude.{map, slice_index_or, true, false, ℕ};
 ghost use Rattle.std.specs.List.{All};
 ghost use Rattle.rs_choice.specs.declared.held_route.HeldRoute.{HeldRoute};
 ghost use Rattle.rs_choice.specs.Candidacy.{is_candidate};
 ghost use Rattle.rs_choice.specs.Clients.{is_sent_to, AreBest};
 ghost use Rattle.rs_choice.specs.Comparison.{Outdoes};
 ghost use Rattle.rs_choice.specs.Held.{held_standing, sent_of_held, IsJudged};
-ghost use Rattle.rs_choice.specs.Recipients.{AreRecipients};
+ghost use Rattle.rs_choice.specs.Recipients.{AreRecipients, HaveMarks, IsNextReached};
 ghost use Rattle.rs_choice.specs.RouteChanges.{AreBehind, AreBehindAll, AreNoCandidates, IsAt, IsChange, IsKnown};
 ghost use Rattle.rs_choice.specs.RouteChanges.{IsNextTouched, IsUntouched, KnowsBest};
 
@@ -55,25 +55,50 @@ impl Exchange {
         ensures count { length bests.new.items ≡ length self.now.peers }
         ensures best { AreBest self.now (map sent_of_held held.now) bests.new.items }
     {
+        if !self.are_for_named(held, change) {
+            self.choose_for_touched(held, change, &[], bests);
+            return;
+        }
+        let _peers = self.count();
+        let mut recipients = [false; MAX_PEERS];
+        self.mark_recipients(held, change, &mut recipients);
+        self.choose_for_touched(held, change, &recipients, bests);
+    }
+
+    // The same where it is known which clients the change may reach: those that have a mark, or all where
+    // there are no marks.
+    fn choose_for_touched(
+        &self,
+        held: &[HeldRoute],
+        change: &RouteChange,
+        recipients: &[bool],
+        bests: &mut Vec<u8>,
+    )
+        requires judged { All (IsJudged self.now) held.now }
+        requires bound { length held.now ≤ MAX_PEERS }
+        requires count { length bests.old.items ≡ length self.now.peers }
+        requires known { IsKnown self.now held.now change.now }
+        requires change { IsChange self.now held.now change.now bests.old.items }
+        requires recipients { AreRecipients self.now held.now change.now recipients.now }
+        requires marks { HaveMarks self.now recipients.now }
+        ensures count { length bests.new.items ≡ length self.now.peers }
+        ensures best { AreBest self.now (map sent_of_held held.now) bests.new.items }
+    {
         let count = self.count();
         let mut known = KnownBest {
             peer: change.peer,
             outdoes: false,
         };
-        let mut recipients = [false; MAX_PEERS];
-        self.mark_recipients(held, change, &mut recipients);
-        let mut client = self.next_touched(held, change, bests, 0, &recipients, &mut known);
+        let mut client = self.next_touched(held, change, bests, 0, recipients, &mut known);
         if client == count {
             return;
         }
         let mut groups = NeighbourGroups::new();
-        // A route for all marks every place, the last one too. Else few clients are touched, and each has a
-        // decision of its own.
-        let are_all = recipients[MAX_PEERS - 1];
-        let shared = self.share_if(are_all, held, &mut groups);
+        // Where there are marks few clients are touched, and each has a decision of its own.
+        let shared = self.share_if(recipients.is_empty(), held, &mut groups);
         while client < count {
             bests[client] = self.choose_with(held, &shared, client, &mut groups);
-            client = self.next_touched(held, change, bests, client + 1, &recipients, &mut known);
+            client = self.next_touched(held, change, bests, client + 1, recipients, &mut known);
         }
     }
 
@@ -85,7 +110,7 @@ impl Exchange {
         change: &RouteChange,
         bests: &[u8],
         from: usize,
-        recipients: &[bool; MAX_PEERS],
+        recipients: &[bool],
         known: &mut KnownBest,
     ) -> usize
         requires judged { All (IsJudged self.now) held.now }
@@ -93,45 +118,24 @@ impl Exchange {
         requires known { IsKnown self.now held.now change.now }
         requires from { from ≤ length self.now.peers }
         requires recipients { AreRecipients self.now held.now change.now recipients.now }
+        requires marks { HaveMarks self.now recipients.now }
         requires knows { KnowsBest self.now held.now change.now known.old }
         ensures knows { KnowsBest self.now held.now change.now known.new }
         ensures next { IsNextTouched self.now held.now change.now bests.now from result }
     {
         let count = self.count();
-        for client in from..count {
-            if recipients[client] && self.is_touched(held, change, client, bests[client], known) {
+        let mut client = next_reached(bests, recipients, from, known);
+        while client < count {
+            if self.is_touched(held, change, client, bests[client], known) {
                 return client;
             }
+            client = next_reached(bests, recipients, client + 1, known);
         }
         count
     }
 
-    // Whether a change may be of matter to a client that got the route of a peer. Most clients got that of
-    // one peer, of which all is known but at the first of them: so no more is looked at here.
+    // Whether a change may be of matter to a client that got the route of a peer.
     fn is_touched(
-        &self,
-        held: &[HeldRoute],
-        change: &RouteChange,
-        client: usize,
-        best: u8,
-        known: &mut KnownBest,
-    ) -> bool
-        requires judged { All (IsJudged self.now) held.now }
-        requires known { IsKnown self.now held.now change.now }
-        requires client_known { client < length self.now.peers }
-        requires knows { KnowsBest self.now held.now change.now known.old }
-        ensures knows { KnowsBest self.now held.now change.now known.new }
-        ensures untouched { IsFalse result → IsUntouched self.now held.now change.now client best }
-    {
-        let peer = usize::from(best);
-        if peer != client && known.peer == peer && known.outdoes {
-            return false;
-        }
-        self.is_touched_unless_known(held, change, client, best, known)
-    }
-
-    // The same, where it isn't known that the client's route outdoes both.
-    fn is_touched_unless_known(
         &self,
         held: &[HeldRoute],
         change: &RouteChange,
@@ -256,4 +260,57 @@ fn place_from(held: &[HeldRoute], peer: usize) -> Option<usize>
     } else {
         None
     }
+}
+
+// The next client, from one on, that isn't passed over. Where a change reaches all, most clients got the route
+// of one peer, of which it is known that it outdoes both: only those that got another one are looked for, and
+// that peer itself, which gets no route of its own.
+fn next_reached(bests: &[u8], recipients: &[bool], from: usize, known: &KnownBest) -> usize
+    requires from { from ≤ length bests.now }
+    requires marks { 0 < length recipients.now → length bests.now ≤ length recipients.now }
+    ensures { IsNextReached bests.now recipients.now known.now from result }
+{
+    let count = bests.len();
+    if !recipients.is_empty() {
+        return next_marked(recipients, from, count);
+    }
+    if !known.outdoes {
+        return from;
+    }
+    let own = known.peer;
+    let end = if own < from { count } else { count.min(own) };
+    next_other(bests, from, end, own)
+}
+
+// The first client that has a mark, from one on and before another one; the other one where there is none.
+fn next_marked(marks: &[bool], from: usize, to: usize) -> usize
+    requires from { from ≤ to }
+    requires to { to ≤ length marks.now }
+    ensures after { from ≤ result }
+    ensures within { result ≤ to }
+    ensures passed { (k : ℕ) → k < result → from ≤ k → slice_index_or marks.now k true ≡ false }
+{
+    for client in from..to {
+        if marks[client] {
+            return client;
+        }
+    }
+    to
+}
+
+// The first client that didn't get the route of a peer, from one on and before another one; the other one
+// where there is none.
+fn next_other(bests: &[u8], from: usize, to: usize, peer: usize) -> usize
+    requires from { from ≤ to }
+    requires to { to ≤ length bests.now }
+    ensures after { from ≤ result }
+    ensures within { result ≤ to }
+    ensures passed { (k : ℕ) → k < result → from ≤ k → slice_index_or bests.now k 0 ≡ peer }
+{
+    for client in from..to {
+        if usize::from(bests[client]) != peer {
+            return client;
+        }
+    }
+    to
 }

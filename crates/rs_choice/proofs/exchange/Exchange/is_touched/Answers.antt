@@ -1,13 +1,17 @@
-use Rattle.std.proofs.Common.{◌∙◌, subst, inr}
+use Rattle.std.proofs.Common.{◌≡◌, ◌∙◌, subst, refl, Bool, true, false, not, inr}
 use Rattle.rs_choice.specs.RouteChanges.{AreBehind}
 use Rattle.rs_choice.proofs.exchange.Exchange.is_touched.Goals as goal
 
-pub returns-then-known-clause-untouched : goal.returns-then-known-clause-untouched
-returns-then-known-clause-untouched c = λ untouched.
-    let known = c.requires.knows c.if-known.true in
-    let peer = c.if-known-peer.true ∙ c.from-peer.ensures in
+not_false : (b : Bool) → not b ≡ false → b ≡ true
+not_false true e = refl
+not_false false e = absurd (cc (e))
+
+pub returns-else-best-client-clause-untouched : goal.returns-else-best-client-clause-untouched
+returns-else-best-client-clause-untouched c = λ untouched.
+    let known = c.know.ensures.knows (not_false c.know.result.outdoes untouched) in
+    let peer : c.know.result.peer ≡ c.args.best = c.know.ensures.peer ∙ c.from-best.ensures in
     inr (
-      (λ same. c.if-peer-client.true (c.from-peer.ensures ∙ same)),
+      (λ same. c.if-best-client.false (c.from-best.ensures ∙ same)),
       (λ same. known.0 (peer ∙ same)),
       subst (AreBehind c.args.self.now c.args.held.now c.args.change.now) peer known.1,
     )

@@ -3,7 +3,7 @@ use Rattle.std.specs.Prelude.{slice_index_or}
 use Rattle.rs_choice.specs.Clients.{best_peer_for}
 use Rattle.rs_choice.specs.Held.{sent_of_held}
 use Rattle.rs_choice.specs.RouteChanges.{KnowsBest}
-use Rattle.rs_choice.proofs.exchange.Exchange.choose_after.Given as goal
+use Rattle.rs_choice.proofs.exchange.Exchange.choose_for_touched.Given as goal
 
 -- the first clients are decided, and for the others stands what stood for them
 abbrev pub invariant-loop-client : goal.invariant-loop-client

@@ -2,7 +2,7 @@ use Rattle.std.proofs.Common.{◌<◌, ◌+◌, ◌∙◌, subst, refl, arith, l
 use Rattle.std.proofs.lemmas.List.{length-set}
 use Rattle.rs_choice.specs.RouteChanges.{IsNextTouched}
 use Rattle.rs_choice.proofs.StayLemmas.{found_more, later_stay, further}
-use Rattle.rs_choice.proofs.exchange.Exchange.choose_after.Goals as goal
+use Rattle.rs_choice.proofs.exchange.Exchange.choose_for_touched.Goals as goal
 
 pub returns-then-client-count-clause-best : goal.returns-then-client-count-clause-best
 returns-then-client-count-clause-best c = λ k known.
