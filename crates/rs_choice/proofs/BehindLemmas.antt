@@ -1,6 +1,6 @@
 -- A candidate that the first three steps remove is of no matter to the choice, nor is one that another of its neighbour AS outdoes, nor a
 -- route that is no candidate.
-use Rattle.std.proofs.Common.{◌≡◌, ◌∙◌, sym, ap, refl, arith, ℕ, ◌<◌, Bool, true, false, cond, not, ◌⊎◌, inl, inr, List, [], ◌∷◌, ◌++◌, subst, Option}
+use Rattle.std.proofs.Common.{◌≡◌, ◌∙◌, sym, ap, refl, arith, Bool, true, false, cond, not, ◌⊎◌, inl, inr, List, [], ◌∷◌, ◌++◌, subst, Option}
 use Rattle.std.specs.Prelude.{◌==◌, nat_lt, filter, ◌||◌, ◌&&◌}
 use Rattle.std.specs.List.{list_any}
 use Rattle.std.specs.Option.{option_map}

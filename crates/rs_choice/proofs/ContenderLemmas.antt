@@ -1,6 +1,6 @@
 -- A client's candidates, gone over one after another, without those that one before them outdoes.
-use Rattle.std.proofs.Common.{◌≡◌, ◌∙◌, sym, ap, refl, Bool, true, false, ◌⊎◌, inl, inr, List, [], ◌∷◌, ◌++◌, Option, Some, None, ℕ}
-use Rattle.std.specs.Prelude.{IsTrue, IsFalse, filter}
+use Rattle.std.proofs.Common.{◌≡◌, ◌∙◌, sym, ap, refl, Bool, true, false, inl, inr, List, [], ◌∷◌, ◌++◌, Option, Some, None, ℕ}
+use Rattle.std.specs.Prelude.{filter}
 use Rattle.std.proofs.lemmas.List.{append_assoc}
 use Rattle.rs_choice.specs.declared.candidate.Standing.{Standing}
 use Rattle.rs_choice.specs.Clients.{eligible_among, is_sent_to}

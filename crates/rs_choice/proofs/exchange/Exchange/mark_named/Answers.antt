@@ -1,6 +1,5 @@
-use Rattle.std.proofs.Common.{◌≡◌, ◌∙◌, sym, ap, inl, inr, List, ℕ}
+use Rattle.std.proofs.Common.{◌∙◌, sym, ap, inl, inr, List, ℕ}
 use Rattle.rs_update.specs.Community.{has_value}
-use Rattle.rs_update.specs.Shapes.{numbers_in}
 use Rattle.rs_choice.specs.declared.plan.Local.{Local}
 use Rattle.rs_choice.proofs.CommunityLemmas.{first_or_later}
 use Rattle.rs_choice.proofs.Eliminations.{true_not_false}
