@@ -13,6 +13,7 @@ pub mod GroupParts
 pub mod GroupSettling
 pub mod LawLemmas
 pub mod Members
+pub mod NewRouteLemmas
 pub mod OrderLemmas
 pub mod PathLengthLemmas
 pub mod PlaceLemmas

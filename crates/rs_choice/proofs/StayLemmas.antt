@@ -36,7 +36,7 @@ mem_widen (y ∷ ys) some others x wider (inl same) = inl same
 mem_widen (y ∷ ys) some others x wider (inr h) = inr (mem_widen ys some others x wider h)
 
 -- who is made of one of a list
-mem_of-map : {X Y : Type 0} (f : X → Y) (xs : List X) (y : Y) → Mem (map f xs) y → (x : X) × Mem xs x × (f x ≡ y)
+pub mem_of-map : {X Y : Type 0} (f : X → Y) (xs : List X) (y : Y) → Mem (map f xs) y → (x : X) × Mem xs x × (f x ≡ y)
 mem_of-map f [] y h = absurd h
 mem_of-map f (x ∷ xs) y (inl same) = (x, inl refl, same)
 mem_of-map f (x ∷ xs) y (inr h) = let found = mem_of-map f xs y h in (found.0, inr found.1, found.2)
@@ -44,7 +44,7 @@ mem_of-map f (x ∷ xs) y (inr h) = let found = mem_of-map f xs y h in (found.0,
 pub contains_at : {X : Type 0} (xs : List X) (place : ℕ) (x : X) → slice_get xs place ≡ Some x → Contains xs x
 contains_at xs place x at = (place, slice_get_within xs place x at, get_or_from_slice_get xs place x x at)
 
-all_mem : {X : Type 0} (P : X → Type 0) (xs : List X) (x : X) → All P xs → Mem xs x → P x
+pub all_mem : {X : Type 0} (P : X → Type 0) (xs : List X) (x : X) → All P xs → Mem xs x → P x
 all_mem P xs x all h = let at = mem-contains xs x h in subst P at.2 (all at.0 x at.1)
 
 -- as the first of numbers are found, and the later ones stay

@@ -10,7 +10,7 @@ use Rattle.rs_choice.specs.declared.route_change.RouteChange.{RouteChange}
 use Rattle.rs_choice.specs.declared.route_change.KnownBest.{KnownBest}
 use Rattle.rs_choice.specs.Candidacy.{is_candidate}
 use Rattle.rs_choice.specs.Clients.{is_sent_to, AreBest}
-use Rattle.rs_choice.specs.Comparison.{Outdoes}
+use Rattle.rs_choice.specs.Comparison.{IsAhead, Outdoes}
 use Rattle.rs_choice.specs.Held.{held_standing, sent_of_held, IsJudged}
 use Rattle.rs_choice.specs.Plan.{Plan}
 
@@ -99,3 +99,21 @@ pub record IsNextTouched (plan : Plan) (held : List HeldRoute) (change : RouteCh
 -- the route of a peer stands at a place
 abbrev pub IsAt : List HeldRoute → ℕ → ℕ → Type 0
 IsAt held place peer = (one : HeldRoute) × (slice_get held place ≡ Some one) × (one.peer ≡ peer)
+
+-- the route that a client got before a change, by the number of its peer: the one that went, or one that is
+-- still held
+abbrev pub IsFormerBest : List HeldRoute → RouteChange → ℕ → HeldRoute → Type 0
+IsFormerBest held change best was =
+    ((best ≡ change.peer) × (change.old ≡ Some was))
+    ⊎ ((best ≢ change.peer) × Contains held was × (was.peer ≡ best))
+
+-- a route is ahead of the one that a client got, or the client got none
+abbrev pub GoesAhead : Plan → List HeldRoute → RouteChange → ℕ → ℕ → HeldRoute → Type 0
+GoesAhead plan held change client best one =
+    (best ≡ client)
+    ⊎ ((was : HeldRoute) × IsFormerBest held change best was × IsAhead (held_standing plan one) (held_standing plan was))
+
+-- before a change a client got the route of a peer
+abbrev pub HadBest : Plan → List HeldRoute → RouteChange → ℕ → ℕ → Type 0
+HadBest plan held change client best =
+    (bests : List ℕ) × IsChange plan held change bests × (slice_index_or bests client 0 ≡ best)

@@ -7,8 +7,8 @@
 //! Reading order: `plan` (the server and its peers), `fault` and `checks` (which plans are refused),
 //! `exchange` (a plan that is not), `eligibility`, `policy`, `candidate`, `step`, `decision` (the pass that
 //! decides), `entrants`, `candidacy`, `held_route`, `held_order` and `clients` (the decisions of all
-//! clients), `recipients` and `route_change` (which of them a change may touch), `scan` (the same decision
-//! for lists of any length), `laws`.
+//! clients), `recipients` and `route_change` (which of them a change may touch), `new_route` (who gets the
+//! new one), `scan` (the same decision for lists of any length), `laws`.
 #![tactic(auto)]
 
 mod candidacy;
@@ -24,6 +24,7 @@ mod held_order;
 mod held_route;
 mod laws;
 mod neighbour_groups;
+mod new_route;
 mod places;
 mod plan;
 mod policy;

@@ -10,14 +10,16 @@ ghost use Rattle.std.specs.Prelude.{map, slice_index_or, true, false, ℕ};
 ghost use Rattle.std.specs.List.{All};
 ghost use Rattle.rs_choice.specs.declared.held_route.HeldRoute.{HeldRoute};
 ghost use Rattle.rs_choice.specs.Candidacy.{is_candidate};
-ghost use Rattle.rs_choice.specs.Clients.{is_sent_to, AreBest};
+ghost use Rattle.rs_choice.specs.Clients.{best_peer_for, is_sent_to, AreBest};
 ghost use Rattle.rs_choice.specs.Comparison.{Outdoes};
 ghost use Rattle.rs_choice.specs.Held.{held_standing, sent_of_held, IsJudged};
 ghost use Rattle.rs_choice.specs.Recipients.{AreRecipients, HaveMarks, IsNextReached};
 ghost use Rattle.rs_choice.specs.RouteChanges.{AreBehind, AreBehindAll, AreNoCandidates, IsAt, IsChange, IsKnown};
-ghost use Rattle.rs_choice.specs.RouteChanges.{IsNextTouched, IsUntouched, KnowsBest};
+ghost use Rattle.rs_choice.specs.RouteChanges.{HadBest, IsNextTouched, IsUntouched, KnowsBest};
+ghost use Rattle.rs_choice.specs.Sharing.{IsShared};
 
 use crate::candidate::Standing;
+use crate::clients::Shared;
 use crate::exchange::Exchange;
 use crate::held_order::{is_at, place_of_peer};
 use crate::held_route::HeldRoute;
@@ -97,9 +99,37 @@ impl Exchange {
         // Where there are marks few clients are touched, and each has a decision of its own.
         let shared = self.share_if(recipients.is_empty(), held, &mut groups);
         while client < count {
-            bests[client] = self.choose_with(held, &shared, client, &mut groups);
+            let best = bests[client];
+            bests[client] = self.choose_again(held, change, &shared, client, best, &mut groups);
             client = self.next_touched(held, change, bests, client + 1, recipients, &mut known);
         }
+    }
+
+    // The number of the peer whose route a client gets, or its own number where it gets none, where it got
+    // that of a peer before. A decision of its own is spared where the new route is seen to be the choice.
+    fn choose_again(
+        &self,
+        held: &[HeldRoute],
+        change: &RouteChange,
+        shared: &Option<Shared>,
+        client: usize,
+        best: u8,
+        groups: &mut NeighbourGroups,
+    ) -> u8
+        requires judged { All (IsJudged self.now) held.now }
+        requires bound { length held.now ≤ MAX_PEERS }
+        requires known { IsKnown self.now held.now change.now }
+        requires shared { IfSome shared.now (IsShared self.now held.now) }
+        requires client_known { client < length self.now.peers }
+        requires had { HadBest self.now held.now change.now client best }
+        ensures { result ≡ best_peer_for self.now client (map sent_of_held held.now) }
+    {
+        if shared.is_none()
+            && let Some(peer) = self.new_best(held, change, client, best)
+        {
+            return peer;
+        }
+        self.choose_with(held, shared, client, groups)
     }
 
     // The first client, from one on, to which a change may be of matter; the count of clients where there is
@@ -200,7 +230,7 @@ impl Exchange {
     }
 
     // Whether a held route is a candidate of a client.
-    fn is_candidate(&self, client: usize, one: &HeldRoute) -> bool
+    pub(crate) fn is_candidate(&self, client: usize, one: &HeldRoute) -> bool
         requires client_known { client < length self.now.peers }
         requires judged { IsJudged self.now one.now }
         ensures { result ≡ (is_candidate one.now.candidacy && is_sent_to self.now client (sent_of_held one.now)) }
@@ -251,7 +281,7 @@ impl Exchange {
 }
 
 // The place of the route of a peer.
-fn place_from(held: &[HeldRoute], peer: usize) -> Option<usize>
+pub(crate) fn place_from(held: &[HeldRoute], peer: usize) -> Option<usize>
     ensures { IfSome result (λ place. IsAt held.now place peer) }
 {
     let place = place_of_peer(held, peer);

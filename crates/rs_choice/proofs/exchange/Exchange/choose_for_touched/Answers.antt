@@ -1,5 +1,5 @@
-use Rattle.std.proofs.Common.{◌<◌, ◌+◌, ◌∙◌, subst, refl, arith, length, set}
-use Rattle.std.proofs.lemmas.List.{length-set}
+use Rattle.std.proofs.Common.{◌<◌, ◌+◌, ◌∙◌, sym, subst, refl, arith, length, set}
+use Rattle.std.proofs.lemmas.List.{get_or_read, length-set}
 use Rattle.rs_choice.specs.RouteChanges.{IsNextTouched}
 use Rattle.rs_choice.proofs.StayLemmas.{found_more, later_stay, further}
 use Rattle.rs_choice.proofs.exchange.Exchange.choose_for_touched.Goals as goal
@@ -36,16 +36,25 @@ loop-client-preserved c =
     let bests = c.args.bests.now.items in
     let client = c.loop-client.client in
     let items = c.loop-client.bests.items in
-    let more = set items client c.choose_with.result in
+    let more = set items client c.choose_again.result in
     let within : client < length items = omega (arith, c.loop-client-test.true, c.count-count.ensures.value, c.loop-client.invariant.count) in
     let next : IsNextTouched plan held c.args.change.now more (client + 1) c.next_touched-client-in-loop-client.result =
     subst (λ list. IsNextTouched plan held c.args.change.now list (client + 1) c.next_touched-client-in-loop-client.result) c.deref-in-loop-client.ensures.value c.next_touched-client-in-loop-client.ensures.next in
-    let later = later_stay items bests client c.choose_with.result c.loop-client.invariant.later in
+    let later = later_stay items bests client c.choose_again.result c.loop-client.invariant.later in
     record {
-      count = length-set items client c.choose_with.result ∙ c.loop-client.invariant.count;
+      count = length-set items client c.choose_again.result ∙ c.loop-client.invariant.count;
       within = next.within;
       best = further plan held c.args.change.now bests c.requires.change c.requires.judged more (client + 1) c.next_touched-client-in-loop-client.result next.within
-          (found_more items _ client c.choose_with.result within c.choose_with.ensures c.loop-client.invariant.best) later next.untouched;
+          (found_more items _ client c.choose_again.result within c.choose_again.ensures c.loop-client.invariant.best) later next.untouched;
       later = λ k above. later k (omega (arith, above, next.after));
       knows = c.next_touched-client-in-loop-client.ensures.knows;
     }
+
+pub choose_again-requires-clause-had : goal.choose_again-requires-clause-had
+choose_again-requires-clause-had c =
+    let bests = c.args.bests.now.items in
+    let client = c.loop-client.client in
+    let items = c.loop-client.bests.items in
+    let within : client < length items = omega (arith, c.loop-client-test.true, c.count-count.ensures.value, c.loop-client.invariant.count) in
+    let read = get_or_read items client c.index-best.result.now within c.index-best.ensures 0 in
+    (bests, c.requires.change, sym (read ∙ c.loop-client.invariant.later client (omega arith)))
