@@ -3,6 +3,7 @@
 ghost use Rattle.std.specs.Prelude.{◌≡◌, ◌+◌, ◌<◌, ◌≤◌, IfOk, IfSome, None};
 ghost use Rattle.rs_mrt.specs.RecordReading.{MayCome, unread};
 ghost use Rattle.rs_inventory.specs.Reading.{GivesFinding, IsInventoryOf};
+ghost use Rattle.rs_inventory.specs.declared.reading.InventoryFault.TheVariants.{Memory, Read};
 
 use crate::compression::Compression;
 use crate::finding::Finding;
@@ -24,12 +25,16 @@ pub enum InventoryFault {
 }
 
 impl From<AllocError> for InventoryFault {
+    ghost from_gives = { λ _ fault. fault ≡ Memory };
+
     fn from(_refused: AllocError) -> InventoryFault {
         InventoryFault::Memory
     }
 }
 
 impl From<Failed> for InventoryFault {
+    ghost from_gives = { λ _ fault. fault ≡ Read };
+
     fn from(_failed: Failed) -> InventoryFault {
         InventoryFault::Read
     }
