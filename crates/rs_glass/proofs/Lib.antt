@@ -1,2 +1,6 @@
+pub mod CoveringLemmas
+pub mod GivenLemmas
+pub mod HistoryLemmas
 pub mod ListLemmas
 pub mod ReadingLemmas
+pub mod SaidLemmas

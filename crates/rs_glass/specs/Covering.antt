@@ -1,9 +1,11 @@
 -- The prefixes that cover a prefix: those that have its first bits (RFC 4271, section 9.1.4).
-use Rattle.std.specs.Prelude.{nat_lt, Bool, true, false, if◌then◌else◌}
+use Rattle.std.specs.Prelude.{◌≡◌, ◌≤◌, nat_lt, Bool, true, false, if◌then◌else◌, List}
 use Rattle.rs_update.specs.IpPrefix.{IpPrefix}
 use Rattle.rs_update.specs.Prefix.{network_of}
 use Rattle.rs_session.specs.Change.{Change, ChangeBody, Announced, Withdrawn, Lost, Closed}
+use Rattle.rs_table.specs.Content.{RibContent}
 use Rattle.rs_table.specs.Left.{same_prefix}
+use Rattle.rs_table.specs.Listing.{is_held}
 
 -- a prefix covers another, itself included
 abbrev pub covers : IpPrefix → IpPrefix → Bool
@@ -18,3 +20,13 @@ body_concerns prefix (Closed reason) = true
 
 abbrev pub concerns : IpPrefix → Change → Bool
 concerns prefix change = body_concerns prefix change.body
+
+-- no peer has left a route on any prefix that covers this one
+abbrev pub NoneIsHeld : List RibContent → IpPrefix → Type 0
+NoneIsHeld ribs prefix = (wide : IpPrefix) → covers wide prefix ≡ true → is_held ribs wide ≡ false
+
+-- of the prefixes that cover one, this is the longest on which some peer has left a route
+pub record IsLongestHeld (ribs : List RibContent) (prefix longest : IpPrefix) : Type 0 where
+  pub covering : covers longest prefix ≡ true
+  pub held : is_held ribs longest ≡ true
+  pub others : (wide : IpPrefix) → covers wide prefix ≡ true → is_held ribs wide ≡ true → wide.len ≤ longest.len

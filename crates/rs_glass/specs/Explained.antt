@@ -1,16 +1,28 @@
 -- The answers of the looking glass: what is explained of each peer, and what the client gets.
-use Rattle.std.specs.Prelude.{◌≡◌, ◌<◌, ℕ, List, Option, Some, slice_get}
+use Rattle.std.specs.Prelude.{◌≡◌, ◌⊎◌, ◌<◌, ℕ, false, List, Option, Some, None, slice_get}
 use Rattle.std.specs.Option.{option_map}
 use Rattle.rs_update.specs.IpPrefix.{IpPrefix}
 use Rattle.rs_table.specs.Content.{TablesContent}
+use Rattle.rs_table.specs.Left.{same_prefix}
 use Rattle.rs_table.specs.Table.{best_of}
 use Rattle.rs_explain.specs.Explanations.{IsExplanation}
+use Rattle.rs_glass.specs.Covering.{IsLongestHeld, NoneIsHeld}
 use Rattle.rs_glass.specs.declared.answers.Answer.{Answer}
+use Rattle.rs_glass.specs.declared.answers.LessSpecific.{LessSpecific}
 use Rattle.rs_glass.specs.declared.said.Said.{Said}
 
 -- the number of the peer whose route a client gets on a prefix, if any
 abbrev pub best_from : TablesContent → ℕ → IpPrefix → Option ℕ
 best_from tables client prefix = option_map (λ route. route.peer) (best_of tables client prefix)
+
+-- this is the longest prefix that covers one and on which some peer has a route, and what the client gets there;
+-- none is told where that is the prefix itself, or where there is none (RFC 4271, section 9.1.4)
+abbrev pub IsLessSpecific : TablesContent → ℕ → IpPrefix → Option LessSpecific → Type 0
+IsLessSpecific tables client prefix None =
+    NoneIsHeld tables.ribs prefix ⊎ IsLongestHeld tables.ribs prefix prefix
+IsLessSpecific tables client prefix (Some wide) =
+    IsLongestHeld tables.ribs prefix wide.prefix × (same_prefix prefix wide.prefix ≡ false)
+    × (wide.best ≡ best_from tables client wide.prefix)
 
 -- these are the answers for the peers below a number: each with its explanation, and with what the peer's
 -- changes say last

@@ -1,18 +1,22 @@
 -- What the recorded session of a peer says of a prefix, up to a time.
-use Rattle.std.specs.Prelude.{◌≡◌, ◌↔◌, ◌<◌, ℕ, Bool, true, false, List, Some, slice_get}
+use Rattle.std.specs.Prelude.{◌≡◌, ◌↔◌, ◌<◌, ℕ, Bool, true, false, List, reverse, Option, None, Some, slice_get}
 use Rattle.std.specs.FinMap.{get}
+use Rattle.std.specs.List.{find}
+use Rattle.std.specs.Option.{option_and_then, option_map_or}
 use Rattle.rs_update.specs.IpPrefix.{IpPrefix}
 use Rattle.rs_mrt.specs.Reader.{ReadEnd}
-use Rattle.rs_session.specs.Change.{Change}
+use Rattle.rs_session.specs.Change.{Change, ChangeBody, Announced, Withdrawn, Lost, Closed, is_read}
 use Rattle.rs_session.specs.Given.{IsRead}
 use Rattle.rs_session.specs.declared.peer.PeerId.{PeerId}
+use Rattle.rs_session.specs.declared.word.Reason.{Reason}
 use Rattle.rs_choice.specs.Plan.{Peer, Plan}
 use Rattle.rs_table.specs.Content.{RibContent, TablesContent, rib_of}
 use Rattle.rs_table.specs.Left.{BecomeBy, Leaves, RouteLeft, is_close}
 use Rattle.rs_explain.specs.Cut.{IsCut}
 use Rattle.rs_explain.specs.LastSaid.{IsSaidLast}
-use Rattle.rs_explain.specs.declared.last_said.LastSaid.{LastSaid}
 use Rattle.rs_glass.specs.Covering.{covers}
+use Rattle.rs_glass.specs.declared.fault.GlassFault.{GlassFault}
+use Rattle.rs_glass.specs.declared.fault.GlassFault.TheVariants.{Memory, Read}
 use Rattle.rs_glass.specs.declared.question.Question.{Question}
 use Rattle.rs_glass.specs.declared.said.Said.{Said}
 
@@ -30,18 +34,62 @@ pub record AreInTime {R : Type 0} (gives : R → List ℕ → ReadEnd → Type 0
   pub says : IsRead gives question.errors peer reader changes passed
   pub cut : IsCut question.until changes beginning
 
--- this is what changes say last of a prefix, and on each prefix that covers it they leave what is held
-pub record AreTold (prefix : IpPrefix) (changes : List Change) (rib : RibContent) (last : LastSaid) : Type 0 where
-  pub said : IsSaidLast prefix changes last
+-- why the session closed that says these changes: the reason of the last close among them, if there is one
+abbrev pub body_reason : ChangeBody → Option Reason
+body_reason (Announced prefix attributes) = None
+body_reason (Withdrawn prefix) = None
+body_reason Lost = None
+body_reason (Closed reason) = Some reason
+
+abbrev pub close_in : List Change → Option Reason
+close_in changes = option_and_then (λ change. body_reason change.body) (find is_close (reverse changes))
+
+-- the same with one change more
+abbrev pub close_after : Option Reason → ChangeBody → Option Reason
+close_after before (Announced prefix attributes) = before
+close_after before (Withdrawn prefix) = before
+close_after before Lost = before
+close_after before (Closed reason) = Some reason
+
+-- a close says that a read failed
+abbrev pub is_failed_read : Option Reason → Bool
+is_failed_read close = option_map_or is_read close false
+
+-- this is said of a prefix by changes: what they say of it last, and why their session closed
+pub record IsSaid (prefix : IpPrefix) (changes : List Change) (said : Said) : Type 0 where
+  pub last : IsSaidLast prefix changes said.last
+  pub close : said.close ≡ close_in changes
+
+-- this is said of a prefix by changes, and on each prefix that covers it they leave what is held
+pub record AreTold (prefix : IpPrefix) (changes : List Change) (rib : RibContent) (said : Said) : Type 0 where
+  pub is_said : IsSaid prefix changes said
   pub routes : (wide : IpPrefix) → covers wide prefix ≡ true → (route : RouteLeft)
       → Leaves changes wide route ↔ (get rib.routes wide ≡ Some route)
 
--- what the recorded session of a peer says of the prefix that is asked for
-abbrev pub IsSaidOf : {R : Type 0} → (R → List ℕ → ReadEnd → Type 0) → Question → PeerId → R → RibContent
-    → LastSaid → Type 0
-IsSaidOf gives question peer reader rib last =
+-- what the recorded session of a peer says of the prefix that is asked for, or its changes before a failed read
+abbrev pub IsSaidBefore : {R : Type 0} → (R → List ℕ → ReadEnd → Type 0) → Question → PeerId → R → RibContent
+    → Said → Type 0
+IsSaidBefore gives question peer reader rib said =
     (beginning : List Change) × AreInTime gives question peer reader beginning
-    × AreTold question.prefix beginning rib last
+    × AreTold question.prefix beginning rib said
+
+-- what the recorded session of a peer says of the prefix that is asked for, no read having failed
+abbrev pub IsSaidOf : {R : Type 0} → (R → List ℕ → ReadEnd → Type 0) → Question → PeerId → R → RibContent
+    → Said → Type 0
+IsSaidOf gives question peer reader rib said =
+    IsSaidBefore gives question peer reader rib said × (is_failed_read said.close ≡ false)
+
+-- the recorded session of a peer closes in time at a failed read
+abbrev pub ClosesUnread : {R : Type 0} → (R → List ℕ → ReadEnd → Type 0) → Question → PeerId → R → Type 0
+ClosesUnread gives question peer reader =
+    (beginning : List Change) × AreInTime gives question peer reader beginning
+    × (is_failed_read (close_in beginning) ≡ true)
+
+-- a fault of a peer's reader: a read failed, or memory was refused
+abbrev pub IsFaultOf : {R : Type 0} → (R → List ℕ → ReadEnd → Type 0) → Question → PeerId → R → ℕ → GlassFault → Type 0
+IsFaultOf gives question peer reader number Memory = Unit {0}
+IsFaultOf gives question peer reader number (Read faulty) =
+    (faulty ≡ number) × ClosesUnread gives question peer reader
 
 -- who a peer is in a recording
 abbrev pub id_of : Peer → PeerId
@@ -54,4 +102,11 @@ AreSaidOf {R} gives question plan readers count tables all =
     (number : ℕ) → number < count → (peer : Peer) → slice_get plan.peers number ≡ Some peer → (reader : R)
     → slice_get readers number ≡ Some reader
     → (said : Said) → slice_get all number ≡ Some said
-    → IsSaidOf gives question (id_of peer) reader (rib_of tables number) said.last
+    → IsSaidOf gives question (id_of peer) reader (rib_of tables number) said
+
+-- a fault of the readers: a read of the one that is named failed, or memory was refused
+abbrev pub IsFaultAmong : {R : Type 0} → (R → List ℕ → ReadEnd → Type 0) → Question → Plan → List R → GlassFault → Type 0
+IsFaultAmong gives question plan readers Memory = Unit {0}
+IsFaultAmong {R} gives question plan readers (Read faulty) =
+    (peer : Peer) × (slice_get plan.peers faulty ≡ Some peer) × ((reader : R)
+    × (slice_get readers faulty ≡ Some reader) × ClosesUnread gives question (id_of peer) reader)

@@ -1,8 +1,13 @@
 //! Why a client has each peer's route on a prefix, or not.
 
-ghost use Rattle.std.specs.Prelude.{◌≡◌, ◌<◌, IfOk, Some, length, slice_get};
-ghost use Rattle.rs_glass.specs.Explained.{AreExplained, best_from};
+ghost use Rattle.std.specs.FinMap.{contains_key};
+ghost use Rattle.std.specs.Prelude.{◌≡◌, ◌<◌, IfOk, MatchOption, Some, length, slice_get};
+ghost use Rattle.rs_table.specs.Content.{rib_of};
+ghost use Rattle.rs_table.specs.Listing.{is_held};
+ghost use Rattle.rs_glass.specs.Covering.{IsLongestHeld, NoneIsHeld};
+ghost use Rattle.rs_glass.specs.Explained.{AreExplained, IsLessSpecific, best_from};
 
+use crate::covering::cover;
 use crate::question::Question;
 use crate::reading::Reading;
 use crate::said::Said;
@@ -24,7 +29,7 @@ pub struct Answers {
     pub best: Option<usize>,
     /// An answer for each peer, in the order of the peers, the client itself included.
     pub peers: Vec<Answer>,
-    /// Where no peer has a route on the prefix: the longest prefix that covers it and on which one has.
+    /// Where no peer has a route on the prefix: the longest prefix that covers it and on which one has, if any.
     pub less_specific: Option<LessSpecific>,
 }
 
@@ -63,6 +68,8 @@ pub fn explain_all(
     ensures best { IfOk result (λ answers. answers.best ≡ best_from reading.now.tables client question.now.prefix) }
     ensures asked { IfOk result (λ answers. (answers.client ≡ client) × (answers.prefix ≡ question.now.prefix)
         × (answers.until ≡ question.now.until)) }
+    ensures less_specific { IfOk result (λ answers.
+        IsLessSpecific reading.now.tables client question.now.prefix answers.less_specific) }
 {
     let prefix = question.prefix;
     let tables = &reading.tables;
@@ -100,27 +107,49 @@ pub(crate) fn best_from(tables: &Tables, client: usize, prefix: Prefix) -> Optio
     }
 }
 
-// The longest prefix that covers another on which no peer has a route, and on which one has.
-fn less_specific(tables: &Tables, client: usize, prefix: Prefix) -> Option<LessSpecific> {
-    if is_announced(tables, prefix) {
+// The longest prefix that covers another and on which some peer has a route, where that isn't the other itself.
+fn less_specific(tables: &Tables, client: usize, prefix: Prefix) -> Option<LessSpecific>
+    ensures { IsLessSpecific tables.now client prefix result }
+{
+    let wide = longest_announced(tables, prefix)?;
+    if wide == prefix {
         return None;
     }
-    let wide = (0..prefix.len())
-        .rev()
-        .filter_map(|len| Prefix::new(prefix.address(), len))
-        .find(|wide| is_announced(tables, *wide))?;
     Some(LessSpecific {
         prefix: wide,
         best: best_from(tables, client, wide),
     })
 }
 
+// The longest prefix that covers another, which may be itself, and on which some peer has a route.
+fn longest_announced(tables: &Tables, prefix: Prefix) -> Option<Prefix>
+    ensures { MatchOption result (NoneIsHeld tables.now.ribs prefix) (IsLongestHeld tables.now.ribs prefix) }
+{
+    for dropped in 0..prefix.len() + 1 {
+        let wide = cover(prefix, prefix.len() - dropped);
+        if is_announced(tables, wide) {
+            return Some(wide);
+        }
+    }
+    None
+}
+
 // Whether any peer has a route on a prefix.
-fn is_announced(tables: &Tables, prefix: Prefix) -> bool {
+fn is_announced(tables: &Tables, prefix: Prefix) -> bool
+    ensures { result ≡ is_held tables.now.ribs prefix }
+{
     for peer in 0..tables.count() {
-        if tables.route(peer, prefix).is_some() {
+        if has_route(tables, peer, prefix) {
             return true;
         }
     }
     false
+}
+
+// Whether a peer has a route on a prefix.
+fn has_route(tables: &Tables, peer: usize, prefix: Prefix) -> bool
+    requires { peer < length tables.now.plan.peers }
+    ensures { result ≡ contains_key (rib_of tables.now peer).routes prefix }
+{
+    tables.route(peer, prefix).is_some()
 }

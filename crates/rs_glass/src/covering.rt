@@ -1,11 +1,24 @@
 //! The prefixes that cover a prefix: it itself and the less specific ones, at most 33 (RFC 4271, section 9.1.4).
 
-ghost use Rattle.std.specs.Prelude.{◌≡◌};
+ghost use Rattle.std.specs.Prelude.{◌≡◌, ◌≤◌};
+ghost use Rattle.rs_update.specs.Prefix.{network_of};
 ghost use Rattle.rs_session.specs.Change.{change_of};
 ghost use Rattle.rs_glass.specs.Covering.{concerns, covers};
 
 use rs_session::{Body, Word};
 use rs_update::Prefix;
+
+// The prefix of so many of the first bits of a prefix: of those that cover it, the one of that length.
+pub(crate) fn cover(prefix: Prefix, len: u8) -> Prefix
+    requires { len ≤ prefix.len }
+    ensures { result ≡ network_of prefix.address len }
+{
+    let _bound = prefix.len();
+    match Prefix::new(prefix.address(), len) {
+        Some(wide) => wide,
+        None => unreachable!(),
+    }
+}
 
 // Whether a prefix covers another: the other's first bits are its.
 pub(crate) fn covers(wide: Prefix, prefix: Prefix) -> bool
@@ -14,10 +27,7 @@ pub(crate) fn covers(wide: Prefix, prefix: Prefix) -> bool
     if prefix.len() < wide.len() {
         return false;
     }
-    match Prefix::new(prefix.address(), wide.len()) {
-        Some(front) => front == wide,
-        None => unreachable!(),
-    }
+    cover(prefix, wide.len()) == wide
 }
 
 // Whether a change concerns a prefix: it announces or withdraws one that covers it, or is a loss or a close.

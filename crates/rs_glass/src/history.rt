@@ -1,5 +1,11 @@
 //! The history of a prefix: what happened, and what a client gets after each.
 
+ghost use Rattle.std.specs.Option.{option_map, option_to_list};
+ghost use Rattle.std.specs.Prelude.{◌≡◌, [], ◌∷◌, IfOk, OnOk, None};
+ghost use Rattle.rs_session.specs.Change.{body_of};
+ghost use Rattle.rs_glass.specs.Histories.{IsHistory, Notes, TakesIf, best_for, event_content, event_of};
+ghost use Rattle.rs_glass.specs.Histories.{gets_by, gets_content, is_before, is_open};
+
 use crate::answers::best_from;
 use crate::happened::Happening;
 use crate::loss::Loss;
@@ -61,7 +67,13 @@ impl History {
         question: &Question,
         client: Option<usize>,
         from: Option<u32>,
-    ) -> History {
+    ) -> History
+        ensures prefix { result.prefix ≡ question.now.prefix }
+        ensures client { result.client ≡ client }
+        ensures from { result.from ≡ from }
+        ensures until { result.until ≡ question.now.until }
+        ensures nothing { (result.before ≡ None) × (result.events.items ≡ []) }
+    {
         History {
             prefix: question.prefix,
             client,
@@ -74,21 +86,37 @@ impl History {
 }
 
 /// Replays what happened, one after another, and tells what the client gets after each. What happened before
-/// `from` counts and isn't shown.
+/// `from` counts and isn't shown; nothing of a peer that isn't there, or behind its close, counts.
+///
+/// Fails where memory is refused.
 pub fn replay(
     alloc: Global,
     plan: &Arc<Exchange>,
     happenings: Vec<Happening>,
     asked: History,
-) -> Result<History, AllocError> {
+) -> Result<History, AllocError>
+    ensures { IfOk result (IsHistory plan.now.value happenings.items asked) }
+{
     let mut tables = Tables::new(alloc, plan.clone()?)?;
     let mut history = asked;
     for happening in happenings {
-        if let Some(gets) = take(&mut tables, history.client, history.prefix, happening)? {
-            note(&mut history, gets)?;
-        }
+        go_on(&mut tables, &mut history, happening)?;
     }
     Ok(history)
+}
+
+// Takes what happened, and notes what the client gets from then on.
+fn go_on(tables: &mut Tables, history: &mut History, happening: Happening) -> Result<(), AllocError>
+    ensures takes { OnOk result
+        (TakesIf (is_open tables.old happening.peer) tables.old happening tables.new) }
+    ensures notes { OnOk result (Notes history.old
+        (option_to_list (gets_by (is_open tables.old happening.peer) tables.new history.old.client
+        history.old.prefix happening)) history.new) }
+{
+    match take(tables, history.client, history.prefix, happening)? {
+        Some(gets) => note(history, gets),
+        None => Ok(()),
+    }
 }
 
 // Takes what happened, and tells what the client gets from then on; nothing of a peer that isn't there, or
@@ -98,35 +126,52 @@ fn take(
     client: Option<usize>,
     prefix: Prefix,
     happening: Happening,
-) -> Result<Option<Gets>, AllocError> {
+) -> Result<Option<Gets>, AllocError>
+    ensures takes { OnOk result
+        (TakesIf (is_open tables.old happening.peer) tables.old happening tables.new) }
+    ensures gets { IfOk result (λ gets. option_map gets_content gets
+        ≡ gets_by (is_open tables.old happening.peer) tables.new client prefix happening) }
+{
+    if !is_open(tables, happening.peer) {
+        return Ok(None);
+    }
     let Happening {
         peer,
         time,
         word,
         loss,
     } = happening;
-    if peer >= tables.count() {
-        return Ok(None);
-    }
-    if tables.is_closed(peer) {
-        return Ok(None);
-    }
     let event = event_of(&word.body, loss)?;
     tables.apply(peer, word)?;
-    let best = match client {
-        Some(client) => best_from(tables, client, prefix),
-        None => None,
-    };
     Ok(Some(Gets {
         time,
         peer,
         event,
-        best,
+        best: best_for(tables, client, prefix),
     }))
 }
 
+// Whether a peer is there, and its session open.
+fn is_open(tables: &Tables, peer: usize) -> bool
+    ensures { result ≡ is_open tables.now peer }
+{
+    peer < tables.count() && !tables.is_closed(peer)
+}
+
+// The peer whose route the client gets on a prefix, where a client is asked for.
+fn best_for(tables: &Tables, client: Option<usize>, prefix: Prefix) -> Option<usize>
+    ensures { result ≡ best_for tables.now client prefix }
+{
+    match client {
+        Some(client) => best_from(tables, client, prefix),
+        None => None,
+    }
+}
+
 // Notes what the client gets: before what is shown, or as the next thing that is.
-fn note(history: &mut History, gets: Gets) -> Result<(), AllocError> {
+fn note(history: &mut History, gets: Gets) -> Result<(), AllocError>
+    ensures { OnOk result (Notes history.old (gets_content gets ∷ []) history.new) }
+{
     if is_before(gets.time, history.from) {
         history.before = gets.best;
         return Ok(());
@@ -136,7 +181,9 @@ fn note(history: &mut History, gets: Gets) -> Result<(), AllocError> {
 }
 
 // Whether a time is before another, where that is given.
-fn is_before(time: u32, from: Option<u32>) -> bool {
+fn is_before(time: u32, from: Option<u32>) -> bool
+    ensures { result ≡ is_before time from }
+{
     match from {
         Some(from) => time < from,
         None => false,
@@ -144,7 +191,9 @@ fn is_before(time: u32, from: Option<u32>) -> bool {
 }
 
 // What happened, by a change and how the session was lost.
-fn event_of(body: &Body, loss: Option<Loss>) -> Result<Event, AllocError> {
+fn event_of(body: &Body, loss: Option<Loss>) -> Result<Event, AllocError>
+    ensures { IfOk result (λ event. event_content event ≡ event_of (body_of body.now) loss) }
+{
     match body {
         Body::Announce(_, attributes) => Ok(Event::Announced(attributes.clone()?)),
         Body::Withdraw(_) => Ok(Event::Withdrawn),

@@ -1,5 +1,9 @@
 //! How a session was lost (RFC 4271, sections 4.5 and 8.2.2).
 
+ghost use Rattle.std.specs.Prelude.{◌≡◌};
+ghost use Rattle.rs_mrt.specs.Record.{record_of};
+ghost use Rattle.rs_glass.specs.Losses.{loss_by};
+
 use rs_mrt::{Entry, Record, entry};
 use std::fmt;
 
@@ -28,7 +32,9 @@ impl fmt::Display for Loss {
 const CODE_AT: usize = 19;
 
 /// How a session was lost, by the record that says so; none where it says something else.
-pub fn loss_of(recorded: &Record<'_>) -> Option<Loss> {
+pub fn loss_of(recorded: &Record<'_>) -> Option<Loss>
+    ensures { result ≡ loss_by (record_of recorded.now) }
+{
     match entry(recorded) {
         Ok(Entry::State { new, .. }) => Some(Loss::State(new)),
         Ok(Entry::Message { message, .. }) => match message.get(CODE_AT..) {

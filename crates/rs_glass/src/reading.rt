@@ -1,21 +1,23 @@
 //! Reads the recorded sessions of all peers, and keeps what a prefix needs.
 
-ghost use Rattle.std.specs.Prelude.{◌≡◌, ◌≢◌, ◌<◌, ℕ, All, Some, false, IfOk, OnOk, length, slice_get};
+ghost use Rattle.std.specs.Prelude.{◌≡◌, ◌≢◌, ◌<◌, ℕ, All, Some, false, IfErr, IfOk, OnOk, length, slice_get};
 ghost use Rattle.rs_choice.specs.Plan.{Peer};
 ghost use Rattle.rs_session.specs.Change.{change_of};
 ghost use Rattle.rs_table.specs.Content.{nothing_held, rib_of};
 ghost use Rattle.rs_glass.specs.Covering.{concerns};
-ghost use Rattle.rs_glass.specs.Recorded.{AreSaidOf, BecomesIf, IsSaidOf, id_of};
+ghost use Rattle.rs_glass.specs.Losses.{loss_behind};
+ghost use Rattle.rs_glass.specs.Recorded.{AreSaidOf, BecomesIf, IsFaultAmong, IsFaultOf};
+ghost use Rattle.rs_glass.specs.Recorded.{IsSaidBefore, IsSaidOf, id_of};
 
 use crate::covering::concerns;
 use crate::fault::GlassFault;
 use crate::loss::{Loss, loss_of};
 use crate::question::Question;
-use crate::said::Said;
+use crate::said::{Said, is_failed_read};
 use rs_choice::Exchange;
 use rs_explain::{Until, what_is_taken_is_the_longest_beginning};
 use rs_mrt::{Read, RecordReader};
-use rs_session::{Body, PeerId, Reason, Session, Word, a_reader_gives_a_file_or_fails};
+use rs_session::{Body, PeerId, Session, Word, a_reader_gives_a_file_or_fails};
 use rs_table::{Tables, left_by_last_changes, left_by_part};
 use rs_update::Prefix;
 use std::alloc::{AllocError, Global};
@@ -31,6 +33,8 @@ pub struct Reading {
 }
 
 /// Reads the recorded session of each peer: `readers` gives its file, in the order of the peers.
+///
+/// Fails where memory is refused, and where a session closes in time because its file can't be read.
 pub fn read_sessions<R: Read + Drop>(
     alloc: Global,
     plan: &Arc<Exchange>,
@@ -43,6 +47,7 @@ pub fn read_sessions<R: Read + Drop>(
     ensures as_many { IfOk result (λ reading. length reading.said.items ≡ length plan.now.value.peers) }
     ensures says { IfOk result (λ reading. AreSaidOf R.gives question.now plan.now.value readers.items
         (length readers.items) reading.tables reading.said.items) }
+    ensures fault { IfErr result (IsFaultAmong R.gives question.now plan.now.value readers.items) }
 {
     let mut tables = Tables::new(alloc, plan.clone()?)?;
     let mut said = Vec::with_capacity(alloc, plan.count())?;
@@ -79,18 +84,19 @@ fn read_session<R: Read + Drop>(
     requires known { peer < length tables.old.plan.peers }
     requires untouched { rib_of tables.old peer ≡ nothing_held }
     requires failures { R.failures reader < u64.MAX }
-    ensures says { IfOk result (λ said. IsSaidOf R.gives question.now id reader (rib_of tables.new peer) said.last) }
+    ensures says { IfOk result (IsSaidOf R.gives question.now id reader (rib_of tables.new peer)) }
+    ensures fault { IfErr result (IsFaultOf R.gives question.now id reader peer) }
     ensures others { OnOk result ((other : ℕ) → other ≢ peer → rib_of tables.new other ≡ rib_of tables.old other) }
     ensures plan { OnOk result (tables.new.plan ≡ tables.old.plan) }
 {
     let said = read_changes(alloc, tables, peer, id, reader, question)?;
-    match said.close {
-        Some(Reason::Read) => Err(GlassFault::Read(peer)),
-        _ => Ok(said),
+    if is_failed_read(said.close) {
+        return Err(GlassFault::Read(peer));
     }
+    Ok(said)
 }
 
-// The same, a failed read told as the close.
+// The same, a failed read being the reason of the close.
 fn read_changes<R: Read + Drop>(
     alloc: Global,
     tables: &mut Tables,
@@ -102,7 +108,7 @@ fn read_changes<R: Read + Drop>(
     requires known { peer < length tables.old.plan.peers }
     requires untouched { rib_of tables.old peer ≡ nothing_held }
     requires failures { R.failures reader < u64.MAX }
-    ensures says { IfOk result (λ said. IsSaidOf R.gives question.now id reader (rib_of tables.new peer) said.last) }
+    ensures says { IfOk result (IsSaidBefore R.gives question.now id reader (rib_of tables.new peer)) }
     ensures others { OnOk result ((other : ℕ) → other ≢ peer → rib_of tables.new other ≡ rib_of tables.old other) }
     ensures plan { OnOk result (tables.new.plan ≡ tables.old.plan) }
 {
@@ -124,10 +130,9 @@ fn read_changes<R: Read + Drop>(
 }
 
 // How the session was lost, where that is the change that it gave last.
-pub(crate) fn loss_behind<R: Read>(
-    session: &Session<RecordReader<R>>,
-    word: &Word,
-) -> Option<Loss> {
+pub(crate) fn loss_behind<R: Read>(session: &Session<RecordReader<R>>, word: &Word) -> Option<Loss>
+    ensures { result ≡ loss_behind session.now.source.shown (change_of word.now) }
+{
     match word.body {
         Body::Down => loss_of(&session.shown()?),
         _ => None,

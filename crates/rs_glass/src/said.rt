@@ -3,7 +3,7 @@
 ghost use Rattle.std.specs.Prelude.{◌≡◌, ◌++◌, ◌∷◌, [], List};
 ghost use Rattle.rs_update.specs.IpPrefix.{IpPrefix};
 ghost use Rattle.rs_session.specs.Change.{change_of, Change};
-ghost use Rattle.rs_explain.specs.LastSaid.{IsSaidLast};
+ghost use Rattle.rs_glass.specs.Recorded.{IsSaid, close_after, is_failed_read};
 
 use crate::loss::Loss;
 use rs_explain::{EndedBy, LastSaid};
@@ -24,7 +24,7 @@ pub struct Said {
 impl Said {
     // Before any change.
     pub(crate) fn nothing() -> Said
-        ensures { (prefix : IpPrefix) → IsSaidLast prefix [] result.last }
+        ensures { (prefix : IpPrefix) → IsSaid prefix [] result }
     {
         Said {
             last: LastSaid::nothing(),
@@ -35,8 +35,8 @@ impl Said {
 
     // With one change more, and how the session was lost where that is the change.
     pub(crate) fn after(self, prefix: Prefix, word: &Word, loss: Option<Loss>) -> Said
-        ensures { (changes : List Change) → IsSaidLast prefix changes self.last
-            → IsSaidLast prefix (changes ++ change_of word.now ∷ []) result.last }
+        ensures { (changes : List Change) → IsSaid prefix changes self
+            → IsSaid prefix (changes ++ change_of word.now ∷ []) result }
     {
         let last = self.last.after(prefix, word);
         Said {
@@ -74,8 +74,17 @@ fn loss_after(
     }
 }
 
+// Whether a session closed because a read failed.
+pub(crate) fn is_failed_read(close: Option<Reason>) -> bool
+    ensures { result ≡ is_failed_read close }
+{
+    matches!(close, Some(Reason::Read))
+}
+
 // Why the session closed, with one change more.
-fn close_after(before: Option<Reason>, word: &Word) -> Option<Reason> {
+fn close_after(before: Option<Reason>, word: &Word) -> Option<Reason>
+    ensures { result ≡ close_after before (change_of word.now).body }
+{
     match word.body {
         Body::Close(reason) => Some(reason),
         _ => before,

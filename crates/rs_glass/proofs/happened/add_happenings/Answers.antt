@@ -2,7 +2,7 @@
 use Rattle.rs_mrt.specs.RecordReading.{room_left}
 use Rattle.rs_session.specs.Change.{is_close}
 use Rattle.rs_session.specs.Stage.{most_changes}
-use Rattle.rs_glass.proofs.ReadingLemmas.{few-smaller}
+use Rattle.rs_glass.proofs.GivenLemmas.{few-smaller}
 use Rattle.rs_glass.proofs.happened.add_happenings.Goals as goal
 
 pub loop-session-smaller : goal.loop-session-smaller

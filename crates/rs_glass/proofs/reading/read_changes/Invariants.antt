@@ -8,7 +8,7 @@ use Rattle.rs_glass.proofs.reading.read_changes.Given as goal
 
 abbrev pub invariant-loop-session : goal.invariant-loop-session
 invariant-loop-session g l = record {
-  reading : IsReading (MayCome g.R.Read.gives) (λ r. r.shown) (fresh (unread l.fn.reader) l.fn.id l.question.errors) l.question.prefix l.question.until l.session (rib_of l.tables l.peer) l.said.last l.until;
+  reading : IsReading (MayCome g.R.Read.gives) (λ r. r.shown) (fresh (unread l.fn.reader) l.fn.id l.question.errors) l.question.prefix l.question.until l.session (rib_of l.tables l.peer) l.said l.until;
   others : (other : ℕ) → other ≢ l.peer → rib_of l.tables other ≡ rib_of l.fn.tables other;
   plan : l.tables.plan ≡ l.fn.tables.plan;
 }

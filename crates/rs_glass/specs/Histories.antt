@@ -1,0 +1,147 @@
+-- The history of a prefix: what happened, and what a client gets after each (RFC 4271, section 9.1).
+use Rattle.std.specs.Prelude.{◌≡◌, ◌≢◌, ℕ, ◌==◌, ◌&&◌, nat_lt, Bool, true, false, not, if◌then◌else◌, List, [], ◌∷◌, ◌++◌}
+use Rattle.std.specs.Prelude.{Option, None, Some, filter, length, map}
+use Rattle.std.specs.List.{list_any, range_with_len}
+use Rattle.std.specs.Option.{option_and_then, option_to_list}
+use Rattle.rs_update.specs.IpPrefix.{IpPrefix}
+use Rattle.rs_update.specs.PathAttributes.{PathAttributes}
+use Rattle.rs_session.specs.Change.{Change, ChangeBody, Announced, Withdrawn, Lost, Closed, body_of, change_of}
+use Rattle.rs_session.specs.declared.word.Reason.{Reason}
+use Rattle.rs_choice.specs.Plan.{Plan}
+use Rattle.rs_table.specs.Content.{TablesContent, rib_left, rib_of}
+use Rattle.rs_table.specs.Left.{BecomeBy, is_close}
+use Rattle.rs_glass.specs.Behind.{each_behind}
+use Rattle.rs_glass.specs.Explained.{best_from}
+use Rattle.rs_glass.specs.declared.happened.Happening.{Happening}
+use Rattle.rs_glass.specs.declared.history.Event.{Event}
+use Rattle.rs_glass.specs.declared.history.Event.TheVariants as events
+use Rattle.rs_glass.specs.declared.history.Gets.{Gets}
+use Rattle.rs_glass.specs.declared.history.History.{History}
+use Rattle.rs_glass.specs.declared.loss.Loss.{Loss}
+
+-- ---- the tables after what happened
+
+-- the changes of one peer among what happened, in their order
+abbrev pub changes_from : ℕ → List Happening → List Change
+changes_from peer happenings = map (λ one. change_of one.word) (filter (λ one. one.peer == peer) happenings)
+
+-- the changes up to the first close, with it: nothing behind it counts
+abbrev pub up_to_close : List Change → List Change
+up_to_close [] = []
+up_to_close (change ∷ later) = change ∷ (if is_close change then [] else up_to_close later)
+
+-- of each peer what its changes leave
+abbrev pub tables_after : Plan → List Happening → TablesContent
+tables_after plan happenings =
+    record {
+      plan = plan;
+      ribs = map (λ peer. rib_left (up_to_close (changes_from peer happenings))) (range_with_len 0 (length plan.peers));
+    }
+
+-- ---- what the client gets
+
+-- an event, without where its attributes lie in memory
+pub data EventContent : Type 0 where
+  Announcement : PathAttributes → EventContent
+  Withdrawal : EventContent
+  LossOf : Option Loss → EventContent
+  CloseFor : Reason → EventContent
+
+abbrev pub event_content : Event → EventContent
+event_content (events.Announced attributes) = Announcement attributes.value
+event_content events.Withdrawn = Withdrawal
+event_content (events.Lost loss) = LossOf loss
+event_content (events.Closed reason) = CloseFor reason
+
+-- the event of a change, where the session was lost so
+abbrev pub event_of : ChangeBody → Option Loss → EventContent
+event_of (Announced prefix attributes) loss = Announcement attributes
+event_of (Withdrawn prefix) loss = Withdrawal
+event_of Lost loss = LossOf loss
+event_of (Closed reason) loss = CloseFor reason
+
+-- an event and what the client gets from then on
+pub record GetsContent : Type 0 where
+  pub time : ℕ
+  pub peer : ℕ
+  pub event : EventContent
+  pub best : Option ℕ
+
+abbrev pub gets_content : Gets → GetsContent
+gets_content gets =
+    record { time = gets.time; peer = gets.peer; event = event_content gets.event; best = gets.best }
+
+-- the number of the peer whose route the client gets, where one is asked for
+abbrev pub best_for : TablesContent → Option ℕ → IpPrefix → Option ℕ
+best_for tables client prefix = option_and_then (λ client. best_from tables client prefix) client
+
+-- where what happened counts, what the client gets by the tables behind it
+abbrev pub gets_by : Bool → TablesContent → Option ℕ → IpPrefix → Happening → Option GetsContent
+gets_by false tables client prefix one = None
+gets_by true tables client prefix one =
+    Some (record {
+      time = one.time;
+      peer = one.peer;
+      event = event_of (body_of one.word.body) one.loss;
+      best = best_for tables client prefix;
+    })
+
+-- one more thing counts where its peer is there, and its session did not close before
+abbrev pub counts : Plan → List Happening → Happening → Bool
+counts plan before one =
+    nat_lt one.peer (length plan.peers) && not (list_any is_close (changes_from one.peer before))
+
+module _ (plan : Plan) (client : Option ℕ) (prefix : IpPrefix) where
+  -- what the client gets after one more thing
+  abbrev pub gets_after : List Happening → Happening → Option GetsContent
+  gets_after before one =
+      gets_by (counts plan before one) (tables_after plan (before ++ one ∷ [])) client prefix one
+
+  -- and after each of a list
+  abbrev pub all_gets : List Happening → List GetsContent
+  all_gets happenings = each_behind (λ before one. option_to_list (gets_after before one)) [] happenings
+
+-- ---- one step
+
+-- a peer is there, and its session open
+abbrev pub is_open : TablesContent → ℕ → Bool
+is_open tables peer = nat_lt peer (length tables.plan.peers) && not (rib_of tables peer).closed
+
+-- tables take what happened to one peer, and all others stay
+pub record Takes (old : TablesContent) (one : Happening) (new : TablesContent) : Type 0 where
+  pub routes : BecomeBy (rib_of old one.peer).routes (change_of one.word) (rib_of new one.peer).routes
+  pub closed : (rib_of new one.peer).closed ≡ is_close (change_of one.word)
+  pub others : (other : ℕ) → other ≢ one.peer → rib_of new other ≡ rib_of old other
+  pub plan : new.plan ≡ old.plan
+  pub count : length new.ribs ≡ length old.ribs
+
+abbrev pub TakesIf : Bool → TablesContent → Happening → TablesContent → Type 0
+TakesIf false old one new = new ≡ old
+TakesIf true old one new = Takes old one new
+
+-- ---- the history
+
+-- a time is before another, where that is given
+abbrev pub is_before : ℕ → Option ℕ → Bool
+is_before time None = false
+is_before time (Some from) = nat_lt time from
+
+-- what the client gets after the last of these, or else as before
+abbrev pub best_last : Option ℕ → List GetsContent → Option ℕ
+best_last before [] = before
+best_last before (gets ∷ later) = best_last gets.best later
+
+-- what is asked stays; of what the client gets, that from the time on is shown, and the last before it is told
+pub record Notes (asked : History) (all : List GetsContent) (history : History) : Type 0 where
+  pub prefix : history.prefix ≡ asked.prefix
+  pub client : history.client ≡ asked.client
+  pub from : history.from ≡ asked.from
+  pub until : history.until ≡ asked.until
+  pub events : map gets_content history.events.items
+      ≡ map gets_content asked.events.items ++ filter (λ gets. not (is_before gets.time asked.from)) all
+  pub before : history.before ≡ best_last asked.before (filter (λ gets. is_before gets.time asked.from) all)
+
+-- the history of what happened: it notes what the client gets after each thing
+abbrev pub IsHistory : Plan → List Happening → History → History → Type 0
+IsHistory plan happenings asked history =
+    Notes asked (all_gets plan asked.client asked.prefix happenings) history
