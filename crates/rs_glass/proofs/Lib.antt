@@ -1,5 +1,6 @@
 pub mod CoveringLemmas
 pub mod GivenLemmas
+pub mod HappenedLemmas
 pub mod HistoryLemmas
 pub mod ListLemmas
 pub mod ReadingLemmas

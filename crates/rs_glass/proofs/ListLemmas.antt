@@ -18,7 +18,7 @@ use Rattle.rs_glass.specs.declared.question.Question.{Question}
 use Rattle.rs_glass.specs.declared.said.Said.{Said}
 
 -- what stands at a place of a list with one more: what stood there, or the last one
-at-pushed : {X : Type 0} (xs : List X) (x y : X) (n : ℕ) → slice_get (xs ++ x ∷ []) n ≡ Some y → (slice_get xs n ≡ Some y) ⊎ ((n ≡ length xs) × (x ≡ y))
+pub at-pushed : {X : Type 0} (xs : List X) (x y : X) (n : ℕ) → slice_get (xs ++ x ∷ []) n ≡ Some y → (slice_get xs n ≡ Some y) ⊎ ((n ≡ length xs) × (x ≡ y))
 at-pushed [] x y zero e = inr (refl, cc)
 at-pushed [] x y (suc n) e = absurd cc
 at-pushed (z ∷ zs) x y zero e = inl e

@@ -1,6 +1,6 @@
 -- The history of a prefix: what happened, and what a client gets after each (RFC 4271, section 9.1).
-use Rattle.std.specs.Prelude.{◌≡◌, ◌≢◌, ℕ, ◌==◌, ◌&&◌, nat_lt, Bool, true, false, not, if◌then◌else◌, List, [], ◌∷◌, ◌++◌}
-use Rattle.std.specs.Prelude.{Option, None, Some, filter, length, map}
+use Rattle.std.specs.Prelude.{◌≡◌, ◌≢◌, ℕ, ◌==◌, ◌&&◌, nat_lt, Bool, true, false, not, if◌then◌else◌}
+use Rattle.std.specs.Prelude.{List, [], ◌∷◌, ◌++◌, Option, None, Some, filter, length, map}
 use Rattle.std.specs.List.{list_any, range_with_len}
 use Rattle.std.specs.Option.{option_and_then, option_to_list}
 use Rattle.rs_update.specs.IpPrefix.{IpPrefix}
@@ -35,7 +35,8 @@ abbrev pub tables_after : Plan → List Happening → TablesContent
 tables_after plan happenings =
     record {
       plan = plan;
-      ribs = map (λ peer. rib_left (up_to_close (changes_from peer happenings))) (range_with_len 0 (length plan.peers));
+      ribs = map (λ peer. rib_left (up_to_close (changes_from peer happenings)))
+          (range_with_len 0 (length plan.peers));
     }
 
 -- ---- what the client gets

@@ -9,11 +9,16 @@ use Rattle.rs_session.specs.Change.{Change, ChangeBody, Announced, Withdrawn, Lo
 use Rattle.rs_session.specs.Given.{IsRead}
 use Rattle.rs_session.specs.declared.peer.PeerId.{PeerId}
 use Rattle.rs_session.specs.declared.word.Reason.{Reason}
+use Rattle.rs_session.specs.declared.word.Reason.TheVariants as reasons
 use Rattle.rs_choice.specs.Plan.{Peer, Plan}
 use Rattle.rs_table.specs.Content.{RibContent, TablesContent, rib_of}
 use Rattle.rs_table.specs.Left.{BecomeBy, Leaves, RouteLeft, is_close}
 use Rattle.rs_explain.specs.Cut.{IsCut}
 use Rattle.rs_explain.specs.LastSaid.{IsSaidLast}
+use Rattle.rs_explain.specs.declared.last_said.EndedBy.{EndedBy}
+use Rattle.rs_explain.specs.declared.last_said.EndedBy.TheVariants as ended
+use Rattle.rs_explain.specs.declared.last_said.LastSaid.{LastSaid}
+use Rattle.rs_explain.specs.declared.last_said.LastSaid.TheVariants as last
 use Rattle.rs_glass.specs.Covering.{covers}
 use Rattle.rs_glass.specs.declared.fault.GlassFault.{GlassFault}
 use Rattle.rs_glass.specs.declared.fault.GlassFault.TheVariants.{Memory, Read}
@@ -55,6 +60,17 @@ close_after before (Closed reason) = Some reason
 abbrev pub is_failed_read : Option Reason → Bool
 is_failed_read close = option_map_or is_read close false
 
+-- when a route was announced, where it is there, or when it was taken away: a close for a fault of the file has
+-- no time, and a route that was never announced has none
+abbrev pub ended_at : ℕ → EndedBy → Option ℕ
+ended_at time (ended.Close (reasons.Mrt number)) = None
+ended_at time by = Some time
+
+abbrev pub time_of : LastSaid → Option ℕ
+time_of last.NeverAnnounced = None
+time_of (last.Announced time) = Some time
+time_of (last.Ended announced ending) = ended_at ending.time ending.by
+
 -- this is said of a prefix by changes: what they say of it last, and why their session closed
 pub record IsSaid (prefix : IpPrefix) (changes : List Change) (said : Said) : Type 0 where
   pub last : IsSaidLast prefix changes said.last
@@ -86,7 +102,8 @@ ClosesUnread gives question peer reader =
     × (is_failed_read (close_in beginning) ≡ true)
 
 -- a fault of a peer's reader: a read failed, or memory was refused
-abbrev pub IsFaultOf : {R : Type 0} → (R → List ℕ → ReadEnd → Type 0) → Question → PeerId → R → ℕ → GlassFault → Type 0
+abbrev pub IsFaultOf : {R : Type 0} → (R → List ℕ → ReadEnd → Type 0) → Question → PeerId → R → ℕ → GlassFault
+    → Type 0
 IsFaultOf gives question peer reader number Memory = Unit {0}
 IsFaultOf gives question peer reader number (Read faulty) =
     (faulty ≡ number) × ClosesUnread gives question peer reader
@@ -105,7 +122,8 @@ AreSaidOf {R} gives question plan readers count tables all =
     → IsSaidOf gives question (id_of peer) reader (rib_of tables number) said
 
 -- a fault of the readers: a read of the one that is named failed, or memory was refused
-abbrev pub IsFaultAmong : {R : Type 0} → (R → List ℕ → ReadEnd → Type 0) → Question → Plan → List R → GlassFault → Type 0
+abbrev pub IsFaultAmong : {R : Type 0} → (R → List ℕ → ReadEnd → Type 0) → Question → Plan → List R → GlassFault
+    → Type 0
 IsFaultAmong gives question plan readers Memory = Unit {0}
 IsFaultAmong {R} gives question plan readers (Read faulty) =
     (peer : Peer) × (slice_get plan.peers faulty ≡ Some peer) × ((reader : R)

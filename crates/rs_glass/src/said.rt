@@ -3,7 +3,7 @@
 ghost use Rattle.std.specs.Prelude.{◌≡◌, ◌++◌, ◌∷◌, [], List};
 ghost use Rattle.rs_update.specs.IpPrefix.{IpPrefix};
 ghost use Rattle.rs_session.specs.Change.{change_of, Change};
-ghost use Rattle.rs_glass.specs.Recorded.{IsSaid, close_after, is_failed_read};
+ghost use Rattle.rs_glass.specs.Recorded.{IsSaid, close_after, is_failed_read, time_of};
 
 use crate::loss::Loss;
 use rs_explain::{EndedBy, LastSaid};
@@ -48,7 +48,9 @@ impl Said {
 
     /// When the peer's route on the prefix was announced, where it is there, or taken away: in seconds since
     /// 1970; none where that isn't known.
-    pub fn time(&self) -> Option<u32> {
+    pub fn time(&self) -> Option<u32>
+        ensures { result ≡ time_of self.now.last }
+    {
         match self.last {
             LastSaid::NeverAnnounced => None,
             LastSaid::Announced(time) => Some(time),

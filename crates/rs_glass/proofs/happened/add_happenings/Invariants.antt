@@ -1,8 +1,13 @@
 use Rattle.std.proofs.Common.{◌+◌}
 use Rattle.std.specs.Prelude.{if◌then◌else◌}
-use Rattle.rs_mrt.specs.RecordReading.{room_left}
-use Rattle.rs_session.specs.Stage.{most_changes}
+use Rattle.rs_mrt.specs.RecordReading.{MayCome, room_left, unread}
+use Rattle.rs_session.specs.Stage.{fresh, most_changes}
+use Rattle.rs_glass.specs.Happened.{contents_of}
+use Rattle.rs_glass.proofs.HappenedLemmas.{IsListing}
 use Rattle.rs_glass.proofs.happened.add_happenings.Given as goal
+
+abbrev pub invariant-loop-session : goal.invariant-loop-session
+invariant-loop-session g l = IsListing (MayCome g.R.Read.gives) (λ r. r.shown) (fresh (unread l.fn.reader) l.fn.id l.question.errors) l.question.until l.question.prefix l.peer (contents_of l.fn.all.items) l.session l.until l.latest (contents_of l.all.items)
 
 -- the changes that may still come before the close, and the close
 abbrev pub decreases-loop-session : goal.decreases-loop-session
