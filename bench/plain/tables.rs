@@ -78,9 +78,24 @@ impl Cell {
         if best == client {
             None
         } else {
-            self.held.iter().find(|route| usize::from(route.peer) == best)
+            route_of(&self.held, best as u8)
         }
     }
+}
+
+// The place of the route of a peer among routes in ascending order of their peers, or where it would stand: that of
+// the peer's number, where all lower ones have a route; else by halves.
+fn place_of(held: &[Held], peer: u8) -> usize {
+    let own = usize::from(peer);
+    if held.get(own).is_some_and(|route| route.peer == peer) {
+        own
+    } else {
+        held.partition_point(|route| route.peer < peer)
+    }
+}
+
+fn route_of(held: &[Held], peer: u8) -> Option<&Held> {
+    held.get(place_of(held, peer)).filter(|route| route.peer == peer)
 }
 
 struct Standing {
@@ -287,24 +302,52 @@ impl Plan {
 
     // Decides anew for the clients to which a change of one peer's route may be of matter.
     fn decide_after(&self, held: &[Held], change: &Change, bests: &mut [u8]) {
+        if !change.both(held).all(|route| self.is_for_named(route)) {
+            self.decide_touched(held, change, &[], bests);
+            return;
+        }
         let mut recipients = [false; MAX_PEERS];
-        for route in change.both(held) {
+        for route in change.both(held).filter(|route| route.candidacy.is_eligible()) {
             self.mark(route, &mut recipients);
         }
+        self.decide_touched(held, change, &recipients, bests);
+    }
+
+    // The same where it is known which clients it may reach: those that have a mark, or all where there are no marks.
+    fn decide_touched(&self, held: &[Held], change: &Change, recipients: &[bool], bests: &mut [u8]) {
         let mut known = (change.peer, false);
         let peers = self.peers.len();
-        let mut client = self.next_touched(held, change, bests, 0, &recipients, &mut known);
+        let mut client = self.next_touched(held, change, bests, 0, recipients, &mut known);
         if client == peers {
             return;
         }
-        let shared = recipients[MAX_PEERS - 1].then(|| self.share(held));
+        let shared = recipients.is_empty().then(|| self.share(held));
         while client < peers {
             bests[client] = match &shared {
                 Some((groups, len, shared)) => self.choose_for(held, &groups.places[..*len], *shared, client),
-                None => self.choose_among(held, client).unwrap_or(client as u8),
+                None => match self.new_best(held, change, client, bests[client]) {
+                    Some(peer) => peer,
+                    None => self.choose_among(held, client).unwrap_or(client as u8),
+                },
             };
-            client = self.next_touched(held, change, bests, client + 1, &recipients, &mut known);
+            client = self.next_touched(held, change, bests, client + 1, recipients, &mut known);
         }
+    }
+
+    // The peer of the new route, where a client may get it, and got none or one that it is ahead of.
+    fn new_best(&self, held: &[Held], change: &Change, client: usize, best: u8) -> Option<u8> {
+        let one = &held[change.new?];
+        if !one.candidacy.is_eligible() || !self.permits_held(client, one) {
+            return None;
+        }
+        let was = if usize::from(best) == client {
+            return Some(one.peer);
+        } else if best == change.peer {
+            change.old.as_ref()
+        } else {
+            route_of(held, best)
+        };
+        (self.standing(one).front() < self.standing(was?).front()).then_some(one.peer)
     }
 
     // The first client from one on to which it may be of matter.
@@ -315,27 +358,25 @@ impl Plan {
         change: &Change,
         bests: &[u8],
         from: usize,
-        recipients: &[bool; MAX_PEERS],
+        recipients: &[bool],
         known: &mut (u8, bool),
     ) -> usize {
-        for client in from..bests.len() {
-            if recipients[client] && self.is_touched(held, change, client, bests[client], known) {
-                return client;
-            }
+        let mut client = next_reached(bests, recipients, from, known);
+        while client < bests.len() && !self.is_touched(held, change, client, bests[client], known) {
+            client = next_reached(bests, recipients, client + 1, known);
         }
-        bests.len()
+        client
     }
 
-    // Marks the clients of which a route may be a candidate: of one for named clients alone, those that a
-    // community (server's AS, client's AS) names.
+    // Whether a route, if it may be a candidate, is for named clients alone.
+    fn is_for_named(&self, route: &Held) -> bool {
+        !route.candidacy.is_eligible()
+            || (!route.candidacy.is_open() && has_community(&route.attributes, 0, self.asn))
+    }
+
+    // Marks the clients of which a route for named clients may be a candidate: those that a community (server's AS,
+    // client's AS) names.
     fn mark(&self, route: &Held, marks: &mut [bool; MAX_PEERS]) {
-        if !route.candidacy.is_eligible() {
-            return;
-        }
-        if route.candidacy.is_open() || !has_community(&route.attributes, 0, self.asn) {
-            *marks = [true; MAX_PEERS];
-            return;
-        }
         for value in route.attributes.communities().filter(|value| value >> 16 == self.asn) {
             for (peer, mark) in self.peers.iter().zip(marks.iter_mut()) {
                 *mark = *mark || peer.asn == value & 0xffff;
@@ -360,9 +401,6 @@ impl Plan {
         best: u8,
         known: &mut (u8, bool),
     ) -> bool {
-        if usize::from(best) != client && *known == (best, true) {
-            return false;
-        }
         if !change.both(held).any(|route| route.candidacy.is_eligible() && self.permits_held(client, route)) {
             return false;
         }
@@ -373,13 +411,29 @@ impl Plan {
     }
 
     fn outdoes_both(&self, held: &[Held], change: &Change, peer: u8) -> bool {
-        let Some(one) = held.iter().find(|route| route.peer == peer) else { return false };
+        let Some(one) = route_of(held, peer) else { return false };
         let one = self.standing(one);
         peer != change.peer
             && change
                 .both(held)
                 .all(|route| !route.candidacy.is_eligible() || one.outdoes(&self.standing(route)))
     }
+}
+
+// The next client, from one on, that isn't passed over: one with a mark; where there are no marks, one that didn't get
+// the route of which it is known that it outdoes both, or the peer of that route itself.
+fn next_reached(bests: &[u8], recipients: &[bool], from: usize, known: &(u8, bool)) -> usize {
+    let count = bests.len();
+    if !recipients.is_empty() {
+        return (from..count).find(|client| recipients[*client]).unwrap_or(count);
+    }
+    let (peer, outdoes) = *known;
+    if !outdoes {
+        return from;
+    }
+    let own = usize::from(peer);
+    let end = if own < from { count } else { own.min(count) };
+    (from..end).find(|client| bests[*client] != peer).unwrap_or(end)
 }
 
 // A change of one peer's route: the one that went, and the place of the one that came.
@@ -409,7 +463,7 @@ impl Tables {
             bests: (0..peers).map(|client| client as u8).collect(),
         });
         let peer = route.peer;
-        let place = cell.held.iter().position(|held| held.peer >= peer).unwrap_or(cell.held.len());
+        let place = place_of(&cell.held, peer);
         let old = if place < cell.held.len() && cell.held[place].peer == peer {
             Some(std::mem::replace(&mut cell.held[place], route))
         } else {
@@ -421,11 +475,9 @@ impl Tables {
 
     pub fn withdraw(&mut self, peer: usize, prefix: Prefix) {
         let Some(cell) = self.cells.get_mut(&prefix) else { return };
-        let old = cell
-            .held
-            .iter()
-            .position(|route| usize::from(route.peer) == peer)
-            .map(|place| cell.held.remove(place));
+        let place = place_of(&cell.held, peer as u8);
+        let old = (place < cell.held.len() && usize::from(cell.held[place].peer) == peer)
+            .then(|| cell.held.remove(place));
         if cell.held.is_empty() {
             self.cells.remove(&prefix);
         } else {
