@@ -1,8 +1,8 @@
 //! Writes an exchange into a folder: a configuration and the recorded file of each peer, as
 //! BGP4MP_MESSAGE_AS4 records (RFC 6396, section 4.4.3) of realistic UPDATEs. Each peer ends with the same
 //! number of routes; it has announced some of them twice and withdrawn others in between. The peers draw
-//! their prefixes from one set, so that a prefix has about five routes. The same numbers always give the same
-//! files.
+//! their prefixes from one set of three times as many, so that a prefix has the routes of about a third of the
+//! peers. The same numbers always give the same files.
 //!
 //! usage: generate FOLDER PEERS ROUTES
 #[path = "../random.rs"]
