@@ -4,7 +4,7 @@
 //! The program reads the configuration of an exchange and the recorded session of each peer, and prints the
 //! answer to one question.
 //!
-//! Supported standards: RFC 4271, RFC 6793, RFC 1997, RFC 7947, RFC 6396.
+//! Supported standards: RFC 4271, RFC 6793, RFC 1997, RFC 7606, RFC 7947, RFC 6396.
 #![tactic(auto)]
 
 ghost use Rattle.std.specs.Prelude.{◌≡◌, ◌<◌, IfOk, IfSome, length, slice_get};

@@ -3,7 +3,7 @@
 //! The program reads the configuration of an exchange and the recorded session of each peer, and writes a
 //! dump of each client's table and a report.
 //!
-//! Supported standards: RFC 4271, RFC 6793, RFC 1997, RFC 7947, RFC 6396.
+//! Supported standards: RFC 4271, RFC 6793, RFC 1997, RFC 7606, RFC 7947, RFC 6396.
 #![tactic(auto)]
 
 ghost use Rattle.std.specs.Prelude.{◌≡◌, ◌≤◌, None, Some, IfErr, IfOk, length};

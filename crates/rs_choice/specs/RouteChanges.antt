@@ -111,7 +111,8 @@ IsFormerBest held change best was =
 abbrev pub GoesAhead : Plan → List HeldRoute → RouteChange → ℕ → ℕ → HeldRoute → Type 0
 GoesAhead plan held change client best one =
     (best ≡ client)
-    ⊎ ((was : HeldRoute) × IsFormerBest held change best was × IsAhead (held_standing plan one) (held_standing plan was))
+    ⊎ ((was : HeldRoute) × IsFormerBest held change best was
+    × IsAhead (held_standing plan one) (held_standing plan was))
 
 -- before a change a client got the route of a peer
 abbrev pub HadBest : Plan → List HeldRoute → RouteChange → ℕ → ℕ → Type 0

@@ -3,7 +3,7 @@
 //! A client gets what it got where neither the route that went nor the one that came is a candidate of it, or
 //! where the route that it got is another peer's and outdoes both: it is ahead of them by preference, path
 //! length and origin, or goes before them in its own neighbour AS. For all other clients there is a decision
-//! anew.
+//! anew, or the new route is seen to be the choice (`new_route`).
 
 ghost use Rattle.std.specs.Prelude.{◌≡◌, ◌≢◌, ◌<◌, ◌≤◌, ◌↔◌, ◌&&◌, ◌||◌, not, IfSome, IsTrue, IsFalse, Some, length};
 ghost use Rattle.std.specs.Prelude.{map, slice_index_or, true, false, ℕ};
@@ -96,7 +96,7 @@ impl Exchange {
             return;
         }
         let mut groups = NeighbourGroups::new();
-        // Where there are marks few clients are touched, and each has a decision of its own.
+        // Where there are marks few clients are touched, and each has a decision of its own if it needs one.
         let shared = self.share_if(recipients.is_empty(), held, &mut groups);
         while client < count {
             let best = bests[client];

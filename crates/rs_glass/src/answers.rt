@@ -53,6 +53,8 @@ pub struct LessSpecific {
 
 /// Answers, of what recorded sessions say, why the client of number `client` has each peer's route on the
 /// prefix, or not.
+///
+/// Fails where memory is refused.
 pub fn explain_all(
     alloc: Global,
     reading: &Reading,

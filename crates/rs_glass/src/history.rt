@@ -24,7 +24,7 @@ pub enum Event {
     Announced(Arc<Attributes>),
     /// The peer withdrew the prefix.
     Withdrawn,
-    /// The session was lost, so.
+    /// The session was lost, in this way; none where the record says nothing of it.
     Lost(Option<Loss>),
     /// The session closed, for this reason.
     Closed(Reason),

@@ -1,8 +1,8 @@
 //! What kind of record it is (RFC 6396, sections 4.3 and 4.4; RFC 8050, section 4).
 //!
 //! Our choice: each record is of one kind. Records of sessions with four-octet AS numbers and IPv4 peers, which a
-//! route server reads, are told
-//! apart by what they say; the others by Type, Subtype and Address Family, in this order.
+//! route server reads, are told apart by what they say; the others by Type, Subtype and Address Family, in this
+//! order.
 
 ghost use Rattle.std.specs.Prelude.{◌≡◌, ◌<◌};
 ghost use Rattle.std.specs.Option.{option_map};

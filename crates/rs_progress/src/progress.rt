@@ -18,7 +18,7 @@ pub struct Progress<E> {
     shows: AtomicBool,
 }
 
-// Spaces, as many as the longest line has characters.
+// Spaces, more than a line has characters.
 const WIDTH: usize = 60;
 
 impl<E: Eprint> Progress<E> {

@@ -10,7 +10,7 @@ mod merged_parts;
 mod random_changes;
 mod refusals;
 mod slow_reading;
-mod worked_rows;
+mod worked_exchanges;
 mod writers;
 
 use rs_choice::{Exchange, Local, PeerSpec};

@@ -1,6 +1,6 @@
 use Rattle.std.proofs.Common.{◌∙◌}
 use Rattle.table_tests.proofs.PartLemmas.{one-route}
-use Rattle.table_tests.proofs.tests.worked_rows.one_route.Goals as goal
+use Rattle.table_tests.proofs.tests.worked_exchanges.one_route.Goals as goal
 
 pub returns : goal.returns
 returns c =

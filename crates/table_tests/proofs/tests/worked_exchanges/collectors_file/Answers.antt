@@ -1,7 +1,7 @@
 use Rattle.std.proofs.Common.{◌∙◌, AllPairs, sym, subst}
 use Rattle.rs_table.specs.Merge.{AreParts}
 use Rattle.table_tests.proofs.PartLemmas.{two-parts, two-prefixes}
-use Rattle.table_tests.proofs.tests.worked_rows.collectors_file.Goals as goal
+use Rattle.table_tests.proofs.tests.worked_exchanges.collectors_file.Goals as goal
 
 pub merge-requires-clause-parts : goal.merge-requires-clause-parts
 merge-requires-clause-parts c =
