@@ -82,6 +82,23 @@ impl<T: Closing> Sender<T> {
         Ok(self.tally.add::<T>(closes))
     }
 
+    /// Looks how many items the ring has room for: so many sends in a row aren't refused as full. It takes no
+    /// memory and doesn't wait.
+    pub fn room(&mut self) -> usize
+        ensures room { result ≡ self.new.room }
+        ensures no_less { self.old.room ≤ self.new.room }
+        ensures same { self.new ≡ record self.old { room = self.new.room } }
+    {
+        self.producer.slots()
+    }
+
+    /// How many items the ring holds at most.
+    pub fn capacity(&self) -> usize
+        ensures { result ≡ self.now.capacity }
+    {
+        self.producer.capacity()
+    }
+
     /// How many items were sent.
     pub fn sent(&self) -> u64
         ensures { result ≡ length self.now.sent }

@@ -10,7 +10,7 @@ use crate::routed::Routed;
 use crate::shard::shard_of;
 use rs_ring::{SendRefused, Sender};
 use rs_session::{Body, Reason, Word};
-use rs_worker::Patience;
+use rs_worker::{Patience, wait_for_room};
 use std::sync::Wait;
 
 // An item of which each shard gets one.
@@ -106,15 +106,9 @@ fn offer_again<R: Wait>(rt: &R, sender: &mut Sender<Routed>, item: Routed)
     ensures sent { sender.new.sent ≡ sender.old.sent ++ item ∷ [] }
     ensures same { sender.new.ring ≡ sender.old.ring }
 {
-    let mut item = item;
-    let mut patience = Patience::new();
-    for _ in rt.forever() {
-        patience.wait(rt);
-        match sender.try_send(item) {
-            Ok(_) => return,
-            Err(SendRefused::Closed(_)) => unreachable!(),
-            Err(SendRefused::Full(refused)) => item = refused,
-        }
+    wait_for_room(rt, sender, Patience::new());
+    match sender.try_send(item) {
+        Ok(_) => {}
+        Err(_) => unreachable!(),
     }
-    unreachable!()
 }

@@ -4,7 +4,10 @@
 //!
 //! Nothing is claimed of time.
 
+ghost use Rattle.std.specs.Prelude.{◌≡◌, ◌<◌};
+
 use crossbeam_utils::Backoff;
+use rs_ring::{Closing, Sender};
 use std::sync::Wait;
 use std::thread::Parker;
 use std::time::Duration;
@@ -16,8 +19,8 @@ const FIRST_SLEEP: u64 = 10;
 const LONGEST_SLEEP: u64 = 320;
 
 // The longest sleep of one of many threads that wait for the same other one, in microseconds: as 256 workers
-// at full rings wait for one router, whose round takes tens of milliseconds.
-const LONGEST_SLEEP_OF_MANY: u64 = 5120;
+// at full rings wait for one router, which takes hundreds of milliseconds to make half of all rings free.
+const LONGEST_SLEEP_OF_MANY: u64 = 81_920;
 
 /// How long a thread has waited for the same thing.
 #[derive(Drop)]
@@ -37,7 +40,7 @@ impl Patience {
         Patience::up_to(LONGEST_SLEEP)
     }
 
-    /// Of one of many threads that wait for the same other one: it sleeps at most 5,120 microseconds at once.
+    /// Of one of many threads that wait for the same other one: it sleeps at most 81,920 microseconds at once.
     pub fn of_many() -> Patience {
         Patience::up_to(LONGEST_SLEEP_OF_MANY)
     }
@@ -63,6 +66,11 @@ impl Patience {
         self.sleep = self.sleep.saturating_mul(2).min(self.longest);
     }
 
+    // Whether the next sleep is as long as any.
+    fn is_at_its_longest(&self) -> bool {
+        self.sleep >= self.longest
+    }
+
     /// Begins anew: what the thread waited for came.
     pub fn reset(&mut self) {
         self.backoff.reset();
@@ -74,4 +82,22 @@ impl Default for Patience {
     fn default() -> Patience {
         Patience::new()
     }
+}
+
+/// Waits until half of a full ring is free, so that a thread that is woken has much to send; one that has
+/// waited for so long that its sleeps are at their longest waits for any room.
+pub fn wait_for_room<T: Closing>(rt: &impl Wait, sender: &mut Sender<T>, patience: Patience)
+    ensures room { 0 < sender.new.room }
+    ensures same { sender.new ≡ record sender.old { room = sender.new.room } }
+{
+    let half = sender.capacity() / 2;
+    let mut patience = patience;
+    for _ in rt.forever() {
+        patience.wait(rt);
+        let room = sender.room();
+        if room > 0 && (room >= half || patience.is_at_its_longest()) {
+            return;
+        }
+    }
+    unreachable!()
 }
