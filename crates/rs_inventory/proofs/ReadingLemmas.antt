@@ -1,13 +1,14 @@
 -- What records may come, and what they hold.
-use Rattle.std.proofs.Common.{◌≡◌, ◌∙◌, ℕ, List, [], ◌∷◌, ◌++◌, map, Option, refl, sym, ap, subst, append_assoc}
-use Rattle.rs_mrt.specs.Reader.{ReadEnd}
+use Rattle.std.proofs.Common.{◌≡◌, ◌≤◌, ◌∙◌, ℕ, ◌||◌, nat_le, Bool, true, false, List, [], ◌∷◌, ◌++◌, length, map, Option, refl, sym, ap, subst, arith, append-nil, append_assoc, leb-true}
+use Rattle.rs_mrt.specs.Reader.{ReadEnd, SomethingIsGiven}
 use Rattle.rs_mrt.specs.Record.{MrtRecord}
 use Rattle.rs_mrt.specs.RecordReading.{MayCome, unread}
 use Rattle.rs_mrt.specs.declared.fault.SourceFault.{SourceFault}
 use Rattle.rs_inventory.specs.Finding.{finding_of}
-use Rattle.rs_inventory.specs.Front.{IsFrontOf, RewoundGives, Taken, rewound}
+use Rattle.rs_inventory.specs.Compression.{compression_of}
+use Rattle.rs_inventory.specs.Front.{GivesUnlessEnded, IsFrontOf, RewoundGives, Taken, is_done, rewound, rewound_may_come}
 use Rattle.rs_inventory.specs.Inventory.{Content, Holds, TakesFinding}
-use Rattle.rs_inventory.specs.Reading.{Going, IsInventoryOf}
+use Rattle.rs_inventory.specs.Reading.{Going, IsInventoryOf, MayBeCompressed}
 use Rattle.rs_inventory.specs.declared.finding.Finding.{Finding}
 
 map-push : {X Y : Type 0} (f : X → Y) (xs : List X) (x : X) → map f (xs ++ x ∷ []) ≡ map f xs ++ f x ∷ []
@@ -49,3 +50,34 @@ inventory-whole gives old new front content is held = record {
   };
   holds = held.holds;
 }
+
+-- six octets tell whether a file is compressed
+compression-front : (octets later : List ℕ) → 6 ≤ length octets → compression_of (octets ++ later) ≡ compression_of octets
+compression-front [] later six = absurd (omega (arith, six))
+compression-front (a ∷ []) later six = absurd (omega (arith, six))
+compression-front (a ∷ b ∷ []) later six = absurd (omega (arith, six))
+compression-front (a ∷ b ∷ c ∷ []) later six = absurd (omega (arith, six))
+compression-front (a ∷ b ∷ c ∷ d ∷ []) later six = absurd (omega (arith, six))
+compression-front (a ∷ b ∷ c ∷ d ∷ e ∷ []) later six = absurd (omega (arith, six))
+compression-front (a ∷ b ∷ c ∷ d ∷ e ∷ f ∷ octets) later six = refl
+
+-- as do fewer, behind which none come
+compression-taken : {R : Type 0} (gives : R → List ℕ → ReadEnd → Type 0) (front : Taken) (inner : R) (later : List ℕ) (end : ReadEnd) → is_done front ≡ true
+    → GivesUnlessEnded gives front.ended inner later end → compression_of (front.octets ++ later) ≡ compression_of front.octets
+compression-taken gives front inner later end done given = go front.ended done given
+  where
+    go : (ended : Bool) → (ended || nat_le 6 (length front.octets)) ≡ true → GivesUnlessEnded gives ended inner later end
+        → compression_of (front.octets ++ later) ≡ compression_of front.octets
+    go true done given = ap (λ (l : List ℕ). compression_of (front.octets ++ l)) given.0 ∙ ap compression_of (append-nil front.octets)
+    go false done given = compression-front front.octets later (leb-true 6 (length front.octets) done)
+
+-- octets that tell as the first ones do may come of the reader
+pub may-be-compressed : {R : Type 0} (gives : R → List ℕ → ReadEnd → Type 0) → ((reader : R) → SomethingIsGiven (gives reader))
+    → (old new : R) (front : Taken) → IsFrontOf gives old new front → is_done front ≡ true → MayBeCompressed gives old (compression_of front.octets)
+may-be-compressed gives some old new front is done =
+    let whole = rewound_may_come gives some (rewound front new) in (
+      whole.0,
+      whole.1,
+      is whole.0 whole.1 whole.2,
+      ap compression_of whole.2.splits ∙ compression-taken gives front new whole.2.later whole.1 done whole.2.given,
+    )

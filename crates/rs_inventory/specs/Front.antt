@@ -1,6 +1,6 @@
 -- A reader whose first octets were taken, and which gives them again. Nothing here is of a standard: all of
 -- it is our choice.
-use Rattle.std.specs.Prelude.{◌≡◌, ℕ, ◌||◌, nat_le, Bool, true, false, List, [], ◌++◌, length, refl}
+use Rattle.std.specs.Prelude.{◌≡◌, ℕ, suc, ◌-◌, if◌then◌else◌, ◌||◌, nat_le, Bool, true, false, List, [], ◌++◌, length, refl}
 use Rattle.rs_mrt.specs.Reader.{ReadEnd, FileEnds, SomethingIsGiven}
 
 -- octets that were taken of a reader, and whether it has no more
@@ -54,6 +54,10 @@ room_len = 12
 -- so many were taken, or the reader has no more
 abbrev pub is_done : Taken → Bool
 is_done front = front.ended || nat_le front_len (length front.octets)
+
+-- how many octets are wanted at most before that: none of a reader without more, and else one for its end too
+abbrev pub octets_wanted : Taken → ℕ
+octets_wanted front = if front.ended then 0 else suc (front_len - length front.octets)
 
 -- Whatever may come of the octets that were taken and then the reader might come of the reader before, and a
 -- reader without more is only found at the end of its octets.

@@ -1,12 +1,20 @@
 -- The inventory of the records that a source may give.
-use Rattle.std.specs.Prelude.{◌≡◌, List, [], ◌∷◌, ◌++◌, map, Option, Some, None}
+use Rattle.std.specs.Prelude.{◌≡◌, ℕ, List, [], ◌∷◌, ◌++◌, map, Option, Some, None}
+use Rattle.rs_mrt.specs.Reader.{ReadEnd}
 use Rattle.rs_mrt.specs.Record.{MrtRecord}
 use Rattle.rs_mrt.specs.Source.{source_end}
 use Rattle.rs_mrt.specs.declared.fault.MrtFault.{MrtFault}
 use Rattle.rs_mrt.specs.declared.fault.SourceFault.{SourceFault}
+use Rattle.rs_inventory.specs.Compression.{compression_of}
 use Rattle.rs_inventory.specs.Finding.{finding_of}
 use Rattle.rs_inventory.specs.Inventory.{Content, Holds}
+use Rattle.rs_inventory.specs.declared.compression.Compression.{Compression}
 use Rattle.rs_inventory.specs.declared.finding.Finding.{Finding}
+
+-- octets may come of a reader that begin as those of a file which is compressed so
+abbrev pub MayBeCompressed : {R : Type 0} → (R → List ℕ → ReadEnd → Type 0) → R → Option Compression → Type 0
+MayBeCompressed gives reader compression =
+    (octets : List ℕ) × (end : ReadEnd) × gives reader octets end × (compression_of octets ≡ compression)
 
 -- it is what these records hold, which may come, all of them, and it says how they end
 pub record IsInventoryOf {S : Type 0} (comes : S → List MrtRecord → Option SourceFault → Type 0) (source : S)

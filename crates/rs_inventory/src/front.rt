@@ -1,8 +1,8 @@
 //! A reader whose first octets were looked at.
 
-ghost use Rattle.std.specs.Prelude.{◌≡◌, ◌+◌, ◌<◌, ◌≤◌, ◌++◌, ◌==◌, false, drop, length, min, nat_lt, take, IfOk, OnOk};
-ghost use Rattle.rs_inventory.specs.Front.{IsFrontOf, RewoundGives, TakesMore, front_len, is_done, rewound};
-ghost use Rattle.rs_inventory.specs.Front.{rewound_may_come};
+ghost use Rattle.std.specs.Prelude.{◌≡◌, ◌+◌, ◌<◌, ◌≤◌, ◌++◌, ◌==◌, false, true, drop, length, min, nat_lt, take, IfOk, OnOk};
+ghost use Rattle.rs_inventory.specs.Front.{IsFrontOf, RewoundGives, TakesMore, front_len, is_done, octets_wanted};
+ghost use Rattle.rs_inventory.specs.Front.{rewound, rewound_may_come};
 
 use crate::compression::FRONT;
 use rs_mrt::{Failed, Read};
@@ -37,6 +37,7 @@ impl Front {
     pub(crate) fn of<R: Read>(reader: &mut R) -> Result<Front, Failed>
         requires { R.failures reader.old < u64.MAX }
         ensures gives { IfOk result (IsFrontOf R.gives reader.old reader.new) }
+        ensures done { IfOk result (λ front. is_done front ≡ true) }
         ensures failures { IfOk result (λ _. R.failures reader.new ≡ R.failures reader.old) }
     {
         let mut front = Front {
@@ -44,10 +45,7 @@ impl Front {
             count: 0,
             ended: false,
         };
-        for _ in 0..FRONT {
-            if front.is_done() {
-                break;
-            }
+        while !front.is_done() {
             front.take(reader)?;
         }
         Ok(front)
@@ -64,7 +62,8 @@ impl Front {
     fn take<R: Read>(&mut self, reader: &mut R) -> Result<(), Failed>
         requires unfinished { is_done self.old ≡ false }
         requires failures { R.failures reader.old < u64.MAX }
-        ensures { OnOk result (TakesMore R.gives R.failures self.old reader.old self.new reader.new) }
+        ensures takes { OnOk result (TakesMore R.gives R.failures self.old reader.old self.new reader.new) }
+        ensures grows { OnOk result (octets_wanted self.new < octets_wanted self.old) }
     {
         let mut piece = [0; FRONT];
         let taken = reader.read(&mut piece)?;

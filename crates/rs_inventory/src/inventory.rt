@@ -71,7 +71,8 @@ impl Inventory {
 
     /// Takes what the next record adds.
     pub(crate) fn take(&mut self, alloc: Global, finding: Finding) -> Result<(), AllocError>
-        ensures { OnOk result (TakesFinding self.old finding self.new) }
+        ensures takes { OnOk result (TakesFinding self.old finding self.new) }
+        ensures compression { OnOk result (self.new.compression ≡ self.old.compression) }
     {
         self.take_note(alloc, finding.time, finding.note)?;
         self.count(&finding);

@@ -4,7 +4,7 @@
 //! route server reads, are told apart by what they say; the others by Type, Subtype and Address Family, in this
 //! order.
 
-ghost use Rattle.std.specs.Prelude.{◌≡◌, ◌<◌};
+ghost use Rattle.std.specs.Prelude.{◌≡◌, ◌<◌, Some, slice_get};
 ghost use Rattle.std.specs.Option.{option_map};
 ghost use Rattle.rs_mrt.specs.Record.{record_of};
 ghost use Rattle.rs_inventory.specs.Kind.{fields_of, is_ipv6, place_of, session_kind, unread_kind};
@@ -72,7 +72,10 @@ const MICROSECONDS_LEN: usize = 4;
 
 impl Kind {
     /// All kinds, in the order in which they are listed.
-    pub fn all() -> [Kind; KINDS] {
+    pub fn all() -> [Kind; KINDS]
+        // Each kind stands at its place, so that none misses.
+        ensures { (kind : Kind) → slice_get result (place_of kind) ≡ Some kind }
+    {
         [
             Kind::Update,
             Kind::Open,

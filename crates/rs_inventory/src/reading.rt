@@ -2,7 +2,7 @@
 
 ghost use Rattle.std.specs.Prelude.{◌≡◌, ◌+◌, ◌<◌, ◌≤◌, IfOk, IfSome, None};
 ghost use Rattle.rs_mrt.specs.RecordReading.{MayCome, unread};
-ghost use Rattle.rs_inventory.specs.Reading.{GivesFinding, IsInventoryOf};
+ghost use Rattle.rs_inventory.specs.Reading.{GivesFinding, IsInventoryOf, MayBeCompressed};
 ghost use Rattle.rs_inventory.specs.declared.reading.InventoryFault.TheVariants.{Memory, Read};
 
 use crate::compression::Compression;
@@ -40,14 +40,18 @@ impl From<Failed> for InventoryFault {
     }
 }
 
-/// Reads a recorded file and tells what it holds. Memory is taken for its peers and their sessions, not for its octets.
+/// Reads a recorded file and tells what it holds: whether it is compressed, and of one that isn't what its records say.
+/// Memory is taken for its peers and their sessions, not for its octets.
 pub fn read_inventory<R: Read + Drop>(
     alloc: Global,
     mut reader: R,
 ) -> Result<Inventory, InventoryFault>
     requires { R.failures reader < u64.MAX }
-    // Of a file that isn't compressed it is the inventory of records that the reader may give, to their end.
-    ensures { IfOk result (λ held. held.compression ≡ None → IsInventoryOf (MayCome R.gives) (unread reader) held) }
+    // It is compressed as octets are that the reader may give.
+    ensures compressed { IfOk result (λ held. MayBeCompressed R.gives reader held.compression) }
+    // Of a file that isn't it is the inventory of records that the reader may give, to their end.
+    ensures records { IfOk result (λ held. held.compression ≡ None
+        → IsInventoryOf (MayCome R.gives) (unread reader) held) }
 {
     let front = Front::of(&mut reader)?;
     if let Some(compression) = Compression::of(front.octets()) {
@@ -60,7 +64,8 @@ pub fn read_inventory<R: Read + Drop>(
 
 // The inventory of all records of a source.
 fn take_records<S: Source + Drop>(alloc: Global, mut source: S) -> Result<Inventory, InventoryFault>
-    ensures { IfOk result (IsInventoryOf S.comes source) }
+    ensures records { IfOk result (IsInventoryOf S.comes source) }
+    ensures uncompressed { IfOk result (λ held. held.compression ≡ None) }
 {
     let mut inventory = Inventory::none(alloc, None);
     let mut end = None;

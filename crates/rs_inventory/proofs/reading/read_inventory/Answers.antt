@@ -1,12 +1,27 @@
-use Rattle.std.proofs.Common.{◌≡◌, ◌∙◌, ap, subst}
+use Rattle.std.proofs.Common.{◌≡◌, ◌∙◌, sym, ap, subst, Option, None}
 use Rattle.rs_mrt.specs.RecordReading.{MayCome, unread}
+use Rattle.rs_inventory.specs.Compression.{compression_of}
 use Rattle.rs_inventory.specs.Front.{RewoundGives, rewound}
-use Rattle.rs_inventory.specs.Reading.{IsInventoryOf}
-use Rattle.rs_inventory.proofs.ReadingLemmas.{inventory-whole}
+use Rattle.rs_inventory.specs.Reading.{IsInventoryOf, MayBeCompressed}
+use Rattle.rs_inventory.specs.declared.compression.Compression.{Compression}
+use Rattle.rs_inventory.proofs.ReadingLemmas.{inventory-whole, may-be-compressed}
 use Rattle.rs_inventory.proofs.reading.read_inventory.Goals as goal
 
-pub returns : goal.returns
-returns g c = λ none.
+pub returns-clause-records : goal.returns-clause-records
+returns-clause-records g c = λ none.
     let source : c.new-source.result ≡ unread (rewound c.in_ok-front.front c.of.new.reader) = c.new-source.ensures ∙ ap unread c.new.ensures in
     inventory-whole g.R.Read.gives c.args.reader c.of.new.reader c.in_ok-front.front c.in_ok-inventory.inventory c.in_ok-front.ensures.gives
-    (subst (λ s. IsInventoryOf (MayCome (RewoundGives g.R.Read.gives)) s c.in_ok-inventory.inventory) source c.in_ok-inventory.ensures)
+    (subst (λ s. IsInventoryOf (MayCome (RewoundGives g.R.Read.gives)) s c.in_ok-inventory.inventory) source c.in_ok-inventory.ensures.records)
+
+pub returns-in-Some-clause-compressed : goal.returns-in-Some-clause-compressed
+returns-in-Some-clause-compressed g c =
+    subst (λ (compression : Option Compression). MayBeCompressed g.R.Read.gives c.args.reader compression)
+    (sym (c.none.ensures.compression ∙ sym c.in-Some.is ∙ c.of-2.ensures ∙ ap compression_of c.octets.ensures))
+    (may-be-compressed g.R.Read.gives g.met.R.Read.may_come c.args.reader c.of.new.reader c.in_ok-front.front c.in_ok-front.ensures.gives c.in_ok-front.ensures.done)
+
+pub returns-clause-compressed : goal.returns-clause-compressed
+returns-clause-compressed g c =
+    let none : None ≡ compression_of c.in_ok-front.front.octets = sym c.in_default.is ∙ c.of-2.ensures ∙ ap compression_of c.octets.ensures in
+    subst (λ (compression : Option Compression). MayBeCompressed g.R.Read.gives c.args.reader compression)
+    (sym (c.in_ok-inventory.ensures.uncompressed ∙ none))
+    (may-be-compressed g.R.Read.gives g.met.R.Read.may_come c.args.reader c.of.new.reader c.in_ok-front.front c.in_ok-front.ensures.gives c.in_ok-front.ensures.done)
