@@ -359,6 +359,35 @@ fn a_failed_write_of_a_dump_ends_the_run(rt: HostRuntime) -> Result<(), Fail> {
     Ok(())
 }
 
+// The limits of an outlet: so many calls to write the dump of a client go well, of 7 octets each, and the next one fails.
+fn failing_at(client: usize, calls: usize) -> OutletLimits {
+    OutletLimits {
+        dumps_before_limits: client,
+        writer: Limits {
+            calls_before_failure: Some(calls as u64),
+            room: usize::MAX,
+            piece: 7,
+        },
+        ..OutletLimits::none()
+    }
+}
+
+// Two digits an octet, 7 octets a call: each call to write a dump fails in turn. Those behind it would go well.
+#[test]
+fn whichever_write_of_a_dump_fails_the_run_ends_there(rt: HostRuntime) -> Result<(), Fail> {
+    for (client, (_, digits)) in DUMPS.iter().enumerate() {
+        let calls = (digits.len() / 2).div_ceil(7);
+        for call in 0..calls {
+            let ran = run_with(&rt, failing_at(client, call), Limits::none())?;
+            check_stopped(&rt, &ran, client)?;
+        }
+        let ran = run_with(&rt, failing_at(client, calls), Limits::none())?;
+        assert_eq!(rt; ran.answer, Ok(()), "after {calls} calls");
+        check_kept(&rt, ran.outlet.kept(), CLIENTS)?;
+    }
+    Ok(())
+}
+
 // 204 octets, 7 a call: each of the 30 calls fails in turn.
 #[test]
 fn a_failed_write_of_the_report_leaves_a_beginning_of_it(rt: HostRuntime) -> Result<(), Fail> {
