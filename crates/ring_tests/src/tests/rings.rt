@@ -148,6 +148,14 @@ fn the_token_of_a_sender_shows_all_that_was_sent(rt: HostRuntime) -> Result<(), 
 }
 
 #[test]
+fn a_token_comes_though_nothing_was_sent(rt: HostRuntime) -> Result<(), Fail> {
+    let (sender, receiver) = ring::<Item>(rt.alloc(), 4)?;
+    assert!(rt; sender.finish().is_some());
+    assert!(rt; !receiver.closed());
+    Ok(())
+}
+
+#[test]
 fn no_token_comes_where_the_receiver_is_gone(rt: HostRuntime) -> Result<(), Fail> {
     let (sender, receiver) = ring::<Item>(rt.alloc(), 4)?;
     drop(receiver);
@@ -170,6 +178,10 @@ fn refusals_say_why(rt: HostRuntime) -> Result<(), Fail> {
         (
             format!(in alloc; "{}", SendRefused::Closed(plain(1)))?,
             "a closing item was sent before",
+        ),
+        (
+            format!(in alloc; "{}", SendRefused::Full(plain(1)))?,
+            "full ring",
         ),
         (
             format!(in alloc; "{:?}", SendRefused::Full(plain(1)))?,
