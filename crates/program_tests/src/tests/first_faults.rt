@@ -118,6 +118,11 @@ const BEHIND: &[Change] = &[
 const WHOLE: &[Change] = &[
     ("", "server is missing"),
     ("# nothing\n", "server is missing"),
+    ("peer = 1\n", "server is missing"),
+    (
+        "[server]\nas = 64500\n[[peer]]\nzone = 1\n",
+        "server.address is missing",
+    ),
     ("as = = 1", "no TOML"),
     ("server", "no TOML"),
     ("server = 1\nserver = 1\n", "no TOML"),
