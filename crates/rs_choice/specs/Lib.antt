@@ -1,22 +1,25 @@
-pub mod Candidacy
-pub mod Checks
-pub mod Clients
-pub mod Comparison
-pub mod Contenders
-pub mod Decision
-pub mod Eligibility
-pub mod Entrants
-pub mod Exchange
-pub mod FaultNumber
-pub mod Grouping
-pub mod GroupsView
-pub mod Held
-pub mod Laws
-pub mod Naturality
-pub mod Plan
-pub mod Policy
-pub mod Recipients
-pub mod Refusal
-pub mod RouteChanges
-pub mod Scan
-pub mod Sharing
+-- What the standards say, and export policy:
+pub mod Plan  -- the server and its peers
+pub mod Eligibility  -- which routes may be candidates
+pub mod Policy  -- which routes a client may get
+pub mod Decision  -- the six steps and the choice
+pub mod Clients  -- what each client gets
+pub mod Comparison  -- two candidates by several steps at once
+pub mod RouteChanges  -- whom a change of one route is of no matter to
+pub mod Laws  -- what holds of all of these
+pub mod Naturality  -- what the choice does not look at
+-- How the bodies decide:
+pub mod Candidacy  -- what is asked of a route alone
+pub mod Held  -- routes as they are held for decisions
+pub mod Entrants  -- what takes part in a decision
+pub mod Scan  -- a pass over candidates
+pub mod Grouping  -- a pass by neighbour groups
+pub mod GroupsView  -- the groups by their fields
+pub mod Sharing  -- what all clients share
+pub mod Contenders  -- candidates without those that are outdone
+pub mod Recipients  -- marks of the clients that a change may reach
+-- How a plan is checked and kept:
+pub mod Checks  -- its tests over peers as they are configured
+pub mod FaultNumber  -- the number of its fault
+pub mod Exchange  -- what is kept beside it
+pub mod Refusal  -- who refuses whom, by name

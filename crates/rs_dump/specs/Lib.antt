@@ -1,3 +1,12 @@
+-- What the standard says of a dump:
+pub mod PeerIndex  -- the PEER_INDEX_TABLE record
+pub mod Rib  -- a record of one prefix
+pub mod Dump  -- all records of a table
+pub mod Laws  -- a dump in the words of the file that it is
+-- How it is written:
+pub mod Buffer  -- records that wait
+pub mod UnderWay  -- a dump that is being written
+-- What the contracts name of the crates below:
 pub use Rattle.rs_choice.specs.Plan
 pub use Rattle.rs_mrt.specs.Endian
 pub use Rattle.rs_mrt.specs.Record
@@ -5,9 +14,3 @@ pub use Rattle.rs_mrt.specs.Stream
 pub use Rattle.rs_table.specs.RouteView
 pub use Rattle.rs_table.specs.Table
 pub use Rattle.rs_update.specs.Spelling
-pub mod Buffer
-pub mod Dump
-pub mod Laws
-pub mod PeerIndex
-pub mod Rib
-pub mod UnderWay

@@ -1,7 +1,9 @@
-pub mod Behind
-pub mod Covering
-pub mod Explained
-pub mod Happened
-pub mod Histories
-pub mod Losses
-pub mod Recorded
+-- What the looking glass answers:
+pub mod Covering  -- the prefixes that cover one
+pub mod Losses  -- how a session was lost
+pub mod Recorded  -- what one file says of a prefix
+pub mod Explained  -- why each route is there or not
+pub mod Happened  -- what happens on a prefix
+pub mod Histories  -- what a client gets after each
+-- A list that the others need:
+pub mod Behind  -- each element and those before it

@@ -1,9 +1,11 @@
-pub mod Compression
-pub mod Front
-pub mod Kind
-pub mod Opening
-pub mod Finding
-pub mod Sessions
-pub mod Peer
-pub mod Inventory
-pub mod Reading
+-- What the records of a file are:
+pub mod Kind  -- the kinds of records
+pub mod Opening  -- what an OPEN tells
+pub mod Sessions  -- when sessions came up and went down
+pub mod Peer  -- what one peer says
+pub mod Finding  -- what one record adds
+pub mod Inventory  -- what all of them hold
+pub mod Compression  -- how a compressed file begins
+-- How it is read:
+pub mod Front  -- a reader whose first octets were taken
+pub mod Reading  -- the inventory of a source

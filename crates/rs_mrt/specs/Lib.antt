@@ -1,13 +1,16 @@
+-- What the standard says of records:
+pub mod Record  -- records, and those that a file holds
+pub mod Entry  -- what a record says of a session
+pub mod Fault  -- the numbers of faults
+pub mod Source  -- what a source of records may give
+pub mod Examples  -- worked examples
+-- How octets come and go:
+pub mod Reader  -- what a reader may still give
+pub mod RecordReading  -- the records of a reader
+pub mod Inflow  -- how they are taken, step by step
+pub mod MemoryReading  -- a reader over memory
+pub mod Stream  -- what a writer has taken
+pub mod Memory  -- a writer over memory
+pub mod Device  -- a writer of std's
+-- What the contracts name of the crates below:
 pub use Rattle.byteorder.specs.Endian
-pub mod Fault
-pub mod Record
-pub mod Entry
-pub mod Source
-pub mod Stream
-pub mod Device
-pub mod Memory
-pub mod Reader
-pub mod MemoryReading
-pub mod RecordReading
-pub mod Inflow
-pub mod Examples

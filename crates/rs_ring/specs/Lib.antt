@@ -1,4 +1,6 @@
+-- A ring:
+pub mod Items  -- its items
+pub mod Ends  -- its ends
+pub mod Views  -- the ends by their fields
+-- What the contracts name of the crates below:
 pub use Rattle.rtrb.specs.Shared
-pub mod Ends
-pub mod Items
-pub mod Views

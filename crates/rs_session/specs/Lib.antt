@@ -1,3 +1,18 @@
+-- What recorded files say:
+pub mod Peer  -- a peer as records name it
+pub mod Change  -- changes of routes
+pub mod UpdateChanges  -- what one UPDATE says
+pub mod Effect  -- what one record says
+pub mod FileChanges  -- what all records of a file say
+pub mod Given  -- files as readers give them
+pub mod Laws  -- what holds of all of these
+-- How a session is read:
+pub mod Stage  -- a session that is being read
+pub mod Steps  -- one step of it
+pub mod Counts  -- records counted
+pub mod EffectView  -- the effect of a record by its fields
+pub mod PendingView  -- changes not yet given, by their fields
+-- What the contracts name of the crates below:
 pub use Rattle.rs_mrt.specs.Entry
 pub use Rattle.rs_mrt.specs.Fault
 pub use Rattle.rs_mrt.specs.Reader
@@ -10,15 +25,3 @@ pub use Rattle.rs_update.specs.PathAttributes
 pub use Rattle.rs_update.specs.Prefix
 pub use Rattle.rs_update.specs.PrefixOrder
 pub use Rattle.rs_update.specs.Treating
-pub mod Change
-pub mod Counts
-pub mod Effect
-pub mod EffectView
-pub mod FileChanges
-pub mod Given
-pub mod Laws
-pub mod Peer
-pub mod PendingView
-pub mod Stage
-pub mod Steps
-pub mod UpdateChanges

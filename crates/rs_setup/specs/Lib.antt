@@ -1,4 +1,5 @@
-pub mod Laws
-pub mod Section
-pub mod Setup
-pub mod Values
+-- What a configuration sets up:
+pub mod Values  -- what its values stand for
+pub mod Section  -- a table of it
+pub mod Setup  -- the server, the peers and their files
+pub mod Laws  -- what holds of these

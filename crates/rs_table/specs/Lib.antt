@@ -1,3 +1,20 @@
+-- What the standards say:
+pub mod Left  -- the routes that a list of changes leaves
+pub mod Content  -- what tables hold
+pub mod Listing  -- the prefixes that are held
+pub mod Table  -- what each client gets, and why
+pub mod Merge  -- tables made one
+pub mod Laws  -- what holds of all of these
+pub mod Examples  -- worked examples
+-- How tables are kept:
+pub mod ByPeer  -- routes on one prefix, by their peers
+pub mod Cell  -- what is kept of one prefix
+pub mod Cells  -- the cells of all prefixes
+pub mod CellView  -- a cell by its fields
+pub mod TablesView  -- the tables by their fields
+pub mod RouteView  -- routes and rows by their fields
+pub mod Codes  -- codes of values
+-- What the contracts name of the crates below:
 pub use Rattle.rs_update.specs.IpPrefix
 pub use Rattle.rs_update.specs.PathAttributes
 pub use Rattle.rs_session.specs.Change
@@ -9,16 +26,3 @@ pub use Rattle.rs_choice.specs.Held
 pub use Rattle.rs_choice.specs.Plan
 pub use Rattle.rs_choice.specs.Policy
 pub use Rattle.rs_choice.specs.RouteChanges
-pub mod Cell
-pub mod CellView
-pub mod Cells
-pub mod Codes
-pub mod Content
-pub mod Examples
-pub mod Laws
-pub mod Left
-pub mod Listing
-pub mod Merge
-pub mod RouteView
-pub mod Table
-pub mod TablesView

@@ -1,25 +1,28 @@
-pub mod AsPath
-pub mod AttributeType
-pub mod AttributesView
-pub mod Community
-pub mod Fault
-pub mod Found
-pub mod Gathered
-pub mod Handling
-pub mod Header
-pub mod IpPrefix
-pub mod Items
-pub mod Laws
-pub mod Message
-pub mod Numbers
-pub mod OriginOrder
-pub mod Parts
-pub mod PathAttributes
-pub mod PathSegments
-pub mod Prefix
-pub mod PrefixOrder
-pub mod Section
-pub mod Segments
-pub mod Shapes
-pub mod Spelling
-pub mod Treating
+-- What the standards say of a message, from its header to its attributes:
+pub mod Header  -- its Marker, Length and Type
+pub mod Message  -- a message, and its first fault
+pub mod Fault  -- faults by error code and subcode
+pub mod IpPrefix  -- an address prefix
+pub mod Prefix  -- the fields that list prefixes
+pub mod PrefixOrder  -- prefixes by address, then by length
+pub mod OriginOrder  -- origins by their codes
+pub mod Section  -- a section of path attributes, and its first fault
+pub mod AttributeType  -- a row for each type of attribute
+pub mod PathAttributes  -- the attributes of a route
+pub mod AsPath  -- the length of AS_PATH, its neighbour AS, its members
+pub mod Community  -- communities by their halves
+pub mod Spelling  -- the written form of attributes
+pub mod Handling  -- what RFC 7606 does at each fault
+pub mod Treating  -- a message by RFC 4271 or by RFC 7606
+pub mod Laws  -- what holds of all of these
+-- How octets are taken apart:
+pub mod Numbers  -- numbers of four octets
+pub mod Parts  -- parts one after another
+pub mod Items  -- attributes where they stand
+pub mod Segments  -- segments of AS_PATH where they stand
+pub mod PathSegments  -- segments by their values
+pub mod Shapes  -- attributes by their values, where they stand
+-- What the bodies keep:
+pub mod Found  -- what was found in a section, by type
+pub mod Gathered  -- the attributes that a section gives
+pub mod AttributesView  -- attributes by their fields
