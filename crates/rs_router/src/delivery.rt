@@ -10,7 +10,7 @@ use crate::routed::Routed;
 use crate::shard::shard_of;
 use rs_ring::{SendRefused, Sender};
 use rs_session::{Body, Reason, Word};
-use rs_worker::{Patience, wait_for_room};
+use rs_worker::{Patience, send_when_room};
 use std::sync::Wait;
 
 // An item of which each shard gets one.
@@ -95,20 +95,6 @@ fn offer<R: Wait>(rt: &R, sender: &mut Sender<Routed>, item: Routed)
     match sender.try_send(item) {
         Ok(_) => {}
         Err(SendRefused::Closed(_)) => unreachable!(),
-        Err(SendRefused::Full(refused)) => offer_again(rt, sender, refused),
-    }
-}
-
-// Sends an item that found no room, once there is room.
-fn offer_again<R: Wait>(rt: &R, sender: &mut Sender<Routed>, item: Routed)
-    requires open { has_close is_last sender.old.sent ≡ false }
-    requires few { length sender.old.sent < 2 ^ 60 }
-    ensures sent { sender.new.sent ≡ sender.old.sent ++ item ∷ [] }
-    ensures same { sender.new.ring ≡ sender.old.ring }
-{
-    wait_for_room(rt, sender, Patience::new());
-    match sender.try_send(item) {
-        Ok(_) => {}
-        Err(_) => unreachable!(),
+        Err(SendRefused::Full(refused)) => send_when_room(rt, sender, refused, Patience::new()),
     }
 }

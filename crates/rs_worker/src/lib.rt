@@ -12,5 +12,5 @@ mod work;
 
 pub use crew::{Job, Joined, WorkerOf, join_workers, start_workers};
 pub use gate::{Gate, Open};
-pub use waiting::{Patience, wait_for_room};
+pub use waiting::{Patience, send_when_room};
 pub use work::{WorkerEnd, worker, worker_by, worker_over};

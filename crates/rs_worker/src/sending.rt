@@ -6,7 +6,7 @@ ghost use Rattle.rs_worker.specs.Steps.{Takes, reason_of};
 ghost use Rattle.rs_worker.specs.Worked.{HasSent, closes_any};
 
 use crate::gate::Gate;
-use crate::waiting::{Patience, wait_for_room};
+use crate::waiting::{Patience, send_when_room};
 use rs_mrt::Source;
 use rs_ring::{SendRefused, Sender};
 use rs_session::{Body, Reason, Session, Word, a_session_closes_once};
@@ -74,20 +74,6 @@ fn send<G: Gate>(rt: &impl Wait, peer: usize, word: Word, out: &mut Sender<Word>
     match out.try_send(word) {
         Ok(_) => {}
         Err(SendRefused::Closed(_)) => unreachable!(),
-        Err(SendRefused::Full(refused)) => send_later(rt, refused, out),
-    }
-}
-
-// Sends a change that found no room, once there is room.
-fn send_later(rt: &impl Wait, word: Word, out: &mut Sender<Word>)
-    requires open { closes_any out.old.sent ≡ false }
-    requires fits { length out.old.sent < 2 ^ 51 }
-    ensures sent { out.new.sent ≡ out.old.sent ++ word ∷ [] }
-    ensures same { out.new.ring ≡ out.old.ring }
-{
-    wait_for_room(rt, out, Patience::of_many());
-    match out.try_send(word) {
-        Ok(_) => {}
-        Err(_) => unreachable!(),
+        Err(SendRefused::Full(refused)) => send_when_room(rt, out, refused, Patience::of_many()),
     }
 }

@@ -4,7 +4,8 @@
 //!
 //! Nothing is claimed of time.
 
-ghost use Rattle.std.specs.Prelude.{◌≡◌, ◌<◌};
+ghost use Rattle.std.specs.Prelude.{◌≡◌, ◌<◌, ◌++◌, ◌∷◌, [], false, length};
+ghost use Rattle.rs_ring.specs.Items.{has_close};
 
 use crossbeam_utils::Backoff;
 use rs_ring::{Closing, Sender};
@@ -84,9 +85,29 @@ impl Default for Patience {
     }
 }
 
-/// Waits until half of a full ring is free, so that a thread that is woken has much to send; one that has
-/// waited for so long that its sleeps are at their longest waits for any room.
-pub fn wait_for_room<T: Closing>(rt: &impl Wait, sender: &mut Sender<T>, patience: Patience)
+/// Sends an item that an open ring had no room for, once half of the ring is free or the wait was long. It takes no
+/// memory.
+pub fn send_when_room<T: Closing>(
+    rt: &impl Wait,
+    sender: &mut Sender<T>,
+    item: T,
+    patience: Patience,
+)
+    requires open { has_close T.closes sender.old.sent ≡ false }
+    requires few { length sender.old.sent < T.LIMIT }
+    ensures sent { sender.new.sent ≡ sender.old.sent ++ item ∷ [] }
+    ensures same { sender.new.ring ≡ sender.old.ring }
+{
+    wait_for_room(rt, sender, patience);
+    match sender.try_send(item) {
+        Ok(_) => {}
+        Err(_) => unreachable!(),
+    }
+}
+
+// Waits until half of a full ring is free, so that a thread that is woken has much to send; one that has
+// waited for so long that its sleeps are at their longest waits for any room.
+fn wait_for_room<T: Closing>(rt: &impl Wait, sender: &mut Sender<T>, patience: Patience)
     ensures room { 0 < sender.new.room }
     ensures same { sender.new ≡ record sender.old { room = sender.new.room } }
 {
