@@ -1,6 +1,7 @@
 -- A reader whose first octets were taken, and which gives them again. Nothing here is of a standard: all of
 -- it is our choice.
-use Rattle.std.specs.Prelude.{◌≡◌, ℕ, suc, ◌-◌, if◌then◌else◌, ◌||◌, nat_le, Bool, true, false, List, [], ◌++◌, length, refl}
+use Rattle.std.specs.Prelude.{◌≡◌, ℕ, suc, ◌-◌, if◌then◌else◌, ◌||◌, nat_le, Bool, true, false, List, [], ◌++◌}
+use Rattle.std.specs.Prelude.{length, refl}
 use Rattle.rs_mrt.specs.Reader.{ReadEnd, FileEnds, SomethingIsGiven}
 
 -- octets that were taken of a reader, and whether it has no more

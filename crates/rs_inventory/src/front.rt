@@ -1,6 +1,7 @@
 //! A reader whose first octets were looked at.
 
-ghost use Rattle.std.specs.Prelude.{◌≡◌, ◌+◌, ◌<◌, ◌≤◌, ◌++◌, ◌==◌, false, true, drop, length, min, nat_lt, take, IfOk, OnOk};
+ghost use Rattle.std.specs.Prelude.{◌≡◌, ◌+◌, ◌<◌, ◌≤◌, ◌++◌, ◌==◌, false, true, drop, length, min, nat_lt};
+ghost use Rattle.std.specs.Prelude.{take, IfOk, OnOk};
 ghost use Rattle.rs_inventory.specs.Front.{IsFrontOf, RewoundGives, TakesMore, front_len, is_done, octets_wanted};
 ghost use Rattle.rs_inventory.specs.Front.{rewound, rewound_may_come};
 

@@ -359,7 +359,8 @@ fn a_failed_write_of_a_dump_ends_the_run(rt: HostRuntime) -> Result<(), Fail> {
     Ok(())
 }
 
-// The limits of an outlet: so many calls to write the dump of a client go well, of 7 octets each, and the next one fails.
+// The limits of an outlet: so many calls to write the dump of a client go well, of 7 octets each, and the next one
+// fails.
 fn failing_at(client: usize, calls: usize) -> OutletLimits {
     OutletLimits {
         dumps_before_limits: client,
