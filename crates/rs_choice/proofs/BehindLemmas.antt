@@ -10,7 +10,8 @@ use Rattle.rs_choice.specs.declared.candidate.Standing.{Standing}
 use Rattle.rs_choice.specs.declared.step.Step.TheVariants as steps
 use Rattle.rs_choice.specs.Clients.{is_sent_to, eligible_among, peer_or_own}
 use Rattle.rs_choice.specs.Comparison.{HasLowerMed, HasSameMed, IsAhead, IsAheadByMed, IsLevel, Outdoes, OutdoesByMed, Precedes}
-use Rattle.rs_choice.specs.Decision.{SentRoute, beats, origin_code, remaining, choice, standing_of}
+use Rattle.rs_choice.specs.Decision.{SentRoute, beats, remaining, choice, standing_of}
+use Rattle.rs_update.specs.Spelling.{origin_code}
 use Rattle.rs_choice.specs.Eligibility.{is_eligible}
 use Rattle.rs_choice.specs.Laws.{RemovedIsNoMatter, BehindIsNoMatter, OthersAreNoMatter, OutdoneIsNoMatter}
 use Rattle.rs_choice.proofs.Members.{Mem, mem_of-filter, list_any-none}

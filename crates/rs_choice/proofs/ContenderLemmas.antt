@@ -3,9 +3,9 @@ use Rattle.std.proofs.Common.{◌≡◌, ◌∙◌, sym, ap, refl, Bool, true, f
 use Rattle.std.specs.Prelude.{filter}
 use Rattle.std.proofs.lemmas.List.{append_assoc}
 use Rattle.rs_choice.specs.declared.candidate.Standing.{Standing}
-use Rattle.rs_choice.specs.Clients.{eligible_among, is_sent_to}
+use Rattle.rs_choice.specs.Clients.{candidates_among, eligible_among, is_sent_to}
 use Rattle.rs_choice.specs.Comparison.{Outdoes}
-use Rattle.rs_choice.specs.Contenders.{candidates_among, Contends}
+use Rattle.rs_choice.specs.Contenders.{Contends}
 use Rattle.rs_choice.specs.Decision.{SentRoute, choice, standing_of}
 use Rattle.rs_choice.specs.Eligibility.{is_eligible}
 use Rattle.rs_choice.specs.Plan.{Plan}

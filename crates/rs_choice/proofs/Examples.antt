@@ -8,7 +8,8 @@ use Rattle.rs_update.specs.PathAttributes.{PathAttributes, AsSet, AsSequence}
 use Rattle.rs_choice.specs.declared.plan.Local.{Local}
 use Rattle.rs_choice.specs.declared.step.Step.TheVariants as steps
 use Rattle.rs_choice.specs.declared.fault.PlanFault.TheVariants.{NoPeer, TooManyPeers, RepeatedName, RepeatedAddress, ZeroAs, UnknownName}
-use Rattle.rs_choice.specs.Plan.{Peer, Plan, plan_fault, first_fault, whole_tests, is_name}
+use Rattle.rs_choice.specs.Plan.{Peer, Plan, plan_fault, whole_tests, is_name}
+use Rattle.rs_update.specs.Fault.{first_fault}
 use Rattle.rs_choice.specs.Eligibility.{is_eligible, is_inside}
 use Rattle.rs_choice.specs.Policy.{is_permitted, permits_by_communities}
 use Rattle.rs_choice.specs.Decision.{SentRoute, standing_of, beats, unbeaten, remaining, choice, place_of_choice}
@@ -138,13 +139,13 @@ med_plan = record {
 }
 
 abbrev from_a : SentRoute
-from_a = record { peer = 0; attributes = record (route (64501 ∷ 65010 ∷ []) 0xC000020B) { med = Some 10 } }
+from_a = record { peer = 0; time = 0; attributes = record (route (64501 ∷ 65010 ∷ []) 0xC000020B) { med = Some 10 } }
 
 abbrev from_b : SentRoute
-from_b = record { peer = 1; attributes = record (route (64501 ∷ 65010 ∷ []) 0xC000020C) { med = Some 5 } }
+from_b = record { peer = 1; time = 0; attributes = record (route (64501 ∷ 65010 ∷ []) 0xC000020C) { med = Some 5 } }
 
 abbrev from_c : SentRoute
-from_c = record { peer = 2; attributes = route (64502 ∷ 65010 ∷ []) 0xC000020D }
+from_c = record { peer = 2; time = 0; attributes = route (64502 ∷ 65010 ∷ []) 0xC000020D }
 
 med_order_abc : choice (standing_of med_plan) (from_a ∷ from_b ∷ from_c ∷ []) ≡ Some from_c
 unfolding choice remaining unbeaten
@@ -188,10 +189,10 @@ med_keeps_across_neighbours = refl
 
 -- no hidden path: a's route is refused to b, which gets c's longer one; a client to which both are permitted gets a's
 abbrev of_a : SentRoute
-of_a = record { peer = 0; attributes = with_communities (64502 ∷ []) }
+of_a = record { peer = 0; time = 0; attributes = with_communities (64502 ∷ []) }
 
 abbrev of_c : SentRoute
-of_c = record { peer = 2; attributes = route (64503 ∷ 65010 ∷ []) 0xC000020D }
+of_c = record { peer = 2; time = 0; attributes = route (64503 ∷ 65010 ∷ []) 0xC000020D }
 
 hidden_from_b : is_permitted plan 1 0 of_a.attributes ≡ false
 hidden_from_b = refl
@@ -215,7 +216,7 @@ tie_plan = record {
 }
 
 abbrev tie_of : ℕ → SentRoute
-tie_of peer = record { peer = peer; attributes = route (64501 ∷ []) 0xC0000214 }
+tie_of peer = record { peer = peer; time = 0; attributes = route (64501 ∷ []) 0xC0000214 }
 
 tie : choice (standing_of tie_plan) (tie_of 0 ∷ tie_of 1 ∷ []) ≡ Some (tie_of 0)
 unfolding choice remaining unbeaten
@@ -240,13 +241,13 @@ no_candidate = refl
 
 -- an AS_SET counts 1
 abbrev with_set : SentRoute
-with_set = record { peer = 0; attributes = record (route (64501 ∷ []) 0xC000020B) { path = AsSet (65010 ∷ 65011 ∷ 65012 ∷ []) ∷ AsSequence (65013 ∷ 65014 ∷ []) ∷ [] } }
+with_set = record { peer = 0; time = 0; attributes = record (route (64501 ∷ []) 0xC000020B) { path = AsSet (65010 ∷ 65011 ∷ 65012 ∷ []) ∷ AsSequence (65013 ∷ 65014 ∷ []) ∷ [] } }
 
 abbrev of_two : SentRoute
-of_two = record { peer = 1; attributes = route (64502 ∷ 65010 ∷ []) 0xC000020C }
+of_two = record { peer = 1; time = 0; attributes = route (64502 ∷ 65010 ∷ []) 0xC000020C }
 
 abbrev of_four : SentRoute
-of_four = record { peer = 1; attributes = route (64502 ∷ 65010 ∷ 65011 ∷ 65012 ∷ []) 0xC000020C }
+of_four = record { peer = 1; time = 0; attributes = route (64502 ∷ 65010 ∷ 65011 ∷ 65012 ∷ []) 0xC000020C }
 
 set_is_three : (standing_of plan with_set).path_length ≡ 3
 set_is_three = refl
@@ -271,7 +272,7 @@ one_as = record {
 }
 
 abbrev med_of : ℕ → Option ℕ → SentRoute
-med_of peer med = record { peer = peer; attributes = record (route (64501 ∷ []) 0xC000020B) { med = med } }
+med_of peer med = record { peer = peer; time = 0; attributes = record (route (64501 ∷ []) 0xC000020B) { med = med } }
 
 missing_before_one : choice (standing_of one_as) (med_of 0 None ∷ med_of 1 (Some 1) ∷ []) ≡ Some (med_of 0 None)
 unfolding choice remaining unbeaten
@@ -286,9 +287,9 @@ abbrev preferring : Plan
 preferring = record { local = server; peers = a ∷ record b { preference = 200 } ∷ [] }
 
 abbrev of_origin : SentRoute
-of_origin = record { peer = 0; attributes = record (route (64501 ∷ 65010 ∷ []) 0xC000020B) { origin = Egp } }
+of_origin = record { peer = 0; time = 0; attributes = record (route (64501 ∷ 65010 ∷ []) 0xC000020B) { origin = Egp } }
 
-preferred : choice (standing_of preferring) (record { peer = 0; attributes = route (64501 ∷ []) 0xC000020B } ∷ of_four ∷ []) ≡ Some of_four
+preferred : choice (standing_of preferring) (record { peer = 0; time = 0; attributes = route (64501 ∷ []) 0xC000020B } ∷ of_four ∷ []) ≡ Some of_four
 unfolding choice remaining unbeaten
 preferred = refl
 

@@ -10,7 +10,8 @@ use Rattle.rs_choice.specs.declared.route_change.RouteChange.{RouteChange}
 use Rattle.rs_choice.specs.Candidacy.{is_candidate}
 use Rattle.rs_choice.specs.Clients.{is_sent_to, best_peer_for, eligible_among, peer_or_own}
 use Rattle.rs_choice.specs.Comparison.{IsAhead}
-use Rattle.rs_choice.specs.Decision.{SentRoute, origin_code, standing_of}
+use Rattle.rs_choice.specs.Decision.{SentRoute, standing_of}
+use Rattle.rs_update.specs.Spelling.{origin_code}
 use Rattle.rs_choice.specs.Eligibility.{is_eligible}
 use Rattle.rs_choice.specs.Held.{held_standing, sent_of_held, IsJudged}
 use Rattle.rs_choice.specs.Plan.{Plan}

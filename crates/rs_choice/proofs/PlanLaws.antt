@@ -8,7 +8,8 @@ use Rattle.rs_choice.specs.declared.plan.Local.{Local}
 use Rattle.rs_choice.specs.declared.fault.PlanFault.{PlanFault}
 use Rattle.rs_choice.specs.declared.fault.PlanFault.TheVariants.{RepeatedAddress}
 use Rattle.rs_choice.specs.Laws.{FaultIsFirst, PeersHaveOwnAddresses}
-use Rattle.rs_choice.specs.Plan.{Peer, Test, first_fault, has_address, peer_tests, peers_tests, names_tests, whole_tests, plan_tests, plan_fault}
+use Rattle.rs_choice.specs.Plan.{Peer, Test, has_address, peer_tests, peers_tests, names_tests, whole_tests, plan_tests, plan_fault}
+use Rattle.rs_update.specs.Fault.{first_fault}
 use Rattle.rs_choice.proofs.Members.{Mem, list_any-none}
 use Rattle.rs_choice.proofs.PlaceLemmas.{enumerate-at}
 

@@ -10,7 +10,8 @@ use Rattle.rs_choice.specs.declared.fault.PlanFault.{PlanFault}
 use Rattle.rs_choice.specs.declared.fault.PlanFault.TheVariants.{InvalidName, RepeatedName, RepeatedAddress, ZeroAs}
 use Rattle.rs_choice.specs.Naturality.{list_any-map}
 use Rattle.rs_choice.specs.Checks.{has_name_among, has_address_among}
-use Rattle.rs_choice.specs.Plan.{Test, first_fault, is_name, has_name, has_names, has_address, peer_tests, peer_of}
+use Rattle.rs_choice.specs.Plan.{Test, is_name, has_name, has_names, has_address, peer_tests, peer_of}
+use Rattle.rs_update.specs.Fault.{first_fault}
 
 -- a fault in the first list is the first
 pub first_fault-Some : (first later : List Test) (fault : PlanFault) → first_fault first ≡ Some fault → first_fault (first ++ later) ≡ Some fault

@@ -7,9 +7,9 @@ use Rattle.rs_choice.specs.declared.candidate.Candidate.{Candidate}
 use Rattle.rs_choice.specs.declared.candidate.Standing.{Standing}
 use Rattle.rs_choice.specs.declared.candidate.Placed.{Placed}
 use Rattle.rs_choice.specs.Plan.{Plan}
-use Rattle.rs_choice.specs.Decision.{place_of_choice}
+use Rattle.rs_choice.specs.Decision.{place_of_choice, standing_of_candidate}
 use Rattle.rs_choice.specs.Comparison.{IsAhead, IsLevel, Precedes}
-use Rattle.rs_choice.specs.Scan.{standing_of_candidate, HasNoneAhead, Leads, IsLeader, IsLeftByMed, GoesFirst, Holds, IsBest}
+use Rattle.rs_choice.specs.Scan.{HasNoneAhead, Leads, IsLeader, IsLeftByMed, GoesFirst, Holds, IsBest}
 use Rattle.rs_choice.proofs.Members.{Mem}
 use Rattle.rs_choice.proofs.Eliminations.{LeftByMed, equal_level, follows_level}
 use Rattle.rs_choice.proofs.PlaceLemmas.{mem-slice_get, slice_get-mem, place_of_choice-Some, place_of_choice-None}

@@ -17,9 +17,14 @@ is_sent_to plan client sent = is_permitted plan client sent.peer sent.attributes
 abbrev pub eligible_among : Plan → List SentRoute → List SentRoute
 eligible_among plan routes = filter (λ sent. is_eligible plan sent.peer sent.attributes) routes
 
--- the route that a client gets of eligible ones: the choice among those that policy permits to it
+-- the candidates of a client: of the routes on a prefix the eligible ones, and of these the ones that export
+-- policy permits to the client (RFC 7947, section 2.3); none of the client's own is, and none of an unknown client
+abbrev pub candidates_among : Plan → ℕ → List SentRoute → List SentRoute
+candidates_among plan client routes = filter (is_sent_to plan client) (eligible_among plan routes)
+
+-- the route that a client gets of those on a prefix: the choice among its candidates
 abbrev pub chosen_for : Plan → ℕ → List SentRoute → Option SentRoute
-chosen_for plan client eligible = choice (standing_of plan) (filter (is_sent_to plan client) eligible)
+chosen_for plan client routes = choice (standing_of plan) (candidates_among plan client routes)
 
 -- a peer by its number, or the client's own number where there is none: no client gets a route of its own
 abbrev pub peer_or_own : Option ℕ → ℕ → ℕ
@@ -29,7 +34,7 @@ peer_or_own (Some peer) client = peer
 -- the peer whose route a client gets of the routes on a prefix
 abbrev pub best_peer_for : Plan → ℕ → List SentRoute → ℕ
 best_peer_for plan client routes =
-    peer_or_own (option_map (λ sent. sent.peer) (chosen_for plan client (eligible_among plan routes))) client
+    peer_or_own (option_map (λ sent. sent.peer) (chosen_for plan client routes)) client
 
 -- for every client of a plan the number given is that of the peer whose route it gets
 abbrev pub AreBest : Plan → List SentRoute → List ℕ → Type 0

@@ -1,9 +1,9 @@
 -- A client's candidates without some that others of them outdo (RFC 4271, section 9.1.2.2; RFC 7947, section
 -- 2.3.2.1).
-use Rattle.std.specs.Prelude.{◌≡◌, ◌⊎◌, ℕ, IsTrue, IsFalse, List, filter, map, Option, None, Some}
+use Rattle.std.specs.Prelude.{◌≡◌, ◌⊎◌, ℕ, IsTrue, IsFalse, List, map, Option, None, Some}
 use Rattle.rs_choice.specs.declared.candidate.Standing.{Standing}
 use Rattle.rs_choice.specs.declared.held_route.HeldRoute.{HeldRoute}
-use Rattle.rs_choice.specs.Clients.{eligible_among, is_sent_to}
+use Rattle.rs_choice.specs.Clients.{chosen_for, is_sent_to}
 use Rattle.rs_choice.specs.Comparison.{Outdoes}
 use Rattle.rs_choice.specs.Decision.{SentRoute, choice, standing_of}
 use Rattle.rs_choice.specs.Eligibility.{is_eligible}
@@ -27,13 +27,9 @@ Contends plan client one other None =
     ⊎ IsFalse (is_sent_to plan client one)
     ⊎ IsOutdone (standing_of plan one) other
 
--- the candidates of a client
-abbrev pub candidates_among : Plan → ℕ → List SentRoute → List SentRoute
-candidates_among plan client routes = filter (is_sent_to plan client) (eligible_among plan routes)
-
 -- eligible routes at places of a list, among which the choice is that among all candidates of a client
 pub record AreContenders (plan : Plan) (client : ℕ) (held : List HeldRoute) (places : List ℕ) : Type 0 where
   pub within : ArePlaces held places
   pub eligible : AreEligible plan (sents_at held places)
   pub same : choice (standing_of plan) (sents_at held places)
-      ≡ choice (standing_of plan) (candidates_among plan client (map sent_of_held held))
+      ≡ chosen_for plan client (map sent_of_held held)

@@ -3,21 +3,15 @@ use Rattle.std.specs.Prelude.{ℕ, ◌==◌, nat_lt, Bool, not, ◌&&◌, List, 
 use Rattle.std.specs.Prelude.{unwrap_or}
 use Rattle.std.specs.List.{list_any, enumerate_from}
 use Rattle.std.specs.Option.{option_map, option_map_or}
-use Rattle.rs_update.specs.declared.values.Origin.{Origin}
-use Rattle.rs_update.specs.declared.values.Origin.TheVariants.{Igp, Egp, Incomplete}
+use Rattle.rs_update.specs.declared.values.Origin.TheVariants.{Igp}
 use Rattle.rs_update.specs.PathAttributes.{PathAttributes}
 use Rattle.rs_update.specs.AsPath.{path_length_of, neighbour_of}
+use Rattle.rs_update.specs.Spelling.{origin_code}
 use Rattle.rs_choice.specs.declared.candidate.Candidate.{Candidate}
 use Rattle.rs_choice.specs.declared.candidate.Standing.{Standing}
 use Rattle.rs_choice.specs.declared.step.Step.{Step}
 use Rattle.rs_choice.specs.declared.step.Step.TheVariants as steps
 use Rattle.rs_choice.specs.Plan.{Peer, Plan}
-
--- the code of an origin (section 4.3)
-abbrev pub origin_code : Origin → ℕ
-origin_code Igp = 0
-origin_code Egp = 1
-origin_code Incomplete = 2
 
 -- at this step, one removes other:
 --   a higher configured preference of the sending peer (section 9.1.1);
@@ -80,18 +74,23 @@ standing_from sender attributes = record {
   address = sender.address;
 }
 
--- a route of a peer, by the peer's number
+-- a route that a peer sent: the peer's number, when the route was announced, in seconds, and its attributes
 pub record SentRoute : Type 0 where
   pub peer : ℕ
+  pub time : ℕ
   pub attributes : PathAttributes
 
 -- where no peer has the number
 abbrev pub no_standing : Standing
 no_standing = record { preference = 0; path_length = 0; origin = Igp; neighbour = 0; med = 0; id = 0; address = 0 }
 
-abbrev pub standing_of : Plan → SentRoute → Standing
-standing_of plan route =
-    option_map_or (λ sender. standing_from sender route.attributes) (slice_get plan.peers route.peer) no_standing
+-- what it asks of attributes that the peer of a number sent, of a route and of a candidate; it looks at no time
+abbrev pub standing_by : Plan → ℕ → PathAttributes → Standing
+standing_by plan peer attributes =
+    option_map_or (λ sender. standing_from sender attributes) (slice_get plan.peers peer) no_standing
 
-abbrev pub sent_route_of : Candidate → SentRoute
-sent_route_of candidate = record { peer = candidate.peer; attributes = candidate.attributes.now }
+abbrev pub standing_of : Plan → SentRoute → Standing
+standing_of plan route = standing_by plan route.peer route.attributes
+
+abbrev pub standing_of_candidate : Plan → Candidate → Standing
+standing_of_candidate plan candidate = standing_by plan candidate.peer candidate.attributes.now

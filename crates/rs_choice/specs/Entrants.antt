@@ -5,13 +5,13 @@ use Rattle.rs_choice.specs.declared.candidate.Standing.{Standing}
 use Rattle.rs_choice.specs.declared.held_route.HeldRoute.{HeldRoute}
 use Rattle.rs_choice.specs.declared.entrants.Listed.TheInside as listed
 use Rattle.rs_choice.specs.declared.entrants.Chosen.TheInside as chosen
-use Rattle.rs_choice.specs.Decision.{sent_route_of, standing_of}
+use Rattle.rs_choice.specs.Decision.{standing_of_candidate, standing_of}
 use Rattle.rs_choice.specs.Held.{sent_of_held, AreEligible, IsJudged}
 use Rattle.rs_choice.specs.Plan.{Plan}
 
 -- the standings of the candidates of a list, which peers of the plan have sent
 abbrev pub listed_view : listed.Inside → List Standing
-listed_view fields = map (λ candidate. standing_of fields.plan.now (sent_route_of candidate)) fields.candidates.now
+listed_view fields = map (standing_of_candidate fields.plan.now) fields.candidates.now
 
 abbrev pub AreKnown : listed.Inside → Type 0
 AreKnown fields = All (λ candidate. candidate.peer < length fields.plan.now.peers) fields.candidates.now

@@ -11,9 +11,9 @@ use Rattle.rs_choice.specs.Eligibility.{is_eligible}
 use Rattle.rs_choice.specs.Plan.{Peer, Plan}
 use Rattle.rs_choice.specs.Policy.{is_permitted}
 
--- who sent a route, and its attributes
+-- a held route without what decisions ask of it
 abbrev pub sent_of_held : HeldRoute → SentRoute
-sent_of_held held = record { peer = held.peer; attributes = held.attributes.value }
+sent_of_held held = record { peer = held.peer; time = held.time; attributes = held.attributes.value }
 
 -- policy permits a route to every client but its sender (RFC 7947, section 2.3)
 abbrev pub IsOpen : Plan → ℕ → PathAttributes → Type 0

@@ -1,9 +1,10 @@
 -- The plan of an exchange, and its first fault (our choice: RFC 4271 leaves configuration to the implementation).
-use Rattle.std.specs.Prelude.{◌≡◌, ℕ, ◌==◌, nat_lt, nat_le, Bool, not, ◌&&◌, ◌||◌, if◌then◌else◌, List, [], ◌∷◌, ◌++◌}
+use Rattle.std.specs.Prelude.{◌≡◌, ℕ, ◌==◌, nat_lt, nat_le, Bool, not, ◌&&◌, ◌||◌, List, [], ◌∷◌, ◌++◌}
 use Rattle.std.specs.Prelude.{length, map, take, Option, None, Some, string_bytes}
 use Rattle.std.specs.List.{list_any, list_all, flat_map, enumerate_from}
 use Rattle.std.specs.Char.{is_ascii_alphanumeric}
 use Rattle.std.specs.Str.{bytes_eq}
+use Rattle.rs_update.specs.Fault.{first_fault}
 use Rattle.rs_choice.specs.declared.plan.Local.{Local}
 use Rattle.rs_choice.specs.declared.plan.PeerSpec.{PeerSpec}
 use Rattle.rs_choice.specs.declared.plan.TheConstants.{MAX_PEERS, MAX_NAME_LEN, HYPHEN, UNDERSCORE}
@@ -85,11 +86,6 @@ names_tests peers = flat_map (λ (number, peer). name_tests peers number peer) (
 -- all tests of a plan, in their order
 abbrev pub plan_tests : Local → List Peer → List Test
 plan_tests local peers = (whole_tests local peers ++ peers_tests peers) ++ names_tests peers
-
--- the fault of the first test that is true, or none
-abbrev pub first_fault : List Test → Option PlanFault
-first_fault [] = None
-first_fault ((fails, fault) ∷ later) = if fails then Some fault else first_fault later
 
 abbrev pub plan_fault : Local → List Peer → Option PlanFault
 plan_fault local peers = first_fault (plan_tests local peers)

@@ -4,11 +4,8 @@ use Rattle.rs_choice.specs.declared.candidate.Candidate.{Candidate}
 use Rattle.rs_choice.specs.declared.candidate.Standing.{Standing}
 use Rattle.rs_choice.specs.declared.candidate.Placed.{Placed}
 use Rattle.rs_choice.specs.Plan.{Plan}
-use Rattle.rs_choice.specs.Decision.{sent_route_of, standing_of}
+use Rattle.rs_choice.specs.Decision.{standing_of_candidate}
 use Rattle.rs_choice.specs.Comparison.{IsAhead, IsLevel, HasLowerMed, Precedes}
-
-abbrev pub standing_of_candidate : Plan → Candidate → Standing
-standing_of_candidate plan candidate = standing_of plan (sent_route_of candidate)
 
 -- the candidate at a place has this standing
 abbrev pub IsStandingAt : Plan → List Candidate → ℕ → Standing → Type 0

@@ -1,7 +1,7 @@
 //! A candidate of the decision process, and what the process asks of it (RFC 4271, sections 9.1.1 and 9.1.2.2).
 
 ghost use Rattle.std.specs.Prelude.{◌≡◌, ◌<◌, ◌↔◌, IsTrue, length};
-ghost use Rattle.rs_choice.specs.Decision.{sent_route_of, standing_of};
+ghost use Rattle.rs_choice.specs.Decision.{standing_of_candidate};
 ghost use Rattle.rs_choice.specs.Grouping.{GoesBefore};
 
 use crate::exchange::Exchange;
@@ -58,7 +58,7 @@ impl Exchange {
     /// What the decision process asks of a candidate. It takes no memory.
     pub fn standing(&self, candidate: &Candidate) -> Standing
         requires { candidate.now.peer < length self.now.peers }
-        ensures { result ≡ standing_of self.now (sent_route_of candidate.now) }
+        ensures { result ≡ standing_of_candidate self.now candidate.now }
     {
         let sender = self.peer(candidate.peer);
         let attributes = candidate.attributes;

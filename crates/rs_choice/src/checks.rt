@@ -7,7 +7,8 @@ ghost use Rattle.std.specs.Prelude.{◌≡◌, map, string_bytes};
 ghost use Rattle.std.specs.List.{list_all};
 ghost use Rattle.rs_choice.specs.Checks.{has_address_among, has_name_among};
 ghost use Rattle.rs_choice.specs.Plan as spec;
-ghost use Rattle.rs_choice.specs.Plan.{first_fault, names_tests, peer_of, peer_tests, peers_tests, whole_tests};
+ghost use Rattle.rs_choice.specs.Plan.{names_tests, peer_of, peer_tests, peers_tests, whole_tests};
+ghost use Rattle.rs_update.specs.Fault.{first_fault};
 
 use crate::fault::PlanFault;
 use crate::plan::{HYPHEN, Local, MAX_NAME_LEN, MAX_PEERS, PeerSpec, UNDERSCORE};

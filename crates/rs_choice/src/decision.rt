@@ -5,9 +5,9 @@
 //! pass keeps for each neighbour AS the one of least MED, and among equals the one that goes before by
 //! identifier, address and place. The choice is the one of these that goes before all others.
 
-ghost use Rattle.std.specs.Prelude.{◌≡◌, ◌<◌, ◌≤◌, ◌+◌, ◌↔◌, IsTrue, Some, length, map};
+ghost use Rattle.std.specs.Prelude.{◌≡◌, ◌<◌, ◌≤◌, ◌+◌, ◌↔◌, IsTrue, Some, length};
 ghost use Rattle.std.specs.List.{All};
-ghost use Rattle.rs_choice.specs.Decision.{choice, member_at, place_of_choice, sent_route_of, standing_of};
+ghost use Rattle.rs_choice.specs.Decision.{standing_of_candidate, choice, member_at, place_of_choice};
 ghost use Rattle.rs_choice.specs.Grouping.{places_of, standing_in, AreGroups, BeatsInGroup, GoesBeforeSome, IsFirstOf};
 ghost use Rattle.rs_choice.specs.Grouping.{IsJoined, IsLevelWithSome, IsNeighboursGroup, LeadsAll};
 
@@ -22,9 +22,8 @@ impl Exchange {
     pub fn choose_by_groups(&self, candidates: &[Candidate]) -> Option<usize>
         requires known { All (λ candidate. candidate.peer < length self.now.peers) candidates.now }
         requires bound { length candidates.now ≤ MAX_PEERS }
-        ensures place { result ≡ place_of_choice (standing_of self.now) (map sent_route_of candidates.now) }
-        ensures member { member_at (map sent_route_of candidates.now) result
-            ≡ choice (standing_of self.now) (map sent_route_of candidates.now) }
+        ensures place { result ≡ place_of_choice (standing_of_candidate self.now) candidates.now }
+        ensures member { member_at candidates.now result ≡ choice (standing_of_candidate self.now) candidates.now }
     {
         let entrants = Listed {
             plan: self,

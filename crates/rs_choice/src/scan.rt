@@ -2,9 +2,9 @@
 //! once for a candidate that the first three steps leave, and once more for the choice, with a look at all
 //! others for a lower MED.
 
-ghost use Rattle.std.specs.Prelude.{◌≡◌, ◌<◌, ◌↔◌, IsTrue, length, map};
+ghost use Rattle.std.specs.Prelude.{◌≡◌, ◌<◌, ◌↔◌, IsTrue, length};
 ghost use Rattle.std.specs.List.{All};
-ghost use Rattle.rs_choice.specs.Decision.{choice, member_at, place_of_choice, sent_route_of, standing_of};
+ghost use Rattle.rs_choice.specs.Decision.{standing_of_candidate, choice, member_at, place_of_choice};
 ghost use Rattle.rs_choice.specs.Scan.{GoesFirst, HasLeastMed, IsBest, IsLeader, Leads};
 
 use crate::candidate::{Candidate, Placed, Standing};
@@ -17,9 +17,8 @@ impl Exchange {
     /// peer are left it is the least place; None for an empty list. It takes no memory.
     pub fn choose(&self, candidates: &[Candidate]) -> Option<usize>
         requires { All (λ candidate. candidate.peer < length self.now.peers) candidates.now }
-        ensures place { result ≡ place_of_choice (standing_of self.now) (map sent_route_of candidates.now) }
-        ensures member { member_at (map sent_route_of candidates.now) result
-            ≡ choice (standing_of self.now) (map sent_route_of candidates.now) }
+        ensures place { result ≡ place_of_choice (standing_of_candidate self.now) candidates.now }
+        ensures member { member_at candidates.now result ≡ choice (standing_of_candidate self.now) candidates.now }
     {
         self.best(candidates).map(|best| best.place)
     }

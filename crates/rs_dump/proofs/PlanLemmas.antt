@@ -6,7 +6,8 @@ use Rattle.rs_choice.specs.declared.fault.PlanFault.{PlanFault}
 use Rattle.rs_choice.specs.declared.fault.PlanFault.TheVariants.{InvalidName, RepeatedName, RepeatedAddress, ZeroAs}
 use Rattle.rs_choice.specs.declared.plan.Local.{Local}
 use Rattle.rs_choice.specs.declared.plan.TheConstants.{MAX_NAME_LEN}
-use Rattle.rs_choice.specs.Plan.{Peer, Test, first_fault, plan_fault, whole_tests, peer_tests, name_tests, is_name_octet, has_name, has_address}
+use Rattle.rs_choice.specs.Plan.{Peer, Test, plan_fault, whole_tests, peer_tests, name_tests, is_name_octet, has_name, has_address}
+use Rattle.rs_update.specs.Fault.{first_fault}
 
 -- no test of the front is true
 first_fault-front : (front behind : List Test) → first_fault (front ++ behind) ≡ None → first_fault front ≡ None

@@ -17,7 +17,8 @@ use Rattle.rs_table.specs.declared.why.Why.{Why}
 use Rattle.rs_table.specs.declared.why.Why.TheVariants as answers
 use Rattle.rs_table.specs.Left.{RouteLeft}
 use Rattle.rs_table.specs.Content.{TablesContent, rib_of}
-use Rattle.rs_table.specs.Table.{PeerRoute, peer_route, best_of, is_from, why_left, why_of}
+use Rattle.rs_table.specs.Table.{sent_by, best_of, is_from, why_left, why_of}
+use Rattle.rs_choice.specs.Decision.{SentRoute}
 use Rattle.rs_explain.specs.declared.condition.Condition.{Condition}
 use Rattle.rs_explain.specs.declared.refusal.Refusal.{Refusal}
 use Rattle.rs_explain.specs.declared.explanation.Explanation.{Explanation}
@@ -84,7 +85,7 @@ agree_decided tables client peer prefix (Lost removal) h = let gets = h.gets in 
 
 module _ (tables : TablesContent) (client peer : ℕ) (prefix : IpPrefix) (explanation : Explanation) (client_known : client < length tables.plan.peers) (known : peer < length tables.plan.peers) where
   agree_other : (left : Option RouteLeft) → (client == peer) ≡ false →
-      MatchOption (reason_of tables.plan client peer (option_map (peer_route peer) left)) (IsDecided tables client peer prefix explanation) (λ reason. explanation ≡ reason) →
+      MatchOption (reason_of tables.plan client peer (option_map (sent_by peer) left)) (IsDecided tables client peer prefix explanation) (λ reason. explanation ≡ reason) →
       answer_of explanation ≡ why_left tables client peer prefix left
   agree_other None differ h = ap answer_of h
   agree_other (Some route) differ h =
@@ -102,17 +103,17 @@ module _ (tables : TablesContent) (client peer : ℕ) (prefix : IpPrefix) (expla
       ]
 
 -- no reason keeps a route from being a candidate where it fails no condition and no rule refuses it
-pub no_reason : (plan : Plan) (client peer : ℕ) (left : Option RouteLeft) (route : PeerRoute) → Some route ≡ option_map (peer_route peer) left →
+pub no_reason : (plan : Plan) (client peer : ℕ) (left : Option RouteLeft) (route : SentRoute) → Some route ≡ option_map (sent_by peer) left →
     failed_condition plan peer route.attributes ≡ None → refusal_of plan client peer route.attributes ≡ None →
-    reason_of plan client peer (option_map (peer_route peer) left) ≡ None
+    reason_of plan client peer (option_map (sent_by peer) left) ≡ None
 no_reason plan client peer None route is fails refuses = absurd (cc)
 no_reason plan client peer (Some left) route is fails refuses =
-    let same : route ≡ peer_route peer left = cc in
+    let same : route ≡ sent_by peer left = cc in
     let fails_none : failed_condition plan peer left.attributes ≡ None = rw same at fails in
     let refuses_none : refusal_of plan client peer left.attributes ≡ None = rw same at refuses in
     rw (fails_none, refuses_none) refl
 
 pub explained : (tables : TablesContent) (client peer one : ℕ) (prefix : IpPrefix) (explanation : Explanation) → (client == peer) ≡ false → one ≡ peer →
-    reason_of tables.plan client peer (option_map (peer_route peer) (get (rib_of tables peer).routes prefix)) ≡ None →
+    reason_of tables.plan client peer (option_map (sent_by peer) (get (rib_of tables peer).routes prefix)) ≡ None →
     IsDecided tables client one prefix explanation → IsExplanation tables client peer prefix explanation
 explained tables client peer one prefix explanation differ same none decided = rw (differ, none) (rw same at decided)

@@ -14,7 +14,7 @@ use Rattle.rs_choice.specs.Laws.{ChoiceIsMember, PeersHaveOwnAddresses}
 use Rattle.rs_choice.specs.Naturality.{choice-map, choice-All}
 use Rattle.rs_choice.specs.Plan.{Plan, plan_fault}
 use Rattle.rs_table.specs.Content.{TablesContent}
-use Rattle.rs_table.specs.Table.{PeerRoute, sent_route, candidates_of, best_of}
+use Rattle.rs_table.specs.Table.{candidates_of, best_of}
 use Rattle.rs_explain.specs.declared.contender.Contender.{Contender}
 use Rattle.rs_explain.specs.Contenders.{contender_of, contenders_of, standing_in, HasOwnAddress}
 use Rattle.rs_explain.proofs.Members.{Mem, contains-mem, mem-contains, mem-filter, list_any-none}
@@ -25,19 +25,19 @@ pub best_contender : (tables : TablesContent) (client : ℕ) (prefix : IpPrefix)
     choice standing_in (contenders_of tables client prefix) ≡ option_map (contender_of tables.plan) (best_of tables client prefix)
 best_contender tables client prefix = choice-map (contender_of tables.plan) standing_in (candidates_of tables client prefix)
 
-pub best_address : (tables : TablesContent) (client : ℕ) (prefix : IpPrefix) (best : PeerRoute) → All (HasOwnAddress tables.plan) (contenders_of tables client prefix) →
+pub best_address : (tables : TablesContent) (client : ℕ) (prefix : IpPrefix) (best : SentRoute) → All (HasOwnAddress tables.plan) (contenders_of tables client prefix) →
     best_of tables client prefix ≡ Some best → HasOwnAddress tables.plan (contender_of tables.plan best)
 best_address tables client prefix best all is =
     choice-All (HasOwnAddress tables.plan) standing_in (contenders_of tables client prefix) (contender_of tables.plan best) all
     (best_contender tables client prefix ∙ ap (option_map (contender_of tables.plan)) is)
 
-pub best_peer : (tables : TablesContent) (client : ℕ) (prefix : IpPrefix) (best : PeerRoute) → All (HasOwnAddress tables.plan) (contenders_of tables client prefix) →
+pub best_peer : (tables : TablesContent) (client : ℕ) (prefix : IpPrefix) (best : SentRoute) → All (HasOwnAddress tables.plan) (contenders_of tables client prefix) →
     best_of tables client prefix ≡ Some best → best.peer < length tables.plan.peers
 best_peer tables client prefix best all is =
     let own = best_address tables client prefix best all is in
     slice_get_within tables.plan.peers best.peer own.0 own.1
 
-none_of_nothing : (plan : Plan) (candidates : List PeerRoute) (one : Contender) → map sent_route candidates ≡ [] → Mem (map (contender_of plan) candidates) one → ⊥
+none_of_nothing : (plan : Plan) (candidates : List SentRoute) (one : Contender) → candidates ≡ [] → Mem (map (contender_of plan) candidates) one → ⊥
 none_of_nothing plan [] one nothing h = h
 none_of_nothing plan (x ∷ xs) one nothing h = absurd (cc)
 
@@ -46,11 +46,9 @@ pub some_best : ChoiceIsMember → (tables : TablesContent) (client : ℕ) (pref
     Contains (contenders_of tables client prefix) one → best_of tables client prefix ≡ None → ⊥
 some_best law tables client prefix one there none =
     let candidates = candidates_of tables client prefix in
-    let chosen : choice (standing_of tables.plan) (map sent_route candidates) ≡ None =
-    choice-map sent_route (standing_of tables.plan) candidates ∙ ap (option_map sent_route) none in
-    let says : MatchOption (choice (standing_of tables.plan) (map sent_route candidates)) (map sent_route candidates ≡ []) (λ (chosen : SentRoute). Contains (map sent_route candidates) chosen) =
-    law tables.plan (map sent_route candidates) in
-    none_of_nothing tables.plan candidates one (rw chosen at says) (contains-mem (contenders_of tables client prefix) one there)
+    let says : MatchOption (choice (standing_of tables.plan) candidates) (candidates ≡ []) (λ (chosen : SentRoute). Contains candidates chosen) =
+    law tables.plan candidates in
+    none_of_nothing tables.plan candidates one (rw none at says) (contains-mem (contenders_of tables client prefix) one there)
 
 first-mem : {M : Type 0} (xs : List M) (x : M) → first_member xs ≡ Some x → Mem xs x
 first-mem [] x is = absurd (cc)
@@ -99,7 +97,7 @@ same_address set one other is_one is_other =
     equal a b h k = grind (arith, nat_tests)
 
 -- whom all steps leave is the one that the client gets
-pub left_is_best : PeersHaveOwnAddresses → (tables : TablesContent) (client : ℕ) (prefix : IpPrefix) (best : PeerRoute) (one : Contender) →
+pub left_is_best : PeersHaveOwnAddresses → (tables : TablesContent) (client : ℕ) (prefix : IpPrefix) (best : SentRoute) (one : Contender) →
     plan_fault tables.plan.local tables.plan.peers ≡ None → All (HasOwnAddress tables.plan) (contenders_of tables client prefix) →
     best_of tables client prefix ≡ Some best → Contains (remaining standing_in decision_steps (contenders_of tables client prefix)) one → best.peer ≡ one.peer
 left_is_best law tables client prefix best one faultless all is left =

@@ -11,7 +11,8 @@ use Rattle.rs_choice.specs.Plan.{Plan}
 use Rattle.rs_choice.specs.Policy.{is_permitted}
 use Rattle.rs_table.specs.Left.{RouteLeft}
 use Rattle.rs_table.specs.Content.{RibContent, TablesContent, nothing_held, rib_of}
-use Rattle.rs_table.specs.Table.{PeerRoute, peer_route}
+use Rattle.rs_table.specs.Table.{sent_by}
+use Rattle.rs_choice.specs.Decision.{SentRoute}
 use Rattle.rs_explain.specs.declared.contender.Contender.{Contender}
 use Rattle.rs_explain.specs.Contenders.{contender_of, contender_if, contender_from}
 
@@ -21,13 +22,13 @@ contenders_in plan client prefix first ribs =
     map (contender_of plan)
     (filter (λ route. is_permitted plan client route.peer route.attributes)
     (filter (λ route. is_eligible plan route.peer route.attributes)
-    (filter_map (λ (peer, rib). option_map (peer_route peer) (get rib.routes prefix)) (enumerate_from first ribs))))
+    (filter_map (λ (peer, rib). option_map (sent_by peer) (get rib.routes prefix)) (enumerate_from first ribs))))
 
-one_more : (plan : Plan) (client : ℕ) (first : ℕ) (left : Option RouteLeft) (later : List PeerRoute) →
+one_more : (plan : Plan) (client : ℕ) (first : ℕ) (left : Option RouteLeft) (later : List SentRoute) →
     map (contender_of plan)
     (filter (λ route. is_permitted plan client route.peer route.attributes)
-    (filter (λ route. is_eligible plan route.peer route.attributes) (cons_option (option_map (peer_route first) left) later)))
-    ≡ cons_option (contender_if plan client (option_map (peer_route first) left))
+    (filter (λ route. is_eligible plan route.peer route.attributes) (cons_option (option_map (sent_by first) left) later)))
+    ≡ cons_option (contender_if plan client (option_map (sent_by first) left))
     (map (contender_of plan)
     (filter (λ route. is_permitted plan client route.peer route.attributes)
     (filter (λ route. is_eligible plan route.peer route.attributes) later)))
@@ -35,15 +36,15 @@ one_more plan client first None later = refl
 one_more plan client first (Some route) later =
     elim (is_eligible plan first route.attributes) as (λ e. map (contender_of plan)
     (filter (λ route. is_permitted plan client route.peer route.attributes)
-    (cond e (peer_route first route ∷ filter (λ route. is_eligible plan route.peer route.attributes) later) (filter (λ route. is_eligible plan route.peer route.attributes) later)))
-    ≡ cons_option (cond (e && is_permitted plan client first route.attributes) (Some (contender_of plan (peer_route first route))) None)
+    (cond e (sent_by first route ∷ filter (λ route. is_eligible plan route.peer route.attributes) later) (filter (λ route. is_eligible plan route.peer route.attributes) later)))
+    ≡ cons_option (cond (e && is_permitted plan client first route.attributes) (Some (contender_of plan (sent_by first route))) None)
     (map (contender_of plan)
     (filter (λ route. is_permitted plan client route.peer route.attributes)
     (filter (λ route. is_eligible plan route.peer route.attributes) later)))) [
       | true ↦ elim (is_permitted plan client first route.attributes) as (λ p. map (contender_of plan)
-          (cond p (peer_route first route ∷ filter (λ route. is_permitted plan client route.peer route.attributes) (filter (λ route. is_eligible plan route.peer route.attributes) later))
+          (cond p (sent_by first route ∷ filter (λ route. is_permitted plan client route.peer route.attributes) (filter (λ route. is_eligible plan route.peer route.attributes) later))
           (filter (λ route. is_permitted plan client route.peer route.attributes) (filter (λ route. is_eligible plan route.peer route.attributes) later)))
-          ≡ cons_option (cond p (Some (contender_of plan (peer_route first route))) None)
+          ≡ cons_option (cond p (Some (contender_of plan (sent_by first route))) None)
           (map (contender_of plan)
           (filter (λ route. is_permitted plan client route.peer route.attributes)
           (filter (λ route. is_eligible plan route.peer route.attributes) later)))) [ true ↦ refl | false ↦ refl ]
@@ -58,27 +59,27 @@ contenders_in-more tables client prefix peer within =
     let rest : drop peer tables.ribs ≡ rib_of tables peer ∷ drop (peer + 1) tables.ribs = rw (add-one, drop-cons tables.ribs peer nothing_held) refl in
     ap (contenders_in tables.plan client prefix peer) rest
     ∙ one_more tables.plan client peer (get (rib_of tables peer).routes prefix)
-    (filter_map (λ (peer, rib). option_map (peer_route peer) (get rib.routes prefix)) (enumerate_from (peer + 1) (drop (peer + 1) tables.ribs)))
+    (filter_map (λ (peer, rib). option_map (sent_by peer) (get rib.routes prefix)) (enumerate_from (peer + 1) (drop (peer + 1) tables.ribs)))
 
 -- a route that policy refuses is no candidate
-pub none_refused : (plan : Plan) (client peer : ℕ) (left : Option RouteLeft) (route : PeerRoute) → Some route ≡ option_map (peer_route peer) left →
-    is_permitted plan client peer route.attributes ≡ false → None ≡ contender_if plan client (option_map (peer_route peer) left)
+pub none_refused : (plan : Plan) (client peer : ℕ) (left : Option RouteLeft) (route : SentRoute) → Some route ≡ option_map (sent_by peer) left →
+    is_permitted plan client peer route.attributes ≡ false → None ≡ contender_if plan client (option_map (sent_by peer) left)
 none_refused plan client peer None route is refuses = absurd (cc)
 none_refused plan client peer (Some left) route is refuses =
-    let same : route ≡ peer_route peer left = cc in
+    let same : route ≡ sent_by peer left = cc in
     let refused : is_permitted plan client peer left.attributes ≡ false = rw same at refuses in
-    rw refused (elim (is_eligible plan peer left.attributes) as (λ e. None ≡ cond (e && false) (Some (contender_of plan (peer_route peer left))) None) [ true ↦ refl | false ↦ refl ])
+    rw refused (elim (is_eligible plan peer left.attributes) as (λ e. None ≡ cond (e && false) (Some (contender_of plan (sent_by peer left))) None) [ true ↦ refl | false ↦ refl ])
 
 -- and one that is eligible and permitted is
-pub some_permitted : (plan : Plan) (client peer : ℕ) (left : Option RouteLeft) (route : PeerRoute) → Some route ≡ option_map (peer_route peer) left →
+pub some_permitted : (plan : Plan) (client peer : ℕ) (left : Option RouteLeft) (route : SentRoute) → Some route ≡ option_map (sent_by peer) left →
     is_eligible plan peer route.attributes ≡ true → is_permitted plan client peer route.attributes ≡ true →
-    (route.peer ≡ peer) × (contender_if plan client (option_map (peer_route peer) left) ≡ Some (contender_of plan route))
+    (route.peer ≡ peer) × (contender_if plan client (option_map (sent_by peer) left) ≡ Some (contender_of plan route))
 some_permitted plan client peer None route is eligible permitted = absurd (cc)
 some_permitted plan client peer (Some left) route is eligible permitted =
-    let same : route ≡ peer_route peer left = cc in
+    let same : route ≡ sent_by peer left = cc in
     let yes : is_eligible plan peer left.attributes ≡ true = rw same at eligible in
     let sent : is_permitted plan client peer left.attributes ≡ true = rw same at permitted in
-    (ap (λ (route : PeerRoute). route.peer) same, rw (yes, sent) (ap (λ (route : PeerRoute). Some (contender_of plan route)) (sym same)))
+    (ap (λ (route : SentRoute). route.peer) same, rw (yes, sent) (ap (λ (route : SentRoute). Some (contender_of plan route)) (sym same)))
 
 -- one that is made of a peer's route is found from that peer
 pub made_from : (tables : TablesContent) (client : ℕ) (prefix : IpPrefix) (peer : ℕ) (one made : Contender) → one ≡ made → made.peer ≡ peer →
@@ -112,6 +113,6 @@ module _ (tables : TablesContent) (client : ℕ) (prefix : IpPrefix) where
       never x e = absurd (cc)
 
 -- the route that a peer has left is the peer's
-pub route_peer : (peer : ℕ) (left : Option RouteLeft) (route : PeerRoute) → Some route ≡ option_map (peer_route peer) left → route.peer ≡ peer
+pub route_peer : (peer : ℕ) (left : Option RouteLeft) (route : SentRoute) → Some route ≡ option_map (sent_by peer) left → route.peer ≡ peer
 route_peer peer None route is = absurd (cc)
-route_peer peer (Some left) route is = let same : route ≡ peer_route peer left = cc in ap (λ (route : PeerRoute). route.peer) same
+route_peer peer (Some left) route is = let same : route ≡ sent_by peer left = cc in ap (λ (route : SentRoute). route.peer) same

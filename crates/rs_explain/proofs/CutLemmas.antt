@@ -1,9 +1,8 @@
 -- Changes that are taken up to a time, with one change more.
 use Rattle.std.proofs.Common.{◌≡◌, ◌∙◌, sym, ap, refl, ℕ, Bool, true, false, not, cond, List, [], ◌∷◌, ◌++◌, append_assoc}
 use Rattle.std.specs.Prelude.{Option}
-use Rattle.std.specs.List.{list_any}
 use Rattle.rs_session.specs.Change.{Change}
-use Rattle.rs_explain.specs.Cut.{is_later, HasTakenIf, IsCut, IsShort, TakenIsCut, UntilContent}
+use Rattle.rs_explain.specs.Cut.{is_later, HasTakenIf, IsCut, IsShort, TakenIsCut}
 use Rattle.rs_explain.proofs.SaidLemmas.{none-append, none-one}
 
 module _ (time : Option ℕ) (change : Change) where

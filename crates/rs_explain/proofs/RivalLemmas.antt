@@ -6,11 +6,11 @@ use Rattle.std.specs.Option.{option_map, option_or}
 use Rattle.std.specs.FinMap.{get}
 use Rattle.rs_update.specs.IpPrefix.{IpPrefix}
 use Rattle.rs_choice.specs.declared.step.Step.{Step}
-use Rattle.rs_choice.specs.Decision.{beats, remaining}
+use Rattle.rs_choice.specs.Decision.{beats, remaining, SentRoute}
 use Rattle.rs_choice.specs.Naturality.{choice-Contains}
 use Rattle.rs_table.specs.Left.{RouteLeft}
 use Rattle.rs_table.specs.Content.{TablesContent, rib_of}
-use Rattle.rs_table.specs.Table.{PeerRoute, peer_route, candidates_of, best_of}
+use Rattle.rs_table.specs.Table.{sent_by, candidates_of, best_of}
 use Rattle.rs_explain.specs.declared.condition.Condition.{Condition}
 use Rattle.rs_explain.specs.declared.refusal.Refusal.{Refusal}
 use Rattle.rs_explain.specs.declared.removal.Removal.{Removal}
@@ -29,12 +29,12 @@ loss_reasons decided removal None (Some refusal) h = absurd (cc (h))
 loss_reasons decided removal None None h = h
 
 module _ (tables : TablesContent) (client peer : ℕ) (prefix : IpPrefix) (removal : Removal) where
-  loss_left : (left : Option RouteLeft) → MatchOption (reason_of tables.plan client peer (option_map (peer_route peer) left)) (IsLoss tables client peer prefix removal) (λ reason. Lost removal ≡ reason) →
+  loss_left : (left : Option RouteLeft) → MatchOption (reason_of tables.plan client peer (option_map (sent_by peer) left)) (IsLoss tables client peer prefix removal) (λ reason. Lost removal ≡ reason) →
       IsLoss tables client peer prefix removal
   loss_left None h = absurd (cc (h))
   loss_left (Some route) h = loss_reasons (IsLoss tables client peer prefix removal) removal (failed_condition tables.plan peer route.attributes) (refusal_of tables.plan client peer route.attributes) h
 
-  loss_if : (own : Bool) → MatchOption (if own then Some Own else reason_of tables.plan client peer (option_map (peer_route peer) (get (rib_of tables peer).routes prefix)))
+  loss_if : (own : Bool) → MatchOption (if own then Some Own else reason_of tables.plan client peer (option_map (sent_by peer) (get (rib_of tables peer).routes prefix)))
       (IsLoss tables client peer prefix removal) (λ reason. Lost removal ≡ reason) → IsLoss tables client peer prefix removal
   loss_if true h = absurd (cc (h))
   loss_if false h = loss_left (get (rib_of tables peer).routes prefix) h
@@ -42,7 +42,7 @@ module _ (tables : TablesContent) (client peer : ℕ) (prefix : IpPrefix) (remov
   pub loss_of : IsExplanation tables client peer prefix (Lost removal) → IsLoss tables client peer prefix removal
   loss_of h = loss_if (client == peer) h
 
-  rival_among : (before : List Step) (best : PeerRoute) → best_of tables client prefix ≡ Some best →
+  rival_among : (before : List Step) (best : SentRoute) → best_of tables client prefix ≡ Some best →
       Mem (contender_of tables.plan best ∷ remaining standing_in before (contenders_of tables client prefix)) removal.rival → Mem (contenders_of tables client prefix) removal.rival
   rival_among before best is (inl same) =
       rw (← same) (contains-mem (contenders_of tables client prefix) (contender_of tables.plan best)
@@ -50,7 +50,7 @@ module _ (tables : TablesContent) (client peer : ℕ) (prefix : IpPrefix) (remov
   rival_among before best is (inr later) = mem-remaining before (contenders_of tables client prefix) removal.rival later
 
   pub rival_is_candidate : IsExplanation tables client peer prefix (Lost removal) →
-      ((route : PeerRoute) × Contains (candidates_of tables client prefix) route × (contender_of tables.plan route ≡ removal.rival))
+      ((route : SentRoute) × Contains (candidates_of tables client prefix) route × (contender_of tables.plan route ≡ removal.rival))
       × IsTrue (beats removal.step removal.rival.standing removal.loser.standing)
   rival_is_candidate h =
       let loss = loss_of h in

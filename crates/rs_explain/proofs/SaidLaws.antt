@@ -1,6 +1,6 @@
 -- What is said last of a prefix agrees with the routes that are left.
 use Rattle.std.proofs.Common.{◌≡◌, ◌∙◌, sym, ap, refl, ℕ, Bool, true, false, cond, List, [], ◌∷◌, ◌++◌, inl, inr}
-use Rattle.std.specs.Prelude.{Option, Some, None, ◌||◌}
+use Rattle.std.specs.Prelude.{Some, None, ◌||◌}
 use Rattle.std.specs.List.{list_any}
 use Rattle.std.specs.Option.{is_some}
 use Rattle.std.specs.Ordering.{is_eq, nat_cmp, ordering_then}
@@ -11,13 +11,12 @@ use Rattle.std.specs.declared.cmp.Ordering.TheVariants.{Less, Equal, Greater}
 use Rattle.rs_update.specs.IpPrefix.{IpPrefix}
 use Rattle.rs_update.specs.PathAttributes.{PathAttributes}
 use Rattle.rs_update.specs.PrefixOrder.{prefix_cmp}
-use Rattle.rs_session.specs.declared.word.Reason.{Reason}
 use Rattle.rs_session.specs.Change.{Change, ChangeBody, Announced, Withdrawn, Lost, Closed}
 use Rattle.rs_table.specs.Left.{announcement, drops_routes, is_loss, is_on, reason_drops, same_prefix, Leaves, RouteLeft}
 use Rattle.rs_explain.specs.declared.last_said.Ending.{Ending}
 use Rattle.rs_explain.specs.declared.last_said.EndedBy.{EndedBy}
 use Rattle.rs_explain.specs.declared.last_said.EndedBy.TheVariants as by
-use Rattle.rs_explain.specs.LastSaid.{announces, body_announces, body_ends_by, ends, ends_by, EndRoute, IsAnnouncedLast, KeepRoute}
+use Rattle.rs_explain.specs.LastSaid.{announces, body_announces, body_ends_by, ends, EndRoute, IsAnnouncedLast, KeepRoute}
 use Rattle.rs_explain.proofs.Members.{Mem, list_any-none}
 
 -- ---- one test of two prefixes says that they are equal

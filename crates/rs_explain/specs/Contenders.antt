@@ -3,17 +3,17 @@
 use Rattle.std.specs.Prelude.{◌≡◌, ℕ, List, map, Option, None, Some, ◌&&◌, if◌then◌else◌, slice_get}
 use Rattle.rs_update.specs.IpPrefix.{IpPrefix}
 use Rattle.rs_choice.specs.declared.candidate.Standing.{Standing}
-use Rattle.rs_choice.specs.Decision.{standing_of}
+use Rattle.rs_choice.specs.Decision.{standing_of, SentRoute}
 use Rattle.rs_choice.specs.Eligibility.{is_eligible}
 use Rattle.rs_choice.specs.Plan.{Peer, Plan}
 use Rattle.rs_choice.specs.Policy.{is_permitted}
 use Rattle.rs_table.specs.Content.{TablesContent}
-use Rattle.rs_table.specs.Table.{PeerRoute, sent_route, route_from, candidates_of}
+use Rattle.rs_table.specs.Table.{route_from, candidates_of}
 use Rattle.rs_explain.specs.declared.contender.Contender.{Contender}
 
 -- a route by its peer and what the decision process asks of it
-abbrev pub contender_of : Plan → PeerRoute → Contender
-contender_of plan route = record { peer = route.peer; standing = standing_of plan (sent_route route) }
+abbrev pub contender_of : Plan → SentRoute → Contender
+contender_of plan route = record { peer = route.peer; standing = standing_of plan route }
 
 abbrev pub standing_in : Contender → Standing
 standing_in one = one.standing
@@ -23,7 +23,7 @@ abbrev pub contenders_of : TablesContent → ℕ → IpPrefix → List Contender
 contenders_of tables client prefix = map (contender_of tables.plan) (candidates_of tables client prefix)
 
 -- a peer's route on a prefix, where it is a candidate of a client
-abbrev pub contender_if : Plan → ℕ → Option PeerRoute → Option Contender
+abbrev pub contender_if : Plan → ℕ → Option SentRoute → Option Contender
 contender_if plan client None = None
 contender_if plan client (Some route) =
     if is_eligible plan route.peer route.attributes && is_permitted plan client route.peer route.attributes

@@ -4,12 +4,12 @@ use Rattle.std.specs.Prelude.{◌≡◌, ℕ, ◌==◌, true, false, not, if◌t
 use Rattle.std.specs.Prelude.{MatchOption}
 use Rattle.std.specs.Option.{option_map, option_or}
 use Rattle.rs_update.specs.IpPrefix.{IpPrefix}
-use Rattle.rs_choice.specs.Decision.{decision_steps}
+use Rattle.rs_choice.specs.Decision.{decision_steps, SentRoute}
 use Rattle.rs_choice.specs.Plan.{Plan}
 use Rattle.rs_table.specs.declared.why.Why.{Why}
 use Rattle.rs_table.specs.declared.why.Why.TheVariants as answers
 use Rattle.rs_table.specs.Content.{TablesContent}
-use Rattle.rs_table.specs.Table.{PeerRoute, route_from, best_of, is_from}
+use Rattle.rs_table.specs.Table.{route_from, best_of, is_from}
 use Rattle.rs_explain.specs.declared.contender.Contender.{Contender}
 use Rattle.rs_explain.specs.declared.explanation.Explanation.{Explanation}
 use Rattle.rs_explain.specs.declared.explanation.Explanation.TheVariants.{Own, Absent, Ineligible, Refused, Best, Lost}
@@ -19,7 +19,7 @@ use Rattle.rs_explain.specs.Reasons.{failed_condition, refusal_of}
 use Rattle.rs_explain.specs.Removals.{IsRemoval}
 
 -- why a route is no candidate, where it isn't: the first condition that fails, or else the rule that refuses
-abbrev pub reason_of : Plan → ℕ → ℕ → Option PeerRoute → Option Explanation
+abbrev pub reason_of : Plan → ℕ → ℕ → Option SentRoute → Option Explanation
 reason_of plan client peer None = Some Absent
 reason_of plan client peer (Some route) =
     option_or (option_map (λ condition. Ineligible condition) (failed_condition plan peer route.attributes))
@@ -36,7 +36,7 @@ other_peers contenders peer = map (λ one. one.peer) (filter (λ one. not (one.p
 -- the client gets another peer's route, and this is how the decision process removes the peer's own
 pub record IsLoss (tables : TablesContent) (client peer : ℕ) (prefix : IpPrefix) (removal : Removal) : Type 0 where
   pub loser : Contender
-  pub best : PeerRoute
+  pub best : SentRoute
   pub is_candidate : contender_from tables client prefix peer ≡ Some loser
   pub gets : best_of tables client prefix ≡ Some best
   pub another : is_from peer (Some best) ≡ false

@@ -2,9 +2,9 @@
 use Rattle.std.specs.Prelude.{◌≡◌, ◌<◌, ℕ, false, IsTrue, List, length}
 use Rattle.std.specs.List.{list_any, Contains}
 use Rattle.rs_update.specs.IpPrefix.{IpPrefix}
-use Rattle.rs_choice.specs.Decision.{beats}
+use Rattle.rs_choice.specs.Decision.{beats, SentRoute}
 use Rattle.rs_table.specs.Content.{TablesContent}
-use Rattle.rs_table.specs.Table.{PeerRoute, candidates_of, why_of}
+use Rattle.rs_table.specs.Table.{candidates_of, why_of}
 use Rattle.rs_explain.specs.declared.explanation.Explanation.{Explanation}
 use Rattle.rs_explain.specs.declared.explanation.Explanation.TheVariants.{Lost}
 use Rattle.rs_explain.specs.declared.removal.Removal.{Removal}
@@ -29,7 +29,7 @@ abbrev pub RivalIsCandidate : Type 0
 RivalIsCandidate =
     (tables : TablesContent) (client peer : ℕ) (prefix : IpPrefix) (removal : Removal) →
     IsExplanation tables client peer prefix (Lost removal) →
-    ((route : PeerRoute) × Contains (candidates_of tables client prefix) route
+    ((route : SentRoute) × Contains (candidates_of tables client prefix) route
     × (contender_of tables.plan route ≡ removal.rival))
     × IsTrue (beats removal.step removal.rival.standing removal.loser.standing)
 

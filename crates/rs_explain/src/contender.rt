@@ -4,7 +4,7 @@
 ghost use Rattle.std.specs.Prelude.{◌≡◌, ◌<◌, ℕ, IfOk, IfSome, Some, length};
 ghost use Rattle.std.specs.List.{All, Contains};
 ghost use Rattle.rs_explain.specs.Contenders.{contender_from, contender_of, contenders_of, HasOwnAddress};
-ghost use Rattle.rs_table.specs.RouteView.{peer_route_of};
+ghost use Rattle.rs_table.specs.RouteView.{sent_route_of};
 ghost use Rattle.rs_explain.specs.declared.contender.Contender as spec;
 
 use rs_choice::{Candidate, Exchange, Standing};
@@ -24,7 +24,7 @@ pub struct Contender {
 // A route by its peer and what the decision process asks of it.
 pub(crate) fn contender_of(plan: &Exchange, route: &Route) -> Contender
     requires { route.now.peer < length plan.now.peers }
-    ensures value { result ≡ contender_of plan.now (peer_route_of route.now) }
+    ensures value { result ≡ contender_of plan.now (sent_route_of route.now) }
     ensures address { HasOwnAddress plan.now result }
 {
     let _sender = plan.peer(route.peer);

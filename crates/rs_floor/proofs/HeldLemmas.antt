@@ -1,46 +1,17 @@
 -- What tables hold beside the lanes.
-use Rattle.std.proofs.Common.{◌≡◌, ◌≢◌, ◌∙◌, sym, ap, refl, ℕ, ◌+◌, suc, zero, inl, inr, Bool, true, false, List, [], ◌∷◌, ◌++◌, take, Some, Result, Ok, Err}
+use Rattle.std.proofs.Common.{◌≡◌, ◌≢◌, ◌∙◌, sym, ap, ℕ, ◌+◌, suc, zero, inl, inr, false, List, [], ◌∷◌, ◌++◌, take, Some, Result, Ok, Err}
 use Rattle.std.proofs.Math.Numerals.{add-one}
-use Rattle.std.specs.Prelude.{slice_get, slice_set, ◌||◌, OnOk}
+use Rattle.std.specs.Prelude.{slice_get, slice_set, OnOk}
 use Rattle.std.specs.List.{list_any}
-use Rattle.std.specs.FinMap.{empty}
 use Rattle.std.proofs.lemmas.Bool.Decides.{eqb_tells}
-use Rattle.rs_session.specs.Change.{Change}
-use Rattle.rs_table.specs.Content.{TablesContent, RibContent, rib_of, rib_left, nothing_held}
-use Rattle.rs_table.specs.Left.{Routes, BecomeBy, left, is_close}
+use Rattle.rs_session.specs.Change.{Change, is_close}
+use Rattle.rs_table.specs.Content.{TablesContent, rib_of, rib_left}
+use Rattle.rs_table.specs.Left.{BecomeBy}
+use Rattle.rs_table.proofs.RibLemmas.{rib_left-more}
 use Rattle.rs_floor.specs.Lane.{LaneContent, received_of}
 use Rattle.rs_floor.specs.Schedule.{after_receive}
 use Rattle.rs_floor.proofs.ListLemmas.{get-set_same, get-set_other, get-within}
 use Rattle.rs_floor.specs.Steps.{HoldReceived}
-
-pub left-nothing : left [] ≡ empty
-unfolding left
-left-nothing = refl
-
--- nothing was received yet
-pub rib_left-nothing : rib_left [] ≡ nothing_held
-rib_left-nothing = ap (λ (routes : Routes). let held : RibContent = record { routes = routes; closed = false } in held) left-nothing
-
-any-one_more : {X : Type 0} (p : X → Bool) (xs : List X) (x : X) → list_any p xs ≡ false → list_any p (xs ++ x ∷ []) ≡ p x
-any-one_more p [] x none = or-false (p x)
-  where
-    or-false : (b : Bool) → (b || false) ≡ b
-    or-false true = refl
-    or-false false = refl
-any-one_more p (y ∷ ys) x none = skip (p y) (list_any p ys) (list_any p (ys ++ x ∷ [])) (p x) none (any-one_more p ys x)
-  where
-    skip : (b rest whole one : Bool) → (b || rest) ≡ false → (rest ≡ false → whole ≡ one) → (b || whole) ≡ one
-    skip true rest whole one none h = absurd cc
-    skip false rest whole one none h = h none
-
--- the tables took one change more
-pub rib_left-more : (changes : List Change) (change : Change) (before after : RibContent) → before ≡ rib_left changes → list_any is_close changes ≡ false → BecomeBy before.routes change after.routes → after.closed ≡ is_close change
-    → after ≡ rib_left (changes ++ change ∷ [])
-rib_left-more changes change before after held unclosed become closed =
-    let routes : after.routes ≡ left (changes ++ change ∷ []) = sym (become changes unclosed (sym (ap (λ (rib : RibContent). rib.routes) held))) in
-    let closes : after.closed ≡ list_any is_close (changes ++ change ∷ []) = closed ∙ sym (any-one_more is_close changes change unclosed) in
-    ap (λ (rs : Routes). let rib : RibContent = record { routes = rs; closed = after.closed } in rib) routes
-    ∙ ap (λ (b : Bool). let rib : RibContent = record { routes = left (changes ++ change ∷ []); closed = b } in rib) closes
 
 -- one change more of a list
 take-suc : {X : Type 0} (xs : List X) (at : ℕ) (x : X) → slice_get xs at ≡ Some x → take (suc at) xs ≡ take at xs ++ x ∷ []

@@ -1,19 +1,15 @@
 -- One peer's changes on their way through its ring.
 use Rattle.std.proofs.Common.{◌≡◌, ◌∙◌, sym, ap, refl, ℕ, ◌+◌, ◌-◌, ◌<◌, ◌≤◌, suc, arith, Bool, true, false, List, [], ◌∷◌, ◌++◌, length, take, Option, Some, append_assoc, length-append}
-use Rattle.std.specs.Prelude.{slice_get, ◌&&◌, nat_lt, if◌then◌else◌}
+use Rattle.std.specs.Prelude.{slice_get, ◌&&◌, ◌||◌, nat_lt, if◌then◌else◌}
 use Rattle.std.specs.List.{list_any}
 use Rattle.std.proofs.lemmas.Bool.{le-ltb, lt-ltb}
 use Rattle.std.proofs.lemmas.List.{length-map, map-append, take-append-le}
 use Rattle.std.proofs.Math.Seq.{take-append_seam}
 use Rattle.rs_mrt.specs.declared.fault.SourceFault.{SourceFault}
-use Rattle.rs_session.specs.Change.{Change, ChangeBody, Announced, Withdrawn, Lost, Closed, change_of, body_of}
-use Rattle.rs_session.specs.Change as session
+use Rattle.rs_session.specs.Change.{Change, change_of, is_close}
 use Rattle.rs_session.specs.FileChanges.{close_at}
 use Rattle.rs_session.specs.Laws as laws
-use Rattle.rs_session.specs.declared.word.Body.{Body}
-use Rattle.rs_session.specs.declared.word.Body.TheVariants.{Announce, Withdraw, Down, Close}
 use Rattle.rs_session.specs.declared.word.Word.{Word}
-use Rattle.rs_table.specs.Left as table
 use Rattle.rs_floor.specs.Lane.{NoneClosesBefore, sent_changes}
 use Rattle.rs_floor.specs.Schedule.{after_send, after_receive}
 use Rattle.rs_floor.specs.declared.counts.Counts.{Counts}
@@ -21,30 +17,14 @@ use Rattle.rs_floor.proofs.ListLemmas.{none-take, get-append_seam}
 
 -- ---- which changes close
 
-same_body : (body : Body) → session.is_close body ≡ table.body_closes (body_of body)
-same_body (Announce prefix attributes) = refl
-same_body (Withdraw prefix) = refl
-same_body Down = refl
-same_body (Close reason) = refl
-
-same_change : (body : ChangeBody) → table.body_closes body ≡ laws.is_closing body
-same_change (Announced prefix attributes) = refl
-same_change (Withdrawn prefix) = refl
-same_change Lost = refl
-same_change (Closed reason) = refl
-
 -- a word closes where its change does
-pub closes-words : (words : List Word) → list_any (λ word. session.is_close word.body) words ≡ list_any table.is_close (sent_changes words)
+pub closes-words : (words : List Word) → list_any (λ word. is_close (change_of word)) words ≡ list_any is_close (sent_changes words)
 closes-words [] = refl
-closes-words (word ∷ words) = rw (same_body word.body, closes-words words) refl
-
-closes-changes : (changes : List Change) → list_any table.is_close changes ≡ laws.has_close changes
-closes-changes [] = refl
-closes-changes (change ∷ changes) = rw (same_change change.body, closes-changes changes) refl
+closes-words (word ∷ words) = ap (λ (b : Bool). is_close (change_of word) || b) (closes-words words)
 
 -- a session that closes once, as the last change, closes nowhere before
 pub none-before : (end : Option SourceFault) (recorded : List Change) → laws.ClosesLast end recorded → NoneClosesBefore recorded
-none-before end recorded last = rw last.splits (λ n below. rw (take-append-le n last.before (close_at last.time last.reason ∷ []) (omega (arith, below, length-append last.before (close_at last.time last.reason ∷ [])))) (none-take table.is_close n last.before (closes-changes last.before ∙ last.none_before)))
+none-before end recorded last = rw last.splits (λ n below. rw (take-append-le n last.before (close_at last.time last.reason ∷ []) (omega (arith, below, length-append last.before (close_at last.time last.reason ∷ [])))) (none-take is_close n last.before last.none_before))
 
 -- ---- counts
 
@@ -93,11 +73,11 @@ recorded-sent sent word before after first =
     rw (map-append change_of sent (word ∷ []), append_assoc (sent_changes sent) (change_of word ∷ []) after, first) refl
 
 -- nothing closed while a change is to come
-pub open-sent : (sent : List Word) (to_come : List Change) (first : Change) (later : List Change) → NoneClosesBefore (sent_changes sent ++ to_come) → to_come ≡ first ∷ later → list_any (λ word. session.is_close word.body) sent ≡ false
+pub open-sent : (sent : List Word) (to_come : List Change) (first : Change) (later : List Change) → NoneClosesBefore (sent_changes sent ++ to_come) → to_come ≡ first ∷ later → list_any (λ word. is_close (change_of word)) sent ≡ false
 open-sent sent to_come first later none some =
     let counted : length (sent_changes sent) ≡ length sent = length-map sent change_of in
     let more : length to_come ≡ suc (length later) = ap (λ (cs : List Change). length cs) some in
-    closes-words sent ∙ sym (ap (λ (cs : List Change). list_any table.is_close cs) (take-append_seam (sent_changes sent) to_come)) ∙ none (length (sent_changes sent)) (omega (arith, more, length-append (sent_changes sent) to_come))
+    closes-words sent ∙ sym (ap (λ (cs : List Change). list_any is_close cs) (take-append_seam (sent_changes sent) to_come)) ∙ none (length (sent_changes sent)) (omega (arith, more, length-append (sent_changes sent) to_come))
 
 -- ---- a receipt
 
@@ -115,7 +95,7 @@ beginning-more sent received word later all =
     rw (← regrouped) (take-append_seam (received ++ word ∷ []) later)
 
 -- before a word that waits nothing closed
-pub open-received : (sent received : List Word) (word : Word) (later : List Word) (to_come : List Change) → NoneClosesBefore (sent_changes sent ++ to_come) → received ++ word ∷ later ≡ sent → list_any table.is_close (take (length received) (sent_changes sent ++ to_come)) ≡ false
+pub open-received : (sent received : List Word) (word : Word) (later : List Word) (to_come : List Change) → NoneClosesBefore (sent_changes sent ++ to_come) → received ++ word ∷ later ≡ sent → list_any is_close (take (length received) (sent_changes sent ++ to_come)) ≡ false
 open-received sent received word later to_come none all =
     let counted : length (sent_changes sent) ≡ length sent = length-map sent change_of in
     let whole : length sent ≡ length received + suc (length later) = sym (ap (λ (ws : List Word). length ws) all) ∙ length-append received (word ∷ later) in

@@ -17,7 +17,7 @@ use Rattle.rs_floor.specs.Schedule.{at_start, after_turns}
 use Rattle.rs_floor.specs.Steps.{HoldReceived, IsEnd}
 use Rattle.rs_floor.specs.declared.counts.Counts.{Counts}
 use Rattle.rs_floor.specs.declared.turn.Turn.{Turn}
-use Rattle.rs_floor.proofs.HeldLemmas.{rib_left-nothing}
+use Rattle.rs_table.proofs.RibLemmas.{rib_left-nothing}
 use Rattle.rs_floor.proofs.ListLemmas.{same-places, get-within}
 
 -- the peer and the file whose changes stand at a place

@@ -3,12 +3,11 @@ use Rattle.std.specs.Prelude.{◌≡◌, ◌<◌, ℕ, false, List, length, map,
 use Rattle.std.specs.List.{list_any}
 use Rattle.rs_mrt.specs.Record.{Reading}
 use Rattle.rs_mrt.specs.Source.{source_end}
-use Rattle.rs_session.specs.Change.{Change, change_of}
+use Rattle.rs_session.specs.Change.{Change, change_of, is_close}
 use Rattle.rs_session.specs.FileChanges.{changes_in}
 use Rattle.rs_session.specs.Stage.{Stage, to_read, changes_left}
 use Rattle.rs_session.specs.declared.peer.PeerId.{PeerId}
 use Rattle.rs_session.specs.declared.word.Word.{Word}
-use Rattle.rs_table.specs.Left.{is_close}
 use Rattle.rs_floor.specs.Schedule.{at_start, after_turn, after_turns}
 use Rattle.rs_floor.specs.declared.counts.Counts.{Counts}
 use Rattle.rs_floor.specs.declared.turn.Turn.{Turn}

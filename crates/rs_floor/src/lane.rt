@@ -1,11 +1,10 @@
 //! One peer of a schedule: its session, and the ring between it and the tables.
 
-ghost use Rattle.std.specs.Prelude.{◌≡◌, ◌+◌, ◌<◌, ◌≤◌, ◌^◌, false, true, length, take, slice_get, Some, IfOk, OnOk};
+ghost use Rattle.std.specs.Prelude.{◌≡◌, ◌+◌, ◌<◌, ◌^◌, false, true, length, slice_get, Some, IfOk, OnOk};
 ghost use Rattle.std.specs.Prelude.{IfSome, IfNone};
 ghost use Rattle.std.specs.List.{list_any};
 ghost use Rattle.rs_ring.specs.Items.{is_capacity};
-ghost use Rattle.rs_session.specs.Change.{change_of};
-ghost use Rattle.rs_table.specs.Left.{is_close};
+ghost use Rattle.rs_session.specs.Change.{change_of, is_close};
 ghost use Rattle.rs_floor.specs.Lane.{fresh_lane, received_of};
 ghost use Rattle.rs_floor.specs.Schedule.{after_send, after_receive};
 

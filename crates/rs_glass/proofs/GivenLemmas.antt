@@ -1,43 +1,20 @@
 -- The changes that a session gives up to a time: what was given and what may still come, change by change.
 use Rattle.std.proofs.Common.{◌≡◌, ◌∙◌, sym, subst, refl, ℕ, ◌+◌, ◌≤◌, ◌<◌, Bool, true, false, List, [], ◌∷◌, ◌++◌, Option, Some, None, Ok, append_assoc, arith}
-use Rattle.std.specs.Prelude.{◌||◌, if◌then◌else◌}
+use Rattle.std.specs.Prelude.{if◌then◌else◌}
 use Rattle.std.specs.List.{list_any}
 use Rattle.std.proofs.lemmas.List.{append-nil, append_cancel_left}
 use Rattle.rs_mrt.specs.Reader.{ReadEnd}
 use Rattle.rs_mrt.specs.Record.{MrtRecord}
-use Rattle.rs_session.specs.Change.{Change, change_of, body_of, is_close}
+use Rattle.rs_session.specs.Change.{Change, change_of, is_close}
 use Rattle.rs_session.specs.Given.{IsRead}
 use Rattle.rs_session.specs.Laws.{SomethingMayCome}
 use Rattle.rs_session.specs.Stage.{Comes, Stage, IsOver, May, Says, Closes}
 use Rattle.rs_session.specs.declared.peer.PeerId.{PeerId}
-use Rattle.rs_session.specs.declared.word.Body.{Body}
-use Rattle.rs_session.specs.declared.word.Body.TheVariants.{Announce, Withdraw, Down, Close}
 use Rattle.rs_session.specs.declared.word.Word.{Word}
-use Rattle.rs_table.specs.Left as table
+use Rattle.rs_table.proofs.RibLemmas.{any-one_more}
 use Rattle.rs_explain.specs.Cut.{BeginsLater, HasTaken, IsCut, TakenIsCut, UntilContent, is_later}
 use Rattle.rs_glass.specs.Recorded.{AreInTime}
 use Rattle.rs_glass.specs.declared.question.Question.{Question}
-
--- ---- closes
-
-same_close : (body : Body) → table.body_closes (body_of body) ≡ is_close body
-same_close (Announce prefix attributes) = refl
-same_close (Withdraw prefix) = refl
-same_close Down = refl
-same_close (Close reason) = refl
-
-skip : (b rest whole one : Bool) → (b || rest) ≡ false → (rest ≡ false → whole ≡ one) → (b || whole) ≡ one
-skip true rest whole one none h = absurd cc
-skip false rest whole one none h = h none
-
-or-false : (b : Bool) → (b || false) ≡ b
-or-false true = refl
-or-false false = refl
-
--- a list of changes without a close, and one change more
-pub any-one_more : (xs : List Change) (x : Change) → list_any table.is_close xs ≡ false → list_any table.is_close (xs ++ x ∷ []) ≡ table.is_close x
-any-one_more [] x none = or-false (table.is_close x)
-any-one_more (y ∷ ys) x none = skip (table.is_close y) (list_any table.is_close ys) (list_any table.is_close (ys ++ x ∷ [])) (table.is_close x) none (any-one_more ys x)
 
 -- each change that is given leaves fewer to come
 pub few-smaller : (before after : ℕ) (old new closes : Bool) → old ≡ false → new ≡ closes → after + (if closes then 0 else 1) ≤ before → after + (if new then 0 else 1) < before + (if old then 0 else 1)
@@ -50,7 +27,7 @@ module _ {S : Type 0} (comes : Comes S) (shows : S → Option MrtRecord) (start 
   -- these changes were given, before whatever may come, and all were in time
   pub record IsGiven (given : List Change) (stage : Stage S) (taken : UntilContent) : Type 0 where
     pub before : (changes : List Change) (passed : ℕ) → May comes shows stage changes passed → May comes shows start (given ++ changes) passed
-    pub closed : stage.closed ≡ list_any table.is_close given
+    pub closed : stage.closed ≡ list_any is_close given
     pub takes : HasTaken taken given given
     pub time : taken.time ≡ until
 
@@ -67,10 +44,10 @@ module _ {S : Type 0} (comes : Comes S) (shows : S → Option MrtRecord) (start 
   pub given-more : (given : List Change) (old new : Stage S) (taken later : UntilContent) (word : Word) → IsGiven given old taken → Says comes shows old new (Ok (Some word)) → Closes old.closed new.closed (Ok (Some word))
       → HasTaken later (given ++ change_of word ∷ []) (given ++ change_of word ∷ []) → later.time ≡ taken.time → IsGiven (given ++ change_of word ∷ []) new later
   given-more given old new taken later word is says closes takes time =
-      let none : list_any table.is_close given ≡ false = sym is.closed ∙ closes.0 in
+      let none : list_any is_close given ≡ false = sym is.closed ∙ closes.0 in
       record {
         before = λ changes passed m. subst (λ (all : List Change). May comes shows start all passed) (sym (append_assoc given (change_of word ∷ []) changes)) (is.before (change_of word ∷ changes) passed (says.0 changes passed m));
-        closed = closes.1 ∙ sym (same_close word.body) ∙ sym (any-one_more given (change_of word) none);
+        closed = closes.1 ∙ sym (any-one_more is_close given (change_of word) none);
         takes = takes;
         time = time ∙ is.time;
       }

@@ -6,7 +6,7 @@ use Rattle.rs_update.specs.IpPrefix.{IpPrefix}
 use Rattle.rs_mrt.specs.Reader.{ReadEnd}
 use Rattle.rs_mrt.specs.Record.{MrtRecord}
 use Rattle.rs_choice.specs.Plan.{Plan}
-use Rattle.rs_session.specs.Change.{Change, body_of, change_of, is_close, is_read_failure}
+use Rattle.rs_session.specs.Change.{Change, body_of, body_closes, change_of, is_read_failure}
 use Rattle.rs_session.specs.Stage.{Comes, Stage}
 use Rattle.rs_session.specs.declared.word.Body.{Body}
 use Rattle.rs_session.specs.declared.word.Body.TheVariants.{Announce, Withdraw, Down, Close}
@@ -34,7 +34,7 @@ now-failed (Withdraw prefix) before failing = absurd cc
 now-failed Down before failing = absurd cc
 now-failed (Close reason) before failing = failing
 
-pub failing-closes : (body : Body) → is_read_failure body ≡ true → is_close body ≡ true
+pub failing-closes : (body : Body) → is_read_failure body ≡ true → body_closes (body_of body) ≡ true
 failing-closes (Announce prefix attributes) failing = absurd cc
 failing-closes (Withdraw prefix) failing = absurd cc
 failing-closes Down failing = absurd cc

@@ -8,15 +8,15 @@ use Rattle.std.proofs.lemmas.List.{append-nil, ext_get_or, map-append}
 use Rattle.std.proofs.lemmas.List.Elements.{filter-append}
 use Rattle.std.proofs.lemmas.List.FromFn.{get_or-map-range_with_len, length-map-range_with_len}
 use Rattle.rs_update.specs.IpPrefix.{IpPrefix}
-use Rattle.rs_session.specs.Change.{Change, change_of}
+use Rattle.rs_session.specs.Change.{Change, change_of, is_close}
 use Rattle.rs_choice.specs.Plan.{Plan}
 use Rattle.rs_table.specs.Content.{RibContent, TablesContent, nothing_held, rib_left, rib_of}
-use Rattle.rs_table.specs.Left.{is_close, left}
+use Rattle.rs_table.specs.Left.{left}
 use Rattle.rs_glass.specs.Histories.{GetsContent, Notes, Takes, TakesIf, all_gets, best_last, changes_from, counts, gets_after, gets_by, gets_content, is_before, is_open, tables_after, up_to_close}
 use Rattle.rs_glass.specs.declared.happened.Happening.{Happening}
 use Rattle.rs_glass.specs.declared.history.History.{History}
 use Rattle.rs_glass.proofs.ListLemmas.{each_behind-more}
-use Rattle.rs_glass.proofs.GivenLemmas.{any-one_more}
+use Rattle.rs_table.proofs.RibLemmas.{any-one_more}
 use Rattle.rs_glass.proofs.ReadingLemmas.{or-first, or-second}
 
 both-ways : {b : Bool} → b ≡ true → b ≡ false → ⊥
@@ -153,7 +153,7 @@ module _ (plan : Plan) where
       routes = sym (t.routes given none held)
 
       closed : (rib_of new one.peer).closed ≡ list_any is_close (given ++ change_of one.word ∷ [])
-      closed = t.closed ∙ sym (any-one_more given (change_of one.word) none)
+      closed = t.closed ∙ sym (any-one_more is_close given (change_of one.word) none)
 
       all : up_to_close (changes_from one.peer (before ++ one ∷ [])) ≡ given ++ change_of one.word ∷ []
       all = ap up_to_close (changes_from-same before one) ∙ up_to_close-more given (change_of one.word) none

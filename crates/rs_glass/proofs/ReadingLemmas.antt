@@ -3,18 +3,17 @@ use Rattle.std.proofs.Common.{◌≡◌, ◌∙◌, sym, ap, subst, refl, ℕ, B
 use Rattle.std.specs.Prelude.{◌||◌, cond, filter}
 use Rattle.std.specs.List.{list_any}
 use Rattle.std.specs.Option.{option_map_or}
-use Rattle.std.specs.FinMap.{empty, get}
+use Rattle.std.specs.FinMap.{get}
 use Rattle.std.proofs.lemmas.List.{append-nil}
 use Rattle.std.proofs.lemmas.List.Elements.{filter-append}
 use Rattle.rs_update.specs.IpPrefix.{IpPrefix}
 use Rattle.rs_mrt.specs.Reader.{ReadEnd}
 use Rattle.rs_mrt.specs.Record.{MrtRecord}
-use Rattle.rs_session.specs.Change.{Change, ChangeBody, Announced, Withdrawn, Lost, Closed}
+use Rattle.rs_session.specs.Change.{Change, ChangeBody, Announced, Withdrawn, Lost, Closed, body_closes, is_close}
 use Rattle.rs_session.specs.Stage.{Comes, Stage}
 use Rattle.rs_session.specs.declared.peer.PeerId.{PeerId}
 use Rattle.rs_table.specs.Content.{RibContent, nothing_held}
 use Rattle.rs_table.specs.Laws.{LeftByLastChanges, LeftByPart}
-use Rattle.rs_table.specs.Left as table
 use Rattle.rs_table.specs.Left.{Routes, body_prefix, left, same_prefix}
 use Rattle.rs_explain.specs.Cut.{UntilContent}
 use Rattle.rs_glass.specs.Covering.{body_concerns, concerns, covers}
@@ -22,7 +21,8 @@ use Rattle.rs_glass.specs.Recorded.{AreInTime, AreTold, BecomesIf, IsSaid, IsSai
 use Rattle.rs_glass.specs.declared.question.Question.{Question}
 use Rattle.rs_glass.specs.declared.said.Said.{Said}
 use Rattle.rs_glass.proofs.CoveringLemmas.{same_prefix-is}
-use Rattle.rs_glass.proofs.GivenLemmas.{IsGiven, any-one_more}
+use Rattle.rs_glass.proofs.GivenLemmas.{IsGiven}
+use Rattle.rs_table.proofs.RibLemmas.{any-one_more, left-nothing}
 
 -- ---- closes
 
@@ -35,24 +35,20 @@ or-second false c e = e
 or-second true c e = absurd cc
 
 -- a part of a list of changes without a close has none
-none-part : (keeps : Change → Bool) (xs : List Change) → list_any table.is_close xs ≡ false → list_any table.is_close (filter keeps xs) ≡ false
+none-part : (keeps : Change → Bool) (xs : List Change) → list_any is_close xs ≡ false → list_any is_close (filter keeps xs) ≡ false
 none-part keeps [] none = refl
 none-part keeps (x ∷ xs) none =
-    none_if (keeps x) (or-first (table.is_close x) (list_any table.is_close xs) none) (none-part keeps xs (or-second (table.is_close x) (list_any table.is_close xs) none))
+    none_if (keeps x) (or-first (is_close x) (list_any is_close xs) none) (none-part keeps xs (or-second (is_close x) (list_any is_close xs) none))
   where
-    none_if : (b : Bool) → table.is_close x ≡ false → list_any table.is_close (filter keeps xs) ≡ false → list_any table.is_close (cond b (x ∷ filter keeps xs) (filter keeps xs)) ≡ false
+    none_if : (b : Bool) → is_close x ≡ false → list_any is_close (filter keeps xs) ≡ false → list_any is_close (cond b (x ∷ filter keeps xs) (filter keeps xs)) ≡ false
     none_if true first later = rw (first, later) refl
     none_if false first later = later
-
-left-nothing : left [] ≡ empty
-unfolding left
-left-nothing = refl
 
 -- ---- prefixes that cover one
 
 module _ (prefix : IpPrefix) where
   -- a change that doesn't concern the prefix is no close
-  body_unconcerned : (body : ChangeBody) → body_concerns prefix body ≡ false → table.body_closes body ≡ false
+  body_unconcerned : (body : ChangeBody) → body_concerns prefix body ≡ false → body_closes body ≡ false
   body_unconcerned (Announced changed attributes) off = refl
   body_unconcerned (Withdrawn changed) off = refl
   body_unconcerned Lost off = refl
@@ -89,7 +85,7 @@ module _ (prefix : IpPrefix) where
   -- of the changes that were given, those that concern the prefix leave what is held, and this is said by all
   pub record IsTaken (given : List Change) (rib : RibContent) (said : Said) : Type 0 where
     pub routes : left (filter (concerns prefix) given) ≡ rib.routes
-    pub held : rib.closed ≡ list_any table.is_close given
+    pub held : rib.closed ≡ list_any is_close given
     pub is_said : IsSaid prefix given said
 
   -- nothing was read yet
@@ -101,22 +97,22 @@ module _ (prefix : IpPrefix) where
   }
 
   -- what is held, and what is closed, once a change was taken
-  next_routes : (keeps : Bool) (change : Change) (given : List Change) (before after : RibContent) → concerns prefix change ≡ keeps → list_any table.is_close given ≡ false → left (filter (concerns prefix) given) ≡ before.routes
+  next_routes : (keeps : Bool) (change : Change) (given : List Change) (before after : RibContent) → concerns prefix change ≡ keeps → list_any is_close given ≡ false → left (filter (concerns prefix) given) ≡ before.routes
       → BecomesIf keeps before change after → left (filter (concerns prefix) given ++ cond keeps (change ∷ []) []) ≡ after.routes
   next_routes true change given before after is none routes becomes = becomes.0 (filter (concerns prefix) given) (none-part (concerns prefix) given none) routes
   next_routes false change given before after is none routes becomes =
       ap left (append-nil (filter (concerns prefix) given)) ∙ routes ∙ sym (ap (λ (r : RibContent). r.routes) becomes)
 
-  next_closed : (keeps : Bool) (change : Change) (before after : RibContent) → concerns prefix change ≡ keeps → before.closed ≡ false → BecomesIf keeps before change after → after.closed ≡ table.is_close change
+  next_closed : (keeps : Bool) (change : Change) (before after : RibContent) → concerns prefix change ≡ keeps → before.closed ≡ false → BecomesIf keeps before change after → after.closed ≡ is_close change
   next_closed true change before after is unclosed becomes = becomes.1
   next_closed false change before after is unclosed becomes = ap (λ (r : RibContent). r.closed) becomes ∙ unclosed ∙ sym (body_unconcerned prefix change.body is)
 
   -- one change more was given, where none before it was a close
-  pub taken-more : (given : List Change) (change : Change) (before after : RibContent) (said next : Said) → IsTaken given before said → list_any table.is_close given ≡ false → IsSaid prefix (given ++ change ∷ []) next
+  pub taken-more : (given : List Change) (change : Change) (before after : RibContent) (said next : Said) → IsTaken given before said → list_any is_close given ≡ false → IsSaid prefix (given ++ change ∷ []) next
       → BecomesIf (concerns prefix change) before change after → IsTaken (given ++ change ∷ []) after next
   taken-more given change before after said next is none is_said becomes = record {
     routes = ap left (filter-append (concerns prefix) given (change ∷ [])) ∙ next_routes (concerns prefix change) change given before after refl none is.routes becomes;
-    held = next_closed (concerns prefix change) change before after refl (is.held ∙ none) becomes ∙ sym (any-one_more given change none);
+    held = next_closed (concerns prefix change) change before after refl (is.held ∙ none) becomes ∙ sym (any-one_more is_close given change none);
     is_said = is_said;
   }
 

@@ -4,8 +4,7 @@ use Rattle.std.specs.Prelude.{cond, reverse, Some}
 use Rattle.std.specs.List.{find}
 use Rattle.std.specs.Option.{option_and_then}
 use Rattle.std.proofs.lemmas.List.{reverse-append}
-use Rattle.rs_session.specs.Change.{Change, ChangeBody, Announced, Withdrawn, Lost, Closed}
-use Rattle.rs_table.specs.Left.{body_closes, is_close}
+use Rattle.rs_session.specs.Change.{Change, ChangeBody, Announced, Withdrawn, Lost, Closed, is_close, body_closes}
 use Rattle.rs_glass.specs.Recorded.{body_reason, close_after, close_in}
 
 -- with one change more

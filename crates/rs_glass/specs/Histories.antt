@@ -9,7 +9,8 @@ use Rattle.rs_session.specs.Change.{Change, ChangeBody, Announced, Withdrawn, Lo
 use Rattle.rs_session.specs.declared.word.Reason.{Reason}
 use Rattle.rs_choice.specs.Plan.{Plan}
 use Rattle.rs_table.specs.Content.{TablesContent, rib_left, rib_of}
-use Rattle.rs_table.specs.Left.{BecomeBy, is_close}
+use Rattle.rs_table.specs.Left.{BecomeBy}
+use Rattle.rs_session.specs.Change.{is_close}
 use Rattle.rs_glass.specs.Behind.{each_behind}
 use Rattle.rs_glass.specs.Explained.{best_from}
 use Rattle.rs_glass.specs.declared.happened.Happening.{Happening}

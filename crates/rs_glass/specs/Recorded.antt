@@ -5,14 +5,14 @@ use Rattle.std.specs.List.{find}
 use Rattle.std.specs.Option.{option_and_then, option_map_or}
 use Rattle.rs_update.specs.IpPrefix.{IpPrefix}
 use Rattle.rs_mrt.specs.Reader.{ReadEnd}
-use Rattle.rs_session.specs.Change.{Change, ChangeBody, Announced, Withdrawn, Lost, Closed, is_read}
+use Rattle.rs_session.specs.Change.{Change, ChangeBody, Announced, Withdrawn, Lost, Closed, is_read, is_close}
 use Rattle.rs_session.specs.Given.{IsRead}
 use Rattle.rs_session.specs.declared.peer.PeerId.{PeerId}
 use Rattle.rs_session.specs.declared.word.Reason.{Reason}
 use Rattle.rs_session.specs.declared.word.Reason.TheVariants as reasons
 use Rattle.rs_choice.specs.Plan.{Peer, Plan}
 use Rattle.rs_table.specs.Content.{RibContent, TablesContent, rib_of}
-use Rattle.rs_table.specs.Left.{BecomeBy, Leaves, RouteLeft, is_close}
+use Rattle.rs_table.specs.Left.{BecomeBy, Leaves, RouteLeft}
 use Rattle.rs_explain.specs.Cut.{IsCut}
 use Rattle.rs_explain.specs.LastSaid.{IsSaidLast}
 use Rattle.rs_explain.specs.declared.last_said.EndedBy.{EndedBy}

@@ -13,9 +13,9 @@ use Rattle.std.proofs.lemmas.Bool.Decides.{eqb_tells}
 use Rattle.std.proofs.lemmas.List.Folds.{list_all-append}
 use Rattle.rs_update.specs.IpPrefix.{IpPrefix}
 use Rattle.rs_update.specs.PrefixOrder.{prefix_cmp}
-use Rattle.rs_session.specs.Change.{Change, ChangeBody, Announced, Withdrawn, Lost, Closed}
+use Rattle.rs_session.specs.Change.{Change, ChangeBody, Announced, Withdrawn, Lost, Closed, is_close, body_closes}
 use Rattle.rs_table.specs.Laws.{LeftByLastChanges, LeftByPart}
-use Rattle.rs_table.specs.Left.{Leaves, RouteLeft, announcement, body_closes, body_loses, body_prefix, is_close, is_loss, is_on, left, same_prefix}
+use Rattle.rs_table.specs.Left.{Leaves, RouteLeft, announcement, body_loses, body_prefix, is_loss, is_on, left, same_prefix}
 use Rattle.rs_router.specs.Cut.{cut, gets, gets_on, shard_of}
 use Rattle.rs_router.specs.Laws.{CutByShards}
 

@@ -1,5 +1,5 @@
 -- The changes of all peers, one change more.
-use Rattle.std.proofs.Common.{◌≡◌, ◌≢◌, ◌∙◌, sym, ap, subst, refl, ℕ, ◌+◌, ◌*◌, ◌<◌, ◌≤◌, ◌^◌, suc, zero, arith, inl, inr, Bool, true, false, cond, ◌||◌, nat_lt, List, [], ◌∷◌, ◌++◌, length, map, Some, None}
+use Rattle.std.proofs.Common.{◌≡◌, ◌≢◌, ◌∙◌, sym, ap, subst, refl, ℕ, ◌+◌, ◌*◌, ◌<◌, ◌≤◌, ◌^◌, suc, zero, arith, inl, inr, Bool, true, false, cond, nat_lt, List, [], ◌∷◌, ◌++◌, length, map, Some, None}
 use Rattle.std.specs.Prelude.{◌==◌, slice_get, slice_set, All, sum_by}
 use Rattle.std.specs.List.{list_all, list_any}
 use Rattle.std.specs.Option.{option_map}
@@ -7,12 +7,13 @@ use Rattle.std.proofs.lemmas.Bool.{cases_Bool, ne_eqb}
 use Rattle.std.proofs.lemmas.Bool.Decides.{Decides-ltb}
 use Rattle.std.proofs.lemmas.List.{append-nil, length-append, length-map, map-append}
 use Rattle.std.proofs.lemmas.List.Elements.{filter-append, filter_map-append}
-use Rattle.std.proofs.lemmas.List.Folds.{list_all-append, list_any-append}
+use Rattle.std.proofs.lemmas.List.Folds.{list_all-append}
 use Rattle.std.proofs.lemmas.List.Sums.{sum_by-cons}
 use Rattle.rs_ring.specs.Ends.{Receiving, Ring, Sending}
 use Rattle.rs_update.specs.IpPrefix.{IpPrefix}
 use Rattle.rs_session.specs.Change.{Change, body_of, change_of, is_close}
 use Rattle.rs_session.specs.declared.word.Word.{Word}
+use Rattle.rs_table.proofs.RibLemmas.{any-one_more}
 use Rattle.rs_table.specs.Left.{body_prefix}
 use Rattle.rs_router.specs.Cut.{cut, gets, gets_on, shard_of}
 use Rattle.rs_router.specs.Delivery.{CanSend, Delivered, SameSenders, sent_lists, with_word}
@@ -69,9 +70,6 @@ sum-more (y ∷ ys) (suc at) words word e =
 pub sum-below : (xs : List (List Word)) → ((at : ℕ) (words : List Word) → slice_get xs at ≡ Some words → length words ≤ 2 ^ 51) → sum_by length xs ≤ length xs * 2251799813685248
 sum-below [] short = omega arith
 sum-below (y ∷ ys) short = omega (arith, sum_by-cons length y ys, short 0 y refl, sum-below ys (λ at words e. short (suc at) words e))
-
-any_one_more : {X : Type 0} (p : X → Bool) (xs : List X) (x : X) → list_any p xs ≡ false → list_any p (xs ++ x ∷ []) ≡ p x
-any_one_more p xs x none = list_any-append p xs (x ∷ []) ∙ ap (λ b. b || (p x || false)) none ∙ elim (p x) as (λ b. (b || false) ≡ b) [ true ↦ refl | false ↦ refl ]
 
 -- the shard's items of a peer, and the cut of its changes, each with the change more
 of_peer-own : (peer : ℕ) (before : List Routed) (word : Word) → of_peer peer (before ++ items.Word peer word ∷ []) ≡ of_peer peer before ++ change_of word ∷ []
@@ -141,7 +139,7 @@ routed_more received before after peer words word routed here short unclosed del
       let old = earlier shard sent at_shard in
       let none = routed.unended shard old.0 old.1.0 in
       subst (λ (xs : List Routed). list_any is_last xs ≡ false) old.1.1
-      (with_word-holds (λ xs. list_any is_last xs ≡ false) (length before) shard peer word old.0 none (any_one_more is_last old.0 (items.Word peer word) none));
+      (with_word-holds (λ xs. list_any is_last xs ≡ false) (length before) shard peer word old.0 none (any-one_more is_last old.0 (items.Word peer word) none));
   fits = λ shard sent at_shard.
       let old = earlier shard sent at_shard in
       let few = routed.fits shard old.0 old.1.0 in
@@ -159,7 +157,7 @@ routed_more received before after peer words word routed here short unclosed del
       close = word;
       is = sym own.1;
       until_then = unclosed;
-      closes = sym (any_one_more (λ (w : Word). is_close w.body) words word unclosed) ∙ ap is_closed own.1 ∙ closed;
+      closes = sym (any-one_more (λ (w : Word). is_close (change_of w)) words word unclosed) ∙ ap is_closed own.1 ∙ closed;
     }
     | inr other ↦ routed.at_end p ws other.1 closed
   ];

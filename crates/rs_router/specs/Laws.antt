@@ -3,8 +3,8 @@ use Rattle.std.specs.Prelude.{◌≡◌, ◌≢◌, ℕ, List, None}
 use Rattle.std.specs.FinMap.{get}
 use Rattle.std.specs.List.{list_any}
 use Rattle.rs_update.specs.IpPrefix.{IpPrefix}
-use Rattle.rs_session.specs.Change.{Change}
-use Rattle.rs_table.specs.Left.{left, is_close, is_loss}
+use Rattle.rs_session.specs.Change.{Change, is_close}
+use Rattle.rs_table.specs.Left.{left, is_loss}
 use Rattle.rs_router.specs.Cut.{IsShardCount, cut, shard_of}
 
 -- what a list leaves is, over the shards, what its cuts leave, each on the prefixes of its shard; each cut

@@ -20,7 +20,7 @@ SameReceivers before after = map (λ receiver. receiver.ring) after ≡ map (λ 
 
 -- whether a list of changes closes
 abbrev pub is_closed : List Word → Bool
-is_closed received = list_any (λ word. is_close word.body) received
+is_closed received = list_any (λ word. is_close (change_of word)) received
 
 -- whether each peer's session closed
 abbrev pub all_closed : List (Receiving Word) → Bool
@@ -32,7 +32,7 @@ pub record EndsClosed (received : List Word) : Type 0 where
   pub close : Word
   pub is : received ≡ earlier ++ close ∷ []
   pub until_then : is_closed earlier ≡ false
-  pub closes : is_close close.body ≡ true
+  pub closes : is_close (change_of close) ≡ true
 
 -- it does so for each peer
 abbrev pub AreClosed : List (List Word) → Type 0

@@ -9,9 +9,9 @@ use Rattle.rs_floor.specs.declared.ended.PeerEnd.{PeerEnd}
 use Rattle.rs_mrt.specs.Reader.{ReadEnd}
 use Rattle.rs_mrt.specs.Record.{records_of, end_of}
 use Rattle.rs_mrt.specs.Source.{source_end}
-use Rattle.rs_session.specs.Change.{Change, ChangeBody, Announced, Withdrawn, Lost, Closed}
+use Rattle.rs_session.specs.Change.{Change, ChangeBody, Announced, Withdrawn, Lost, Closed, body_closes}
 use Rattle.rs_session.specs.FileChanges.{changes_in_by, passed_in_by, close_at}
-use Rattle.rs_session.specs.Laws.{ClosesOnce, is_closing, has_close}
+use Rattle.rs_session.specs.Laws.{ClosesOnce, has_close}
 use Rattle.rs_session.specs.declared.peer.PeerId.{PeerId}
 use Rattle.rs_session.specs.declared.word.Reason.{Reason}
 use Rattle.rs_update.specs.declared.errors.Errors.{Errors}
@@ -26,7 +26,7 @@ or-second : (b c : Bool) → (b || c) ≡ false → c ≡ false
 or-second false c e = e
 or-second true c e = absurd cc
 
-reason_or-unclosed : (later : Reason) (body : ChangeBody) → is_closing body ≡ false → reason_or later body ≡ later
+reason_or-unclosed : (later : Reason) (body : ChangeBody) → body_closes body ≡ false → reason_or later body ≡ later
 reason_or-unclosed later (Announced prefix attributes) unclosed = refl
 reason_or-unclosed later (Withdrawn prefix) unclosed = refl
 reason_or-unclosed later Lost unclosed = refl
@@ -37,7 +37,7 @@ reason-last : (xs : List Change) (time : ℕ) (reason : Reason) → has_close xs
 reason-last [] time reason none = refl
 reason-last (x ∷ xs) time reason none =
     let rest : List Change = xs ++ close_at time reason ∷ [] in
-    reason_or-unclosed (reason_in rest) x.body (or-first (is_closing x.body) (has_close xs) none) ∙ reason-last xs time reason (or-second (is_closing x.body) (has_close xs) none)
+    reason_or-unclosed (reason_in rest) x.body (or-first (body_closes x.body) (has_close xs) none) ∙ reason-last xs time reason (or-second (body_closes x.body) (has_close xs) none)
 
 -- two lists that are one have the same last member
 last-same : {X : Type 0} (xs ys : List X) (x y : X) → xs ++ x ∷ [] ≡ ys ++ y ∷ [] → x ≡ y

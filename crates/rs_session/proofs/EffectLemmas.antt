@@ -23,7 +23,8 @@ use Rattle.rs_update.specs.declared.fault.UpdateFault.TheVariants.{InvalidNetwor
 use Rattle.rs_update.specs.declared.header.MessageType.{MessageType}
 use Rattle.rs_update.specs.declared.header.MessageType.TheVariants as types
 use Rattle.rs_session.specs.Effect.{RecordEffect, PassesOver, Gives, Ends, effect_of, effect_of_entry, effect_of_message, effect_of_state, loss}
-use Rattle.rs_session.specs.Laws.{is_closing, has_close, is_recorded}
+use Rattle.rs_session.specs.Laws.{has_close, is_recorded}
+use Rattle.rs_session.specs.Change.{is_close}
 use Rattle.rs_session.specs.Peer.{is_of}
 use Rattle.std.specs.Prelude.{nat_lt}
 use Rattle.rs_mrt.specs.Endian.{big_number}
@@ -101,7 +102,7 @@ fine-changes : (time octets : ℕ) (update : UpdateContent) → length update.wi
 fine-changes time octets update few =
     let withdrawn = withdrawn_only update.withdrawn update.nlri in
     let announced = unicast update.nlri in (
-      list_any-append (λ change. is_closing change.body) (map (withdraws time) withdrawn) (announcements time update.attributes announced)
+      list_any-append is_close (map (withdraws time) withdrawn) (announcements time update.attributes announced)
           ∙ rw (has_close-withdraws time withdrawn, has_close-announcements time update.attributes announced) refl,
       omega (
         arith,
@@ -150,7 +151,7 @@ fine-treated : (time octets : ℕ) (treated : TreatedContent) → length treated
 fine-treated time octets treated few =
     let withdrawn = withdrawn_only treated.withdrawn treated.nlri in
     let announced = unicast treated.nlri in (
-      list_any-append (λ change. is_closing change.body) (map (withdraws time) withdrawn) (map (withdraws time) announced)
+      list_any-append is_close (map (withdraws time) withdrawn) (map (withdraws time) announced)
           ∙ rw (has_close-withdraws time withdrawn, has_close-withdraws time announced) refl,
       omega (
         arith,

@@ -11,11 +11,11 @@ use Rattle.rs_mrt.specs.Record.{MrtRecord, records_of, rest_of}
 use Rattle.rs_mrt.specs.RecordReading.{fault_behind, read_limit}
 use Rattle.rs_mrt.specs.declared.fault.SourceFault.{SourceFault}
 use Rattle.rs_mrt.specs.declared.fault.SourceFault.TheVariants as faults
-use Rattle.rs_session.specs.Change.{Change}
+use Rattle.rs_session.specs.Change.{Change, is_close}
 use Rattle.rs_session.specs.Effect.{RecordEffect, PassesOver, Gives, Ends, effect_of}
 use Rattle.rs_session.specs.FileChanges.{changes_of, passed_of, close_at, ends}
 use Rattle.rs_session.specs.Given.{has_end, IsRead}
-use Rattle.rs_session.specs.Laws.{FrontSuffices, GivesFileOrFails, ClosesByRead, FailedReadCloses, is_closing}
+use Rattle.rs_session.specs.Laws.{FrontSuffices, GivesFileOrFails, ClosesByRead, FailedReadCloses}
 use Rattle.rs_session.specs.declared.peer.PeerId.{PeerId}
 use Rattle.rs_session.specs.declared.word.Reason.TheVariants as reasons
 use Rattle.rs_update.specs.declared.errors.Errors.{Errors}
@@ -77,7 +77,7 @@ read-record errors peer r later (Gives changes) is fine none h =
     record {
       before = changes ++ rest.before;
       splits = changes_of-gives errors peer r changes later (Some faults.Read) is ∙ ap (λ cs. changes ++ cs) rest.splits ∙ sym (append_assoc changes rest.before (close_at 0 reasons.Read ∷ []));
-      none_before = list_any-append (λ change. is_closing change.body) changes rest.before ∙ rw (fine.0, rest.none_before) refl;
+      none_before = list_any-append is_close changes rest.before ∙ rw (fine.0, rest.none_before) refl;
     }
 read-record errors peer r later (Ends reason) is fine none h = absurd cc
 

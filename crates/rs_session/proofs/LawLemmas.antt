@@ -7,7 +7,8 @@ use Rattle.rs_mrt.specs.Source.{source_end}
 use Rattle.rs_mrt.specs.declared.fault.SourceFault.{SourceFault}
 use Rattle.rs_mrt.specs.declared.fault.SourceFault.TheVariants as faults
 use Rattle.rs_session.specs.Effect.{RecordEffect, PassesOver, Gives, Ends, effect_of}
-use Rattle.rs_session.specs.Laws.{is_closing, is_recorded, may_close, ClosesLast}
+use Rattle.rs_session.specs.Laws.{is_recorded, may_close, ClosesLast}
+use Rattle.rs_session.specs.Change.{is_close}
 use Rattle.rs_session.specs.FileChanges.{changes_of, close_at, reason_at_end, changes_in_by}
 use Rattle.rs_update.specs.declared.errors.Errors.{Errors}
 use Rattle.rs_session.specs.declared.peer.PeerId.{PeerId}
@@ -47,7 +48,7 @@ closes-record errors peer r later end (Gives changes) is fine h = record {
   time = h.time;
   reason = h.reason;
   splits = changes_of-gives errors peer r changes later end is ∙ ap (λ cs. changes ++ cs) h.splits ∙ sym (append_assoc changes h.before (close_at h.time h.reason ∷ []));
-  none_before = list_any-append (λ change. is_closing change.body) changes h.before ∙ rw (fine.0, h.none_before) refl;
+  none_before = list_any-append is_close changes h.before ∙ rw (fine.0, h.none_before) refl;
   recorded = h.recorded;
 }
 closes-record errors peer r later end (Ends reason) is fine h = record {

@@ -214,7 +214,7 @@ module _ {S : Type 0} (room : S → ℕ) (shows : S → Option MrtRecord) where
       rw given.1 (omega (arith, less))
 
   -- the close is given
-  pub fewer-closes : (first between new : Stage S) (word : Word) → most_changes room shows between ≤ most_changes room shows first → most_changes room shows new ≤ most_changes room shows between → is_close word.body ≡ true → Fewer (most_changes room shows first) (most_changes room shows new) (Ok (Some word))
+  pub fewer-closes : (first between new : Stage S) (word : Word) → most_changes room shows between ≤ most_changes room shows first → most_changes room shows new ≤ most_changes room shows between → is_close (change_of word) ≡ true → Fewer (most_changes room shows first) (most_changes room shows new) (Ok (Some word))
   fewer-closes first between new word less closed close = rw close (omega (arith, less, closed))
 
 -- just what a file says may come from its records

@@ -40,9 +40,15 @@ abbrev pub GivesFirst : List Change → Option Word → List Change → Type 0
 GivesFirst before (Some word) after = before ≡ change_of word ∷ after
 GivesFirst before None after = (before ≡ []) × (after ≡ [])
 
-abbrev pub is_close : Body → Bool
-is_close (Close reason) = true
-is_close body = false
+-- whether a change ends the session
+abbrev pub body_closes : ChangeBody → Bool
+body_closes (Announced prefix attributes) = false
+body_closes (Withdrawn prefix) = false
+body_closes Lost = false
+body_closes (Closed reason) = true
+
+abbrev pub is_close : Change → Bool
+is_close change = body_closes change.body
 
 -- whether a session ended since its records could not be read to their end
 abbrev pub is_read : Reason → Bool

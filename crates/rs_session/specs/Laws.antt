@@ -7,7 +7,7 @@ use Rattle.rs_mrt.specs.Record.{MrtRecord, records_of}
 use Rattle.rs_mrt.specs.RecordReading.{MayCome, unread}
 use Rattle.rs_mrt.specs.declared.fault.SourceFault.{SourceFault}
 use Rattle.rs_mrt.specs.declared.fault.SourceFault.TheVariants as faults
-use Rattle.rs_session.specs.Change.{Change, ChangeBody, Announced, Withdrawn, Lost, Closed}
+use Rattle.rs_session.specs.Change.{Change, is_close}
 use Rattle.rs_session.specs.Effect.{effect_of}
 use Rattle.rs_session.specs.FileChanges.{changes_of, close_at, changes_in_by}
 use Rattle.rs_session.specs.Given.{IsRead, has_end}
@@ -17,14 +17,8 @@ use Rattle.rs_session.specs.declared.peer.PeerId.{PeerId}
 use Rattle.rs_session.specs.declared.word.Reason.{Reason}
 use Rattle.rs_session.specs.declared.word.Reason.TheVariants as reasons
 
-abbrev pub is_closing : ChangeBody → Bool
-is_closing (Closed reason) = true
-is_closing (Announced prefix attributes) = false
-is_closing (Withdrawn prefix) = false
-is_closing Lost = false
-
 abbrev pub has_close : List Change → Bool
-has_close changes = list_any (λ change. is_closing change.body) changes
+has_close changes = list_any is_close changes
 
 -- a record says any reason but want of memory, and that records can't be read
 abbrev pub is_recorded : Reason → Bool

@@ -105,14 +105,14 @@ SaysJust comes shows stage whole total =
 abbrev pub Says : {S : Type 0} → Comes S → (S → Option MrtRecord) → Stage S → Stage S
     → Result (Option Word) AllocError → Type 0
 Says comes shows old new (Ok (Some word)) =
-    KeepsBehind comes shows (change_of word) old new × (is_close word.body ≡ true → IsOver comes shows new)
+    KeepsBehind comes shows (change_of word) old new × (is_close (change_of word) ≡ true → IsOver comes shows new)
 Says comes shows old new (Ok None) = IsOver comes shows old × (new ≡ old)
 Says comes shows old new (Err refused) = Keeps comes shows old new × (new.passed ≡ old.passed)
 
 -- An open session gives a change or is refused memory, and just a close closes it. Any answer of a closed one
 -- is none, and it stays closed.
 abbrev pub Closes : Bool → Bool → Result (Option Word) AllocError → Type 0
-Closes before after (Ok (Some word)) = (before ≡ false) × (after ≡ is_close word.body)
+Closes before after (Ok (Some word)) = (before ≡ false) × (after ≡ is_close (change_of word))
 Closes before after (Ok None) = (before ≡ true) × (after ≡ true)
 Closes before after (Err refused) = (before ≡ false) × (after ≡ false)
 
@@ -129,7 +129,7 @@ most_changes room shows stage = length stage.waiting + held_octets stage.held (s
 
 -- each change but the close is one of these
 abbrev pub Fewer : ℕ → ℕ → Result (Option Word) AllocError → Type 0
-Fewer before after (Ok (Some word)) = after + (if is_close word.body then 0 else 1) ≤ before
+Fewer before after (Ok (Some word)) = after + (if is_close (change_of word) then 0 else 1) ≤ before
 Fewer before after (Ok None) = after ≤ before
 Fewer before after (Err refused) = after ≤ before
 
@@ -143,6 +143,6 @@ answer_behind (Err refused) = Ok true
 abbrev pub GoesOn : Option (Result Bool SourceFault) → Option (Result Bool SourceFault)
     → Result (Option Word) AllocError → Type 0
 GoesOn before after (Ok (Some word)) =
-    is_close word.body ≡ false → (last : Result Bool SourceFault) → after ≡ Some last → before ≡ Some last
+    is_close (change_of word) ≡ false → (last : Result Bool SourceFault) → after ≡ Some last → before ≡ Some last
 GoesOn before after (Ok None) = (last : Result Bool SourceFault) → after ≡ Some last → before ≡ Some last
 GoesOn before after (Err refused) = (last : Result Bool SourceFault) → after ≡ Some last → before ≡ Some last

@@ -19,7 +19,7 @@ use Rattle.rs_session.specs.declared.word.Word.{Word}
 abbrev pub GivesWaiting : {S : Type 0} → Stage S → Option Word → Stage S → Type 0
 GivesWaiting old (Some word) new =
     (old.waiting ≡ change_of word ∷ new.waiting)
-    × (is_close word.body ≡ false)
+    × (is_close (change_of word) ≡ false)
     × (new ≡ record old { waiting = new.waiting; passed = old.passed + old.skipped; skipped = 0 })
 GivesWaiting old None new = (old.waiting ≡ []) × (new ≡ old)
 
@@ -66,5 +66,5 @@ abbrev pub Steps : {S : Type 0} → Comes S → (S → Option MrtRecord) → Sta
     → Result (Option Word) AllocError → Type 0
 Steps comes shows old new (Ok None) = Keeps comes shows old new × (new.closed ≡ false) × (new.passed ≡ old.passed)
 Steps comes shows old new (Ok (Some word)) =
-    KeepsBehind comes shows (change_of word) old new × (is_close word.body ≡ true) × (new.closed ≡ true)
+    KeepsBehind comes shows (change_of word) old new × (is_close (change_of word) ≡ true) × (new.closed ≡ true)
 Steps comes shows old new (Err refused) = Keeps comes shows old new × (new.closed ≡ false) × (new.passed ≡ old.passed)

@@ -6,7 +6,7 @@
 ghost use Rattle.std.specs.Prelude.{◌≡◌, false, [], ◌∷◌, IfOk, IfSome, OnErr};
 ghost use Rattle.std.specs.Option.{option_map};
 ghost use Rattle.rs_update.specs.Message.{update_content_of};
-ghost use Rattle.rs_session.specs.Change.{GivesFirst, Lost, is_close};
+ghost use Rattle.rs_session.specs.Change.{GivesFirst, Lost, change_of, is_close};
 ghost use Rattle.rs_session.specs.UpdateChanges.{changes_of_update, changes_of_treated};
 
 use crate::withdrawn::{keep_unicast, keep_withdrawn_only};
@@ -111,7 +111,7 @@ impl Pending {
     // The next change. Refused, nothing is given, and the changes are as before.
     pub(crate) fn next(&mut self) -> Result<Option<Word>, AllocError>
         ensures ok { IfOk result (λ given. GivesFirst self.old given self.new) }
-        ensures open { IfOk result (λ given. IfSome given (λ word. is_close word.body ≡ false)) }
+        ensures open { IfOk result (λ given. IfSome given (λ word. is_close (change_of word) ≡ false)) }
         ensures err { OnErr result (self.new ≡ self.old) }
     {
         if self.lost {

@@ -1,20 +1,10 @@
 -- The changes of a peer up to its close.
-use Rattle.std.proofs.Common.{◌≡◌, ◌∙◌, sym, ap, refl, Bool, true, false, List, [], ◌∷◌, ◌++◌}
+use Rattle.std.proofs.Common.{◌≡◌, ◌∙◌, ap, refl, Bool, true, false, List, [], ◌∷◌, ◌++◌}
 use Rattle.std.specs.Prelude.{◌||◌, if◌then◌else◌}
 use Rattle.std.specs.List.{list_any}
-use Rattle.std.specs.FinMap.{empty}
-use Rattle.rs_session.specs.Change.{Change}
-use Rattle.rs_table.specs.Content.{RibContent, nothing_held, rib_left}
-use Rattle.rs_table.specs.Left.{Routes, BecomeBy, HasNoClose, is_close, left}
+use Rattle.rs_session.specs.Change.{Change, is_close}
+use Rattle.rs_table.specs.Left.{HasNoClose}
 use Rattle.rs_shard.specs.Held.{through_close}
-
-left-nothing : left [] ≡ empty
-unfolding left
-left-nothing = refl
-
--- nothing was received yet
-pub rib_left-nothing : rib_left [] ≡ nothing_held
-rib_left-nothing = ap (λ (routes : Routes). let held : RibContent = record { routes = routes; closed = false } in held) left-nothing
 
 -- what follows a close is dropped
 pub through-closed : (changes later : List Change) → list_any is_close changes ≡ true → through_close (changes ++ later) ≡ through_close changes
@@ -63,24 +53,3 @@ any-through (change ∷ changes) = cases (is_close change) refl (any-through cha
     cases : (b : Bool) → is_close change ≡ b → list_any is_close (through_close changes) ≡ list_any is_close changes → list_any is_close (if b then change ∷ [] else change ∷ through_close changes) ≡ (b || list_any is_close changes)
     cases true is rest = rw is refl
     cases false is rest = rw is rest
-
-any-one_more : (changes : List Change) (change : Change) → HasNoClose changes → list_any is_close (changes ++ change ∷ []) ≡ is_close change
-any-one_more [] change none = or-false (is_close change)
-  where
-    or-false : (b : Bool) → (b || false) ≡ b
-    or-false true = refl
-    or-false false = refl
-any-one_more (first ∷ changes) change none = skip (is_close first) (list_any is_close changes) (list_any is_close (changes ++ change ∷ [])) (is_close change) none (any-one_more changes change)
-  where
-    skip : (b rest whole one : Bool) → (b || rest) ≡ false → (rest ≡ false → whole ≡ one) → (b || whole) ≡ one
-    skip true rest whole one none h = absurd cc
-    skip false rest whole one none h = h none
-
--- tables took a peer's next change
-pub rib_left-more : (changes : List Change) (change : Change) (before after : RibContent) → before ≡ rib_left changes → HasNoClose changes → BecomeBy before.routes change after.routes → after.closed ≡ is_close change
-    → after ≡ rib_left (changes ++ change ∷ [])
-rib_left-more changes change before after held unclosed become closed =
-    let routes : after.routes ≡ left (changes ++ change ∷ []) = sym (become changes unclosed (sym (ap (λ (rib : RibContent). rib.routes) held))) in
-    let closes : after.closed ≡ list_any is_close (changes ++ change ∷ []) = closed ∙ sym (any-one_more changes change unclosed) in
-    ap (λ (rs : Routes). let rib : RibContent = record { routes = rs; closed = after.closed } in rib) routes
-    ∙ ap (λ (b : Bool). let rib : RibContent = record { routes = left (changes ++ change ∷ []); closed = b } in rib) closes

@@ -16,10 +16,10 @@ use Rattle.std.proofs.lemmas.Option.{slice_get-get_or, slice_get-map, get_or_fro
 use Rattle.rs_update.specs.IpPrefix.{IpPrefix}
 use Rattle.rs_update.specs.PrefixOrder.{prefix_cmp}
 use Rattle.rs_choice.specs.Plan.{Plan}
-use Rattle.rs_session.specs.Change.{Change, change_of}
+use Rattle.rs_session.specs.Change.{Change, change_of, is_close}
 use Rattle.rs_session.specs.declared.word.Word.{Word}
 use Rattle.rs_table.specs.Content.{RibContent, TablesContent, rib_of, rib_left, nothing_held}
-use Rattle.rs_table.specs.Left.{is_close, left}
+use Rattle.rs_table.specs.Left.{left}
 use Rattle.rs_table.specs.Listing.{is_held}
 use Rattle.rs_table.specs.Merge.{AreParts, IsMerged}
 use Rattle.rs_router.specs.Cut.{first_octet, shard_of}

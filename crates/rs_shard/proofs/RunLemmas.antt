@@ -5,13 +5,10 @@ use Rattle.std.proofs.lemmas.List.{map-append}
 use Rattle.std.proofs.lemmas.List.Elements.{filter-append}
 use Rattle.std.proofs.lemmas.Option.{slice_get_within}
 use Rattle.rs_choice.specs.Plan.{Plan}
-use Rattle.rs_session.specs.Change.{Change, body_of, change_of}
-use Rattle.rs_session.specs.Change as session
-use Rattle.rs_session.specs.declared.word.Body.{Body}
-use Rattle.rs_session.specs.declared.word.Body.TheVariants.{Announce, Withdraw, Down, Close}
+use Rattle.rs_session.specs.Change.{Change, change_of, is_close}
 use Rattle.rs_session.specs.declared.word.Word.{Word}
 use Rattle.rs_table.specs.Content.{TablesContent, rib_left}
-use Rattle.rs_table.specs.Left.{HasNoClose, body_closes}
+use Rattle.rs_table.specs.Left.{HasNoClose}
 use Rattle.rs_router.specs.Cut.{IsShardCount, cut, gets}
 use Rattle.rs_router.specs.Routing.{EndsClosed, is_closed}
 use Rattle.rs_router.specs.declared.routed.Routed.{Routed}
@@ -21,19 +18,12 @@ use Rattle.rs_shard.specs.Laws.{AreShardsOf, IsOfPlan, IsRun, IsShardOf}
 use Rattle.rs_shard.proofs.ListLemmas.{there-or_past}
 use Rattle.rs_shard.proofs.CloseLemmas.{through-open, through-one}
 
--- a word closes where its change does
-closes-same : (body : Body) → body_closes (body_of body) ≡ session.is_close body
-closes-same (Announce prefix attributes) = refl
-closes-same (Withdraw prefix) = refl
-closes-same Down = refl
-closes-same (Close reason) = refl
-
 -- the cut of words without a close has none
 open-cut : (shards shard : ℕ) (words : List Word) → is_closed words ≡ false → HasNoClose (cut shards shard (map change_of words))
 open-cut shards shard [] none = refl
-open-cut shards shard (word ∷ words) none = cases (gets shards shard (change_of word)) (session.is_close word.body) refl (closes-same word.body) none (open-cut shards shard words)
+open-cut shards shard (word ∷ words) none = cases (gets shards shard (change_of word)) (is_close (change_of word)) refl refl none (open-cut shards shard words)
   where
-    cases : (kept closes : Bool) → gets shards shard (change_of word) ≡ kept → body_closes (body_of word.body) ≡ closes → (closes || is_closed words) ≡ false
+    cases : (kept closes : Bool) → gets shards shard (change_of word) ≡ kept → is_close (change_of word) ≡ closes → (closes || is_closed words) ≡ false
         → (is_closed words ≡ false → HasNoClose (cut shards shard (map change_of words))) → HasNoClose (cut shards shard (change_of word ∷ map change_of words))
     cases kept true e is none rest = absurd cc
     cases true false e is none rest = rw (e, is) (rest none)

@@ -5,15 +5,16 @@ use Rattle.std.specs.List.{filter_map, list_any}
 use Rattle.std.proofs.lemmas.List.Elements.{filter_map-append}
 use Rattle.std.proofs.lemmas.Bool.{ne_eqb}
 use Rattle.std.proofs.lemmas.Bool.Decides.{eqb_tells}
-use Rattle.rs_session.specs.Change.{Change, change_of}
+use Rattle.rs_session.specs.Change.{Change, change_of, is_close}
 use Rattle.rs_session.specs.declared.word.Word.{Word}
 use Rattle.rs_table.specs.Content.{RibContent, TablesContent, rib_of, rib_left, nothing_held}
-use Rattle.rs_table.specs.Left.{BecomeBy, is_close}
+use Rattle.rs_table.specs.Left.{BecomeBy}
 use Rattle.rs_router.specs.Items.{change_from, of_peer}
 use Rattle.rs_router.specs.declared.routed.Routed.{Routed}
 use Rattle.rs_router.specs.declared.routed.Routed.TheVariants as routed
 use Rattle.rs_shard.specs.Held.{HoldReceived, Takes, through_close}
-use Rattle.rs_shard.proofs.CloseLemmas.{rib_left-nothing, rib_left-more, through-closed, through-more, through-none, any-through}
+use Rattle.rs_table.proofs.RibLemmas.{rib_left-nothing, rib_left-more}
+use Rattle.rs_shard.proofs.CloseLemmas.{through-closed, through-more, through-none, any-through}
 
 -- one item more of the peer's, of another peer's, and of none's
 of_peer-gives : (peer : ℕ) (items : List Routed) (item : Routed) (change : Change) → change_from peer item ≡ Some change → of_peer peer (items ++ item ∷ []) ≡ of_peer peer items ++ change ∷ []

@@ -1,8 +1,7 @@
 -- What a shard holds of the changes that it received.
 use Rattle.std.specs.Prelude.{◌≡◌, ◌<◌, ◌++◌, ◌∷◌, [], ℕ, List, length, if◌then◌else◌}
-use Rattle.rs_session.specs.Change.{Change}
+use Rattle.rs_session.specs.Change.{Change, is_close}
 use Rattle.rs_table.specs.Content.{TablesContent, rib_of, rib_left}
-use Rattle.rs_table.specs.Left.{is_close}
 use Rattle.rs_router.specs.Items.{of_peer}
 use Rattle.rs_router.specs.declared.routed.Routed.{Routed}
 

@@ -17,8 +17,10 @@ use Rattle.rs_update.specs.PrefixOrder.{prefix_cmp}
 use Rattle.rs_choice.specs.Plan.{Plan}
 use Rattle.rs_table.specs.Left.{same_prefix}
 use Rattle.rs_table.specs.Content.{nothing_held}
-use Rattle.rs_table.specs.Table.{PeerRoute, peer_route, routes_on}
-use Rattle.rs_table.specs.Cell.{CellContent, IsCell, IsRow, route_at}
+use Rattle.rs_table.specs.Table.{sent_by, routes_on}
+use Rattle.rs_choice.specs.Decision.{SentRoute}
+use Rattle.rs_table.specs.ByPeer.{IsRow, route_at}
+use Rattle.rs_table.specs.Cell.{CellContent, IsCell}
 use Rattle.rs_table.specs.Cells.{Entries, AreCells, cell_at, routes_at, routes_of, routes_from}
 use Rattle.rs_table.specs.TablesView.{ribs_from}
 use Rattle.rs_table.proofs.PrefixLemmas.{prefix_total, same_prefix-true, find-entries}
@@ -71,7 +73,7 @@ module _ (m n : BTreeMap IpPrefix CellContent) (prefix : IpPrefix) where
   at-update w updates q = updates.0 q ∙ ap (λ b. cond b w (cell_at m.entries q)) ((eq_by_cmp_equiv prefix_total).symm prefix q)
 
   -- the routes on the prefix become what f makes of them
-  pub updated : (f : List PeerRoute → List PeerRoute) (w : Option CellContent) → ((q : IpPrefix) → cell_at n.entries q ≡ cond (same_prefix q prefix) w (cell_at m.entries q)) →
+  pub updated : (f : List SentRoute → List SentRoute) (w : Option CellContent) → ((q : IpPrefix) → cell_at n.entries q ≡ cond (same_prefix q prefix) w (cell_at m.entries q)) →
       routes_of w ≡ f (routes_at m.entries prefix) → (q : IpPrefix) → routes_at n.entries q ≡ cond (same_prefix q prefix) (f (routes_at m.entries q)) (routes_at m.entries q)
   updated f w updates made q =
       ap routes_of (updates q) ∙ elim (cases_Bool (same_prefix q prefix)) [
@@ -80,7 +82,7 @@ module _ (m n : BTreeMap IpPrefix CellContent) (prefix : IpPrefix) where
       ]
 
 -- a prefix without a cell stays so where f makes nothing of nothing
-pub updated-none : (m : Entries) (prefix : IpPrefix) (f : List PeerRoute → List PeerRoute) → f [] ≡ [] → cell_at m prefix ≡ None →
+pub updated-none : (m : Entries) (prefix : IpPrefix) (f : List SentRoute → List SentRoute) → f [] ≡ [] → cell_at m prefix ≡ None →
     (q : IpPrefix) → routes_at m q ≡ cond (same_prefix q prefix) (f (routes_at m q)) (routes_at m q)
 updated-none m prefix f nothing none q =
     elim (cases_Bool (same_prefix q prefix)) [
@@ -140,15 +142,15 @@ module _ (entries : Entries) where
 
   -- the routes that peers have left on a prefix are those of its cell
   module _ (prefix : IpPrefix) where
-    abbrev on_from : ℕ → List Bool → List PeerRoute
-    on_from first closed = filter_map (λ (peer, rib). option_map (peer_route peer) (fin.get rib.routes prefix)) (enumerate_from first (ribs_from entries first closed))
+    abbrev on_from : ℕ → List Bool → List SentRoute
+    on_from first closed = filter_map (λ (peer, rib). option_map (sent_by peer) (fin.get rib.routes prefix)) (enumerate_from first (ribs_from entries first closed))
 
-    routes_on_from : (first : ℕ) (closed : List Bool) (routes : List PeerRoute) → IsRow first (first + length closed) routes →
+    routes_on_from : (first : ℕ) (closed : List Bool) (routes : List SentRoute) → IsRow first (first + length closed) routes →
         ((peer : ℕ) → first ≤ peer → route_at (routes_at entries prefix) peer ≡ route_at routes peer) → on_from first closed ≡ routes
     routes_on_from first [] [] row same = refl
     routes_on_from first [] (route ∷ later) row same = absurd (omega (arith, row.0, row.1))
     routes_on_from first (c ∷ cs) [] row same =
-        ap (λ o. cons_option (option_map (peer_route first) o) (on_from (first + 1) cs)) (get-routes_from first prefix ∙ same first (omega arith))
+        ap (λ o. cons_option (option_map (sent_by first) o) (on_from (first + 1) cs)) (get-routes_from first prefix ∙ same first (omega arith))
         ∙ routes_on_from (first + 1) cs [] tt (λ peer le. same peer (omega (arith, le)))
     routes_on_from first (c ∷ cs) (route ∷ later) row same =
         elim (eqb_tells route.peer first) [
@@ -157,19 +159,19 @@ module _ (entries : Entries) where
               let rest : on_from (first + 1) cs ≡ later =
               routes_on_from (first + 1) cs later (subst (λ n. IsRow (n + 1) (first + 1 + length cs) later) here.1 (IsRow_to (route.peer + 1) (first + length (c ∷ cs)) (first + 1 + length cs) later (omega arith) row.2))
               (λ peer le. same peer (omega (arith, le)) ∙ passed peer later route (omega (arith, le, here.1))) in
-              ap (λ o. cons_option (option_map (peer_route first) o) (on_from (first + 1) cs)) (get-routes_from first prefix ∙ same first (omega arith) ∙ found)
+              ap (λ o. cons_option (option_map (sent_by first) o) (on_from (first + 1) cs)) (get-routes_from first prefix ∙ same first (omega arith) ∙ found)
               ∙ (λ i. record { peer = (sym here.1) i; time = route.time; attributes = route.attributes } ∷ rest i)
           | inr apart ↦
               let none : route_at (route ∷ later) first ≡ None = route_at-before (first + 1) (first + length (c ∷ cs)) first (route ∷ later) (omega arith) (omega (arith, row.0, apart.1), row.1, row.2) in
-              ap (λ o. cons_option (option_map (peer_route first) o) (on_from (first + 1) cs)) (get-routes_from first prefix ∙ same first (omega arith) ∙ none)
+              ap (λ o. cons_option (option_map (sent_by first) o) (on_from (first + 1) cs)) (get-routes_from first prefix ∙ same first (omega arith) ∙ none)
               ∙ routes_on_from (first + 1) cs (route ∷ later) (IsRow_to (first + 1) (first + length (c ∷ cs)) (first + 1 + length cs) (route ∷ later) (omega arith) (omega (arith, row.0, apart.1), row.1, row.2))
               (λ peer le. same peer (omega (arith, le)))
         ]
       where
-        IsRow_to : (from to other : ℕ) (routes : List PeerRoute) → to ≡ other → IsRow from to routes → IsRow from other routes
+        IsRow_to : (from to other : ℕ) (routes : List SentRoute) → to ≡ other → IsRow from to routes → IsRow from other routes
         IsRow_to from to other routes e row = subst (λ n. IsRow from n routes) e row
 
-        passed : (peer : ℕ) (later : List PeerRoute) (route : PeerRoute) → route.peer < peer → route_at (route ∷ later) peer ≡ route_at later peer
+        passed : (peer : ℕ) (later : List SentRoute) (route : SentRoute) → route.peer < peer → route_at (route ∷ later) peer ≡ route_at later peer
         passed peer later route less = elim (eqb_tells route.peer peer) [ inl here ↦ absurd (omega (arith, here.1, less)) | inr apart ↦ rw apart.0 refl ]
 
     pub routes_on-cells : (closed : List Bool) → IsRow 0 (length closed) (routes_at entries prefix) → routes_on prefix (ribs_from entries 0 closed) ≡ routes_at entries prefix

@@ -7,12 +7,13 @@ use Rattle.std.proofs.lemmas.Bool.Decides.{eqb_tells, nat_tests}
 use Rattle.std.proofs.lemmas.List.{get_or_read}
 use Rattle.std.proofs.lemmas.List.Elements.{All-from_recursion}
 use Rattle.std.proofs.lemmas.Option.{get_or_from_slice_get, slice_get-get_or, slice_get_within}
-use Rattle.rs_choice.specs.Held.{IsJudged}
+use Rattle.rs_choice.specs.Held.{sent_of_held, IsJudged}
 use Rattle.rs_choice.specs.Plan.{Plan}
 use Rattle.rs_choice.specs.RouteChanges.{of_others, HaveOwnPeers, IsAt, IsChange, IsKnown, IsRouteOf}
 use Rattle.rs_choice.specs.declared.held_route.HeldRoute.{HeldRoute}
 use Rattle.rs_choice.specs.declared.route_change.RouteChange.{RouteChange}
-use Rattle.rs_table.specs.Cell.{place_of, route_of_held, with_one, without_one, IsCell, CellContent, IsPut, IsRow, IsTaken}
+use Rattle.rs_table.specs.ByPeer.{place_of, with_one, without_one, IsPut, IsRow, IsTaken}
+use Rattle.rs_table.specs.Cell.{IsCell, CellContent}
 use Rattle.rs_table.proofs.HeldLemmas.{held-with}
 use Rattle.rs_table.proofs.RowLemmas.{not_below}
 
@@ -21,7 +22,7 @@ peer_of one = one.peer
 
 -- held routes that ascend by peer
 abbrev pub IsHeldRow : ℕ → ℕ → List HeldRoute → Type 0
-IsHeldRow from to held = IsRow from to (map route_of_held held)
+IsHeldRow from to held = IsRow from to (map sent_of_held held)
 
 pub from_peer : (from to : ℕ) (held : List HeldRoute) (i : ℕ) (one : HeldRoute) → IsHeldRow from to held → i < length held → get_or held i one ≡ one → from ≤ one.peer
 from_peer from to [] i one row within is = absurd (omega (arith, within))

@@ -9,7 +9,8 @@ use Rattle.rs_update.specs.IpPrefix.{IpPrefix}
 use Rattle.rs_update.specs.PrefixOrder.{prefix_cmp}
 use Rattle.rs_choice.specs.Plan.{Plan}
 use Rattle.rs_table.specs.Left.{same_prefix}
-use Rattle.rs_table.specs.Cell.{CellContent, IsCell, routes_in, without_route}
+use Rattle.rs_table.specs.ByPeer.{without_route}
+use Rattle.rs_table.specs.Cell.{CellContent, IsCell, routes_in}
 use Rattle.rs_table.specs.Cells.{Entries, AreCells, cell_at, routes_at, routes_of}
 use Rattle.rs_table.proofs.PrefixLemmas.{same_prefix-true}
 

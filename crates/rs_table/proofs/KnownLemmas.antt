@@ -5,7 +5,8 @@ use Rattle.std.specs.Option.{option_map}
 use Rattle.std.proofs.lemmas.List.Elements.{All-from_recursion}
 use Rattle.rs_update.specs.IpPrefix.{IpPrefix}
 use Rattle.rs_table.specs.Content.{TablesContent}
-use Rattle.rs_table.specs.Table.{PeerRoute, TableRow, best_of}
+use Rattle.rs_table.specs.Table.{TableRow, best_of}
+use Rattle.rs_choice.specs.Decision.{SentRoute}
 use Rattle.rs_table.proofs.SelectionLemmas.{best-known}
 use Rattle.rs_table.proofs.TableLemmas.{row_on}
 
@@ -13,7 +14,7 @@ module _ (tables : TablesContent) (client : ℕ) where
   abbrev AreKnown : List TableRow → Type 0
   AreKnown rows = AllByRecursion (λ (row : TableRow). row.route.peer < length tables.ribs) rows
 
-  row_known : (prefix : IpPrefix) (later : List TableRow) (best : Option PeerRoute) → best_of tables client prefix ≡ best → AreKnown later → AreKnown (cons_option (option_map (λ route. record { prefix = prefix; route = route }) best) later)
+  row_known : (prefix : IpPrefix) (later : List TableRow) (best : Option SentRoute) → best_of tables client prefix ≡ best → AreKnown later → AreKnown (cons_option (option_map (λ route. record { prefix = prefix; route = route }) best) later)
   row_known prefix later None e h = h
   row_known prefix later (Some route) e h = (best-known tables client prefix route e, h)
 

@@ -1,7 +1,6 @@
 pub mod CellsLemmas
 pub mod ChangeLemmas
 pub mod CloseLemmas
-pub mod DecisionLemmas
 pub mod ExampleLemmas
 pub mod HeldLemmas
 pub mod KnownLemmas
@@ -12,6 +11,7 @@ pub mod MergeLemmas
 pub mod PlaceLemmas
 pub mod PrefixLemmas
 pub mod PutLemmas
+pub mod RibLemmas
 pub mod RowLemmas
 pub mod SelectionLemmas
 pub mod StoredLemmas

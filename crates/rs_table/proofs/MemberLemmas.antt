@@ -7,7 +7,7 @@ use Rattle.std.proofs.lemmas.Bool.{cases_Bool, eq-eqb}
 use Rattle.std.proofs.lemmas.Bool.Decides.{eqb_tells}
 use Rattle.std.proofs.lemmas.List.Elements.{All-from_recursion, recursion_from_All}
 use Rattle.rs_choice.specs.Naturality.{filter-map}
-use Rattle.rs_table.specs.Cell.{place_of, with_one, without_one}
+use Rattle.rs_table.specs.ByPeer.{place_of, with_one, without_one}
 
 module _ {M : Type 0} (peer_of : M → ℕ) where
   -- members that are made of those of another kind

@@ -11,13 +11,15 @@ use Rattle.rs_update.specs.IpPrefix.{IpPrefix}
 use Rattle.rs_update.specs.PrefixOrder.{prefix_cmp}
 use Rattle.rs_choice.specs.Plan.{Plan}
 use Rattle.rs_choice.specs.declared.held_route.HeldRoute.{HeldRoute}
-use Rattle.rs_table.specs.Cell.{CellContent, IsCell, IsRow, route_at, route_of_held}
+use Rattle.rs_table.specs.ByPeer.{IsRow, route_at}
+use Rattle.rs_table.specs.Cell.{CellContent, IsCell}
+use Rattle.rs_choice.specs.Held.{sent_of_held}
 use Rattle.rs_table.specs.Cells.{Entries, AreCells, AreJoined, cell_at, routes_at, routes_of, routes_from}
 use Rattle.rs_table.specs.Content.{RibContent, TablesContent, nothing_held, rib_of}
 use Rattle.rs_table.specs.Left.{RouteLeft, same_prefix}
 use Rattle.rs_table.specs.Listing.{is_held}
 use Rattle.rs_table.specs.Merge.{AreParts, IsJoined, IsMerged, IsOfPart}
-use Rattle.rs_table.specs.Table.{PeerRoute}
+use Rattle.rs_choice.specs.Decision.{SentRoute}
 use Rattle.rs_table.specs.TablesView.{ribs_from}
 use Rattle.rs_table.proofs.CellsLemmas.{absent, cell-IsCell, get-routes_from, rib-at, rib-past}
 use Rattle.rs_table.proofs.CloseLemmas.{Below, none_below}
@@ -39,7 +41,7 @@ none-held (rib ∷ ribs) q none = or_from _ _ (ap is_some (none zero)) (none-hel
 
 -- ---- the routes on a prefix, by its cell
 
-route_at-past : (from to peer : ℕ) (routes : List PeerRoute) → to ≤ peer → IsRow from to routes → route_at routes peer ≡ None
+route_at-past : (from to peer : ℕ) (routes : List SentRoute) → to ≤ peer → IsRow from to routes → route_at routes peer ≡ None
 route_at-past from to peer [] past row = refl
 route_at-past from to peer (route ∷ later) past row =
     elim (eqb_tells route.peer peer) [
@@ -76,7 +78,7 @@ module _ (plan : Plan) (entries : Entries) (closed : List Bool) (peers : length 
       by_held cell e [] is some = absurd (omega (arith, some))
       by_held cell e (one ∷ later) is some =
           let gone : route_at (routes_at entries q) one.peer ≡ None = sym (get-rib one.peer q) ∙ held-none (ribs_from entries 0 closed) q none one.peer in
-          let routes : routes_at entries q ≡ map route_of_held (one ∷ later) = ap routes_of e ∙ ap (map route_of_held) is in
+          let routes : routes_at entries q ≡ map sent_of_held (one ∷ later) = ap routes_of e ∙ ap (map sent_of_held) is in
           elim (eqb_tells one.peer one.peer) [
             | inl here ↦ absurd (cc (rw here.0 at (sym (ap (λ routes. route_at routes one.peer) routes) ∙ gone)))
             | inr apart ↦ absurd (apart.1 refl)

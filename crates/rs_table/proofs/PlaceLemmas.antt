@@ -5,10 +5,10 @@ use Rattle.std.specs.List.Sorted.{IsPartitionPoint}
 use Rattle.std.proofs.lemmas.Bool.{cases_Bool}
 use Rattle.std.proofs.lemmas.Bool.Decides.{eqb_tells, nat_tests}
 use Rattle.std.proofs.lemmas.List.{get_or_default}
-use Rattle.rs_choice.specs.Held.{AscendByPeer}
+use Rattle.rs_choice.specs.Held.{sent_of_held, AscendByPeer}
 use Rattle.rs_choice.specs.RouteChanges.{IsAt}
 use Rattle.rs_choice.specs.declared.held_route.HeldRoute.{HeldRoute}
-use Rattle.rs_table.specs.Cell.{place_of, route_at, route_of_held, IsAscending}
+use Rattle.rs_table.specs.ByPeer.{place_of, route_at, IsAscending}
 use Rattle.rs_table.specs.Left.{RouteLeft}
 use Rattle.rs_table.proofs.ChangeLemmas.{from_peer, is_below, is_not_below, IsHeldRow}
 use Rattle.rs_table.proofs.RowLemmas.{not_below, route_at-before}
@@ -47,7 +47,7 @@ left_of one = record { time = one.time; attributes = one.attributes.value }
 
 -- the one at the place of a peer's, if it is of that peer, is its route
 pub route_there : (peer : ℕ) (held : List HeldRoute) (one : HeldRoute) → slice_get held (place_of peer_of held peer) ≡ Some one → one.peer ≡ peer →
-    route_at (map route_of_held held) peer ≡ Some (left_of one)
+    route_at (map sent_of_held held) peer ≡ Some (left_of one)
 route_there peer [] one at same = absurd (cc (at))
 route_there peer (x ∷ xs) one at same =
     elim (cases_Bool (nat_lt x.peer peer)) [
@@ -68,7 +68,7 @@ route_there peer (x ∷ xs) one at same =
 
 -- where none of a peer stands there, it has none
 pub route_nowhere : (from to peer : ℕ) (held : List HeldRoute) → (IsAt held (place_of peer_of held peer) peer → ⊥) → IsHeldRow from to held →
-    route_at (map route_of_held held) peer ≡ None
+    route_at (map sent_of_held held) peer ≡ None
 route_nowhere from to peer [] none row = refl
 route_nowhere from to peer (x ∷ xs) none row =
     elim (cases_Bool (nat_lt x.peer peer)) [
@@ -82,6 +82,6 @@ route_nowhere from to peer (x ∷ xs) none row =
           let not_here : IsAt (x ∷ xs) 0 peer → ⊥ = rw more at none in
           elim (eqb_tells x.peer peer) [
             | inl same ↦ absurd (not_here (x, refl, same.1))
-            | inr apart ↦ rw apart.0 (route_at-before (x.peer + 1) to peer (map route_of_held xs) (omega (arith, not_below x.peer peer more)) row.2)
+            | inr apart ↦ rw apart.0 (route_at-before (x.peer + 1) to peer (map sent_of_held xs) (omega (arith, not_below x.peer peer more)) row.2)
           ]
     ]

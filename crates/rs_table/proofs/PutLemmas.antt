@@ -3,7 +3,7 @@ use Rattle.std.proofs.Common.{◌≡◌, ℕ, ◌+◌, ◌<◌, Bool, false, con
 use Rattle.std.proofs.lemmas.Bool.Decides.{eqb_tells}
 use Rattle.std.specs.List.{insert}
 use Rattle.std.specs.Prelude.{IsOk, is_ok}
-use Rattle.rs_table.specs.Cell.{place_of, with_one}
+use Rattle.rs_table.specs.ByPeer.{place_of, with_one}
 use Rattle.rs_table.proofs.MemberLemmas.{with-set, with-insert, length-with}
 
 module _ {M : Type 0} (peer_of : M → ℕ) (members : List M) (one : M) (place : ℕ) (is : place ≡ place_of peer_of members (peer_of one)) where

@@ -4,8 +4,8 @@ use Rattle.std.specs.Prelude.{◌==◌, nat_lt}
 use Rattle.std.proofs.lemmas.Bool.{cases_Bool}
 use Rattle.std.proofs.lemmas.Bool.Decides.{eqb_tells, nat_tests}
 use Rattle.rs_table.specs.Left.{RouteLeft}
-use Rattle.rs_table.specs.Table.{PeerRoute}
-use Rattle.rs_table.specs.Cell.{IsRow, route_at, with_route, without_route}
+use Rattle.rs_choice.specs.Decision.{SentRoute}
+use Rattle.rs_table.specs.ByPeer.{IsRow, route_at, with_route, without_route}
 
 below : (a b : ℕ) → nat_lt a b ≡ true → a < b
 below a b e = grind (arith, nat_tests)
@@ -13,11 +13,11 @@ below a b e = grind (arith, nat_tests)
 pub not_below : (a b : ℕ) → nat_lt a b ≡ false → b ≤ a
 not_below a b e = grind (arith, nat_tests)
 
-pub IsRow-from : (from more to : ℕ) (routes : List PeerRoute) → from ≤ more → IsRow more to routes → IsRow from to routes
+pub IsRow-from : (from more to : ℕ) (routes : List SentRoute) → from ≤ more → IsRow more to routes → IsRow from to routes
 IsRow-from from more to [] le row = tt
 IsRow-from from more to (route ∷ later) le row = (omega (arith, row.0), row.1, row.2)
 
-pub IsRow-without : (from to peer : ℕ) (routes : List PeerRoute) → IsRow from to routes → IsRow from to (without_route routes peer)
+pub IsRow-without : (from to peer : ℕ) (routes : List SentRoute) → IsRow from to routes → IsRow from to (without_route routes peer)
 IsRow-without from to peer [] row = tt
 IsRow-without from to peer (route ∷ later) row =
     let rest : IsRow (route.peer + 1) to (without_route later peer) = IsRow-without (route.peer + 1) to peer later row.2 in
@@ -26,7 +26,7 @@ IsRow-without from to peer (route ∷ later) row =
       | false ↦ IsRow-from from (route.peer + 1) to (without_route later peer) (omega (arith, row.0)) rest
     ]
 
-pub IsRow-with : (from to : ℕ) (routes : List PeerRoute) (route : PeerRoute) → from ≤ route.peer → route.peer < to → IsRow from to routes → IsRow from to (with_route routes route)
+pub IsRow-with : (from to : ℕ) (routes : List SentRoute) (route : SentRoute) → from ≤ route.peer → route.peer < to → IsRow from to routes → IsRow from to (with_route routes route)
 IsRow-with from to [] route lo hi row = (lo, hi, tt)
 IsRow-with from to (first ∷ later) route lo hi row =
     elim (cases_Bool (nat_lt first.peer route.peer)) [
@@ -38,12 +38,12 @@ IsRow-with from to (first ∷ later) route lo hi row =
     ]
 
 -- no more routes than peers
-pub length-row : (from to : ℕ) (routes : List PeerRoute) → from ≤ to → IsRow from to routes → length routes + from ≤ to
+pub length-row : (from to : ℕ) (routes : List SentRoute) → from ≤ to → IsRow from to routes → length routes + from ≤ to
 length-row from to [] le row = omega (arith, le)
 length-row from to (route ∷ later) le row = omega (arith, length-row (route.peer + 1) to later (omega (arith, row.1)) row.2, row.0)
 
 -- the peers from one on have no route where all routes are of later ones
-pub route_at-before : (from to peer : ℕ) (routes : List PeerRoute) → peer < from → IsRow from to routes → route_at routes peer ≡ None
+pub route_at-before : (from to peer : ℕ) (routes : List SentRoute) → peer < from → IsRow from to routes → route_at routes peer ≡ None
 route_at-before from to peer [] less row = refl
 route_at-before from to peer (route ∷ later) less row =
     elim (eqb_tells route.peer peer) [
@@ -58,10 +58,10 @@ swap_tests true true x y z apart = absurd (apart refl refl)
 swap_tests true false x y z apart = refl
 swap_tests false other x y z apart = refl
 
-abbrev left_of : PeerRoute → RouteLeft
+abbrev left_of : SentRoute → RouteLeft
 left_of route = record { time = route.time; attributes = route.attributes }
 
-pub route_at-with : (routes : List PeerRoute) (route : PeerRoute) (peer : ℕ) →
+pub route_at-with : (routes : List SentRoute) (route : SentRoute) (peer : ℕ) →
     route_at (with_route routes route) peer ≡ cond (route.peer == peer) (Some (record { time = route.time; attributes = route.attributes })) (route_at routes peer)
 route_at-with [] route peer = refl
 route_at-with (first ∷ later) route peer =
@@ -92,7 +92,7 @@ either_way : {X : Type 0} (b : Bool) (x : X) → x ≡ cond b x x
 either_way true x = refl
 either_way false x = refl
 
-pub route_at-without : (routes : List PeerRoute) (gone peer : ℕ) → route_at (without_route routes gone) peer ≡ cond (gone == peer) None (route_at routes peer)
+pub route_at-without : (routes : List SentRoute) (gone peer : ℕ) → route_at (without_route routes gone) peer ≡ cond (gone == peer) None (route_at routes peer)
 route_at-without [] gone peer = either_way (gone == peer) None
 route_at-without (route ∷ later) gone peer =
     elim (eqb_tells route.peer gone) [

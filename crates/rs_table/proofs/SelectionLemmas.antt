@@ -5,13 +5,13 @@ use Rattle.std.specs.Option.{option_map}
 use Rattle.std.specs.FinMap.{get}
 use Rattle.std.proofs.lemmas.List.Elements.{All-cons}
 use Rattle.rs_update.specs.IpPrefix.{IpPrefix}
-use Rattle.rs_choice.specs.Decision.{standing_of}
+use Rattle.rs_choice.specs.Clients.{is_sent_to}
+use Rattle.rs_choice.specs.Decision.{standing_of, SentRoute}
 use Rattle.rs_choice.specs.Naturality.{choice-All}
 use Rattle.rs_choice.specs.Eligibility.{is_eligible}
-use Rattle.rs_choice.specs.Policy.{is_permitted}
 use Rattle.rs_table.specs.Left.{RouteLeft}
 use Rattle.rs_table.specs.Content.{RibContent, TablesContent}
-use Rattle.rs_table.specs.Table.{PeerRoute, peer_route, sent_route, candidates_of, best_of, routes_on}
+use Rattle.rs_table.specs.Table.{sent_by, candidates_of, best_of, routes_on}
 
 pub filter_none : {X : Type 0} (test : X → Bool) → ((x : X) → test x ≡ false) → (xs : List X) → filter test xs ≡ []
 filter_none test none [] = refl
@@ -31,13 +31,13 @@ all_places P (x ∷ xs) all = All-cons P x xs all.0 (all_places P xs all.1)
 
 -- the routes that peers have left on a prefix are those of peers that there are
 module _ (prefix : IpPrefix) (count : ℕ) where
-  abbrev IsOfOne : PeerRoute → Type 0
+  abbrev IsOfOne : SentRoute → Type 0
   IsOfOne route = route.peer < count
 
-  abbrev routes_from_one : ℕ → List RibContent → List PeerRoute
-  routes_from_one first ribs = filter_map (λ (peer, rib). option_map (peer_route peer) (get rib.routes prefix)) (enumerate_from first ribs)
+  abbrev routes_from_one : ℕ → List RibContent → List SentRoute
+  routes_from_one first ribs = filter_map (λ (peer, rib). option_map (sent_by peer) (get rib.routes prefix)) (enumerate_from first ribs)
 
-  one_more : (first : ℕ) (later : List PeerRoute) (o : Option RouteLeft) → first < count → AllByRecursion IsOfOne later → AllByRecursion IsOfOne (cons_option (option_map (peer_route first) o) later)
+  one_more : (first : ℕ) (later : List SentRoute) (o : Option RouteLeft) → first < count → AllByRecursion IsOfOne later → AllByRecursion IsOfOne (cons_option (option_map (sent_by first) o) later)
   one_more first later None known all = all
   one_more first later (Some route) known all = (known, all)
 
@@ -46,11 +46,11 @@ module _ (prefix : IpPrefix) (count : ℕ) where
   of_ones first (rib ∷ ribs) all = one_more first (routes_from_one (first + 1) ribs) (get rib.routes prefix) (omega (arith, all)) (of_ones (first + 1) ribs (omega (arith, all)))
 
 -- what a client gets is the route of a peer that there is
-pub best-known : (tables : TablesContent) (client : ℕ) (prefix : IpPrefix) (route : PeerRoute) → best_of tables client prefix ≡ Some route → route.peer < length tables.ribs
+pub best-known : (tables : TablesContent) (client : ℕ) (prefix : IpPrefix) (route : SentRoute) → best_of tables client prefix ≡ Some route → route.peer < length tables.ribs
 best-known tables client prefix route is =
-    let IsKnown : PeerRoute → Type 0 = λ route. route.peer < length tables.ribs in
-    let eligible : PeerRoute → Bool = λ route. is_eligible tables.plan route.peer route.attributes in
-    let permitted : PeerRoute → Bool = λ route. is_permitted tables.plan client route.peer route.attributes in
+    let IsKnown : SentRoute → Type 0 = λ route. route.peer < length tables.ribs in
+    let eligible : SentRoute → Bool = λ route. is_eligible tables.plan route.peer route.attributes in
+    let permitted : SentRoute → Bool = is_sent_to tables.plan client in
     let known : AllByRecursion IsKnown (candidates_of tables client prefix) =
     filter_keeps IsKnown permitted (filter eligible (routes_on prefix tables.ribs)) (filter_keeps IsKnown eligible (routes_on prefix tables.ribs) (of_ones prefix (length tables.ribs) 0 tables.ribs (omega arith))) in
-    choice-All IsKnown (λ route. standing_of tables.plan (sent_route route)) (candidates_of tables client prefix) route (all_places IsKnown (candidates_of tables client prefix) known) is
+    choice-All IsKnown (standing_of tables.plan) (candidates_of tables client prefix) route (all_places IsKnown (candidates_of tables client prefix) known) is

@@ -1,23 +1,24 @@
 -- What a cell keeps for a client is the choice among the candidates of the client.
 use Rattle.std.proofs.Common.{◌≡◌, ℕ, ◌+◌, ◌≤◌, Bool, true, false, not, ◌&&◌, ◌==◌, List, [], ◌∷◌, length, filter, Option, Some, None, refl, sym, ap, ◌∙◌, arith, inl, inr}
 use Rattle.std.specs.List.{AllByRecursion}
-use Rattle.std.specs.Option.{option_map, option_map_or, option_and_then}
+use Rattle.std.specs.Option.{option_map, option_and_then}
 use Rattle.std.proofs.lemmas.Bool.{cases_Bool, cases_lt, and_right, eq-eqb}
 use Rattle.std.proofs.lemmas.Bool.Decides.{eqb_tells}
 use Rattle.std.proofs.lemmas.Option.{slice_get-get_or, slice_get_past}
 use Rattle.rs_choice.specs.Plan.{Plan}
-use Rattle.rs_choice.specs.Decision.{standing_of}
+use Rattle.rs_choice.specs.Decision.{standing_of, SentRoute}
 use Rattle.rs_choice.specs.Eligibility.{is_eligible}
 use Rattle.rs_choice.specs.Policy.{is_permitted}
 use Rattle.rs_choice.specs.Naturality.{choice-All}
 use Rattle.rs_table.specs.Left.{RouteLeft}
-use Rattle.rs_table.specs.Table.{PeerRoute, peer_route, sent_route}
-use Rattle.rs_table.specs.Cell.{CellContent, IsCell, IsRow, route_at, routes_in, candidates_among, best_among, best_peer, stored_best, route_unless_own}
-use Rattle.rs_table.proofs.DecisionLemmas.{best-held}
+use Rattle.rs_table.specs.Table.{sent_by}
+use Rattle.rs_table.specs.ByPeer.{IsRow, route_at}
+use Rattle.rs_table.specs.Cell.{CellContent, IsCell, routes_in, stored_best, route_unless_own}
+use Rattle.rs_choice.specs.Clients.{best_peer_for, candidates_among, chosen_for, eligible_among, is_sent_to, peer_or_own}
 use Rattle.rs_table.proofs.SelectionLemmas.{all_places, filter_keeps, filter_none}
 use Rattle.rs_table.proofs.TableLemmas.{choice-nil}
 
-abbrev left_of : PeerRoute → RouteLeft
+abbrev left_of : SentRoute → RouteLeft
 left_of route = record { time = route.time; attributes = route.attributes }
 
 filter_passes : {X : Type 0} (test : X → Bool) (xs : List X) → AllByRecursion (λ x. test x ≡ true) (filter test xs)
@@ -33,21 +34,21 @@ both P Q R [] f p q = tt
 both P Q R (x ∷ xs) f p q = (f x p.0 q.0, both P Q R xs f p.1 q.1)
 
 -- each route of a row is found at its peer
-from_there : (from to : ℕ) (routes : List PeerRoute) → IsRow from to routes → AllByRecursion (λ (route : PeerRoute). from ≤ route.peer) routes
+from_there : (from to : ℕ) (routes : List SentRoute) → IsRow from to routes → AllByRecursion (λ (route : SentRoute). from ≤ route.peer) routes
 from_there from to [] row = tt
 from_there from to (route ∷ later) row = (
   row.0,
-  both (λ (r : PeerRoute). route.peer + 1 ≤ r.peer) (λ (r : PeerRoute). route.peer + 1 ≤ r.peer) (λ (r : PeerRoute). from ≤ r.peer) later (λ r p q. omega (arith, p, row.0))
+  both (λ (r : SentRoute). route.peer + 1 ≤ r.peer) (λ (r : SentRoute). route.peer + 1 ≤ r.peer) (λ (r : SentRoute). from ≤ r.peer) later (λ r p q. omega (arith, p, row.0))
       (from_there (route.peer + 1) to later row.2) (from_there (route.peer + 1) to later row.2),
 )
 
-each_found : (from to : ℕ) (routes : List PeerRoute) → IsRow from to routes → AllByRecursion (λ (route : PeerRoute). route_at routes route.peer ≡ Some (left_of route)) routes
+each_found : (from to : ℕ) (routes : List SentRoute) → IsRow from to routes → AllByRecursion (λ (route : SentRoute). route_at routes route.peer ≡ Some (left_of route)) routes
 each_found from to [] row = tt
 each_found from to (route ∷ later) row =
-    let passed : (r : PeerRoute) → route.peer + 1 ≤ r.peer → route_at later r.peer ≡ Some (left_of r) → route_at (route ∷ later) r.peer ≡ Some (left_of r) =
+    let passed : (r : SentRoute) → route.peer + 1 ≤ r.peer → route_at later r.peer ≡ Some (left_of r) → route_at (route ∷ later) r.peer ≡ Some (left_of r) =
     λ r more found. elim (eqb_tells route.peer r.peer) [ inl same ↦ absurd (omega (arith, same.1, more)) | inr apart ↦ rw apart.0 found ] in (
       rw (eq-eqb route.peer route.peer refl) refl,
-      both (λ (r : PeerRoute). route.peer + 1 ≤ r.peer) (λ (r : PeerRoute). route_at later r.peer ≡ Some (left_of r)) (λ (r : PeerRoute). route_at (route ∷ later) r.peer ≡ Some (left_of r)) later passed
+      both (λ (r : SentRoute). route.peer + 1 ≤ r.peer) (λ (r : SentRoute). route_at later r.peer ≡ Some (left_of r)) (λ (r : SentRoute). route_at (route ∷ later) r.peer ≡ Some (left_of r)) later passed
           (from_there (route.peer + 1) to later row.2) (each_found (route.peer + 1) to later row.2),
     )
 
@@ -58,41 +59,41 @@ not_own client peer b e =
       | inr apart ↦ elim (eqb_tells peer client) [ inl other ↦ absurd (apart.1 (sym other.1)) | inr no_one ↦ no_one.0 ]
     ]
 
-module _ (plan : Plan) (client : ℕ) (routes : List PeerRoute) (row : IsRow 0 (length plan.peers) routes) where
-  abbrev IsOthers : PeerRoute → Type 0
+module _ (plan : Plan) (client : ℕ) (routes : List SentRoute) (row : IsRow 0 (length plan.peers) routes) where
+  abbrev IsOthers : SentRoute → Type 0
   IsOthers route = ((route.peer == client) ≡ false) × (route_at routes route.peer ≡ Some (left_of route))
 
   all_others : AllByRecursion IsOthers (candidates_among plan client routes)
   all_others =
-      let eligible = filter (λ (route : PeerRoute). is_eligible plan route.peer route.attributes) routes in
-      let permitted : PeerRoute → Bool = λ route. is_permitted plan client route.peer route.attributes in
-      both (λ (route : PeerRoute). permitted route ≡ true) (λ (route : PeerRoute). route_at routes route.peer ≡ Some (left_of route)) IsOthers (candidates_among plan client routes)
+      let eligible = eligible_among plan routes in
+      let permitted : SentRoute → Bool = is_sent_to plan client in
+      both (λ (route : SentRoute). permitted route ≡ true) (λ (route : SentRoute). route_at routes route.peer ≡ Some (left_of route)) IsOthers (candidates_among plan client routes)
       (λ route is_one found. (not_own client route.peer _ is_one, found))
       (filter_passes permitted eligible)
-      (filter_keeps (λ (route : PeerRoute). route_at routes route.peer ≡ Some (left_of route)) permitted eligible
-      (filter_keeps (λ (route : PeerRoute). route_at routes route.peer ≡ Some (left_of route)) (λ (route : PeerRoute). is_eligible plan route.peer route.attributes) routes (each_found 0 (length plan.peers) routes row)))
+      (filter_keeps (λ (route : SentRoute). route_at routes route.peer ≡ Some (left_of route)) permitted eligible
+      (filter_keeps (λ (route : SentRoute). route_at routes route.peer ≡ Some (left_of route)) (λ (route : SentRoute). is_eligible plan route.peer route.attributes) routes (each_found 0 (length plan.peers) routes row)))
 
-  pub unless_own-best : route_unless_own routes client (best_peer plan client routes) ≡ best_among plan client routes
-  unless_own-best = by_best (best_among plan client routes) refl
+  pub unless_own-best : route_unless_own routes client (best_peer_for plan client routes) ≡ chosen_for plan client routes
+  unless_own-best = by_best (chosen_for plan client routes) refl
     where
-      by_best : (o : Option PeerRoute) → best_among plan client routes ≡ o → route_unless_own routes client (option_map_or (λ route. route.peer) o client) ≡ o
+      by_best : (o : Option SentRoute) → chosen_for plan client routes ≡ o → route_unless_own routes client (peer_or_own (option_map (λ (route : SentRoute). route.peer) o) client) ≡ o
       by_best None e = rw (eq-eqb client client refl) refl
       by_best (Some route) e =
-          let other : IsOthers route = choice-All IsOthers (λ route. standing_of plan (sent_route route)) (candidates_among plan client routes) route (all_places IsOthers (candidates_among plan client routes) all_others) e in
-          rw other.0 (ap (option_map (peer_route route.peer)) other.1)
+          let other : IsOthers route = choice-All IsOthers (standing_of plan) (candidates_among plan client routes) route (all_places IsOthers (candidates_among plan client routes) all_others) e in
+          rw other.0 (ap (option_map (sent_by route.peer)) other.1)
 
-pub best-past : (plan : Plan) (client : ℕ) (routes : List PeerRoute) → length plan.peers ≤ client → best_among plan client routes ≡ None
+pub best-past : (plan : Plan) (client : ℕ) (routes : List SentRoute) → length plan.peers ≤ client → chosen_for plan client routes ≡ None
 best-past plan client routes past =
-    let refused : (route : PeerRoute) → is_permitted plan client route.peer route.attributes ≡ false =
+    let refused : (route : SentRoute) → is_permitted plan client route.peer route.attributes ≡ false =
     λ route. rw (slice_get_past plan.peers client past) (and_right (not (client == route.peer)) false refl) in
-    rw (filter_none (λ route. is_permitted plan client route.peer route.attributes) refused (filter (λ route. is_eligible plan route.peer route.attributes) routes)) (choice-nil plan sent_route)
+    rw (filter_none (is_sent_to plan client) refused (eligible_among plan routes)) (choice-nil plan)
 
-pub stored : (plan : Plan) (cell : CellContent) (client : ℕ) → IsCell plan cell → stored_best cell client ≡ best_among plan client (routes_in cell)
+pub stored : (plan : Plan) (cell : CellContent) (client : ℕ) → IsCell plan cell → stored_best cell client ≡ chosen_for plan client (routes_in cell)
 stored plan cell client is =
     elim (cases_lt client (length plan.peers)) [
       | inl known ↦
           ap (option_and_then (route_unless_own (routes_in cell) client)) (slice_get-get_or cell.bests client 0 (omega (arith, known, is.count)))
-          ∙ ap (route_unless_own (routes_in cell) client) (is.best client known ∙ best-held plan client cell.held)
+          ∙ ap (route_unless_own (routes_in cell) client) (is.best client known)
           ∙ unless_own-best plan client (routes_in cell) is.held.row
       | inr past ↦
           ap (option_and_then (route_unless_own (routes_in cell) client)) (slice_get_past cell.bests client (omega (arith, past, is.count)))

@@ -16,7 +16,7 @@ use Rattle.rs_choice.specs.Decision.{SentRoute, standing_of, choice, remaining, 
 use Rattle.rs_table.specs.Left.{same_prefix, RouteLeft}
 use Rattle.rs_table.specs.Content.{RibContent, TablesContent}
 use Rattle.rs_table.specs.Listing.{is_held}
-use Rattle.rs_table.specs.Table.{PeerRoute, peer_route, sent_route, TableRow, IsTable, entry_of_row, best_of, prefixes_held, table_of}
+use Rattle.rs_table.specs.Table.{sent_by, TableRow, IsTable, entry_of_row, best_of, prefixes_held, table_of}
 use Rattle.rs_table.proofs.PrefixLemmas.{prefix_total, prefix_cmp-IsAntisymmetric, find-entries}
 
 -- ---- ascending lists, by the test and by the fact
@@ -82,19 +82,19 @@ absent None e = refl
 absent (Some x) e = absurd (cc e)
 
 no_routes : (q : IpPrefix) (n : ℕ) (ribs : List RibContent) → is_held ribs q ≡ false →
-    filter_map (λ (peer, rib). option_map (peer_route peer) (fin.get rib.routes q)) (enumerate_from n ribs) ≡ []
+    filter_map (λ (peer, rib). option_map (sent_by peer) (fin.get rib.routes q)) (enumerate_from n ribs) ≡ []
 no_routes q n [] e = refl
 no_routes q n (rib ∷ ribs) e =
     let parts = or_parts (fin.contains_key rib.routes q) (is_held ribs q) e in
     let none : fin.get rib.routes q ≡ None = absent (fin.get rib.routes q) parts.0 in
     rw none (no_routes q (n + 1) ribs parts.1)
 
-pub choice-nil : {M : Type 0} (plan : Plan) (sent : M → SentRoute) → choice (λ route. standing_of plan (sent route)) [] ≡ None
+pub choice-nil : (plan : Plan) → choice (standing_of plan) [] ≡ None
 unfolding choice remaining unbeaten
-choice-nil plan sent = refl
+choice-nil plan = refl
 
 pub best-none : (tables : TablesContent) (client : ℕ) (q : IpPrefix) → is_held tables.ribs q ≡ false → best_of tables client q ≡ None
-best-none tables client q none = rw (no_routes q 0 tables.ribs none) (choice-nil tables.plan sent_route)
+best-none tables client q none = rw (no_routes q 0 tables.ribs none) (choice-nil tables.plan)
 
 not_held : (ribs : List RibContent) (q : IpPrefix) → list_any (same_prefix q) (prefixes_held ribs) ≡ false → is_held ribs q ≡ false
 not_held ribs q none =
@@ -104,7 +104,7 @@ not_held ribs q none =
 
 -- ---- the computed table is the table
 
-module _ (f : IpPrefix → Option PeerRoute) where
+module _ (f : IpPrefix → Option SentRoute) where
   abbrev pub row_on : IpPrefix → Option TableRow
   row_on prefix = option_map (λ route. record { prefix = prefix; route = route }) (f prefix)
 
@@ -137,7 +137,7 @@ module _ (f : IpPrefix → Option PeerRoute) where
 pub rows-IsTable : (tables : TablesContent) (client : ℕ) (prefixes : List IpPrefix) → IsStrictlySortedBy prefix_cmp prefixes →
     ((q : IpPrefix) → list_any (same_prefix q) prefixes ≡ false → is_held tables.ribs q ≡ false) → IsTable tables client (filter_map (row_on (best_of tables client)) prefixes)
 rows-IsTable tables client prefixes ascending complete =
-    let best : IpPrefix → Option PeerRoute = best_of tables client in
+    let best : IpPrefix → Option SentRoute = best_of tables client in
     record {
       ascending = ascending-rows best prefixes ascending;
       best = λ q.
@@ -158,7 +158,7 @@ table_of-IsTable tables client =
 
 -- ---- and there is no other
 
-row_from : IpPrefix × PeerRoute → TableRow
+row_from : IpPrefix × SentRoute → TableRow
 row_from entry = record { prefix = entry.0; route = entry.1 }
 
 rows_again : (rows : List TableRow) → map row_from (map entry_of_row rows) ≡ rows

@@ -14,8 +14,11 @@ use Rattle.rs_table.specs.Content.{TablesContent, nothing_held, rib_of}
 use Rattle.rs_table.specs.Listing.{is_held}
 use Rattle.rs_table.specs.Listing as listing
 use Rattle.rs_table.specs.Cells as cells
-use Rattle.rs_table.specs.Table.{PeerRoute, peer_route, route_from, sent_route, best_of}
-use Rattle.rs_table.specs.Cell.{CellContent, IsRow, route_at, best_among, stored_best}
+use Rattle.rs_table.specs.Table.{sent_by, route_from, best_of}
+use Rattle.rs_choice.specs.Decision.{SentRoute}
+use Rattle.rs_table.specs.ByPeer.{IsRow, route_at}
+use Rattle.rs_table.specs.Cell.{CellContent, stored_best}
+use Rattle.rs_choice.specs.Clients.{chosen_for}
 use Rattle.rs_table.specs.Cells.{Entries, AreCells, cell_at, routes_at, routes_of, routes_from, changed_routes, changed_routes_body, ChangeTo}
 use Rattle.rs_table.specs.TablesView.{ribs_from}
 use Rattle.rs_table.proofs.PrefixLemmas.{prefix_total, prefix_cmp-IsAntisymmetric}
@@ -42,10 +45,10 @@ module _ (plan : Plan) (entries : Entries) (closed : List Bool) where
       ]
 
   module _ (peers : length closed ≡ length plan.peers) where
-    pub route-from : (prefix : IpPrefix) (peer : ℕ) → peer < length plan.peers → route_from tables prefix peer ≡ option_map (peer_route peer) (route_at (routes_at entries prefix) peer)
+    pub route-from : (prefix : IpPrefix) (peer : ℕ) → peer < length plan.peers → route_from tables prefix peer ≡ option_map (sent_by peer) (route_at (routes_at entries prefix) peer)
     route-from prefix peer known =
-        ap (λ rib. option_map (peer_route peer) (fin.get rib.routes prefix)) (rib-of peer (omega (arith, known, peers)))
-        ∙ ap (option_map (peer_route peer)) (get-routes_from entries peer prefix)
+        ap (λ rib. option_map (sent_by peer) (fin.get rib.routes prefix)) (rib-of peer (omega (arith, known, peers)))
+        ∙ ap (option_map (sent_by peer)) (get-routes_from entries peer prefix)
 
     module _ (cells : AreCells plan entries) where
       row-at : (prefix : IpPrefix) → IsRow 0 (length plan.peers) (routes_at entries prefix)
@@ -55,15 +58,15 @@ module _ (plan : Plan) (entries : Entries) (closed : List Bool) where
           by_cell None e = tt
           by_cell (Some cell) e = (cell-IsCell plan entries prefix cell cells e).held.row
 
-      pub best-of : (client : ℕ) (prefix : IpPrefix) → best_of tables client prefix ≡ best_among plan client (routes_at entries prefix)
-      best-of client prefix = ap (best_among plan client) (routes_on-cells entries prefix closed (subst (λ n. IsRow 0 n (routes_at entries prefix)) (sym peers) (row-at prefix)))
+      pub best-of : (client : ℕ) (prefix : IpPrefix) → best_of tables client prefix ≡ chosen_for plan client (routes_at entries prefix)
+      best-of client prefix = ap (chosen_for plan client) (routes_on-cells entries prefix closed (subst (λ n. IsRow 0 n (routes_at entries prefix)) (sym peers) (row-at prefix)))
 
       pub best-none : (client : ℕ) (prefix : IpPrefix) → cell_at entries prefix ≡ None → best_of tables client prefix ≡ None
-      best-none client prefix none = best-of client prefix ∙ ap (λ cell. best_among plan client (routes_of cell)) none ∙ choice-nil plan sent_route
+      best-none client prefix none = best-of client prefix ∙ ap (λ cell. chosen_for plan client (routes_of cell)) none ∙ choice-nil plan
 
       pub best-some : (client : ℕ) (prefix : IpPrefix) (cell : CellContent) → cell_at entries prefix ≡ Some cell → stored_best cell client ≡ best_of tables client prefix
       best-some client prefix cell found =
-          stored plan cell client (cell-IsCell plan entries prefix cell cells found) ∙ ap (λ cell. best_among plan client (routes_of cell)) (sym found) ∙ sym (best-of client prefix)
+          stored plan cell client (cell-IsCell plan entries prefix cell cells found) ∙ ap (λ cell. chosen_for plan client (routes_of cell)) (sym found) ∙ sym (best-of client prefix)
 
 -- ---- a change
 
@@ -75,7 +78,7 @@ either_way false x = refl
 abbrev changed_at : Change → IpPrefix → Option RouteLeft → Option RouteLeft
 changed_at change q held = cond (drops_routes change) None (cond (bears_on q change) (body_route change.time change.body) held)
 
-route_at-changed : (peer p : ℕ) (change : Change) (q : IpPrefix) (routes : List PeerRoute) →
+route_at-changed : (peer p : ℕ) (change : Change) (q : IpPrefix) (routes : List SentRoute) →
     route_at (changed_routes peer change q routes) p ≡ cond (peer == p) (changed_at change q (route_at routes p)) (route_at routes p)
 route_at-changed peer p change q routes = by_body change.body
   where

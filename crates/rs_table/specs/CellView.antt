@@ -1,7 +1,8 @@
 -- A cell by its fields.
 use Rattle.std.specs.Prelude.{◌≤◌, length, vec_capacity}
 use Rattle.rs_table.specs.declared.cell.Cell.TheInside.{Inside}
-use Rattle.rs_table.specs.Cell.{CellContent, IsAscending}
+use Rattle.rs_table.specs.ByPeer.{IsAscending}
+use Rattle.rs_table.specs.Cell.{CellContent}
 
 abbrev pub cell_view : Inside → CellContent
 cell_view fields = record { held = fields.held.items; bests = fields.bests.items }

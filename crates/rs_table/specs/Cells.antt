@@ -10,8 +10,9 @@ use Rattle.rs_update.specs.PrefixOrder.{prefix_cmp}
 use Rattle.rs_session.specs.Change.{Change, ChangeBody, Announced, Withdrawn, Lost, Closed}
 use Rattle.rs_choice.specs.Plan.{Plan}
 use Rattle.rs_table.specs.Left.{same_prefix, reason_drops, Routes}
-use Rattle.rs_table.specs.Table.{PeerRoute}
-use Rattle.rs_table.specs.Cell.{CellContent, IsCell, route_at, routes_in, with_route, without_route}
+use Rattle.rs_choice.specs.Decision.{SentRoute}
+use Rattle.rs_table.specs.ByPeer.{route_at, with_route, without_route}
+use Rattle.rs_table.specs.Cell.{CellContent, IsCell, routes_in}
 
 abbrev pub Entries : Type 0
 Entries = List (IpPrefix × CellContent)
@@ -21,11 +22,11 @@ abbrev pub cell_at : Entries → IpPrefix → Option CellContent
 cell_at entries prefix = lookup (is_at (prefix_cmp prefix)) entries
 
 -- the routes on a prefix
-abbrev pub routes_of : Option CellContent → List PeerRoute
+abbrev pub routes_of : Option CellContent → List SentRoute
 routes_of None = []
 routes_of (Some cell) = routes_in cell
 
-abbrev pub routes_at : Entries → IpPrefix → List PeerRoute
+abbrev pub routes_at : Entries → IpPrefix → List SentRoute
 routes_at entries prefix = routes_of (cell_at entries prefix)
 
 -- the routes of one peer, by prefix
@@ -40,7 +41,7 @@ abbrev pub AreCells : Plan → Entries → Type 0
 AreCells plan entries = AllByRecursion (λ (entry : IpPrefix × CellContent). IsCell plan entry.1) entries
 
 -- what a peer's change makes of the routes on a prefix
-abbrev pub changed_routes_body : ℕ → ℕ → ChangeBody → IpPrefix → List PeerRoute → List PeerRoute
+abbrev pub changed_routes_body : ℕ → ℕ → ChangeBody → IpPrefix → List SentRoute → List SentRoute
 changed_routes_body peer time (Announced announced attributes) prefix routes =
     if same_prefix prefix announced
     then with_route routes (record { peer = peer; time = time; attributes = attributes }) else routes
@@ -50,7 +51,7 @@ changed_routes_body peer time Lost prefix routes = without_route routes peer
 changed_routes_body peer time (Closed reason) prefix routes =
     if reason_drops reason then without_route routes peer else routes
 
-abbrev pub changed_routes : ℕ → Change → IpPrefix → List PeerRoute → List PeerRoute
+abbrev pub changed_routes : ℕ → Change → IpPrefix → List SentRoute → List SentRoute
 changed_routes peer change prefix routes = changed_routes_body peer change.time change.body prefix routes
 
 -- the entries became others by a peer's change

@@ -14,7 +14,7 @@ use Rattle.rs_update.specs.IpPrefix.{IpPrefix}
 use Rattle.rs_update.specs.PathAttributes.{PathAttributes}
 use Rattle.rs_session.specs.declared.word.Reason.{Reason}
 use Rattle.rs_session.specs.declared.word.Reason.TheVariants as reasons
-use Rattle.rs_session.specs.Change.{Change, ChangeBody, Announced, Withdrawn, Lost, Closed}
+use Rattle.rs_session.specs.Change.{Change, ChangeBody, Announced, Withdrawn, Lost, Closed, is_close}
 use Rattle.rs_update.specs.PrefixOrder.{prefix_cmp}
 
 -- whether two prefixes are one and the same
@@ -57,12 +57,6 @@ body_drops (Withdrawn prefix) = false
 body_drops Lost = false
 body_drops (Closed reason) = reason_drops reason
 
-abbrev pub body_closes : ChangeBody → Bool
-body_closes (Announced prefix attributes) = false
-body_closes (Withdrawn prefix) = false
-body_closes Lost = false
-body_closes (Closed reason) = true
-
 abbrev pub body_loses : ChangeBody → Bool
 body_loses (Announced prefix attributes) = false
 body_loses (Withdrawn prefix) = false
@@ -71,9 +65,6 @@ body_loses (Closed reason) = false
 
 abbrev pub drops_routes : Change → Bool
 drops_routes change = body_drops change.body
-
-abbrev pub is_close : Change → Bool
-is_close change = body_closes change.body
 
 -- the session is lost, and may come up again
 abbrev pub is_loss : Change → Bool

@@ -2,15 +2,15 @@
 --
 -- Export policy comes before the decision, and each client has a decision of its own: a route that policy
 -- refuses to a client hides no other route from it.
-use Rattle.std.specs.Prelude.{◌≡◌, ℕ, ◌==◌, Bool, false, not, if◌then◌else◌, List, map, filter, Option, None, Some}
+use Rattle.std.specs.Prelude.{◌≡◌, ℕ, ◌==◌, Bool, false, not, if◌then◌else◌, List, map, Option, None, Some}
 use Rattle.std.specs.List.{enumerate_from, filter_map, flat_map}
 use Rattle.std.specs.List.Sorted.{IsStrictlySortedBy}
 use Rattle.std.specs.Option.{option_map, option_map_or}
 use Rattle.std.specs.FinMap.{get, find, entries, keys, from_entries}
 use Rattle.rs_update.specs.IpPrefix.{IpPrefix}
-use Rattle.rs_update.specs.PathAttributes.{PathAttributes}
 use Rattle.rs_update.specs.PrefixOrder.{prefix_cmp}
-use Rattle.rs_choice.specs.Decision.{SentRoute, standing_of, choice}
+use Rattle.rs_choice.specs.Clients.{candidates_among, chosen_for}
+use Rattle.rs_choice.specs.Decision.{SentRoute}
 use Rattle.rs_choice.specs.Eligibility.{is_eligible}
 use Rattle.rs_choice.specs.Policy.{is_permitted}
 use Rattle.rs_table.specs.declared.why.Why.{Why}
@@ -18,51 +18,36 @@ use Rattle.rs_table.specs.declared.why.Why.TheVariants.{Own, Absent, Ineligible,
 use Rattle.rs_table.specs.Left.{RouteLeft}
 use Rattle.rs_table.specs.Content.{RibContent, TablesContent, rib_of}
 
--- a route and who sent it: the peer's number, when it was announced, in seconds, and its attributes
-pub record PeerRoute : Type 0 where
-  pub peer : ℕ
-  pub time : ℕ
-  pub attributes : PathAttributes
-
-abbrev pub peer_route : ℕ → RouteLeft → PeerRoute
-peer_route peer route = record { peer = peer; time = route.time; attributes = route.attributes }
-
--- the same for the decision process, which doesn't look at times
-abbrev pub sent_route : PeerRoute → SentRoute
-sent_route route = record { peer = route.peer; attributes = route.attributes }
+-- a route that is left, as one that a peer sent
+abbrev pub sent_by : ℕ → RouteLeft → SentRoute
+sent_by peer route = record { peer = peer; time = route.time; attributes = route.attributes }
 
 -- the route that a peer has left on a prefix
-abbrev pub route_from : TablesContent → IpPrefix → ℕ → Option PeerRoute
-route_from tables prefix peer = option_map (peer_route peer) (get (rib_of tables peer).routes prefix)
+abbrev pub route_from : TablesContent → IpPrefix → ℕ → Option SentRoute
+route_from tables prefix peer = option_map (sent_by peer) (get (rib_of tables peer).routes prefix)
 
 -- the routes that peers have left on a prefix, in the order of the peers
-abbrev pub routes_on : IpPrefix → List RibContent → List PeerRoute
+abbrev pub routes_on : IpPrefix → List RibContent → List SentRoute
 routes_on prefix ribs =
-    filter_map (λ (peer, rib). option_map (peer_route peer) (get rib.routes prefix)) (enumerate_from 0 ribs)
+    filter_map (λ (peer, rib). option_map (sent_by peer) (get rib.routes prefix)) (enumerate_from 0 ribs)
 
--- the candidates of a client for a prefix: of the routes on it the eligible ones (RFC 4271, section 9.1.2),
--- and of these the ones that export policy permits to the client (RFC 7947, section 2.3); none of the
--- client's own is, and none of an unknown client
-abbrev pub candidates_of : TablesContent → ℕ → IpPrefix → List PeerRoute
-candidates_of tables client prefix =
-    filter (λ route. is_permitted tables.plan client route.peer route.attributes)
-    (filter (λ route. is_eligible tables.plan route.peer route.attributes) (routes_on prefix tables.ribs))
+-- the candidates of a client for a prefix, and the route that it gets there: the choice among them
+abbrev pub candidates_of : TablesContent → ℕ → IpPrefix → List SentRoute
+candidates_of tables client prefix = candidates_among tables.plan client (routes_on prefix tables.ribs)
 
--- the route that a client gets on a prefix: the choice among its candidates
-abbrev pub best_of : TablesContent → ℕ → IpPrefix → Option PeerRoute
-best_of tables client prefix =
-    choice (λ route. standing_of tables.plan (sent_route route)) (candidates_of tables client prefix)
+abbrev pub best_of : TablesContent → ℕ → IpPrefix → Option SentRoute
+best_of tables client prefix = chosen_for tables.plan client (routes_on prefix tables.ribs)
 
 -- a row of a client's table
 pub record TableRow : Type 0 where
   pub prefix : IpPrefix
-  pub route : PeerRoute
+  pub route : SentRoute
 
-abbrev pub entry_of_row : TableRow → IpPrefix × PeerRoute
+abbrev pub entry_of_row : TableRow → IpPrefix × SentRoute
 entry_of_row row = (row.prefix, row.route)
 
 -- the route that a list of rows has on a prefix
-abbrev pub route_in : List TableRow → IpPrefix → Option PeerRoute
+abbrev pub route_in : List TableRow → IpPrefix → Option SentRoute
 route_in rows prefix = find prefix_cmp prefix (map entry_of_row rows)
 
 -- what it means: rows are a client's table where their prefixes ascend, each once, and on each prefix stands
@@ -82,7 +67,7 @@ table_of tables client =
     (best_of tables client prefix)) (prefixes_held tables.ribs)
 
 -- why a client has the route of a peer on a prefix, or not: the first case that holds
-abbrev pub is_from : ℕ → Option PeerRoute → Bool
+abbrev pub is_from : ℕ → Option SentRoute → Bool
 is_from peer best = option_map_or (λ route. route.peer == peer) best false
 
 abbrev pub why_left : TablesContent → ℕ → ℕ → IpPrefix → Option RouteLeft → Why

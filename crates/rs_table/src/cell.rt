@@ -3,14 +3,16 @@
 //!
 //! A cell is made whole, with room for a route of every peer, so that no later change of it takes memory.
 
-ghost use Rattle.std.specs.Prelude.{◌≡◌, ◌<◌, ◌≤◌, ◌↔◌, ◌∷◌, [], IfOk, IsTrue, IsFalse, None, length, vec_capacity};
+ghost use Rattle.std.specs.Prelude.{◌≡◌, ◌<◌, ◌≤◌, ◌∷◌, [], IfOk, IsTrue, IsFalse, None, length, vec_capacity};
 ghost use Rattle.std.specs.Option.{option_map};
-ghost use Rattle.rs_choice.specs.Held.{IsJudged};
+ghost use Rattle.rs_choice.specs.Held.{sent_of_held, IsJudged};
 ghost use Rattle.rs_choice.specs.RouteChanges.{IsChange, IsKnown};
-ghost use Rattle.rs_table.specs.Cell.{place_of, route_at, route_of_held, routes_in, stored_best, with_one, with_route};
-ghost use Rattle.rs_table.specs.Cell.{without_one, without_route, AreHeld, IsAscending, IsCell, IsPut, IsTaken};
-ghost use Rattle.rs_table.specs.RouteView.{peer_route_of};
-ghost use Rattle.rs_table.specs.Table.{peer_route};
+ghost use Rattle.rs_table.specs.ByPeer.{place_of, route_at, with_one, with_route};
+ghost use Rattle.rs_table.specs.Cell.{routes_in, stored_best};
+ghost use Rattle.rs_table.specs.ByPeer.{without_one, without_route, IsAscending, IsPut, IsTaken};
+ghost use Rattle.rs_table.specs.Cell.{AreHeld, IsCell};
+ghost use Rattle.rs_table.specs.RouteView.{sent_route_of};
+ghost use Rattle.rs_table.specs.Table.{sent_by};
 
 use crate::route::Route;
 use rs_choice::{Exchange, HeldRoute, RouteChange, is_at, place_of_peer};
@@ -44,7 +46,7 @@ impl Cell {
     // A cell of one route. Refused memory, there is none.
     pub(crate) fn new(alloc: Global, plan: &Exchange, route: HeldRoute) -> Result<Cell, AllocError>
         requires { IsJudged plan.now route }
-        ensures routes { IfOk result (λ cell. routes_in cell ≡ route_of_held route ∷ []) }
+        ensures routes { IfOk result (λ cell. routes_in cell ≡ sent_of_held route ∷ []) }
         ensures cell { IfOk result (λ cell. IsCell plan.now cell) }
     {
         let count = plan.count();
@@ -61,7 +63,7 @@ impl Cell {
     pub(crate) fn announce(&mut self, plan: &Exchange, route: HeldRoute)
         requires judged { IsJudged plan.now route }
         requires cell { IsCell plan.now self.old }
-        ensures routes { routes_in self.new ≡ with_route (routes_in self.old) (route_of_held route) }
+        ensures routes { routes_in self.new ≡ with_route (routes_in self.old) (sent_of_held route) }
         ensures cell { IsCell plan.now self.new }
     {
         let change = put(&mut self.held, route);
@@ -111,7 +113,7 @@ impl Cell {
 
     // The route of a peer.
     pub(crate) fn route(&self, peer: usize) -> Option<Route<'_>>
-        ensures { option_map peer_route_of result ≡ option_map (peer_route peer) (route_at (routes_in self.now) peer) }
+        ensures { option_map sent_route_of result ≡ option_map (sent_by peer) (route_at (routes_in self.now) peer) }
     {
         let place = place(&self.held, peer);
         if !is_at(&self.held, place, peer) {
@@ -127,7 +129,7 @@ impl Cell {
 
     // The route that a client gets.
     pub(crate) fn best(&self, client: usize) -> Option<Route<'_>>
-        ensures { option_map peer_route_of result ≡ stored_best self.now client }
+        ensures { option_map sent_route_of result ≡ stored_best self.now client }
     {
         let best = usize::from(*self.bests.get(client)?);
         if best == client {

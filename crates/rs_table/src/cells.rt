@@ -5,8 +5,8 @@ ghost use Rattle.std.specs.BTreeMap.{IsOrdered};
 ghost use Rattle.rs_session.specs.Change.{change_of};
 ghost use Rattle.rs_update.specs.IpPrefix.{IpPrefix};
 ghost use Rattle.rs_update.specs.PrefixOrder.{prefix_cmp};
-ghost use Rattle.rs_choice.specs.Held.{IsJudged};
-ghost use Rattle.rs_table.specs.Cell.{route_of_held, with_route, without_route};
+ghost use Rattle.rs_choice.specs.Held.{sent_of_held, IsJudged};
+ghost use Rattle.rs_table.specs.ByPeer.{with_route, without_route};
 ghost use Rattle.rs_table.specs.Cells.{cell_at, routes_at, AreCells, AreJoined, ChangeTo, IsFirstOn};
 ghost use Rattle.rs_table.specs.Left.{same_prefix};
 
@@ -67,7 +67,7 @@ fn announce(
     requires cells { AreCells plan.now cells.old.entries }
     ensures routes { OnOk result ((q : IpPrefix)
         → routes_at cells.new.entries q
-        ≡ (if same_prefix q prefix then with_route (routes_at cells.old.entries q) (route_of_held route)
+        ≡ (if same_prefix q prefix then with_route (routes_at cells.old.entries q) (sent_of_held route)
         else routes_at cells.old.entries q)) }
     ensures err { OnErr result (cells.new.entries ≡ cells.old.entries) }
     ensures first { OnErr result (cell_at cells.old.entries prefix ≡ None) }

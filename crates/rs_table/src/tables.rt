@@ -7,14 +7,14 @@
 ghost use Rattle.std.specs.Prelude.{◌≡◌, ◌≢◌, ◌<◌, ◌≤◌, ℕ, false, IfOk, OnOk, OnErr, None, Some, length};
 ghost use Rattle.std.specs.Option.{option_map};
 ghost use Rattle.rs_update.specs.IpPrefix.{IpPrefix};
-ghost use Rattle.rs_session.specs.Change.{change_of};
+ghost use Rattle.rs_session.specs.Change.{change_of, is_close};
 ghost use Rattle.rs_table.specs.Cell.{CellContent, stored_best};
 ghost use Rattle.rs_table.specs.Cells.{cell_at};
 ghost use Rattle.rs_table.specs.Content.{nothing_held, rib_of};
-ghost use Rattle.rs_table.specs.Left.{is_close, BecomeBy, IsNewAnnouncement};
+ghost use Rattle.rs_table.specs.Left.{BecomeBy, IsNewAnnouncement};
 ghost use Rattle.rs_table.specs.Listing.{is_held, IsFirstAnnouncement};
 ghost use Rattle.rs_table.specs.Merge.{AreParts, IsJoined};
-ghost use Rattle.rs_table.specs.RouteView.{peer_route_of};
+ghost use Rattle.rs_table.specs.RouteView.{sent_route_of};
 ghost use Rattle.rs_table.specs.Table.{best_of, route_from};
 
 use crate::cell::Cell;
@@ -128,7 +128,7 @@ impl Tables {
     /// the routes that other peers have left there, that are eligible and that export policy permits to the
     /// client. None where there is none, or no such peer. It takes no memory.
     pub fn best(&self, client: usize, prefix: Prefix) -> Option<Route<'_>>
-        ensures { option_map peer_route_of result ≡ best_of self.now client prefix }
+        ensures { option_map sent_route_of result ≡ best_of self.now client prefix }
     {
         self.cells.get(&prefix)?.best(client)
     }
@@ -137,7 +137,7 @@ impl Tables {
     /// none. It takes no memory.
     pub fn route(&self, peer: usize, prefix: Prefix) -> Option<Route<'_>>
         requires { peer < length self.now.plan.peers }
-        ensures { option_map peer_route_of result ≡ route_from self.now prefix peer }
+        ensures { option_map sent_route_of result ≡ route_from self.now prefix peer }
     {
         self.cells.get(&prefix)?.route(peer)
     }

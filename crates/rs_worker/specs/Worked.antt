@@ -27,7 +27,7 @@ is_memory reasons.Read = false
 
 -- whether one of the words closes the session
 abbrev pub closes_any : List Word → Bool
-closes_any words = has_close (λ word. is_close word.body) words
+closes_any words = has_close (λ word. is_close (change_of word)) words
 
 -- the changes are a beginning of what the session may say, without its close, and a close that tells of the
 -- want of memory

@@ -5,7 +5,8 @@ use Rattle.std.specs.Prelude.{string_bytes}
 use Rattle.std.specs.List.{list_all}
 use Rattle.rs_choice.specs.Checks.{has_name_among}
 use Rattle.rs_choice.specs.declared.fault.PlanFault.TheVariants.{UnknownName}
-use Rattle.rs_choice.specs.Plan.{Peer, Test, first_fault, peer_of, name_tests, has_names}
+use Rattle.rs_choice.specs.Plan.{Peer, Test, peer_of, name_tests, has_names}
+use Rattle.rs_update.specs.Fault.{first_fault}
 use Rattle.rs_choice.proofs.PlanLemmas.{first_fault-here, first_fault-later, has_names-map}
 use Rattle.rs_choice.proofs.checks.first_unknown_name.Goals as goal
 

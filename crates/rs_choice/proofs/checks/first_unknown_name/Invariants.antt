@@ -1,5 +1,6 @@
 use Rattle.std.proofs.Common.{◌≡◌, ℕ, List, map}
-use Rattle.rs_choice.specs.Plan.{Peer, Test, first_fault, peer_of, name_tests}
+use Rattle.rs_choice.specs.Plan.{Peer, Test, peer_of, name_tests}
+use Rattle.rs_update.specs.Fault.{first_fault}
 use Rattle.rs_choice.proofs.PlanLemmas.{tests_from}
 use Rattle.rs_choice.proofs.checks.first_unknown_name.Given as goal
 

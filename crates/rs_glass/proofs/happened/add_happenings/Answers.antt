@@ -82,4 +82,4 @@ pub loop-session-smaller : goal.loop-session-smaller
 loop-session-smaller g c =
     let closes = rw c.in-Some.is at c.in_ok-word.ensures.closes in
     let fewer = rw c.in-Some.is at c.in_ok-word.ensures.fewer in
-    few-smaller (most_changes (λ r. room_left r) (λ r. r.shown) c.loop-session.session) (most_changes (λ r. room_left r) (λ r. r.shown) c.next_word.new.self) c.loop-session.session.closed c.next_word.new.self.closed (is_close c.in-Some.word.body) closes.0 closes.1 fewer
+    few-smaller (most_changes (λ r. room_left r) (λ r. r.shown) c.loop-session.session) (most_changes (λ r. room_left r) (λ r. r.shown) c.next_word.new.self) c.loop-session.session.closed c.next_word.new.self.closed (is_close (change_of c.in-Some.word)) closes.0 closes.1 fewer

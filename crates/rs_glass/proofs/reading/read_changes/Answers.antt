@@ -6,7 +6,6 @@ use Rattle.rs_mrt.specs.RecordReading.{MayCome, room_left, unread}
 use Rattle.rs_session.specs.Change.{change_of, is_close}
 use Rattle.rs_session.specs.Stage.{fresh, most_changes}
 use Rattle.rs_table.specs.Content.{rib_of}
-use Rattle.rs_table.specs.Left as table
 use Rattle.rs_glass.proofs.GivenLemmas.{few-smaller, given-all, given-late, given-more, given-none}
 use Rattle.rs_glass.proofs.ReadingLemmas.{taken-more, taken-none, taken-said}
 use Rattle.rs_glass.proofs.reading.read_changes.Goals as goal
@@ -35,7 +34,7 @@ pub loop-session-smaller : goal.loop-session-smaller
 loop-session-smaller g c =
     let closes = rw c.in-Some.is at c.in_ok-word.ensures.closes in
     let fewer = rw c.in-Some.is at c.in_ok-word.ensures.fewer in
-    few-smaller (most_changes (λ r. room_left r) (λ r. r.shown) c.loop-session.session) (most_changes (λ r. room_left r) (λ r. r.shown) c.next_word.new.self) c.loop-session.session.closed c.next_word.new.self.closed (is_close c.in-Some.word.body) closes.0 closes.1 fewer
+    few-smaller (most_changes (λ r. room_left r) (λ r. r.shown) c.loop-session.session) (most_changes (λ r. room_left r) (λ r. r.shown) c.next_word.new.self) c.loop-session.session.closed c.next_word.new.self.closed (is_close (change_of c.in-Some.word)) closes.0 closes.1 fewer
 
 pub loop-session-preserved : goal.loop-session-preserved
 loop-session-preserved g c =
@@ -45,7 +44,7 @@ loop-session-preserved g c =
     let closes = rw c.in-Some.is at c.in_ok-word.ensures.closes in
     let r = c.loop-session.invariant.reading in
     let taken = rw c.if-not-takes.false at c.takes.ensures.taken in
-    let none : list_any table.is_close r.given ≡ false = sym r.is_given.closed ∙ closes.0 in
+    let none : list_any is_close r.given ≡ false = sym r.is_given.closed ∙ closes.0 in
     record {
       reading = record {
         given = r.given ++ change_of c.in-Some.word ∷ [];

@@ -3,7 +3,9 @@ use Rattle.std.specs.BTreeMap.{BTreeMap, Updates, insert_entry, is_at}
 use Rattle.std.specs.Option.{is_some, option_copied_mut}
 use Rattle.rs_update.specs.IpPrefix.{IpPrefix}
 use Rattle.rs_update.specs.PrefixOrder.{prefix_cmp}
-use Rattle.rs_table.specs.Cell.{route_of_held, with_route, CellContent}
+use Rattle.rs_table.specs.ByPeer.{with_route}
+use Rattle.rs_table.specs.Cell.{CellContent}
+use Rattle.rs_choice.specs.Held.{sent_of_held}
 use Rattle.rs_table.specs.Cells.{AreCells, cell_at, routes_of}
 use Rattle.rs_table.proofs.CellsLemmas.{cell-IsCell, AreCells-set, AreCells-insert, at-update, updated}
 use Rattle.rs_table.proofs.cells.announce.Goals as goal
@@ -16,9 +18,9 @@ returns-in-Some-clause-routes c =
     let m = c.args.cells.now in
     let n = c.get_mut.follows.lender c.announce.new.self in
     let found : cell_at m.entries c.args.prefix ≡ Some c.in-Some.cell.now = sym c.in-Some.ensures.value in
-    updated m n c.args.prefix (λ routes. with_route routes (route_of_held c.args.route)) (Some c.announce.new.self)
+    updated m n c.args.prefix (λ routes. with_route routes (sent_of_held c.args.route)) (Some c.announce.new.self)
     (at-update m n c.args.prefix (Some c.announce.new.self) ((c.get_mut.follows.holds c.announce.new.self).3 (ap is_some found)))
-    (c.announce.ensures.routes ∙ ap (λ cell. with_route (routes_of cell) (route_of_held c.args.route)) (sym found))
+    (c.announce.ensures.routes ∙ ap (λ cell. with_route (routes_of cell) (sent_of_held c.args.route)) (sym found))
 
 pub returns-in-Some-clause-cells : goal.returns-in-Some-clause-cells
 returns-in-Some-clause-cells c =
@@ -29,10 +31,10 @@ pub returns-clause-routes : goal.returns-clause-routes
 returns-clause-routes c =
     let m = c.args.cells.now in
     let none : cell_at m.entries c.args.prefix ≡ None = sym c.get_mut.ensures.value ∙ ap option_copied_mut c.in_default.is in
-    updated m c.insert.new.self c.args.prefix (λ routes. with_route routes (route_of_held c.args.route)) (Some c.in_ok-cell.cell)
+    updated m c.insert.new.self c.args.prefix (λ routes. with_route routes (sent_of_held c.args.route)) (Some c.in_ok-cell.cell)
     (at-update m c.insert.new.self c.args.prefix (Some c.in_ok-cell.cell)
     (subst (λ old. Updates prefix_cmp old c.insert.new.self c.args.prefix (Some c.in_ok-cell.cell)) c.get_mut.follows.holds-at-none c.in_ok-insert.ensures.updates))
-    (c.in_ok-cell.ensures.routes ∙ ap (λ cell. with_route (routes_of cell) (route_of_held c.args.route)) (sym none))
+    (c.in_ok-cell.ensures.routes ∙ ap (λ cell. with_route (routes_of cell) (sent_of_held c.args.route)) (sym none))
 
 pub returns-clause-cells : goal.returns-clause-cells
 returns-clause-cells c =

@@ -3,7 +3,8 @@ use Rattle.std.specs.Prelude.{slice_get, IsTrue}
 use Rattle.std.proofs.Math.Seq.{take-length}
 use Rattle.std.proofs.lemmas.List.{append-nil, map-append}
 use Rattle.std.proofs.lemmas.Option.{slice_get_read}
-use Rattle.rs_choice.specs.Contenders.{candidates_among, Contends}
+use Rattle.rs_choice.specs.Clients.{candidates_among}
+use Rattle.rs_choice.specs.Contenders.{Contends}
 use Rattle.rs_choice.specs.Decision.{SentRoute, choice, standing_of}
 use Rattle.rs_choice.specs.Eligibility.{is_eligible}
 use Rattle.rs_choice.specs.Held.{sent_of_held}

@@ -1,5 +1,5 @@
 use Rattle.std.proofs.Common.{◌≤◌, length, map, take}
-use Rattle.rs_choice.specs.Contenders.{candidates_among}
+use Rattle.rs_choice.specs.Clients.{candidates_among}
 use Rattle.rs_choice.specs.Held.{sent_of_held, AreEligible}
 use Rattle.rs_choice.specs.Sharing.{sents_at, ArePlaces}
 use Rattle.rs_choice.proofs.ContenderLemmas.{ChooseSame, HasLast}

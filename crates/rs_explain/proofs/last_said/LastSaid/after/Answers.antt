@@ -1,6 +1,6 @@
-use Rattle.std.proofs.Common.{◌≡◌, ◌∙◌, ◌++◌, ◌∷◌, [], sym, false, true, List}
-use Rattle.rs_session.specs.Change.{change_of, Change}
-use Rattle.rs_explain.specs.LastSaid.{announces, ends, EndRoute, KeepRoute}
+use Rattle.std.proofs.Common.{◌∙◌, ◌∷◌, [], sym}
+use Rattle.rs_session.specs.Change.{change_of}
+use Rattle.rs_explain.specs.LastSaid.{announces, EndRoute, KeepRoute}
 use Rattle.rs_explain.proofs.SaidLemmas.{announced_before, announced_now, ended_before, ended_now, kept, none-append, none-one}
 use Rattle.rs_explain.proofs.last_said.LastSaid.after.Goals as goal
 

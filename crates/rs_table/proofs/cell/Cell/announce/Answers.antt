@@ -1,5 +1,7 @@
 use Rattle.std.proofs.Common.{◌<◌, ◌∙◌, ap, sym, refl, subst, arith, length, map}
-use Rattle.rs_table.specs.Cell.{IsCell, route_of_held, with_route}
+use Rattle.rs_table.specs.ByPeer.{with_route}
+use Rattle.rs_table.specs.Cell.{IsCell}
+use Rattle.rs_choice.specs.Held.{sent_of_held}
 use Rattle.rs_table.specs.CellView.{cell_view}
 use Rattle.rs_table.proofs.ChangeLemmas.{put-change, put-known}
 use Rattle.rs_table.proofs.HeldLemmas.{few-held, held-with, routes-with}
@@ -36,9 +38,9 @@ decide_after-requires-clause-some c = subst (λ held. 0 < length held) (sym c.pu
 
 pub returns-clause-routes : goal.returns-clause-routes
 returns-clause-routes c =
-    ap (map route_of_held) c.decide_after.ensures.held
+    ap (map sent_of_held) c.decide_after.ensures.held
     ∙ routes-with c.self.inside.held.items c.put-change.new.held.items c.args.route c.put-change.ensures.held
-    ∙ ap (λ cell. with_route (map route_of_held cell.held) (route_of_held c.args.route)) c.self.view_is
+    ∙ ap (λ cell. with_route (map sent_of_held cell.held) (sent_of_held c.args.route)) c.self.view_is
 
 pub invariant_of-self : goal.invariant_of-self
 invariant_of-self c =

@@ -4,8 +4,10 @@ use Rattle.std.specs.Option.{option_map}
 use Rattle.std.proofs.lemmas.Option.{slice_get_read}
 use Rattle.rs_choice.specs.RouteChanges.{IsAt}
 use Rattle.rs_choice.specs.declared.held_route.HeldRoute.{HeldRoute}
-use Rattle.rs_table.specs.Cell.{place_of, route_at, route_of_held, routes_in}
-use Rattle.rs_table.specs.Table.{peer_route}
+use Rattle.rs_table.specs.ByPeer.{place_of, route_at}
+use Rattle.rs_table.specs.Cell.{routes_in}
+use Rattle.rs_choice.specs.Held.{sent_of_held}
+use Rattle.rs_table.specs.Table.{sent_by}
 use Rattle.rs_table.proofs.ChangeLemmas.{at_gives}
 use Rattle.rs_table.proofs.PlaceLemmas.{route_nowhere, route_there}
 use Rattle.rs_table.proofs.cell.Cell.route.Goals as goal
@@ -19,8 +21,8 @@ returns-then-not-is_at c =
     let nowhere : IsAt held (place_of (λ (one : HeldRoute). one.peer) held peer) peer → ⊥ = λ at.
     let is : IsTrue c.is_at.result = c.is_at.ensures.1 (subst (λ xs. IsAt xs c.place-place.result peer) (sym c.deref-2.ensures.value) (subst (λ k. IsAt held k peer) (sym place) at)) in
     absurd (cc (is, c.if-not-is_at.true)) in
-    let none : route_at (map route_of_held held) peer ≡ None = route_nowhere 0 c.self.invariant.ascending.0 peer held nowhere c.self.invariant.ascending.1 in
-    sym (ap (λ cell. option_map (peer_route peer) (route_at (routes_in cell) peer)) (sym c.self.view_is) ∙ ap (option_map (peer_route peer)) none)
+    let none : route_at (map sent_of_held held) peer ≡ None = route_nowhere 0 c.self.invariant.ascending.0 peer held nowhere c.self.invariant.ascending.1 in
+    sym (ap (λ cell. option_map (sent_by peer) (route_at (routes_in cell) peer)) (sym c.self.view_is) ∙ ap (option_map (sent_by peer)) none)
 
 pub index-route-requires : goal.index-route-requires
 index-route-requires c =
@@ -41,4 +43,4 @@ returns c =
     let same : at.0 ≡ one = let e : Some at.0 ≡ Some one = sym at.1 ∙ read in cc (e) in
     let found = route_there peer held one (sym (ap (slice_get held) place) ∙ read) (ap (λ (one : HeldRoute). one.peer) (sym same) ∙ at.2) in
     ap (λ attributes. Some (record { peer = peer; time = one.time; attributes = attributes })) c.deref-3.ensures
-    ∙ sym (ap (λ cell. option_map (peer_route peer) (route_at (routes_in cell) peer)) (sym c.self.view_is) ∙ ap (option_map (peer_route peer)) found)
+    ∙ sym (ap (λ cell. option_map (sent_by peer) (route_at (routes_in cell) peer)) (sym c.self.view_is) ∙ ap (option_map (sent_by peer)) found)

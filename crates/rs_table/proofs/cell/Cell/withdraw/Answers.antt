@@ -1,5 +1,7 @@
 use Rattle.std.proofs.Common.{◌∙◌, ap, sym, subst, arith, length, map}
-use Rattle.rs_table.specs.Cell.{IsCell, route_of_held, without_route}
+use Rattle.rs_table.specs.ByPeer.{without_route}
+use Rattle.rs_table.specs.Cell.{IsCell}
+use Rattle.rs_choice.specs.Held.{sent_of_held}
 use Rattle.rs_table.specs.CellView.{cell_view}
 use Rattle.rs_table.proofs.ChangeLemmas.{take-change, take-known}
 use Rattle.rs_table.proofs.HeldLemmas.{held-without, routes-without}
@@ -14,7 +16,7 @@ take_out-change-requires c =
 pub returns-then-is_empty-clause-routes : goal.returns-then-is_empty-clause-routes
 returns-then-is_empty-clause-routes c =
     routes-without c.self.inside.held.items c.take_out-change.new.held.items c.args.peer c.take_out-change.ensures.held
-    ∙ ap (λ cell. without_route (map route_of_held cell.held) c.args.peer) c.self.view_is
+    ∙ ap (λ cell. without_route (map sent_of_held cell.held) c.args.peer) c.self.view_is
 
 pub decide_after-requires-clause-held : goal.decide_after-requires-clause-held
 decide_after-requires-clause-held c =
@@ -37,9 +39,9 @@ decide_after-requires-clause-change c =
 
 pub returns-clause-routes : goal.returns-clause-routes
 returns-clause-routes c =
-    ap (map route_of_held) c.decide_after.ensures.held
+    ap (map sent_of_held) c.decide_after.ensures.held
     ∙ routes-without c.self.inside.held.items c.take_out-change.new.held.items c.args.peer c.take_out-change.ensures.held
-    ∙ ap (λ cell. without_route (map route_of_held cell.held) c.args.peer) c.self.view_is
+    ∙ ap (λ cell. without_route (map sent_of_held cell.held) c.args.peer) c.self.view_is
 
 pub invariant_of-self-2 : goal.invariant_of-self-2
 invariant_of-self-2 c =

@@ -10,7 +10,7 @@ use Rattle.rs_update.specs.PrefixOrder.{prefix_cmp}
 use Rattle.rs_table.specs.Cell.{stored_best}
 use Rattle.rs_table.specs.Cells.{Entries, cell_at}
 use Rattle.rs_table.specs.Left.{same_prefix}
-use Rattle.rs_table.specs.RouteView.{row_of, peer_route_of}
+use Rattle.rs_table.specs.RouteView.{row_of, sent_route_of}
 use Rattle.rs_table.specs.Table.{TableRow, IsTable, best_of}
 use Rattle.rs_table.proofs.CellsLemmas.{absent}
 use Rattle.rs_table.proofs.KnownLemmas.{rows-known}
@@ -61,7 +61,7 @@ loop-prefix-preserved c =
     let later : Entries = c.next.new.self in
     let kept = subst (All (λ entry. stored_best entry.1 c.args.client ≡ best_of c.args.self.now c.args.client entry.0)) c.in-Some.ensures.steps c.loop-prefix.invariant.1 in
     let none : best_of c.args.self.now c.args.client c.in-Some.prefix.now ≡ None =
-    sym (kept 0 (c.in-Some.prefix.now, c.in-Some.cell.now) (omega arith)) ∙ sym c.best.ensures ∙ ap (option_map peer_route_of) c.in_default.is in (
+    sym (kept 0 (c.in-Some.prefix.now, c.in-Some.cell.now) (omega arith)) ∙ sym c.best.ensures ∙ ap (option_map sent_route_of) c.in_default.is in (
       lists_none c.args.self.now c.args.client c.loop-prefix.rows.items c.in-Some.prefix.now (prefixes_of later) (prefixes_of c.into_iter-prefix-iterator.result) none
           (ap (λ es. map row_of c.loop-prefix.rows.items ++ filter_map (row_on (best_of c.args.self.now c.args.client)) (prefixes_of es)) (sym c.in-Some.ensures.steps) ∙ c.loop-prefix.invariant.0),
       λ k d below. kept (suc k) d (omega (arith, below)),
@@ -71,8 +71,8 @@ pub loop-prefix-preserved-in-Ok-1 : goal.loop-prefix-preserved-in-Ok-1
 loop-prefix-preserved-in-Ok-1 c =
     let later : Entries = c.next.new.self in
     let kept = subst (All (λ entry. stored_best entry.1 c.args.client ≡ best_of c.args.self.now c.args.client entry.0)) c.in-Some.ensures.steps c.loop-prefix.invariant.1 in
-    let some : best_of c.args.self.now c.args.client c.in-Some.prefix.now ≡ Some (peer_route_of c.in-Some-best.route) =
-    sym (kept 0 (c.in-Some.prefix.now, c.in-Some.cell.now) (omega arith)) ∙ sym c.best.ensures ∙ ap (option_map peer_route_of) c.in-Some-best.is in (
+    let some : best_of c.args.self.now c.args.client c.in-Some.prefix.now ≡ Some (sent_route_of c.in-Some-best.route) =
+    sym (kept 0 (c.in-Some.prefix.now, c.in-Some.cell.now) (omega arith)) ∙ sym c.best.ensures ∙ ap (option_map sent_route_of) c.in-Some-best.is in (
       subst (λ rows. Lists c.args.self.now c.args.client rows (prefixes_of later) (prefixes_of c.into_iter-prefix-iterator.result)) (sym c.in-Ok.ensures.items)
           (lists_some c.args.self.now c.args.client c.loop-prefix.rows.items (record { prefix = c.in-Some.prefix.now; route = c.in-Some-best.route }) (prefixes_of later) (prefixes_of c.into_iter-prefix-iterator.result) some
           (ap (λ es. map row_of c.loop-prefix.rows.items ++ filter_map (row_on (best_of c.args.self.now c.args.client)) (prefixes_of es)) (sym c.in-Some.ensures.steps) ∙ c.loop-prefix.invariant.0)),
