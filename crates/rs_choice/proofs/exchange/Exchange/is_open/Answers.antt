@@ -1,0 +1,12 @@
+-- Each answer is one search, so that a wrong body is refused soon.
+use Rattle.std.proofs.Common.{rules}
+use Rattle.rs_choice.proofs.exchange.Exchange.is_open.Goals as goal
+
+pub returns-then-not-permits_other : goal.returns-then-not-permits_other
+returns-then-not-permits_other c = search rules
+
+pub loop-client-preserved : goal.loop-client-preserved
+loop-client-preserved c = search rules
+
+pub returns : goal.returns
+returns c = search rules
