@@ -27,7 +27,6 @@ use std::env::Env;
 use std::fs::Files;
 use std::io::ErrorKind;
 use std::process::ExitCode;
-use std::thread::Threads;
 
 fn main(rt: HostRuntime) -> ExitCode {
     let ended = match answer(&rt) {
@@ -41,10 +40,7 @@ fn main(rt: HostRuntime) -> ExitCode {
 }
 
 // The answer to the question of the command line, as it is printed.
-fn answer<R: AllocGlobal + Env + Files + Threads + Sync>(rt: &R) -> Result<String, Ended>
-where
-    R::File: Send,
-{
+fn answer<R: AllocGlobal + Env + Files>(rt: &R) -> Result<String, Ended> {
     match command_line(rt)? {
         Query::Why(query) => why(rt, &query),
         Query::History(query) => history(rt, &query),
@@ -89,10 +85,7 @@ fn peer_named<R: AllocGlobal>(rt: &R, setup: &Setup, name: &str) -> Result<usize
 }
 
 // Why a client has each peer's route, or not.
-fn why<R: AllocGlobal + Files + Threads + Sync>(rt: &R, query: &WhyQuery) -> Result<String, Ended>
-where
-    R::File: Send,
-{
+fn why<R: AllocGlobal + Files>(rt: &R, query: &WhyQuery) -> Result<String, Ended> {
     let alloc = rt.alloc();
     let setup = configuration(rt, &query.config)?;
     let client = peer_named(rt, &setup, &query.client)?;
@@ -102,7 +95,7 @@ where
         until: query.until,
         errors: query.errors,
     };
-    let reading = match read_sessions(rt, alloc, &setup.plan, files, &question) {
+    let reading = match read_sessions(alloc, &setup.plan, files, &question) {
         Ok(reading) => reading,
         Err(fault) => return Err(Ended::by_reading(alloc, fault, &setup)),
     };
