@@ -30,33 +30,3 @@ fn rows_ascend_and_show_the_last_announcement(rt: HostRuntime) {
     assert_eq!(rt; best.attributes.next_hop(), 0xC000_020B);
     assert!(rt; tables.best(4, ten).is_none());
 }
-
-#[test]
-fn rows_come_one_after_another_as_in_the_list(rt: HostRuntime) {
-    let alloc = rt.alloc();
-    let ten = ten().expect(&rt, "a prefix");
-    let other = documentation().expect(&rt, "a prefix");
-    let mut tables = tables(alloc, subnet(), FOUR_PEERS).expect(&rt, "tables");
-    for (sender, prefix, route) in [
-        (A, other, VIA_64501),
-        (B, other, VIA_64502),
-        (A, ten, VIA_64501),
-    ] {
-        let route = attributes(alloc, route);
-        announce(&rt, &mut tables, (sender, 100), Some(prefix), route);
-    }
-    for (client, wanted) in [(A, 1), (B, 2), (C, 2), (D, 2), (4, 0)] {
-        let listed = tables.rows(client).expect(&rt, "rows");
-        let mut rows = tables.iter_rows(client);
-        assert_eq!(rt; rows.size_hint(), (0, Some(2)));
-        for row in &listed {
-            let next = rows.next().expect(&rt, "a row");
-            assert_eq!(rt; next.prefix, row.prefix, "client {client}");
-            assert_eq!(rt; next.route.peer, row.route.peer, "client {client}");
-            assert_eq!(rt; next.route.time, row.route.time, "client {client}");
-        }
-        assert!(rt; rows.next().is_none());
-        assert!(rt; rows.next().is_none());
-        assert_eq!(rt; listed.len(), wanted, "client {client}");
-    }
-}
