@@ -45,8 +45,8 @@ def main():
     for name, (cpu, wall, memory) in least.items():
         line = f"  {name:<15} CPU {cpu:.3f} s, wall {wall:.3f} s, at most {memory / 1024:.1f} MB"
         if name in ("why", "history"):
-            records, sessions = (cpu / least[other][0] for other in ("records alone", "sessions alone"))
-            line += f"; of records alone {records:.1f}, of sessions alone {sessions:.2f}"
+            records, sessions = (wall / least[other][1] for other in ("records alone", "sessions alone"))
+            line += f"; wall of records alone {records:.1f}, of sessions alone {sessions:.2f}"
         if name == "why":
             line += f" (goal: at most {GOAL} of records alone)"
         print(line)

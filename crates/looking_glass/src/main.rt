@@ -27,6 +27,7 @@ use std::env::Env;
 use std::fs::Files;
 use std::io::ErrorKind;
 use std::process::ExitCode;
+use std::thread::Threads;
 
 fn main(rt: HostRuntime) -> ExitCode {
     let ended = match answer(&rt) {
@@ -40,7 +41,10 @@ fn main(rt: HostRuntime) -> ExitCode {
 }
 
 // The answer to the question of the command line, as it is printed.
-fn answer<R: AllocGlobal + Env + Files>(rt: &R) -> Result<String, Ended> {
+fn answer<R: AllocGlobal + Env + Files + Threads + Sync>(rt: &R) -> Result<String, Ended>
+where
+    R::File: Send,
+{
     match command_line(rt)? {
         Query::Why(query) => why(rt, &query),
         Query::History(query) => history(rt, &query),
@@ -85,7 +89,10 @@ fn peer_named<R: AllocGlobal>(rt: &R, setup: &Setup, name: &str) -> Result<usize
 }
 
 // Why a client has each peer's route, or not.
-fn why<R: AllocGlobal + Files>(rt: &R, query: &WhyQuery) -> Result<String, Ended> {
+fn why<R: AllocGlobal + Files + Threads + Sync>(rt: &R, query: &WhyQuery) -> Result<String, Ended>
+where
+    R::File: Send,
+{
     let alloc = rt.alloc();
     let setup = configuration(rt, &query.config)?;
     let client = peer_named(rt, &setup, &query.client)?;
@@ -95,7 +102,7 @@ fn why<R: AllocGlobal + Files>(rt: &R, query: &WhyQuery) -> Result<String, Ended
         until: query.until,
         errors: query.errors,
     };
-    let reading = match read_sessions(alloc, &setup.plan, files, &question) {
+    let reading = match read_sessions(rt, alloc, &setup.plan, files, &question) {
         Ok(reading) => reading,
         Err(fault) => return Err(Ended::by_reading(alloc, fault, &setup)),
     };

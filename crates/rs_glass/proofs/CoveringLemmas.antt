@@ -2,7 +2,7 @@
 use Rattle.std.proofs.Common.{◌≡◌, ◌∙◌, sym, ap, subst, refl, ℕ, ◌+◌, ◌-◌, ◌≤◌, ◌<◌, Bool, true, false, List, cond, inl, inr, arith}
 use Rattle.std.specs.Prelude.{nat_lt, ◌⊎◌}
 use Rattle.std.specs.Cmp.{Equal-is, IsTotalOrder, nat_cmp_total, on_total, then_total, tied_itself}
-use Rattle.std.specs.FinMap.{nat_cmp-IsAntisymmetric}
+use Rattle.std.specs.FinMap.{IsAntisymmetric, nat_cmp-IsAntisymmetric}
 use Rattle.std.specs.Ordering.{is_eq, nat_cmp, ordering_then}
 use Rattle.std.specs.declared.cmp.Ordering.{Ordering}
 use Rattle.std.specs.declared.cmp.Ordering.TheVariants.{Less, Equal, Greater}
@@ -25,17 +25,19 @@ then_second Less s e = cc e
 then_second Equal s e = e
 then_second Greater s e = cc e
 
-pub same_prefix-is : (x y : IpPrefix) → same_prefix x y ≡ true → x ≡ y
-same_prefix-is x y e =
-    let tied : prefix_cmp x y ≡ Equal = (Equal-is (prefix_cmp x y)).0 e in
+pub prefix_cmp-IsAntisymmetric : IsAntisymmetric prefix_cmp
+prefix_cmp-IsAntisymmetric x y tied =
     let address : x.address ≡ y.address = nat_cmp-IsAntisymmetric x.address y.address (then_first _ _ tied) in
     let len : x.len ≡ y.len = nat_cmp-IsAntisymmetric x.len y.len (then_second (nat_cmp x.address y.address) _ tied) in
     λ i. record { address = address i; len = len i }
 
-prefix_total : IsTotalOrder prefix_cmp
+pub same_prefix-is : (x y : IpPrefix) → same_prefix x y ≡ true → x ≡ y
+same_prefix-is x y e = prefix_cmp-IsAntisymmetric x y ((Equal-is (prefix_cmp x y)).0 e)
+
+pub prefix_total : IsTotalOrder prefix_cmp
 prefix_total = then_total (on_total (λ (p : IpPrefix). p.address) nat_cmp_total) (on_total (λ (p : IpPrefix). p.len) nat_cmp_total)
 
-same_prefix-itself : (x : IpPrefix) → same_prefix x x ≡ true
+pub same_prefix-itself : (x : IpPrefix) → same_prefix x x ≡ true
 same_prefix-itself x = ap is_eq (tied_itself prefix_total x)
 
 -- a prefix that covers one has so many of its first bits

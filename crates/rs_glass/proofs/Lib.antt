@@ -4,4 +4,6 @@ pub mod HappenedLemmas
 pub mod HistoryLemmas
 pub mod ListLemmas
 pub mod ReadingLemmas
+pub mod RecordingLemmas
+pub mod RoutesLeftLemmas
 pub mod SaidLemmas

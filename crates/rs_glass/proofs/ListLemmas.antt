@@ -1,16 +1,16 @@
 -- Lists that grow by one at a time, place by place.
-use Rattle.std.proofs.Common.{◌≡◌, ◌≢◌, ℕ, zero, suc, ◌<◌, ◌+◌, List, [], ◌∷◌, ◌++◌, Some, length, refl, sym, ap, subst, ◌∙◌, arith, inl, inr, get_or, append_assoc}
+use Rattle.std.proofs.Common.{◌≡◌, ℕ, zero, suc, ◌<◌, ◌+◌, List, [], ◌∷◌, ◌++◌, Some, length, refl, sym, ap, subst, ◌∙◌, arith, inl, inr, get_or, append_assoc}
 use Rattle.std.proofs.lemmas.List.{append-nil}
 use Rattle.std.specs.Prelude.{◌⊎◌, slice_get}
 use Rattle.std.specs.List.{enumerate_from}
 use Rattle.rs_update.specs.IpPrefix.{IpPrefix}
 use Rattle.rs_choice.specs.Plan.{Peer, Plan}
 use Rattle.rs_mrt.specs.Reader.{ReadEnd}
-use Rattle.rs_table.specs.Content.{RibContent, TablesContent, rib_of}
+use Rattle.rs_table.specs.Content.{TablesContent}
 use Rattle.rs_explain.specs.Explanations.{IsExplanation}
 use Rattle.rs_glass.specs.Behind.{each_behind}
 use Rattle.rs_glass.specs.Explained.{AreExplained}
-use Rattle.rs_glass.specs.Recorded.{AreSaidOf, IsFaultAmong, IsFaultOf, IsSaidOf, id_of}
+use Rattle.rs_glass.specs.Recorded.{IsFaultAmong, IsFaultOf, id_of}
 use Rattle.rs_glass.specs.declared.answers.Answer.{Answer}
 use Rattle.rs_glass.specs.declared.fault.GlassFault.{GlassFault}
 use Rattle.rs_glass.specs.declared.fault.GlassFault.TheVariants.{Memory, Read}
@@ -51,34 +51,11 @@ each_behind-more make before (x ∷ xs) one =
     ∙ ap (λ all. (make before x ++ each_behind make (before ++ x ∷ []) xs) ++ make all one) (append_assoc before (x ∷ []) xs)
 
 module _ {R : Type 0} (gives : R → List ℕ → ReadEnd → Type 0) (question : Question) (plan : Plan) (readers : List R) where
-  pub said-none : (tables : TablesContent) (all : List Said) → AreSaidOf gives question plan readers 0 tables all
-  said-none tables all number below = absurd (omega (arith, below))
-
   -- a fault of one reader is a fault among all
   pub fault-among : (number : ℕ) (spec : Peer) (reader : R) → slice_get plan.peers number ≡ Some spec → slice_get readers number ≡ Some reader → (fault : GlassFault) → IsFaultOf gives question (id_of spec) reader number fault → IsFaultAmong gives question plan readers fault
   fault-among number spec reader at_peer at_reader Memory is = tt
   fault-among number spec reader at_peer at_reader (Read faulty) is =
       (spec, ap (slice_get plan.peers) is.0 ∙ at_peer, (reader, ap (slice_get readers) is.0 ∙ at_reader, is.1))
-
-  -- one more session was read
-  pub said-more : (count : ℕ) (before after : TablesContent) (all : List Said) (one : Said) (spec : Peer) (reader : R) → AreSaidOf gives question plan readers count before all → length all ≡ count
-      → slice_get plan.peers count ≡ Some spec → slice_get readers count ≡ Some reader → IsSaidOf gives question (id_of spec) reader (rib_of after count) one
-      → ((other : ℕ) → other ≢ count → rib_of after other ≡ rib_of before other) → AreSaidOf gives question plan readers (count + 1) after (all ++ one ∷ [])
-  said-more count before after all one spec reader so_far as_many at_peer at_reader is others number below peer here x there said at =
-      elim (at-pushed all one said number at) [
-        | inl earlier ↦
-            let under : number < count = omega (arith, at-within all number said earlier, as_many) in
-            let apart : number ≢ count = λ same. omega (arith, under, same) in
-            subst (λ (rib : RibContent). IsSaidOf gives question (id_of peer) x rib said) (sym (others number apart)) (so_far number under peer here x there said earlier)
-        | inr last ↦
-            let place : count ≡ number = sym (last.0 ∙ as_many) in
-            let same_peer : spec ≡ peer = let e : Some spec ≡ Some peer = sym at_peer ∙ ap (slice_get plan.peers) place ∙ here in cc in
-            let same_reader : reader ≡ x = let e : Some reader ≡ Some x = sym at_reader ∙ ap (slice_get readers) place ∙ there in cc in
-            let by_place : IsSaidOf gives question (id_of spec) reader (rib_of after number) one = subst (λ (n : ℕ). IsSaidOf gives question (id_of spec) reader (rib_of after n) one) place is in
-            let by_peer : IsSaidOf gives question (id_of peer) reader (rib_of after number) one = subst (λ (p : Peer). IsSaidOf gives question (id_of p) reader (rib_of after number) one) same_peer by_place in
-            let by_reader : IsSaidOf gives question (id_of peer) x (rib_of after number) one = subst (λ (r : R). IsSaidOf gives question (id_of peer) r (rib_of after number) one) same_reader by_peer in
-            subst (λ (s : Said). IsSaidOf gives question (id_of peer) x (rib_of after number) s) last.1 by_reader
-      ]
 
 module _ (tables : TablesContent) (client : ℕ) (prefix : IpPrefix) (all : List Said) where
   pub explained-none : (answers : List Answer) → AreExplained tables client prefix all 0 answers

@@ -5,5 +5,8 @@ pub mod Recorded  -- what one file says of a prefix
 pub mod Explained  -- why each route is there or not
 pub mod Happened  -- what happens on a prefix
 pub mod Histories  -- what a client gets after each
+-- What reading keeps:
+pub mod Heard  -- what is heard of each peer
+pub mod RoutesLeftView  -- the announcements that still count, by their fields
 -- A list that the others need:
 pub mod Behind  -- each element and those before it

@@ -11,8 +11,8 @@ use Rattle.rs_session.specs.declared.peer.PeerId.{PeerId}
 use Rattle.rs_session.specs.declared.word.Reason.{Reason}
 use Rattle.rs_session.specs.declared.word.Reason.TheVariants as reasons
 use Rattle.rs_choice.specs.Plan.{Peer, Plan}
-use Rattle.rs_table.specs.Content.{RibContent, TablesContent, rib_of}
-use Rattle.rs_table.specs.Left.{BecomeBy, Leaves, RouteLeft}
+use Rattle.rs_table.specs.Content.{TablesContent, rib_of}
+use Rattle.rs_table.specs.Left.{Leaves, RouteLeft, Routes}
 use Rattle.rs_explain.specs.Cut.{IsCut}
 use Rattle.rs_explain.specs.LastSaid.{IsSaidLast}
 use Rattle.rs_explain.specs.declared.last_said.EndedBy.{EndedBy}
@@ -24,11 +24,6 @@ use Rattle.rs_glass.specs.declared.fault.GlassFault.{GlassFault}
 use Rattle.rs_glass.specs.declared.fault.GlassFault.TheVariants.{Memory, Read}
 use Rattle.rs_glass.specs.declared.question.Question.{Question}
 use Rattle.rs_glass.specs.declared.said.Said.{Said}
-
--- a change makes this of what is held of a peer, where it concerns what is asked; or else nothing changes
-abbrev pub BecomesIf : Bool → RibContent → Change → RibContent → Type 0
-BecomesIf true before change later = BecomeBy before.routes change later.routes × (later.closed ≡ is_close change)
-BecomesIf false before change later = later ≡ before
 
 -- of the changes that the recorded file of a peer says, or that come before a failed read, these are the ones
 -- up to the time that is asked for
@@ -76,24 +71,24 @@ pub record IsSaid (prefix : IpPrefix) (changes : List Change) (said : Said) : Ty
   pub last : IsSaidLast prefix changes said.last
   pub close : said.close ≡ close_in changes
 
--- this is said of a prefix by changes, and on each prefix that covers it they leave what is held
-pub record AreTold (prefix : IpPrefix) (changes : List Change) (rib : RibContent) (said : Said) : Type 0 where
+-- this is said of a prefix by changes, and on each prefix that covers it they leave these routes
+pub record AreTold (prefix : IpPrefix) (changes : List Change) (routes : Routes) (said : Said) : Type 0 where
   pub is_said : IsSaid prefix changes said
-  pub routes : (wide : IpPrefix) → covers wide prefix ≡ true → (route : RouteLeft)
-      → Leaves changes wide route ↔ (get rib.routes wide ≡ Some route)
+  pub left_on : (wide : IpPrefix) → covers wide prefix ≡ true → (route : RouteLeft)
+      → Leaves changes wide route ↔ (get routes wide ≡ Some route)
 
 -- what the recorded session of a peer says of the prefix that is asked for, or its changes before a failed read
-abbrev pub IsSaidBefore : {R : Type 0} → (R → List ℕ → ReadEnd → Type 0) → Question → PeerId → R → RibContent
-    → Said → Type 0
-IsSaidBefore gives question peer reader rib said =
+abbrev pub IsSaidBefore : {R : Type 0} → (R → List ℕ → ReadEnd → Type 0) → Question → PeerId → R → Routes → Said
+    → Type 0
+IsSaidBefore gives question peer reader routes said =
     (beginning : List Change) × AreInTime gives question peer reader beginning
-    × AreTold question.prefix beginning rib said
+    × AreTold question.prefix beginning routes said
 
 -- what the recorded session of a peer says of the prefix that is asked for, no read having failed
-abbrev pub IsSaidOf : {R : Type 0} → (R → List ℕ → ReadEnd → Type 0) → Question → PeerId → R → RibContent
-    → Said → Type 0
-IsSaidOf gives question peer reader rib said =
-    IsSaidBefore gives question peer reader rib said × (is_failed_read said.close ≡ false)
+abbrev pub IsSaidOf : {R : Type 0} → (R → List ℕ → ReadEnd → Type 0) → Question → PeerId → R → Routes → Said
+    → Type 0
+IsSaidOf gives question peer reader routes said =
+    IsSaidBefore gives question peer reader routes said × (is_failed_read said.close ≡ false)
 
 -- the recorded session of a peer closes in time at a failed read
 abbrev pub ClosesUnread : {R : Type 0} → (R → List ℕ → ReadEnd → Type 0) → Question → PeerId → R → Type 0
@@ -119,7 +114,7 @@ AreSaidOf {R} gives question plan readers count tables all =
     (number : ℕ) → number < count → (peer : Peer) → slice_get plan.peers number ≡ Some peer → (reader : R)
     → slice_get readers number ≡ Some reader
     → (said : Said) → slice_get all number ≡ Some said
-    → IsSaidOf gives question (id_of peer) reader (rib_of tables number) said
+    → IsSaidOf gives question (id_of peer) reader (rib_of tables number).routes said
 
 -- a fault of the readers: a read of the one that is named failed, or memory was refused
 abbrev pub IsFaultAmong : {R : Type 0} → (R → List ℕ → ReadEnd → Type 0) → Question → Plan → List R → GlassFault

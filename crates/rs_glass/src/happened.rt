@@ -6,9 +6,10 @@ ghost use Rattle.rs_glass.specs.Happened.{AddsHappenings, AreHappenings, content
 ghost use Rattle.rs_glass.specs.Recorded.{IsFaultAmong, IsFaultOf};
 
 use crate::fault::GlassFault;
+use crate::hearing::loss_behind;
 use crate::loss::Loss;
 use crate::question::Question;
-use crate::reading::{loss_behind, peer_id};
+use crate::recording::peer_id;
 use rs_choice::Exchange;
 use rs_explain::{Until, what_is_taken_is_the_longest_beginning};
 use rs_mrt::{Read, RecordReader};

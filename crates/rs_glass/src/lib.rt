@@ -7,19 +7,22 @@
 //! Standards: RFC 4271, section 9.1; RFC 7947, section 2.3.
 //!
 //! Reading order: `question`, `covering` (the prefixes that count), `loss` (how a session was lost), `said`
-//! (what a peer's changes say last of the prefix), `reading` (of the recorded files), `answers`; `happened`
-//! (what happened on the prefix, in the order of time) and `history` (and what a client gets after each);
-//! `fault`.
+//! (what a peer's changes say last of the prefix), `routes_left` (the routes that they leave), `recording` (a
+//! peer's recorded session), `hearing` (what it says) and `reading` (what all say), `answers`; `happened` (what
+//! happened on the prefix, in the order of time) and `history` (and what a client gets after each); `fault`.
 #![tactic(auto)]
 
 mod answers;
 mod covering;
 mod fault;
 mod happened;
+mod hearing;
 mod history;
 mod loss;
 mod question;
 mod reading;
+mod recording;
+mod routes_left;
 mod said;
 
 pub use answers::{Answer, Answers, LessSpecific, explain_all};

@@ -1,0 +1,64 @@
+-- A change that is given comes before whatever may come, and the routes take it where it concerns the prefix; once none is given, or one is too late, all that are in
+-- time were given.
+use Rattle.std.proofs.Common.{◌≡◌, ◌∙◌, ◌++◌, ◌∷◌, [], false, refl, sym}
+use Rattle.std.specs.List.{list_any}
+use Rattle.rs_mrt.specs.RecordReading.{MayCome, room_left, unread}
+use Rattle.rs_session.specs.Change.{change_of, is_close}
+use Rattle.rs_session.specs.Stage.{fresh, most_changes}
+use Rattle.rs_glass.proofs.GivenLemmas.{few-smaller, given-all, given-late, given-more, given-none}
+use Rattle.rs_glass.proofs.ReadingLemmas.{taken-more, taken-none, taken-said}
+use Rattle.rs_glass.proofs.hearing.hear_changes.Goals as goal
+
+pub loop-routes-init : goal.loop-routes-init
+loop-routes-init g c =
+    let question = c.args.question.now in
+    let start = fresh (unread c.args.reader) c.args.id question.errors in
+    rw (c.over_by-session.ensures, c.new.ensures) (record {
+      given = [];
+      is_given = given-none (MayCome g.R.Read.gives) (λ r. r.shown) start question.until c.new-until.result refl c.new-until.ensures.nothing c.new-until.ensures.time;
+      is_taken = taken-none question.prefix c.none-routes.result c.nothing-said.result c.none-routes.ensures (c.nothing-said.ensures question.prefix);
+    })
+
+pub loop-routes-smaller : goal.loop-routes-smaller
+loop-routes-smaller g c =
+    let closes = rw c.in-Some.is at c.in_ok-word.ensures.closes in
+    let fewer = rw c.in-Some.is at c.in_ok-word.ensures.fewer in
+    few-smaller (most_changes (λ r. room_left r) (λ r. r.shown) c.loop-routes.session) (most_changes (λ r. room_left r) (λ r. r.shown) c.next_word.new.self) c.loop-routes.session.closed c.next_word.new.self.closed (is_close (change_of c.in-Some.word)) closes.0 closes.1 fewer
+
+pub loop-routes-preserved : goal.loop-routes-preserved
+loop-routes-preserved g c =
+    let question = c.args.question.now in
+    let start = fresh (unread c.args.reader) c.args.id question.errors in
+    let says = rw c.in-Some.is at c.in_ok-word.ensures.says in
+    let closes = rw c.in-Some.is at c.in_ok-word.ensures.closes in
+    let r = c.loop-routes.invariant in
+    let taken = rw c.if-not-takes.false at c.takes.ensures.taken in
+    let none : list_any is_close r.given ≡ false = sym r.is_given.closed ∙ closes.0 in
+    record {
+      given = r.given ++ change_of c.in-Some.word ∷ [];
+      is_given = given-more (MayCome g.R.Read.gives) (λ r. r.shown) start question.until r.given c.loop-routes.session c.next_word.new.self c.loop-routes.until c.takes.new.self c.in-Some.word r.is_given says closes
+          (taken r.given r.given r.is_given.takes) c.takes.ensures.time;
+      is_taken = taken-more question.prefix r.given (change_of c.in-Some.word) c.loop-routes.routes c.take_change.new.routes c.loop-routes.said c.after-said.result c.left_after_one_more.ensures r.is_taken none
+          (c.after-said.ensures r.given r.is_taken.is_said) c.in_ok-take_change.ensures;
+    }
+
+pub returns-then-not-takes : goal.returns-then-not-takes
+returns-then-not-takes g c =
+    let question = c.args.question.now in
+    let start = fresh (unread c.args.reader) c.args.id question.errors in
+    let says = rw c.in-Some.is at c.in_ok-word.ensures.says in
+    let r = c.loop-routes.invariant in
+    let taken = rw c.if-not-takes.true at c.takes.ensures.taken in
+    let late = given-late (MayCome g.R.Read.gives) (λ r. r.shown) start question.until g.R.Read.gives question c.args.id c.args.reader refl (c.a_reader_gives_a_file_or_fails.ensures question.errors c.args.id) c.what_is_taken_is_the_longest_beginning.ensures
+    r.given c.loop-routes.session c.next_word.new.self c.loop-routes.until c.takes.new.self c.in-Some.word r.is_given says c.in_ok-word.ensures.more (taken r.given r.given r.is_given.takes) c.takes.ensures.time in
+    taken-said question.prefix g.R.Read.gives question c.args.id c.args.reader refl r.given c.loop-routes.routes c.loop-routes.said r.is_taken late c.left_by_part.ensures c.left_by_last_changes.ensures
+
+pub returns : goal.returns
+returns g c =
+    let question = c.args.question.now in
+    let start = fresh (unread c.args.reader) c.args.id question.errors in
+    let says = rw c.in_default.is at c.in_ok-word.ensures.says in
+    let r = c.loop-routes.invariant in
+    let all = given-all (MayCome g.R.Read.gives) (λ r. r.shown) start question.until g.R.Read.gives question c.args.id c.args.reader refl (c.a_reader_gives_a_file_or_fails.ensures question.errors c.args.id) c.what_is_taken_is_the_longest_beginning.ensures
+    r.given c.loop-routes.session c.next_word.new.self c.loop-routes.until r.is_given says c.in_ok-word.ensures.more in
+    taken-said question.prefix g.R.Read.gives question c.args.id c.args.reader refl r.given c.loop-routes.routes c.loop-routes.said r.is_taken all c.left_by_part.ensures c.left_by_last_changes.ensures
