@@ -1,4 +1,4 @@
-use Rattle.std.proofs.Common.{◌≡◌, ◌+◌, ◌-◌, ◌<◌, length, Ok, true, sym, ◌∙◌, arith}
+use Rattle.std.proofs.Common.{◌≡◌, ◌+◌, ◌-◌, ◌<◌, length, Ok, true, sym, ◌∙◌, arith, rules}
 use Rattle.std.proofs.lemmas.Result.{err_from_is_err_and}
 use Rattle.rs_mrt.specs.Reader.{FileEnds, ReadFails}
 use Rattle.rs_mrt.specs.Record.{length_field}
@@ -73,3 +73,9 @@ returns-clause-finds g c =
     let skips = rw c.if-not-branch-3.false at c.in_ok-skip.ensures in
     found-front R.gives R.failures c.args.inlet.now c.fill-2.new.inlet c.skip.new.self c.args.window.now c.fill-2.new.self c.read_u32-length.result c.min-front.result
     both skips (field ∙ sym still) c.min-front.ensures enough c.fill-2.ensures.room
+
+pub returns-then-is_empty-clause-finds : goal.returns-then-is_empty-clause-finds
+returns-then-is_empty-clause-finds g c = search rules
+
+pub returns-then-is_empty-clause-room : goal.returns-then-is_empty-clause-room
+returns-then-is_empty-clause-room g c = search

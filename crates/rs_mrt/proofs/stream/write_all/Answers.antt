@@ -22,3 +22,9 @@ pub returns-in-Err-clause-err : goal.returns-in-Err-clause-err
 returns-in-Err-clause-err g c =
     let W = g.W.Write in
     Written-stopped (W.taken c.args.out.now) (W.taken c.loop-rest.out) (W.taken c.write.new.self) c.args.piece.now c.loop-rest.rest.now c.loop-rest.invariant.written c.in-Err.ensures.taken
+
+pub returns-in-Ok-eq0-clause-ok : goal.returns-in-Ok-eq0-clause-ok
+returns-in-Ok-eq0-clause-ok g c = search
+
+pub returns-in-Ok-eq0-clause-ok_failures : goal.returns-in-Ok-eq0-clause-ok_failures
+returns-in-Ok-eq0-clause-ok_failures g c = search

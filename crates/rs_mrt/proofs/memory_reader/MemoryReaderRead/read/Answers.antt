@@ -1,4 +1,4 @@
-use Rattle.std.proofs.Common.{◌≡◌, ◌++◌, min, max, length, take, drop, Ok, ap, subst, ◌∙◌, arith}
+use Rattle.std.proofs.Common.{◌≡◌, ◌++◌, min, max, length, take, drop, Ok, ap, subst, ◌∙◌, arith, rules}
 use Rattle.std.proofs.lemmas.List.{take_at}
 use Rattle.std.proofs.Math.Seq.{length_front}
 use Rattle.rs_mrt.specs.Reader.{ReadGives}
@@ -21,3 +21,9 @@ returns-clause-gives c =
     let same : take count piece ≡ take count r.left.now = take_at given (drop count c.args.into.now) count given_len ∙ c.copy_from_slice.ensures.after ∙ c.split_at.ensures.front in
     subst (λ d. ReadGives (Comes d) (Comes new) (Ok count) piece) c.self.view_is
     (given_by_memory count piece old new (omega arith) (c.in-Some.ensures ∙ ap (amount_within before) wanted) same c.split_at.ensures.back c.count_octets.ensures.octets)
+
+pub returns-in_default-clause-left : goal.returns-in_default-clause-left
+returns-in_default-clause-left c = search rules
+
+pub returns-clause-left : goal.returns-clause-left
+returns-clause-left c = search rules
