@@ -1,0 +1,5 @@
+-- Each answer is one search, so that a wrong body is refused soon.
+use Rattle.rs_ring.proofs.receiver.Receiver.beside.Goals as goal
+
+pub returns-clause-all : goal.returns-clause-all
+returns-clause-all g c = search

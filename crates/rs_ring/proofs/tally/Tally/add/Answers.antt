@@ -1,0 +1,5 @@
+-- Each answer is one search, so that a wrong body is refused soon.
+use Rattle.rs_ring.proofs.tally.Tally.add.Goals as goal
+
+pub returns-clause-tally : goal.returns-clause-tally
+returns-clause-tally g c = search
