@@ -1,30 +1,17 @@
-//! The dump of one client's table (RFC 6396, section 4.3).
-//!
-//! Our choices: one buffer, taken before the first write, in which records are spelled; it is written in
-//! pieces of 64 KiB or more, and nothing is flushed.
+//! The dump of a list of rows (RFC 6396, section 4.3).
 
-ghost use Rattle.std.specs.Prelude.{◌≡◌, ◌+◌, ◌<◌, ◌≤◌, ◌↔◌, All, length, map, IfOk, OnOk, OnErr, IsErrOf};
-ghost use Rattle.std.specs.Prelude.{vec_capacity};
+ghost use Rattle.std.specs.Prelude.{◌≡◌, ◌+◌, ◌<◌, ◌↔◌, All, length, map, IfOk, OnOk, IsErrOf};
 ghost use Rattle.std.specs.Io.KnownBytes.{Appends};
 ghost use Rattle.rs_mrt.specs.Stream.{AppendsBeginning};
 ghost use Rattle.rs_table.specs.RouteView.{row_of};
-ghost use Rattle.rs_dump.specs.Buffer.{HasRoom};
 ghost use Rattle.rs_dump.specs.Dump.{dumped};
-ghost use Rattle.rs_dump.specs.UnderWay.{IsUnderWay};
 
 use crate::fault::DumpFault;
-use crate::peer_index::spell_peer_index;
-use crate::rib::{MAX_ROW_LEN, spell_row};
+use crate::under_way::{add_row, begin_dump};
 use rs_choice::Exchange;
-use rs_mrt::{Failed, Write, write_all};
+use rs_mrt::{Write, write_all};
 use rs_table::Row;
 use std::alloc::Global;
-
-// How many octets wait, at least, before they are written: all pieces but the last have so many.
-const PIECE_LEN: usize = 65536;
-
-// How many octets the buffer holds: room for any record is left where fewer than a piece wait.
-const BUFFER_LEN: usize = 69640;
 
 /// Writes the dump of a client's table to `out` and answers the number of rows: a PEER_INDEX_TABLE record of
 /// the plan's peers, then a RIB_IPV4_UNICAST record for each row, in the order given (RFC 6396, sections
@@ -57,30 +44,10 @@ pub fn write_dump<W: Write>(
     let Ok(count) = u32::try_from(rows.len()) else {
         return Err(DumpFault::TooManyRows);
     };
-    let mut buffer = Vec::with_capacity(alloc, BUFFER_LEN)?;
-    spell_peer_index(&mut buffer, plan, client, time);
+    let mut buffer = begin_dump(alloc, plan, client, time)?;
     for (sequence, row) in rows.iter().enumerate() {
-        make_room(out, &mut buffer)?;
-        spell_row(&mut buffer, time, sequence as u32, row);
+        add_row(out, &mut buffer, time, sequence as u32, row)?;
     }
     write_all(out, &buffer)?;
     Ok(count)
-}
-
-// Makes room for a record: writes what waits, where that is a piece.
-fn make_room<W: Write>(out: &mut W, buffer: &mut Vec<u8>) -> Result<(), Failed>
-    requires failures { W.failures out.old < u64.MAX }
-    requires capacity { BUFFER_LEN ≤ vec_capacity buffer.old }
-    ensures ok { OnOk result (IsUnderWay (W.taken out.old) (W.taken out.new) buffer.new.items buffer.old.items) }
-    ensures ok_failures { OnOk result (W.failures out.new ≡ W.failures out.old) }
-    ensures room { OnOk result (HasRoom buffer.new MAX_ROW_LEN) }
-    ensures err { OnErr result (AppendsBeginning (W.taken out.old) (W.taken out.new) buffer.old.items) }
-    ensures err_failures { OnErr result (W.failures out.new ≡ W.failures out.old + 1) }
-    ensures capacity { BUFFER_LEN ≤ vec_capacity buffer.new }
-{
-    if buffer.len() >= PIECE_LEN {
-        write_all(out, buffer)?;
-        buffer.clear();
-    }
-    Ok(())
 }

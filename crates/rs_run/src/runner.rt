@@ -21,13 +21,13 @@ use crate::outlet::Outlet;
 use crate::report::{add_peer_lines, add_table_line};
 use crate::run_fault::RunFault;
 use rs_choice::Exchange;
-use rs_dump::{DumpFault, write_dump};
+use rs_dump::{DumpFault, write_table_dump};
 use rs_floor::{FloorRefused, Open, Served, serve_by};
 use rs_mrt::{Read, Write, write_all};
 use rs_options::Options;
 use rs_session::a_session_closes_once;
 use rs_setup::Setup;
-use rs_table::{Tables, table_is_computed};
+use rs_table::Tables;
 use std::alloc::Global;
 use std::sync::{Arc, Wait};
 use std::thread::Threads;
@@ -175,7 +175,7 @@ fn keep_dumps<O: Outlet>(
     add_peer_lines(&mut text, plan, served)?;
     for client in 0..plan.count() {
         let name = plan.peer(client).name.as_str();
-        let rows = keep_dump(alloc, plan, served.tables(), client, name, time, outlet)?;
+        let rows = keep_dump(alloc, served.tables(), client, name, time, outlet)?;
         add_table_line(&mut text, name, rows)?;
     }
     Ok(text)
@@ -184,32 +184,30 @@ fn keep_dumps<O: Outlet>(
 // Writes and keeps the dump of one client, of this name, and answers how many rows its table has.
 fn keep_dump<O: Outlet>(
     alloc: Global,
-    plan: &Exchange,
     tables: &Tables,
     client: usize,
     name: &str,
     time: u32,
     outlet: &mut O,
 ) -> Result<u32, RunFault>
-    requires plan { tables.now.plan ≡ plan.now }
-    requires client_known { client < length plan.now.peers }
+    requires client_known { client < length tables.now.plan.peers }
     requires failures { O.failures outlet.old < u64.MAX }
     ensures count { IfOk result (λ rows. rows ≡ length (table_of tables.now client)) }
     ensures kept { OnOk result (Grows (O.kept outlet.old) (O.kept outlet.new)
-        (record { name = dump_name name.now; octets = dumped plan.now client (table_of tables.now client) time }
-        ∷ [])) }
+        (record {
+          name = dump_name name.now;
+          octets = dumped tables.now.plan client (table_of tables.now client) time;
+        } ∷ [])) }
     ensures no_failure { OnOk result (O.failures outlet.new ≡ O.failures outlet.old) }
     ensures refused { OnErr result (O.kept outlet.new ≡ O.kept outlet.old) }
     ensures fault { IfErr result (IsFaultAt client (length (table_of tables.now client)) (O.failures outlet.old)
         (O.failures outlet.new)) }
 {
-    table_is_computed();
-    let rows = tables.rows(client)?;
     let file = format!(in alloc; "{name}.mrt")?;
     let Ok(mut out) = outlet.start(file.as_str()) else {
         return Err(RunFault::Dump(client));
     };
-    match write_dump(alloc, &mut out, plan, client, &rows, time) {
+    match write_table_dump(alloc, &mut out, tables, client, time) {
         Ok(count) => match outlet.keep(file.as_str(), out) {
             Ok(()) => Ok(count),
             Err(_) => Err(RunFault::Dump(client)),

@@ -1,26 +1,41 @@
 -- The rows of a table that is listed, so far and to come.
-use Rattle.std.proofs.Common.{◌≡◌, ℕ, List, [], ◌∷◌, ◌++◌, map, Some, None, sym, ap, ◌∙◌}
+use Rattle.std.proofs.Common.{◌≡◌, ◌≤◌, ℕ, suc, All, List, [], ◌∷◌, ◌++◌, length, map, Option, Some, None, refl, ap, ◌∙◌, arith}
 use Rattle.std.specs.List.{filter_map, cons_option}
 use Rattle.std.specs.Option.{option_map}
 use Rattle.std.proofs.lemmas.List.{append_assoc, map-append}
 use Rattle.rs_update.specs.IpPrefix.{IpPrefix}
 use Rattle.rs_table.specs.declared.route.Row.{Row}
+use Rattle.rs_table.specs.Cell.{CellContent, stored_best}
+use Rattle.rs_table.specs.Cells.{Entries}
+use Rattle.rs_table.specs.ClientRowsView.{stored_rows}
 use Rattle.rs_table.specs.Content.{TablesContent}
-use Rattle.rs_table.specs.RouteView.{row_of, sent_route_of}
-use Rattle.rs_table.specs.Table.{best_of}
+use Rattle.rs_table.specs.RouteView.{row_of}
+use Rattle.rs_table.specs.Table.{TableRow, best_of}
+use Rattle.rs_choice.specs.Decision.{SentRoute}
 use Rattle.rs_table.proofs.TableLemmas.{row_on}
 
-module _ (tables : TablesContent) (client : ℕ) where
-  abbrev pub Lists : List Row → List IpPrefix → List IpPrefix → Type 0
-  Lists rows later all = map row_of rows ++ filter_map (row_on (best_of tables client)) later ≡ filter_map (row_on (best_of tables client)) all
+module _ (client : ℕ) where
+  -- a cell before others has the row of what the client gets there
+  pub stored_rows-more : (entry : IpPrefix × CellContent) (later : Entries) (best : Option SentRoute) → stored_best entry.1 client ≡ best → stored_rows client (entry ∷ later) ≡ cons_option (option_map (λ route. record { prefix = entry.0; route = route }) best) (stored_rows client later)
+  stored_rows-more entry later best is = ap (λ b. cons_option (option_map (λ route. record { prefix = entry.0; route = route }) b) (stored_rows client later)) is
 
-  pub lists_none : (rows : List Row) (prefix : IpPrefix) (later all : List IpPrefix) → best_of tables client prefix ≡ None → Lists rows (prefix ∷ later) all → Lists rows later all
-  lists_none rows prefix later all none lists =
-      ap (λ o. map row_of rows ++ cons_option (option_map (λ route. record { prefix = prefix; route = route }) o) (filter_map (row_on (best_of tables client)) later)) (sym none) ∙ lists
+  -- there are no more rows than cells
+  pub length-stored_rows : (entries : Entries) → length (stored_rows client entries) ≤ length entries
+  length-stored_rows [] = omega arith
+  length-stored_rows (e ∷ es) =
+      elim (stored_best e.1 client) as (λ best. length (cons_option (option_map (λ route. record { prefix = e.0; route = route }) best) (stored_rows client es)) ≤ length (e ∷ es)) [
+        | None ↦ omega (arith, length-stored_rows es)
+        | Some route ↦ omega (arith, length-stored_rows es)
+      ]
 
-  pub lists_some : (rows : List Row) (row : Row) (later all : List IpPrefix) → best_of tables client row.prefix ≡ Some (sent_route_of row.route) → Lists rows (row.prefix ∷ later) all → Lists (rows ++ row ∷ []) later all
-  lists_some rows row later all some lists =
-      ap (λ front. front ++ filter_map (row_on (best_of tables client)) later) (map-append row_of rows (row ∷ []))
-      ∙ append_assoc (map row_of rows) (row_of row ∷ []) (filter_map (row_on (best_of tables client)) later)
-      ∙ ap (λ o. map row_of rows ++ cons_option (option_map (λ route. record { prefix = row.prefix; route = route }) o) (filter_map (row_on (best_of tables client)) later)) (sym some)
-      ∙ lists
+  -- cells that keep what the client gets have the rows of their prefixes
+  pub stored_rows-listed : (tables : TablesContent) (entries : Entries) → All (λ entry. stored_best entry.1 client ≡ best_of tables client entry.0) entries → stored_rows client entries ≡ filter_map (row_on (best_of tables client)) (map (λ entry. entry.0) entries)
+  stored_rows-listed tables [] kept = refl
+  stored_rows-listed tables (e ∷ es) kept =
+      stored_rows-more e es (best_of tables client e.0) (kept 0 e (omega arith))
+      ∙ ap (λ rows. cons_option (row_on (best_of tables client) e.0) rows) (stored_rows-listed tables es (λ k d below. kept (suc k) d (omega (arith, below))))
+
+-- one row more is in the list
+pub rows-one_more : (rows : List Row) (row : Row) (later all : List TableRow) → map row_of rows ++ row_of row ∷ later ≡ all → map row_of (rows ++ row ∷ []) ++ later ≡ all
+rows-one_more rows row later all listed =
+    ap (λ front. front ++ later) (map-append row_of rows (row ∷ [])) ∙ append_assoc (map row_of rows) (row_of row ∷ []) later ∙ listed

@@ -9,6 +9,8 @@ use Rattle.rs_choice.specs.contracts.exchange.Exchange as exchange
 use Rattle.rs_choice.specs.Plan.{Plan}
 use Rattle.rs_table.specs.Left.{Routes, RouteLeft}
 use Rattle.rs_table.specs.Content.{RibContent, TablesContent}
+use Rattle.rs_table.specs.Table.{TableRow}
+use Rattle.rs_choice.specs.Decision.{SentRoute}
 
 abbrev pub prefix_code : Coded IpPrefix
 prefix_code =
@@ -32,3 +34,16 @@ abbrev pub tables_code : Coded TablesContent
 tables_code =
     code_by (Plan × List RibContent) (coded× exchange.the_row.coded (coded_list rib_code)) (λ t. (t.plan, t.ribs))
     (λ p. record { plan = p.0; ribs = p.1 }) (λ _. refl)
+
+abbrev pub sent_route_code : Coded SentRoute
+sent_route_code =
+    code_by (ℕ × (ℕ × PathAttributes)) (coded× coded_ℕ (coded× coded_ℕ attributes.the_row.coded))
+    (λ r. (r.peer, (r.time, r.attributes))) (λ p. record { peer = p.0; time = p.1.0; attributes = p.1.1 }) (λ _. refl)
+
+abbrev pub row_code : Coded TableRow
+row_code =
+    code_by (IpPrefix × SentRoute) (coded× prefix_code sent_route_code) (λ r. (r.prefix, r.route))
+    (λ p. record { prefix = p.0; route = p.1 }) (λ _. refl)
+
+abbrev pub rows_code : Coded (List TableRow)
+rows_code = coded_list row_code

@@ -4,13 +4,14 @@
 //! for each client, its export policy before its decision).
 //!
 //! Reading order: `tables` (what each peer has left, and what a client gets on a prefix), `route` (what is
-//! answered), `listing` (a client's whole table), `why` (and why not), `merge` (parts made one), `laws` (of
-//! the definitions). Below them `cells` (of all prefixes) and `cell` (of one; who gets which route on it is
-//! decided in `rs_choice`).
+//! answered), `client_rows` and `listing` (a client's whole table), `why` (and why not), `merge` (parts made
+//! one), `laws` (of the definitions). Below them `cells` (of all prefixes) and `cell` (of one; who gets which
+//! route on it is decided in `rs_choice`).
 #![tactic(auto)]
 
 mod cell;
 mod cells;
+mod client_rows;
 mod laws;
 mod listing;
 mod merge;
@@ -18,6 +19,7 @@ mod route;
 mod tables;
 mod why;
 
+pub use client_rows::ClientRows;
 pub use laws::{
     examples_hold, left_after_one_more, left_by_last_changes, left_by_part, table_is_computed,
 };

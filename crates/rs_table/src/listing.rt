@@ -5,13 +5,28 @@ ghost use Rattle.std.specs.Prelude.{◌<◌, All, IfOk, length, map};
 ghost use Rattle.rs_table.specs.RouteView.{row_of};
 ghost use Rattle.rs_table.specs.Table.{IsTable};
 
+use crate::client_rows::ClientRows;
 use crate::route::Row;
 use crate::tables::Tables;
 use std::alloc::AllocError;
 
 impl Tables {
-    /// The table of the peer of number `client`: a row for each prefix on which it gets a route, with what
-    /// `best` says of it, in ascending order of prefix, each once. No row where there is no such peer.
+    /// The rows of the table of the peer of number `client`, one after another: one for each prefix on which
+    /// it gets a route, with what `best` says of it, in ascending order of prefix, each once. No row where
+    /// there is no such peer. It takes no memory.
+    pub fn iter_rows(&self, client: usize) -> ClientRows<'_>
+        ensures table { IsTable self.now client result }
+        ensures known { All (λ row. row.route.peer < length self.now.plan.peers) result }
+    {
+        let _peers = self.count();
+        let cells = self.cells();
+        ClientRows {
+            client,
+            cells: cells.iter(),
+        }
+    }
+
+    /// The rows that `iter_rows` gives, in a list.
     ///
     /// Fails where memory is refused.
     pub fn rows<'a>(&'a self, client: usize) -> Result<Vec<Row<'a>>, AllocError>
@@ -19,19 +34,11 @@ impl Tables {
         ensures known { IfOk result (λ rows. All (λ row. row.route.peer < length self.now.plan.peers)
             (map row_of rows.items)) }
     {
-        let _peers = self.count();
         let mut rows = Vec::new(self.allocator());
-        let cells = self.cells();
-        for (prefix, cell) in cells.iter() {
-            if let Some(route) = cell.best(client) {
-                let row = Row {
-                    prefix: *prefix,
-                    route,
-                };
-                let Ok(()) = rows.push(row) else {
-                    return Err(AllocError);
-                };
-            }
+        for row in self.iter_rows(client) {
+            let Ok(()) = rows.push(row) else {
+                return Err(AllocError);
+            };
         }
         Ok(rows)
     }

@@ -30,3 +30,33 @@ fn rows_ascend_and_show_the_last_announcement(rt: HostRuntime) {
     assert_eq!(rt; best.attributes.next_hop(), 0xC000_020B);
     assert!(rt; tables.best(4, ten).is_none());
 }
+
+#[test]
+fn rows_come_one_after_another_as_in_the_list(rt: HostRuntime) {
+    let alloc = rt.alloc();
+    let ten = ten().expect(&rt, "a prefix");
+    let other = documentation().expect(&rt, "a prefix");
+    let mut tables = tables(alloc, subnet(), FOUR_PEERS).expect(&rt, "tables");
+    for (sender, prefix, route) in [
+        (A, other, VIA_64501),
+        (B, other, VIA_64502),
+        (A, ten, VIA_64501),
+    ] {
+        let route = attributes(alloc, route);
+        announce(&rt, &mut tables, (sender, 100), Some(prefix), route);
+    }
+    for (client, wanted) in [(A, 1), (B, 2), (C, 2), (D, 2), (4, 0)] {
+        let listed = tables.rows(client).expect(&rt, "rows");
+        assert_eq!(rt; tables.iter_rows(client).size_hint(), (0, Some(2)));
+        let mut count: usize = 0;
+        for row in tables.iter_rows(client) {
+            let same = listed.get(count).expect(&rt, "a row of the list");
+            assert_eq!(rt; row.prefix, same.prefix, "client {client}");
+            assert_eq!(rt; row.route.peer, same.route.peer, "client {client}");
+            assert_eq!(rt; row.route.time, same.route.time, "client {client}");
+            count = count.wrapping_add(1);
+        }
+        assert_eq!(rt; count, listed.len(), "client {client}");
+        assert_eq!(rt; listed.len(), wanted, "client {client}");
+    }
+}

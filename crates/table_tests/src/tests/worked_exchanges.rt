@@ -6,7 +6,7 @@ ghost use Rattle.table_tests.specs.Parts.{IsEmpty, IsOpen, IsOnPrefix};
 
 use super::*;
 use refusals::Fixed;
-use rs_dump::{DumpFault, write_dump};
+use rs_dump::{DumpFault, write_dump, write_table_dump};
 
 // The path 64501, not to AS 64502, and the path 64503 65010 of c's.
 const OF_A: &str = "40010100 4002060201 0000FBF5 400304C000020B C00804 0000FBF6";
@@ -125,9 +125,13 @@ fn collectors_file(alloc: Global, plan: &Arc<Exchange>) -> Option<Tables> {
     Tables::merge(parts).ok()
 }
 
-// The rows of a client are dumped as wanted, also where memory is refused once: then nothing is written.
+// The rows of a client are dumped as wanted, listed and one after another, also where memory is refused once:
+// then nothing is written.
 fn are_dumped(rt: &impl Abort, alloc: Global, tables: &Tables, client: usize, gets: Gets) {
     let (name, spelled) = gets;
+    let wanted = dump_of(alloc, name, spelled)
+        .or_else(|| dump_of(alloc, name, spelled))
+        .expect(rt, "octets");
     assert!(rt; client < tables.count());
     let rows = tables
         .rows(client)
@@ -140,10 +144,22 @@ fn are_dumped(rt: &impl Abort, alloc: Global, tables: &Tables, client: usize, ge
         answer = write_dump(alloc, &mut out, tables.plan(), client, &rows, 0);
     }
     assert_eq!(rt; answer.map(|count| count as usize), Ok(rows.len()));
-    let wanted = dump_of(alloc, name, spelled)
-        .or_else(|| dump_of(alloc, name, spelled))
-        .expect(rt, "octets");
     assert_eq!(rt; out.octets(), Some(wanted.as_slice()), "{name}");
+    let (count, out) = table_dump(rt, alloc, tables, client);
+    assert_eq!(rt; count as usize, rows.len());
+    assert_eq!(rt; out.octets(), Some(wanted.as_slice()), "{name}");
+}
+
+// The dump of a client's table, without a list of its rows, and how many they are.
+fn table_dump(rt: &impl Abort, alloc: Global, tables: &Tables, client: usize) -> (u32, Fixed) {
+    assert!(rt; client < tables.count());
+    let mut out = Fixed::new();
+    let mut answer = write_table_dump(alloc, &mut out, tables, client, 0);
+    if answer == Err(DumpFault::Memory) {
+        assert_eq!(rt; out.octets(), Some([].as_slice()));
+        answer = write_table_dump(alloc, &mut out, tables, client, 0);
+    }
+    (answer.expect(rt, "a dump"), out)
 }
 
 // The octets of the dump for the client of this name with these rows.

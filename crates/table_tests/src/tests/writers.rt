@@ -2,8 +2,8 @@
 
 use super::*;
 use dumps::{PLAIN_DUMP, dump, row};
-use rs_dump::DumpFault;
-use rs_mrt::Limits;
+use rs_dump::{DumpFault, write_table_dump};
+use rs_mrt::{Limits, MemoryWriter};
 
 // A writer that takes so many octets at a call.
 fn in_pieces(piece: usize) -> Limits {
@@ -36,6 +36,39 @@ fn a_writer_may_take_one_octet_a_call(rt: HostRuntime) {
     // 97 writes of one octet: each is refused in turn, and what is out then is all that was written before.
     for calls in 0..97 {
         let (answer, written) = dump(&rt, alloc, failing_after(calls, 1), (&plan, B, 0), &rows);
+        assert_eq!(rt; answer, Err(DumpFault::Write), "after {calls} writes");
+        assert_eq!(rt; written.len() as u64, calls);
+        assert!(rt; whole.starts_with(&written));
+    }
+}
+
+// Writes the dump of the table of a client to memory within the limits; answers what `write_table_dump` does,
+// and what the writer has taken then.
+fn table_dump(
+    rt: &impl Abort,
+    alloc: Global,
+    limits: Limits,
+    tables: &Tables,
+    client: usize,
+) -> (Result<u32, DumpFault>, Vec<u8>) {
+    assert!(rt; client < tables.count());
+    let mut out = MemoryWriter::new(alloc, limits);
+    let answer = write_table_dump(alloc, &mut out, tables, client, 0);
+    (answer, out.into_octets())
+}
+
+#[test]
+fn a_table_is_dumped_and_may_fail_at_each_octet(rt: HostRuntime) {
+    let alloc = rt.alloc();
+    let mut tables = tables(alloc, subnet(), first_peers(2)).expect(&rt, "tables");
+    let route = attributes(alloc, VIA_64501);
+    announce(&rt, &mut tables, (A, 100), documentation(), route);
+    let whole = octets(alloc, PLAIN_DUMP).expect(&rt, "octets");
+    let (answer, written) = table_dump(&rt, alloc, in_pieces(1), &tables, B);
+    assert_eq!(rt; answer, Ok(1));
+    assert_eq!(rt; written, whole);
+    for calls in 0..97 {
+        let (answer, written) = table_dump(&rt, alloc, failing_after(calls, 1), &tables, B);
         assert_eq!(rt; answer, Err(DumpFault::Write), "after {calls} writes");
         assert_eq!(rt; written.len() as u64, calls);
         assert!(rt; whole.starts_with(&written));

@@ -1,5 +1,5 @@
 use Rattle.std.proofs.Common.{◌≡◌, ◌≤◌, map, take, vec_capacity}
-use Rattle.rs_dump.specs.declared.dump.TheConstants.{BUFFER_LEN}
+use Rattle.rs_dump.specs.declared.under_way.TheConstants.{BUFFER_LEN}
 use Rattle.rs_dump.specs.Dump.{dumped}
 use Rattle.rs_table.specs.RouteView.{row_of}
 use Rattle.rs_dump.specs.UnderWay.{IsUnderWay}

@@ -19,8 +19,8 @@ loop-client-preserved g c =
     let tables = c.args.served.now.tables in
     let name = c.as_str-name.result.now in
     record {
-      kept = kept-one_more plan tables time client peer (O.kept c.args.outlet.now) (O.kept c.loop-client.outlet) (O.kept c.keep_dump.new.outlet) (dump_name name) (dumped plan client (table_of tables client) time)
-          c.peer.ensures (ap dump_name c.as_str-name.ensures.value) refl c.loop-client.invariant.kept (rw c.tables.ensures at c.in_ok-rows.ensures.kept);
+      kept = kept-one_more plan tables time client peer (O.kept c.args.outlet.now) (O.kept c.loop-client.outlet) (O.kept c.keep_dump.new.outlet) (dump_name name) (dumped tables.plan client (table_of tables client) time)
+          c.peer.ensures (ap dump_name c.as_str-name.ensures.value) (ap (λ of. dumped of client (table_of tables client) time) c.requires.plan) c.loop-client.invariant.kept (rw c.tables.ensures at c.in_ok-rows.ensures.kept);
       failures = c.in_ok-rows.ensures.no_failure ∙ c.loop-client.invariant.failures;
       report = reported-one_more plan c.args.served.now.ends tables client c.in_ok-rows.rows peer (string_bytes c.loop-client.text) (string_bytes c.add_table_line.new.report) name c.peer.ensures c.as_str-name.ensures.value (rw c.tables.ensures at c.in_ok-rows.ensures.count) c.loop-client.invariant.report c.in_ok-add_table_line.ensures;
     }
@@ -55,8 +55,8 @@ returns-in_err-add_table_line-clause-fault g c =
     let peer = peer_of c.peer.result.now in
     let tables = c.args.served.now.tables in
     let name = c.as_str-name.result.now in
-    let kept = kept-one_more plan tables time client peer (O.kept c.args.outlet.now) (O.kept c.loop-client.outlet) (O.kept c.keep_dump.new.outlet) (dump_name name) (dumped plan client (table_of tables client) time)
-    c.peer.ensures (ap dump_name c.as_str-name.ensures.value) refl c.loop-client.invariant.kept (rw c.tables.ensures at c.in_ok-rows.ensures.kept) in
+    let kept = kept-one_more plan tables time client peer (O.kept c.args.outlet.now) (O.kept c.loop-client.outlet) (O.kept c.keep_dump.new.outlet) (dump_name name) (dumped tables.plan client (table_of tables client) time)
+    c.peer.ensures (ap dump_name c.as_str-name.ensures.value) (ap (λ of. dumped of client (table_of tables client) time) c.requires.plan) c.loop-client.invariant.kept (rw c.tables.ensures at c.in_ok-rows.ensures.kept) in
     stop-memory plan tables time _ _ _ _ c.from_residual-in_err-add_table_line.result c.from_residual-in_err-add_table_line.ensures.1 (client + 1, kept) (c.in_ok-rows.ensures.no_failure ∙ c.loop-client.invariant.failures)
 
 pub returns-clause-kept : goal.returns-clause-kept

@@ -1,0 +1,84 @@
+//! A dump that is being written, record by record.
+//!
+//! Our choices: one buffer, taken before the first write, in which records are spelled; it is written in
+//! pieces of 64 KiB or more, and nothing is flushed.
+
+ghost use Rattle.std.specs.Prelude.{◌≡◌, ◌+◌, ◌<◌, ◌≤◌, [], ◌++◌, length, IfOk, OnOk, OnErr, vec_capacity};
+ghost use Rattle.rs_mrt.specs.Record.{record_spelling};
+ghost use Rattle.rs_mrt.specs.Stream.{AppendsBeginning};
+ghost use Rattle.rs_table.specs.RouteView.{row_of};
+ghost use Rattle.rs_dump.specs.Buffer.{HasRoom};
+ghost use Rattle.rs_dump.specs.Dump.{dumped, row_record};
+ghost use Rattle.rs_dump.specs.UnderWay.{IsUnderWay};
+
+use crate::peer_index::spell_peer_index;
+use crate::rib::{MAX_ROW_LEN, spell_row};
+use rs_choice::{Exchange, MAX_PEERS};
+use rs_mrt::{Failed, Write, write_all};
+use rs_table::Row;
+use std::alloc::{AllocError, Global};
+
+// How many octets wait, at least, before they are written: all pieces but the last have so many.
+const PIECE_LEN: usize = 65536;
+
+// How many octets the buffer holds: room for any record is left where fewer than a piece wait.
+pub(crate) const BUFFER_LEN: usize = 69640;
+
+// Takes the buffer and begins the dump of a client's table in it: with the record of the peers.
+pub(crate) fn begin_dump(
+    alloc: Global,
+    plan: &Exchange,
+    client: usize,
+    time: u32,
+) -> Result<Vec<u8>, AllocError>
+    requires { client < length plan.now.peers }
+    ensures begun { IfOk result (λ buffer. buffer.items ≡ dumped plan.now client [] time) }
+    ensures capacity { IfOk result (λ buffer. BUFFER_LEN ≤ vec_capacity buffer) }
+    ensures few_peers { OnOk result (length plan.now.peers ≤ MAX_PEERS) }
+{
+    let mut buffer = Vec::with_capacity(alloc, BUFFER_LEN)?;
+    spell_peer_index(&mut buffer, plan, client, time);
+    Ok(buffer)
+}
+
+// Adds the record of a row, whose place among the rows is its Sequence Number; what waits is written first,
+// where that is a piece.
+pub(crate) fn add_row<W: Write>(
+    out: &mut W,
+    buffer: &mut Vec<u8>,
+    time: u32,
+    sequence: u32,
+    row: &Row,
+) -> Result<(), Failed>
+    requires peer_known { row.now.route.peer < 65536 }
+    requires failures { W.failures out.old < u64.MAX }
+    requires capacity { BUFFER_LEN ≤ vec_capacity buffer.old }
+    ensures ok { OnOk result (IsUnderWay (W.taken out.old) (W.taken out.new) buffer.new.items
+        (buffer.old.items ++ record_spelling (row_record time (sequence, row_of row.now)))) }
+    ensures ok_failures { OnOk result (W.failures out.new ≡ W.failures out.old) }
+    ensures err { OnErr result (AppendsBeginning (W.taken out.old) (W.taken out.new) buffer.old.items) }
+    ensures err_failures { OnErr result (W.failures out.new ≡ W.failures out.old + 1) }
+    ensures capacity { BUFFER_LEN ≤ vec_capacity buffer.new }
+{
+    make_room(out, buffer)?;
+    spell_row(buffer, time, sequence, row);
+    Ok(())
+}
+
+// Makes room for a record: writes what waits, where that is a piece.
+fn make_room<W: Write>(out: &mut W, buffer: &mut Vec<u8>) -> Result<(), Failed>
+    requires failures { W.failures out.old < u64.MAX }
+    requires capacity { BUFFER_LEN ≤ vec_capacity buffer.old }
+    ensures ok { OnOk result (IsUnderWay (W.taken out.old) (W.taken out.new) buffer.new.items buffer.old.items) }
+    ensures ok_failures { OnOk result (W.failures out.new ≡ W.failures out.old) }
+    ensures room { OnOk result (HasRoom buffer.new MAX_ROW_LEN) }
+    ensures err { OnErr result (AppendsBeginning (W.taken out.old) (W.taken out.new) buffer.old.items) }
+    ensures err_failures { OnErr result (W.failures out.new ≡ W.failures out.old + 1) }
+    ensures capacity { BUFFER_LEN ≤ vec_capacity buffer.new }
+{
+    if buffer.len() >= PIECE_LEN {
+        write_all(out, buffer)?;
+        buffer.clear();
+    }
+    Ok(())
+}
