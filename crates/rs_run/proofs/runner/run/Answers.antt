@@ -1,5 +1,5 @@
 -- What was read is of files that the readers may give, and so are the dumps that were kept before memory was refused.
-use Rattle.std.proofs.Common.{List, length, sym, ap, ◌∙◌}
+use Rattle.std.proofs.Common.{List, length, sym, ap, rules, ◌∙◌}
 use Rattle.rs_choice.specs.Plan.{Plan}
 use Rattle.rs_floor.specs.declared.ended.PeerEnd.{PeerEnd}
 use Rattle.rs_run.proofs.RunLemmas.{keeps-beginning, length-ends}
@@ -17,3 +17,10 @@ returns-in_err-text-clause-memory_kept g c = λ is.
     keeps-beginning g.R.Read.gives c.args.options.now.errors c.args.setup.now.plan.value c.args.readers.items c.args.options.now.time c.in_ok-served.served.tables c.in_ok-served.served.ends
     (O.kept c.args.outlet.now) (O.kept c.keep_dumps.new.outlet) (O.failures c.args.outlet.now) (O.failures c.keep_dumps.new.outlet) c.in_err-text.field-0.0 c.from_residual-in_err-text.result
     c.in_ok-served.ensures.served c.from_residual-in_err-text.ensures.1 is (rw c.deref.ensures at c.in_err-text.ensures.fault)
+
+-- One search, so that a wrong body is refused soon.
+pub returns-in-Ok-clause-done : goal.returns-in-Ok-clause-done
+returns-in-Ok-clause-done g c = search rules
+
+pub returns-clause-report : goal.returns-clause-report
+returns-clause-report g c = search rules
