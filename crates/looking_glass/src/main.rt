@@ -115,7 +115,13 @@ where
 }
 
 // What happened on a prefix.
-fn history<R: AllocGlobal + Files>(rt: &R, query: &HistoryQuery) -> Result<String, Ended> {
+fn history<R: AllocGlobal + Files + Threads + Sync>(
+    rt: &R,
+    query: &HistoryQuery,
+) -> Result<String, Ended>
+where
+    R::File: Send,
+{
     let alloc = rt.alloc();
     let setup = configuration(rt, &query.config)?;
     let client = match &query.client {
@@ -128,7 +134,7 @@ fn history<R: AllocGlobal + Files>(rt: &R, query: &HistoryQuery) -> Result<Strin
         until: query.until,
         errors: query.errors,
     };
-    let happenings = match read_happenings(alloc, &setup.plan, files, &question) {
+    let happenings = match read_happenings(rt, alloc, &setup.plan, files, &question) {
         Ok(happenings) => happenings,
         Err(fault) => return Err(Ended::by_reading(alloc, fault, &setup)),
     };

@@ -8,14 +8,18 @@ use Rattle.rs_mrt.specs.Record.{MrtRecord}
 use Rattle.rs_choice.specs.Plan.{Plan}
 use Rattle.rs_session.specs.Change.{Change, body_of, body_closes, change_of, is_read_failure}
 use Rattle.rs_session.specs.Stage.{Comes, Stage}
+use Rattle.rs_session.specs.declared.peer.PeerId.{PeerId}
 use Rattle.rs_session.specs.declared.word.Body.{Body}
 use Rattle.rs_session.specs.declared.word.Body.TheVariants.{Announce, Withdraw, Down, Close}
 use Rattle.rs_session.specs.declared.word.Reason.{Reason}
 use Rattle.rs_session.specs.declared.word.Word.{Word}
 use Rattle.rs_explain.specs.Cut.{UntilContent}
-use Rattle.rs_glass.specs.Happened.{AreWhole, HappeningContent, happened_among, happened_in, happens_at, happens_behind, latest_of}
-use Rattle.rs_glass.specs.Recorded.{close_after, close_in, is_failed_read}
+use Rattle.rs_glass.specs.Happened.{AreHappeningsOf, AreWhole, HappeningContent, contents_of, happened_among, happened_in, happens_at, happens_behind, latest_of}
+use Rattle.rs_glass.specs.Recorded.{AreInTime, close_after, close_in, is_failed_read}
+use Rattle.rs_glass.specs.Heard.{IsRecording}
+use Rattle.rs_glass.specs.declared.happened.Happening.{Happening}
 use Rattle.rs_glass.specs.declared.question.Question.{Question}
+use Rattle.rs_glass.specs.declared.recording.Recording.{Recording}
 use Rattle.rs_glass.proofs.GivenLemmas.{IsGiven}
 use Rattle.rs_glass.proofs.ListLemmas.{at-pushed, each_behind-more}
 use Rattle.rs_glass.proofs.SaidLemmas.{close_in-more}
@@ -52,26 +56,25 @@ latest_of-more : (changes : List Change) (one : Change) → latest_of (changes +
 latest_of-more [] one = refl
 latest_of-more (first ∷ later) one = omega (arith, latest_of-more later one)
 
-module _ {S : Type 0} (comes : Comes S) (shows : S → Option MrtRecord) (start : Stage S) (until : Option ℕ) (prefix : IpPrefix) (peer : ℕ) (before : List HappeningContent) where
-  -- these changes of a file were given, no read failed, and what happens by them is listed behind what was
+module _ {S : Type 0} (comes : Comes S) (shows : S → Option MrtRecord) (start : Stage S) (until : Option ℕ) (prefix : IpPrefix) (peer : ℕ) where
+  -- these changes of a file were given, no read failed, and what happens by them is listed
   pub record IsListing (stage : Stage S) (taken : UntilContent) (latest : ℕ) (listed : List HappeningContent) : Type 0 where
     pub given : List Change
     pub is_given : IsGiven comes shows start until given stage taken
     pub unfailed : is_failed_read (close_in given) ≡ false
     pub time : latest ≡ latest_of given
-    pub lists : listed ≡ before ++ happened_in prefix peer given
+    pub lists : listed ≡ happened_in prefix peer given
 
 -- the time of one change more
 pub latest-more : (given : List Change) (one : Change) (latest next : ℕ) → latest ≡ latest_of given → next ≡ max one.time latest → next ≡ latest_of (given ++ one ∷ [])
 latest-more given one latest next is steps = steps ∙ ap (max one.time) is ∙ sym (latest_of-more given one)
 
 -- what it adds
-pub listed-more : (prefix : IpPrefix) (peer : ℕ) (given : List Change) (one : Change) (time : ℕ) (before listed next : List HappeningContent) → listed ≡ before ++ happened_in prefix peer given → time ≡ latest_of (given ++ one ∷ []) → next ≡ listed ++ happens_at prefix peer time one
-    → next ≡ before ++ happened_in prefix peer (given ++ one ∷ [])
-listed-more prefix peer given one time before listed next is at adds =
+pub listed-more : (prefix : IpPrefix) (peer : ℕ) (given : List Change) (one : Change) (time : ℕ) (listed next : List HappeningContent) → listed ≡ happened_in prefix peer given → time ≡ latest_of (given ++ one ∷ []) → next ≡ listed ++ happens_at prefix peer time one
+    → next ≡ happened_in prefix peer (given ++ one ∷ [])
+listed-more prefix peer given one time listed next is at adds =
     adds ∙ ap (λ (latest : ℕ). listed ++ happens_at prefix peer latest one) at ∙ ap (λ (all : List HappeningContent). all ++ happens_behind prefix peer given one) is
-    ∙ append_assoc before (happened_in prefix peer given) (happens_behind prefix peer given one)
-    ∙ ap (λ (all : List HappeningContent). before ++ all) (sym (each_behind-more (happens_behind prefix peer) [] given one))
+    ∙ sym (each_behind-more (happens_behind prefix peer) [] given one)
 
 -- ---- one file after another
 
@@ -112,3 +115,18 @@ module _ {R : Type 0} (gives : R → List ℕ → ReadEnd → Type 0) (question 
         ∙ ap (λ (n : ℕ). happened_among question.prefix 0 so_far.files ++ happened_in question.prefix n changes) (omega (arith, so_far.as_many))
         ∙ sym (happened_among-more question.prefix 0 so_far.files changes);
   }
+
+  -- what happens by the recorded session of a peer is listed at its place
+  pub listed-recorded : (count : ℕ) (one : Recording R) (all : List Happening) (before listed : List HappeningContent) → AreListed count before → IsRecording plan readers count one → AreHappeningsOf gives question one.id one.reader one.peer all → listed ≡ before ++ contents_of all
+      → AreListed (count + 1) listed
+  listed-recorded count one all before listed so_far is says adds =
+      listed-file count says.0 before listed so_far
+      (record {
+        peer = is.peer;
+        peer_is = is.peer_is;
+        reader = one.reader;
+        reader_is = is.reader_is;
+        in_time = subst (λ (id : PeerId). AreInTime gives question id one.reader says.0) is.id_is says.1;
+        unfailed = says.2;
+      })
+      (adds ∙ ap (λ (more : List HappeningContent). before ++ more) (says.3 ∙ ap (λ (n : ℕ). happened_in question.prefix n says.0) is.number_is))

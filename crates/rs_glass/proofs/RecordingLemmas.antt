@@ -58,6 +58,14 @@ module _ (all : List (Result Heard GlassFault)) where
   fault-heard number Memory at = tt
   fault-heard number (Read faulty) at = (number, at)
 
+module _ {R : Type 0} (gives : R → List ℕ → ReadEnd → Type 0) (question : Question) (plan : Plan) (readers : List R) where
+  -- a fault of the reader of a recording is one among all
+  pub fault-recorded : (number : ℕ) (one : Recording R) → IsRecording plan readers number one → (fault : GlassFault) → IsFaultOf gives question one.id one.reader one.peer fault → IsFaultAmong gives question plan readers fault
+  fault-recorded number one is fault met =
+      let by_id : IsFaultOf gives question (id_of is.peer) one.reader one.peer fault = subst (λ (id : PeerId). IsFaultOf gives question id one.reader one.peer fault) is.id_is met in
+      let by_place : IsFaultOf gives question (id_of is.peer) one.reader number fault = subst (λ (n : ℕ). IsFaultOf gives question (id_of is.peer) one.reader n fault) is.number_is by_id in
+      fault-among gives question plan readers number is.peer one.reader is.peer_is is.reader_is fault by_place
+
 -- what was heard of a recording: what its session says, or a fault of its reader
 abbrev pub HeardOf : {R : Type 0} → (R → List ℕ → ReadEnd → Type 0) → Question → Recording R → Result Heard GlassFault → Type 0
 HeardOf gives question one (Ok heard) = IsSaidOf gives question one.id one.reader heard.routes heard.said
@@ -94,8 +102,4 @@ module _ {R : Type 0} (gives : R → List ℕ → ReadEnd → Type 0) (question 
     fault-met Memory met = tt
     fault-met (Read faulty) met =
         let by_recording = heard_of met.0 (Err (Read faulty)) met.1 in
-        let recording : Recording R = by_recording.0 in
-        let recorded_as : IsRecording plan readers met.0 recording = recorded met.0 recording by_recording.1 in
-        let by_id : IsFaultOf gives question (id_of recorded_as.peer) recording.reader recording.peer (Read faulty) = subst (λ (id : PeerId). IsFaultOf gives question id recording.reader recording.peer (Read faulty)) recorded_as.id_is by_recording.2 in
-        let by_place : IsFaultOf gives question (id_of recorded_as.peer) recording.reader met.0 (Read faulty) = subst (λ (n : ℕ). IsFaultOf gives question (id_of recorded_as.peer) recording.reader n (Read faulty)) recorded_as.number_is by_id in
-        fault-among gives question plan readers met.0 recorded_as.peer recording.reader recorded_as.peer_is recorded_as.reader_is (Read faulty) by_place
+        fault-recorded gives question plan readers met.0 by_recording.0 (recorded met.0 by_recording.0 by_recording.1) (Read faulty) by_recording.2

@@ -69,13 +69,13 @@ pub record AreWhole {R : Type 0} (gives : R → List ℕ → ReadEnd → Type 0)
   pub in_time : AreInTime gives question (id_of peer) reader changes
   pub unfailed : is_failed_read (close_in changes) ≡ false
 
--- what happens by the recorded file of a peer, listed behind what was listed before
-abbrev pub AddsHappenings : {R : Type 0} → (R → List ℕ → ReadEnd → Type 0) → Question → PeerId → R → ℕ
-    → List Happening → List Happening → Type 0
-AddsHappenings gives question peer reader number before after =
+-- what happens by the recorded file of a peer, no read having failed
+abbrev pub AreHappeningsOf : {R : Type 0} → (R → List ℕ → ReadEnd → Type 0) → Question → PeerId → R → ℕ
+    → List Happening → Type 0
+AreHappeningsOf gives question peer reader number all =
     (changes : List Change) × AreInTime gives question peer reader changes
     × (is_failed_read (close_in changes) ≡ false)
-    × (contents_of after ≡ contents_of before ++ happened_in question.prefix number changes)
+    × (contents_of all ≡ happened_in question.prefix number changes)
 
 -- what happened on the prefix by the recorded files of all peers, in the order of time; what is of one time
 -- stays in the order of the peers, and then of the file

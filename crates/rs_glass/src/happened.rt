@@ -1,21 +1,25 @@
 //! What happened on a prefix: the changes on it and the losses and closes of all peers, in the order of time.
+//!
+//! Each peer's file is read on a thread of its own, where the system grants one.
 
 ghost use Rattle.std.specs.Prelude.{◌≡◌, ◌<◌, ◌++◌, All, IfErr, IfOk, OnOk, length};
 ghost use Rattle.rs_session.specs.Change.{change_of, is_read_failure};
-ghost use Rattle.rs_glass.specs.Happened.{AddsHappenings, AreHappenings, contents_of, happens_at, happens_on};
+ghost use Rattle.rs_glass.specs.Happened.{AreHappenings, AreHappeningsOf, contents_of, happens_at, happens_on};
 ghost use Rattle.rs_glass.specs.Recorded.{IsFaultAmong, IsFaultOf};
 
 use crate::fault::GlassFault;
 use crate::hearing::loss_behind;
 use crate::loss::Loss;
 use crate::question::Question;
-use crate::recording::peer_id;
+use crate::recording::{Recording, recordings};
 use rs_choice::Exchange;
 use rs_explain::{Until, what_is_taken_is_the_longest_beginning};
 use rs_mrt::{Read, RecordReader};
-use rs_session::{Body, PeerId, Reason, Session, Word, a_reader_gives_a_file_or_fails};
+use rs_session::{Body, Reason, Session, Word, a_reader_gives_a_file_or_fails};
 use rs_update::Prefix;
 use std::alloc::{AllocError, Global};
+use std::thread;
+use std::thread::Threads;
 
 /// A change on a prefix, or a loss or a close of a session.
 #[derive(Drop)]
@@ -35,7 +39,8 @@ pub struct Happening {
 /// and then in the order of the file. `readers` gives the recorded file of each peer.
 ///
 /// Fails where memory is refused, and where a session closes in time because its file can't be read.
-pub fn read_happenings<R: Read + Drop>(
+pub fn read_happenings<T: Threads + Sync, R: Read + Send + Drop>(
+    rt: &T,
     alloc: Global,
     plan: &Exchange,
     readers: Vec<R>,
@@ -47,46 +52,51 @@ pub fn read_happenings<R: Read + Drop>(
         AreHappenings R.gives question.now plan.now readers.items all.items) }
     ensures fault { IfErr result (IsFaultAmong R.gives question.now plan.now readers.items) }
 {
+    let jobs = recordings(alloc, plan, readers)?;
+    let lists = thread::map_vec(
+        rt,
+        jobs,
+        &|recording| happenings_of(alloc, recording, question),
+    )?;
     let mut all = Vec::new(alloc);
-    for (peer, reader) in readers.into_iter().enumerate() {
-        let id = peer_id(plan, peer);
-        add_happenings(alloc, &mut all, peer, id, reader, question)?;
+    for list in lists {
+        let mut listed = list?;
+        all.append(&mut listed)?;
     }
     all.sort_by_key(|happening: &Happening| happening.time)?;
     Ok(all)
 }
 
-// Adds what happened in the recorded file of a peer.
-fn add_happenings<R: Read + Drop>(
+// What happened in the recorded file of a peer, in the order of the file.
+fn happenings_of<R: Read + Drop>(
     alloc: Global,
-    all: &mut Vec<Happening>,
-    peer: usize,
-    id: PeerId,
-    reader: R,
+    recording: Recording<R>,
     question: &Question,
-) -> Result<(), GlassFault>
-    requires { R.failures reader < u64.MAX }
-    ensures adds { OnOk result
-        (AddsHappenings R.gives question.now id reader peer all.old.items all.new.items) }
-    ensures fault { IfErr result (IsFaultOf R.gives question.now id reader peer) }
+) -> Result<Vec<Happening>, GlassFault>
+    requires { R.failures recording.reader < u64.MAX }
+    ensures happenings { IfOk result (λ all.
+        AreHappeningsOf R.gives question.now recording.id recording.reader recording.peer all.items) }
+    ensures fault { IfErr result (IsFaultOf R.gives question.now recording.id recording.reader recording.peer) }
 {
+    let Recording { peer, id, reader } = recording;
     a_reader_gives_a_file_or_fails(&reader);
     what_is_taken_is_the_longest_beginning();
     let mut session = Session::over_by(alloc, RecordReader::new(reader), id, question.errors);
     let mut until = Until::new(question.until);
     let mut latest = 0;
+    let mut all = Vec::new(alloc);
     while let Some(word) = session.next_word()? {
         if !until.takes(&word) {
-            return Ok(());
+            return Ok(all);
         }
         if fails_to_read(&word) {
             return Err(GlassFault::Read(peer));
         }
         latest = word.time.max(latest);
         let loss = loss_behind(&session, &word);
-        add_happening(all, peer, latest, word, loss, question.prefix)?;
+        add_happening(&mut all, peer, latest, word, loss, question.prefix)?;
     }
-    Ok(())
+    Ok(all)
 }
 
 // Adds a change, where it happens on the prefix.

@@ -56,7 +56,7 @@ fn recording_of<R>(plan: &Exchange, peer: usize, reader: R) -> Recording<R>
 }
 
 // Who a peer is in a recording.
-pub(crate) fn peer_id(plan: &Exchange, peer: usize) -> PeerId
+fn peer_id(plan: &Exchange, peer: usize) -> PeerId
     requires { peer < length plan.now.peers }
     ensures { (spec : Peer) × (slice_get plan.now.peers peer ≡ Some spec) × (result ≡ id_of spec) }
 {
