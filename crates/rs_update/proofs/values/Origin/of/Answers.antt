@@ -1,0 +1,6 @@
+-- Each answer is one search, so that a wrong body is refused soon.
+use Rattle.std.proofs.Common.{rules}
+use Rattle.rs_update.proofs.values.Origin.of.Goals as goal
+
+pub returns-in-2 : goal.returns-in-2
+returns-in-2 c = search rules
