@@ -7,10 +7,9 @@ ghost use Rattle.std.specs.Prelude.{◌≡◌, ◌<◌, ◌≤◌, ◌∷◌, []
 ghost use Rattle.std.specs.Option.{option_map};
 ghost use Rattle.rs_choice.specs.Held.{sent_of_held, IsJudged};
 ghost use Rattle.rs_choice.specs.RouteChanges.{IsChange, IsKnown};
-ghost use Rattle.rs_table.specs.ByPeer.{place_of, route_at, with_one, with_route};
-ghost use Rattle.rs_table.specs.Cell.{routes_in, stored_best};
-ghost use Rattle.rs_table.specs.ByPeer.{without_one, without_route, IsAscending, IsPut, IsTaken};
-ghost use Rattle.rs_table.specs.Cell.{AreHeld, IsCell};
+ghost use Rattle.rs_table.specs.ByPeer.{place_of, route_at, with_one, with_route, without_one, without_route};
+ghost use Rattle.rs_table.specs.ByPeer.{IsAscending, IsPut, IsTaken};
+ghost use Rattle.rs_table.specs.Cell.{routes_in, stored_best, AreHeld, IsCell};
 ghost use Rattle.rs_table.specs.RouteView.{sent_route_of};
 ghost use Rattle.rs_table.specs.Table.{sent_by};
 
