@@ -5,6 +5,7 @@ pub mod Fault  -- faults by error code and subcode
 pub mod IpPrefix  -- an address prefix
 pub mod Prefix  -- the fields that list prefixes
 pub mod PrefixOrder  -- prefixes by address, then by length
+pub mod Covering  -- the prefixes that cover one
 pub mod OriginOrder  -- origins by their codes
 pub mod Section  -- a section of path attributes, and its first fault
 pub mod AttributeType  -- a row for each type of attribute
@@ -14,6 +15,7 @@ pub mod Community  -- communities by their halves
 pub mod Spelling  -- the written form of attributes
 pub mod Handling  -- what RFC 7606 does at each fault
 pub mod Treating  -- a message by RFC 4271 or by RFC 7606
+pub mod Concerns  -- the messages that may concern a prefix
 pub mod Laws  -- what holds of all of these
 -- How octets are taken apart:
 pub mod Numbers  -- numbers of four octets

@@ -6,13 +6,14 @@
 //! must say), `number_list`, `as_path` and `values` (values of attributes), `section` (the first fault of a
 //! section of attributes), `attributes` (what a route keeps of them), `gather` (how that is read), `handling`
 //! and `treating` (what RFC 7606 does in place of a fault), `header`, `update` and `message` (a message by
-//! its type, and its first fault), `spelling` (attributes as they are written), `laws` (what holds of the
-//! definitions that the contracts cite).
+//! its type, and its first fault), `concerns` (whether a message may concern a prefix), `spelling` (attributes
+//! as they are written), `laws` (what holds of the definitions that the contracts cite).
 #![tactic(auto)]
 
 mod as_path;
 mod attribute_type;
 mod attributes;
+mod concerns;
 mod errors;
 mod fault;
 mod flags;
@@ -34,6 +35,7 @@ mod values;
 
 pub use as_path::{Segment, SegmentView, Segments};
 pub use attributes::{Attributes, Communities, Others, Unrecognized};
+pub use concerns::{concerns_prefix, covers};
 pub use errors::Errors;
 pub use fault::{HeaderFault, MessageFault, UpdateFault};
 pub use header::MessageType;

@@ -1,0 +1,93 @@
+//! Whether a message may concern a prefix, found without taking memory: a reader of recorded messages passes
+//! over the UPDATEs that list no prefix that covers the one asked for (RFC 4271, sections 4.3, 6 and 9.1.4).
+//!
+//! A fault that closes the session is never passed over, so each message is tested as when it is read.
+
+ghost use Rattle.std.specs.Prelude.{◌≡◌, ◌≤◌, ◌||◌, length, is_some, is_err};
+ghost use Rattle.rs_update.specs.Concerns.{field_concerns, message_concerns};
+ghost use Rattle.rs_update.specs.Covering.{covers};
+ghost use Rattle.rs_update.specs.Handling.{strongest_in};
+ghost use Rattle.rs_update.specs.Message.{announced_attributes};
+ghost use Rattle.rs_update.specs.Section.{section_fault};
+ghost use Rattle.rs_update.specs.Treating.{message_by, reset_of, update_by};
+
+use crate::errors::Errors;
+use crate::found::{AS_PATH, NEXT_HOP, ORIGIN};
+use crate::handling::Handling;
+use crate::header::{HEADER_LEN, MessageType, read_header};
+use crate::prefix::{Prefix, split_first};
+use crate::section::{TYPES, find_fault};
+use crate::treating::section_handling;
+use crate::update::split_fields;
+
+/// Whether a prefix covers another, itself included: it is no longer, and the other has its bits (RFC 4271,
+/// section 9.1.4).
+pub fn covers(wide: Prefix, prefix: Prefix) -> bool
+    ensures { result ≡ covers wide prefix }
+{
+    wide.len() <= prefix.len() && prefix.front(wide.len()) == wide
+}
+
+/// Whether a message, the octets of which are `octets`, may concern a prefix: whether it is anything but an
+/// UPDATE that `read_message_by` reads and whose withdrawn routes and NLRI list no prefix that covers it.
+///
+/// So each fault may concern it, and each message of another type. It takes no memory.
+pub fn concerns_prefix(errors: Errors, octets: &[u8], prefix: Prefix) -> bool
+    ensures { result ≡ message_concerns prefix (message_by errors octets.now) }
+{
+    let Ok(kind) = read_header(octets) else {
+        return true;
+    };
+    match kind {
+        MessageType::Update => update_concerns(errors, &octets[HEADER_LEN..], prefix),
+        _ => true,
+    }
+}
+
+// The same of an UPDATE behind its header.
+fn update_concerns(errors: Errors, body: &[u8], prefix: Prefix) -> bool
+    requires least { 4 ≤ length body.now }
+    ensures { result ≡ message_concerns prefix (update_by errors body.now) }
+{
+    let Ok(fields) = split_fields(body) else {
+        return true;
+    };
+    closes(errors, fields.section, fields.nlri)
+        || lists_cover(fields.withdrawn, prefix)
+        || lists_cover(fields.nlri, prefix)
+}
+
+// Whether the path attributes of an UPDATE close the session by one of the two standards.
+fn closes(errors: Errors, section: &[u8], nlri: &[u8]) -> bool
+    ensures { result ≡ section_closes errors section.now nlri.now }
+{
+    match errors {
+        Errors::Rfc4271 => is_at_fault(section, nlri),
+        Errors::Rfc7606 => is_reset(section_handling(section)),
+    }
+}
+
+// Whether path attributes are at fault, or routes are announced without a mandatory one.
+fn is_at_fault(section: &[u8], nlri: &[u8]) -> bool
+    ensures { result ≡ (is_some (section_fault section.now) || is_err (announced_attributes section.now nlri.now)) }
+{
+    let mut seen = [false; TYPES];
+    if find_fault(section, &mut seen).is_some() {
+        return true;
+    }
+    !nlri.is_empty() && !has_mandatory(&seen)
+}
+
+// Whether a field is no list of prefixes, or lists one that covers a prefix.
+fn lists_cover(field: &[u8], prefix: Prefix) -> bool
+    ensures { result ≡ field_concerns prefix field.now }
+{
+    let mut rest = field;
+    while let Some(split) = split_first(rest) {
+        if covers(split.0, prefix) {
+            return true;
+        }
+        rest = split.1;
+    }
+    !rest.is_empty()
+}
