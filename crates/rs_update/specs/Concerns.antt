@@ -1,13 +1,18 @@
 -- The messages that may concern a prefix: UPDATEs that list one that covers it (RFC 4271, sections 4.3 and
 -- 9.1.4), and all that aren't UPDATEs without a fault that closes the session.
-use Rattle.std.specs.Prelude.{Bool, true, ◌||◌, List, ℕ, Result, Ok, Err}
+use Rattle.std.specs.Prelude.{◌≡◌, ℕ, ◌<◌, Bool, true, false, ◌||◌, ◌&&◌, List, slice_index_or, is_some, Result, Ok, Err, is_err}
 use Rattle.std.specs.Option.{option_map_or}
+use Rattle.rs_update.specs.declared.errors.Errors.{Errors}
+use Rattle.rs_update.specs.declared.errors.Errors.TheVariants.{Rfc4271, Rfc7606}
 use Rattle.rs_update.specs.declared.fault.MessageFault.{MessageFault}
 use Rattle.rs_update.specs.Covering.{lists_cover}
+use Rattle.rs_update.specs.Handling.{strongest_in}
 use Rattle.rs_update.specs.IpPrefix.{IpPrefix}
 use Rattle.rs_update.specs.Message.{MessageContent, IsOpen, IsUpdate, IsTreated, IsNotification, IsKeepAlive}
-use Rattle.rs_update.specs.Message.{IsRefresh}
+use Rattle.rs_update.specs.Message.{IsRefresh, announced_attributes}
 use Rattle.rs_update.specs.Prefix.{prefixes_of}
+use Rattle.rs_update.specs.Section.{Item, has_type, items_of, section_fault}
+use Rattle.rs_update.specs.Treating.{reset_of}
 
 -- an UPDATE may concern a prefix where its withdrawn routes or its NLRI list one that covers it, whether or not
 -- its routes are treated as withdrawn; every other message may, and every fault
@@ -21,6 +26,21 @@ message_concerns prefix (Ok IsKeepAlive) = true
 message_concerns prefix (Ok IsRefresh) = true
 message_concerns prefix (Err fault) = true
 
--- a field of an UPDATE that is at fault, or that lists a prefix that covers one
+-- ---- what the code asks
+
+-- a field that is no list of prefixes, or lists one that covers a prefix
 abbrev pub field_concerns : IpPrefix → List ℕ → Bool
 field_concerns prefix field = option_map_or (lists_cover prefix) (prefixes_of field) true
+
+-- the path attributes of an UPDATE close the session, where its routes are announced in this field
+abbrev pub section_closes : Errors → List ℕ → List ℕ → Bool
+section_closes Rfc4271 section nlri = is_some (section_fault section) || is_err (announced_attributes section nlri)
+section_closes Rfc7606 section nlri = is_some (reset_of (strongest_in section))
+
+-- a table says of each type whether it stands among attributes
+abbrev pub AreTypesOf : List Bool → List Item → Type 0
+AreTypesOf seen items = (kind : ℕ) → kind < 256 → slice_index_or seen kind false ≡ has_type kind items
+
+-- and so whether ORIGIN, AS_PATH and NEXT_HOP do
+abbrev pub has_mandatory : List Bool → Bool
+has_mandatory seen = slice_index_or seen 1 false && slice_index_or seen 2 false && slice_index_or seen 3 false

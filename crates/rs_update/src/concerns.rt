@@ -3,30 +3,20 @@
 //!
 //! A fault that closes the session is never passed over, so each message is tested as when it is read.
 
-ghost use Rattle.std.specs.Prelude.{◌≡◌, ◌≤◌, ◌||◌, length, is_some, is_err};
-ghost use Rattle.rs_update.specs.Concerns.{field_concerns, message_concerns};
-ghost use Rattle.rs_update.specs.Covering.{covers};
-ghost use Rattle.rs_update.specs.Handling.{strongest_in};
-ghost use Rattle.rs_update.specs.Message.{announced_attributes};
-ghost use Rattle.rs_update.specs.Section.{section_fault};
+ghost use Rattle.std.specs.Prelude.{◌≡◌, ◌≤◌, length, is_some};
+ghost use Rattle.rs_update.specs.declared.errors.Errors.TheVariants.{Rfc4271};
+ghost use Rattle.rs_update.specs.Concerns.{field_concerns as field_concerns_of, has_mandatory};
+ghost use Rattle.rs_update.specs.Concerns.{message_concerns, section_closes};
 ghost use Rattle.rs_update.specs.Treating.{message_by, reset_of, update_by};
 
 use crate::errors::Errors;
 use crate::found::{AS_PATH, NEXT_HOP, ORIGIN};
 use crate::handling::Handling;
 use crate::header::{HEADER_LEN, MessageType, read_header};
-use crate::prefix::{Prefix, split_first};
+use crate::prefix::{Prefix, covers, split_first};
 use crate::section::{TYPES, find_fault};
 use crate::treating::section_handling;
 use crate::update::split_fields;
-
-/// Whether a prefix covers another, itself included: it is no longer, and the other has its bits (RFC 4271,
-/// section 9.1.4).
-pub fn covers(wide: Prefix, prefix: Prefix) -> bool
-    ensures { result ≡ covers wide prefix }
-{
-    wide.len() <= prefix.len() && prefix.front(wide.len()) == wide
-}
 
 /// Whether a message, the octets of which are `octets`, may concern a prefix: whether it is anything but an
 /// UPDATE that `read_message_by` reads and whose withdrawn routes and NLRI list no prefix that covers it.
@@ -46,15 +36,15 @@ pub fn concerns_prefix(errors: Errors, octets: &[u8], prefix: Prefix) -> bool
 
 // The same of an UPDATE behind its header.
 fn update_concerns(errors: Errors, body: &[u8], prefix: Prefix) -> bool
-    requires least { 4 ≤ length body.now }
+    requires { 4 ≤ length body.now }
     ensures { result ≡ message_concerns prefix (update_by errors body.now) }
 {
     let Ok(fields) = split_fields(body) else {
         return true;
     };
     closes(errors, fields.section, fields.nlri)
-        || lists_cover(fields.withdrawn, prefix)
-        || lists_cover(fields.nlri, prefix)
+        || field_concerns(fields.withdrawn, prefix)
+        || field_concerns(fields.nlri, prefix)
 }
 
 // Whether the path attributes of an UPDATE close the session by one of the two standards.
@@ -67,9 +57,16 @@ fn closes(errors: Errors, section: &[u8], nlri: &[u8]) -> bool
     }
 }
 
+// Whether the session is closed.
+fn is_reset(handling: Handling) -> bool
+    ensures { result ≡ is_some (reset_of handling) }
+{
+    matches!(handling, Handling::SessionReset(_))
+}
+
 // Whether path attributes are at fault, or routes are announced without a mandatory one.
 fn is_at_fault(section: &[u8], nlri: &[u8]) -> bool
-    ensures { result ≡ (is_some (section_fault section.now) || is_err (announced_attributes section.now nlri.now)) }
+    ensures { result ≡ section_closes Rfc4271 section.now nlri.now }
 {
     let mut seen = [false; TYPES];
     if find_fault(section, &mut seen).is_some() {
@@ -78,9 +75,16 @@ fn is_at_fault(section: &[u8], nlri: &[u8]) -> bool
     !nlri.is_empty() && !has_mandatory(&seen)
 }
 
+// Whether ORIGIN, AS_PATH and NEXT_HOP are among the types that stand.
+fn has_mandatory(seen: &[bool; TYPES]) -> bool
+    ensures { result ≡ has_mandatory seen.now }
+{
+    seen[usize::from(ORIGIN)] && seen[usize::from(AS_PATH)] && seen[usize::from(NEXT_HOP)]
+}
+
 // Whether a field is no list of prefixes, or lists one that covers a prefix.
-fn lists_cover(field: &[u8], prefix: Prefix) -> bool
-    ensures { result ≡ field_concerns prefix field.now }
+fn field_concerns(field: &[u8], prefix: Prefix) -> bool
+    ensures { result ≡ field_concerns_of prefix field.now }
 {
     let mut rest = field;
     while let Some(split) = split_first(rest) {

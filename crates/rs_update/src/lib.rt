@@ -35,7 +35,7 @@ mod values;
 
 pub use as_path::{Segment, SegmentView, Segments};
 pub use attributes::{Attributes, Communities, Others, Unrecognized};
-pub use concerns::{concerns_prefix, covers};
+pub use concerns::concerns_prefix;
 pub use errors::Errors;
 pub use fault::{HeaderFault, MessageFault, UpdateFault};
 pub use header::MessageType;
@@ -50,6 +50,6 @@ pub use laws::{
 };
 pub use message::{Message, Update, read_message, read_message_by};
 pub use number_list::Numbers;
-pub use prefix::Prefix;
+pub use prefix::{Prefix, covers};
 pub use spelling::write_attributes;
 pub use values::{Aggregator, Origin};

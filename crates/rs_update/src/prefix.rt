@@ -5,6 +5,7 @@
 ghost use Rattle.std.specs.Prelude.{◌≡◌, ◌<◌, ◌≤◌, ◌↔◌, length, Some, IsSome, IfSome, IfOk, OnErr};
 ghost use Rattle.std.specs.Option.{option_map};
 ghost use Rattle.byteorder.specs.Endian.{big_number};
+ghost use Rattle.rs_update.specs.Covering.{covers};
 ghost use Rattle.rs_update.specs.Prefix as spec;
 
 use byteorder::{BigEndian, ByteOrder};
@@ -101,9 +102,20 @@ fn address_of(octets: &[u8]) -> u32
     BigEndian::read_u32(&address)
 }
 
+/// Whether a prefix covers another, itself included: it is no longer, and has the other's first bits (RFC 4271,
+/// section 9.1.4).
+pub fn covers(wide: Prefix, prefix: Prefix) -> bool
+    ensures { result ≡ covers wide prefix }
+{
+    if prefix.len < wide.len {
+        return false;
+    }
+    Prefix::masked(prefix.address, wide.len) == wide
+}
+
 // The prefix that the octets begin with, and the octets behind it; None where they begin with none.
 #[tactic(auto, unfolding(crate::specs::Prefix::prefix_at))]
-fn split_first(octets: &[u8]) -> Option<(Prefix, &[u8])>
+pub(crate) fn split_first(octets: &[u8]) -> Option<(Prefix, &[u8])>
     ensures { option_map (λ split. (split.0, split.1.now)) result ≡ spec.prefix_at octets.now }
 {
     let [len, rest @ ..] = octets else {

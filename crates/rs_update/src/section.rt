@@ -4,11 +4,12 @@
 //! whether it passes the section's end, whether its type stood earlier (whatever the type), then the class,
 //! the flags, the length and the value.
 
-ghost use Rattle.std.specs.Prelude.{◌≡◌, Some, if◌then◌else◌, slice_index_or, false};
+ghost use Rattle.std.specs.Prelude.{◌≡◌, Some, None, if◌then◌else◌, slice_index_or, false, replicate};
 ghost use Rattle.rs_update.specs.declared.fault.UpdateFault.TheVariants.{MalformedAttributeList};
 ghost use Rattle.rs_update.specs.Fault.{first_fault};
+ghost use Rattle.rs_update.specs.Concerns.{AreTypesOf};
 ghost use Rattle.rs_update.specs.Items.{item_of};
-ghost use Rattle.rs_update.specs.Section.{section_fault as section_fault_of, own_fault_of, tests_of};
+ghost use Rattle.rs_update.specs.Section.{section_fault as section_fault_of, own_fault_of, tests_of, items_of};
 
 use crate::attribute_type::AttributeType;
 use crate::fault::UpdateFault;
@@ -23,9 +24,18 @@ pub(crate) fn section_fault(section: &[u8]) -> Option<UpdateFault>
     ensures { result ≡ section_fault_of section.now }
 {
     let mut seen = [false; TYPES];
+    find_fault(section, &mut seen)
+}
+
+/// The same, and which types stand in a section without fault: `seen` is filled in.
+pub(crate) fn find_fault(section: &[u8], seen: &mut [bool; TYPES]) -> Option<UpdateFault>
+    requires nothing_yet { seen.old ≡ replicate 256 false }
+    ensures fault { result ≡ section_fault_of section.now }
+    ensures types { result ≡ None → AreTypesOf seen.new (items_of section.now) }
+{
     let mut rest = section;
     while let Some(split) = split_item(rest) {
-        if let Some(fault) = item_fault(&seen, &split.0) {
+        if let Some(fault) = item_fault(seen, &split.0) {
             return Some(fault);
         }
         seen[usize::from(split.0.kind)] = true;

@@ -31,15 +31,15 @@ use std::alloc::{AllocError, Global};
 #[derive(Clone, Copy)]
 pub(crate) struct UpdateFields<'a> {
     /// Withdrawn Routes.
-    withdrawn: &'a [u8],
+    pub(crate) withdrawn: &'a [u8],
     /// Path Attributes.
-    section: &'a [u8],
+    pub(crate) section: &'a [u8],
     /// Network Layer Reachability Information.
-    nlri: &'a [u8],
+    pub(crate) nlri: &'a [u8],
 }
 
-// The fields of an UPDATE, or the fault of their lengths.
-fn split_fields(body: &[u8]) -> Result<UpdateFields<'_>, UpdateFault>
+/// The fields of an UPDATE, or the fault of their lengths.
+pub(crate) fn split_fields(body: &[u8]) -> Result<UpdateFields<'_>, UpdateFault>
     requires { 4 ≤ length body.now }
     ensures withdrawn { IfOk result (λ fields. fields.withdrawn.now ≡ spec.withdrawn_field body.now) }
     ensures section { IfOk result (λ fields. fields.section.now ≡ spec.section_field body.now) }

@@ -3,7 +3,7 @@ use Rattle.rs_update.specs.Items.{item_of, split_of}
 use Rattle.rs_update.specs.Section.{section_fault}
 use Rattle.rs_update.proofs.ItemLemmas.{item_at-takes}
 use Rattle.rs_update.proofs.SectionLemmas.{none_seen, goes_on, ends_at, ends_with}
-use Rattle.rs_update.proofs.section.section_fault.Goals as goal
+use Rattle.rs_update.proofs.section.find_fault.Goals as goal
 
 pub loop-split-init : goal.loop-split-init
 loop-split-init c = ([], none_seen, refl)
