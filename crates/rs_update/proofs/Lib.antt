@@ -1,6 +1,7 @@
 pub mod AgainLemmas
 pub mod AgreeLemmas
 pub mod BoundLemmas
+pub mod ConcernLemmas
 pub mod FindLemmas
 pub mod FirstFaultLemmas
 pub mod FoundLemmas

@@ -117,7 +117,7 @@ made_of items attributes e =
     ]
 
 -- a section has the mandatory attributes exactly where it gives a route attributes
-mandatory-all : (items : List Item) → (is_some (look 1 items) && is_some (look 2 items) && is_some (look 3 items)) ≡ is_some (attributes_of items)
+pub mandatory-all : (items : List Item) → (is_some (look 1 items) && is_some (look 2 items) && is_some (look 3 items)) ≡ is_some (attributes_of items)
 mandatory-all items =
     elim (cases_Option (look 1 items)) [
       | inl none ↦ rw (no_origin items none) (rw none refl)

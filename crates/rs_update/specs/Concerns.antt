@@ -11,7 +11,7 @@ use Rattle.rs_update.specs.IpPrefix.{IpPrefix}
 use Rattle.rs_update.specs.Message.{MessageContent, IsOpen, IsUpdate, IsTreated, IsNotification, IsKeepAlive}
 use Rattle.rs_update.specs.Message.{IsRefresh, announced_attributes}
 use Rattle.rs_update.specs.Prefix.{prefixes_of}
-use Rattle.rs_update.specs.Section.{Item, has_type, items_of, section_fault}
+use Rattle.rs_update.specs.Section.{Item, has_type, section_fault}
 use Rattle.rs_update.specs.Treating.{reset_of}
 
 -- an UPDATE may concern a prefix where its withdrawn routes or its NLRI list one that covers it, whether or not

@@ -29,7 +29,7 @@ pub(crate) fn section_fault(section: &[u8]) -> Option<UpdateFault>
 
 /// The same, and which types stand in a section without fault: `seen` is filled in.
 pub(crate) fn find_fault(section: &[u8], seen: &mut [bool; TYPES]) -> Option<UpdateFault>
-    requires nothing_yet { seen.old ≡ replicate 256 false }
+    requires { seen.old ≡ replicate 256 false }
     ensures fault { result ≡ section_fault_of section.now }
     ensures types { result ≡ None → AreTypesOf seen.new (items_of section.now) }
 {
