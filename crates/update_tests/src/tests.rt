@@ -1,6 +1,7 @@
 //! Messages by hand, each with what it says, by the formats of RFC 4271, RFC 6793 and RFC 1997. Octets are
 //! written in hexadecimal.
 
+mod concerning;
 mod handlings;
 mod headers;
 mod prefixes;
