@@ -1,6 +1,7 @@
 //! What holds of the definitions that the contracts cite: each law is the contract of a function that does nothing.
 
-ghost use Rattle.std.specs.Prelude.{◌≡◌, None, Some};
+ghost use Rattle.std.specs.Prelude.{◌≡◌, None, Some, true};
+ghost use Rattle.rs_update.specs.Covering.{covers};
 ghost use Rattle.rs_update.specs.Gathered.{attributes_of};
 ghost use Rattle.rs_update.specs.IpPrefix.{IpPrefix};
 ghost use Rattle.rs_update.specs.Laws.{FieldIsRead, SectionIsRead, SectionIsFaultless, SectionFaultIsFirst, PathIsRead};
@@ -12,7 +13,7 @@ ghost use Rattle.rs_update.specs.Section.{items_of, section_fault};
 ghost use Rattle.rs_update.specs.Spelling.{written};
 
 use crate::attributes::Attributes;
-use crate::prefix::Prefix;
+use crate::prefix::{Prefix, bits_past_the_length_are_cleared};
 use crate::values::Origin;
 
 /// Prefixes are ordered by address, then by length.
@@ -24,6 +25,13 @@ pub fn prefixes_are_ordered_by_address_then_length()
 pub fn origins_are_ordered_by_code()
     ensures { (one other : Origin) → ⟦<Origin as Ord>⟧.cmp one other ≡ origin_cmp one other }
 {}
+
+/// A prefix covers itself.
+pub fn a_prefix_covers_itself(prefix: Prefix)
+    ensures { covers prefix prefix ≡ true }
+{
+    bits_past_the_length_are_cleared(prefix);
+}
 
 /// A field of withdrawn routes or of NLRI lists at most one list of prefixes, and reading finds it exactly
 /// where there is one (RFC 4271, section 4.3).

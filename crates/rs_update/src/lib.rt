@@ -41,12 +41,12 @@ pub use fault::{HeaderFault, MessageFault, UpdateFault};
 pub use header::MessageType;
 pub use laws::{
     a_field_is_one_list_of_prefixes, a_message_is_at_fault_by_its_first_fault,
-    a_path_is_one_list_of_segments, a_section_is_at_fault_by_its_first_attribute_at_fault,
-    a_section_is_one_list_of_attributes, attributes_are_for_announced_routes,
-    by_rfc_4271_a_message_says_what_it_says, origins_are_ordered_by_code,
-    prefixes_are_ordered_by_address_then_length, the_attributes_of_a_route_read_back,
-    the_strongest_that_is_found_counts, what_is_written_reads_as_the_same_attributes,
-    without_a_fault_both_standards_agree,
+    a_path_is_one_list_of_segments, a_prefix_covers_itself,
+    a_section_is_at_fault_by_its_first_attribute_at_fault, a_section_is_one_list_of_attributes,
+    attributes_are_for_announced_routes, by_rfc_4271_a_message_says_what_it_says,
+    origins_are_ordered_by_code, prefixes_are_ordered_by_address_then_length,
+    the_attributes_of_a_route_read_back, the_strongest_that_is_found_counts,
+    what_is_written_reads_as_the_same_attributes, without_a_fault_both_standards_agree,
 };
 pub use message::{Message, Update, read_message, read_message_by};
 pub use number_list::Numbers;

@@ -6,6 +6,7 @@ ghost use Rattle.std.specs.Prelude.{◌≡◌, ◌<◌, ◌≤◌, ◌↔◌, le
 ghost use Rattle.std.specs.Option.{option_map};
 ghost use Rattle.byteorder.specs.Endian.{big_number};
 ghost use Rattle.rs_update.specs.Covering.{covers};
+ghost use Rattle.rs_update.specs.IpPrefix.{IsPrefix};
 ghost use Rattle.rs_update.specs.Prefix as spec;
 
 use byteorder::{BigEndian, ByteOrder};
@@ -81,6 +82,13 @@ impl Prefix {
             len,
         }
     }
+}
+
+// Bits past the length are 0.
+pub(crate) fn bits_past_the_length_are_cleared(prefix: Prefix)
+    ensures { IsPrefix prefix.address prefix.len }
+{
+    let _address = prefix.address;
 }
 
 // The address with all bits past the first `len` cleared.
