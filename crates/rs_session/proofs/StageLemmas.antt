@@ -39,7 +39,7 @@ module _ {S : Type 0} (comes : Comes S) (shows : S → Option MrtRecord) where
   may_read-none old end empty come = record { later = []; come = come; read = rw empty refl }
 
   -- a stage with the same fields but for the source and what is held keeps what may come, where it keeps what may be read
-  keeps_by_reading : (old new : Stage S) → new ≡ record old { source = new.source; held = true } → Fetches comes shows old new None → Keeps comes shows old new
+  pub keeps_by_reading : (old new : Stage S) → new ≡ record old { source = new.source; held = true } → Fetches comes shows old new None → Keeps comes shows old new
   keeps_by_reading old new same h changes passed m = record {
     records = m.records;
     end = m.end;
@@ -68,7 +68,7 @@ module _ {S : Type 0} (comes : Comes S) (shows : S → Option MrtRecord) where
   -- ---- reading
 
   -- the record that is held is one of those that may be read
-  may_read-held : (old new : Stage S) (r : MrtRecord) (records : List MrtRecord) (end : Option SourceFault) → old.held ≡ true → new.held ≡ false → new.source ≡ old.source → shows old.source ≡ Some r → MayRead comes shows new records end → MayRead comes shows old (r ∷ records) end
+  pub may_read-held : (old new : Stage S) (r : MrtRecord) (records : List MrtRecord) (end : Option SourceFault) → old.held ≡ true → new.held ≡ false → new.source ≡ old.source → shows old.source ≡ Some r → MayRead comes shows new records end → MayRead comes shows old (r ∷ records) end
   may_read-held old new r records end full empty same shown m = record {
     later = m.later;
     come = rw same at m.come;

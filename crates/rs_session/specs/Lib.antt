@@ -9,6 +9,7 @@ pub mod Laws  -- what holds of all of these
 -- How a session is read:
 pub mod Stage  -- a session that is being read
 pub mod Steps  -- one step of it
+pub mod Concerning  -- what is passed over where one prefix is asked for
 pub mod Counts  -- records counted
 pub mod EffectView  -- the effect of a record by its fields
 pub mod PendingView  -- changes not yet given, by their fields
@@ -19,6 +20,8 @@ pub use Rattle.rs_mrt.specs.Reader
 pub use Rattle.rs_mrt.specs.Record
 pub use Rattle.rs_mrt.specs.RecordReading
 pub use Rattle.rs_mrt.specs.Source
+pub use Rattle.rs_update.specs.Concerns
+pub use Rattle.rs_update.specs.Covering
 pub use Rattle.rs_update.specs.IpPrefix
 pub use Rattle.rs_update.specs.Message
 pub use Rattle.rs_update.specs.PathAttributes

@@ -2,12 +2,15 @@
 //!
 //! Reading order: `word` (a change), `closing` (which one closes a ring), `peer` (whose), `withdrawn` and
 //! `pending` (the changes of one record), `effect` (what one record says), `session` (one change after
-//! another), `laws` (what holds of the definitions that the contracts cite).
+//! another), `beside` and `passing` (asked for one prefix, which records are passed over), `laws` (what holds
+//! of the definitions that the contracts cite).
 #![tactic(auto)]
 
+mod beside;
 mod closing;
 mod effect;
 mod laws;
+mod passing;
 mod peer;
 mod pending;
 mod session;

@@ -10,6 +10,7 @@ ghost use Rattle.rs_update.specs.declared.errors.Errors.TheVariants.{Rfc4271};
 ghost use Rattle.std.specs.Option.{option_map};
 ghost use Rattle.rs_mrt.specs.Record.{reading_of, record_of};
 ghost use Rattle.rs_mrt.specs.Source.{CountsFailure};
+ghost use Rattle.rs_session.specs.Concerning.{PassesShown};
 ghost use Rattle.rs_session.specs.FileChanges.{changes_in, passed_in};
 ghost use Rattle.rs_session.specs.Laws.{SomethingMayCome};
 ghost use Rattle.rs_session.specs.Stage.{fresh, May, Says, SaysJust, Closes, Fewer, GoesOn, answer_behind};
@@ -18,12 +19,13 @@ ghost use Rattle.rs_session.specs.Change.{Change, closing_word};
 ghost use Rattle.rs_session.specs.Steps.{Fetches, GivesWaiting, ReadsShown, Steps, answer_of_fetch, closed_by};
 ghost use Rattle.rs_session.specs.Counts.{held_count};
 
+use crate::beside::is_beside;
 use crate::effect::{Effect, read_record};
 use crate::peer::PeerId;
 use crate::pending::Pending;
 use crate::word::{Body, Reason, Word};
 use rs_mrt::{Record, Records, Source, SourceFault};
-use rs_update::Errors;
+use rs_update::{Errors, Prefix};
 use std::alloc::{AllocError, Global};
 use std::marker::Model;
 
@@ -152,14 +154,14 @@ impl<S: Source> Session<S> {
     }
 
     // Whether the close was given.
-    fn is_closed(&self) -> bool
+    pub(crate) fn is_closed(&self) -> bool
         ensures { result ≡ self.now.closed }
     {
         self.closed
     }
 
     // Gives a change that waits.
-    fn give_waiting(&mut self) -> Result<Option<Word>, AllocError>
+    pub(crate) fn give_waiting(&mut self) -> Result<Option<Word>, AllocError>
         ensures ok { IfOk result (λ given. GivesWaiting self.old given self.new) }
         ensures err { OnErr result (self.new ≡ self.old) }
     {
@@ -189,7 +191,7 @@ impl<S: Source> Session<S> {
     }
 
     // Goes to the next record, unless one is still to be read. Where there is none, gives the reason for the close.
-    fn fetch(&mut self) -> Option<Reason>
+    pub(crate) fn fetch(&mut self) -> Option<Reason>
         ensures same { self.new ≡ record self.old { source = self.new.source; held = is_none result } }
         ensures says { Fetches S.comes S.shows self.old self.new result }
         ensures room { IfNone result (S.room self.new.source + 1 ≤ S.room self.old.source + held_count self.old.held) }
@@ -214,7 +216,7 @@ impl<S: Source> Session<S> {
     }
 
     // Reads the record that the source shows. Refused, it is still to be read.
-    fn read_held(&mut self) -> Result<Option<Word>, AllocError>
+    pub(crate) fn read_held(&mut self) -> Result<Option<Word>, AllocError>
         requires { self.old.held ≡ true }
         ensures ok { IfOk result (λ given. ReadsShown (S.shows self.old.source) self.old given self.new) }
         ensures err { OnErr result (self.new ≡ self.old) }
@@ -239,8 +241,24 @@ impl<S: Source> Session<S> {
         }
     }
 
+    // Passes over the record that the source shows, where it is an UPDATE of the peer that lists no prefix that
+    // covers this one, and isn't past the time.
+    pub(crate) fn pass_held(&mut self, prefix: Prefix, until: Option<u32>) -> bool
+        requires { self.old.held ≡ true }
+        ensures { PassesShown (S.shows self.old.source) prefix until self.old result self.new }
+    {
+        let Some(record) = self.source.shown() else {
+            return false;
+        };
+        let passes = is_beside(self.errors, self.peer, &record, prefix, until);
+        if passes {
+            self.held = false;
+        }
+        passes
+    }
+
     // Closes the session.
-    fn close(&mut self, time: u32, reason: Reason) -> Word
+    pub(crate) fn close(&mut self, time: u32, reason: Reason) -> Word
         ensures word { result ≡ closing_word time reason }
         ensures closed { self.new ≡ closed_by self.old }
     {

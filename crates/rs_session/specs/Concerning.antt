@@ -1,0 +1,93 @@
+-- Which changes concern a prefix, and which of a session are passed over where only that prefix is asked for, up
+-- to a time (RFC 4271, sections 3.1 and 9.1.4).
+use Rattle.std.specs.Prelude.{◌≡◌, ℕ, nat_lt, Bool, true, false, List, [], ◌∷◌, ◌++◌, Option, Some, None, Result, Ok, Err}
+use Rattle.std.specs.List.{list_any}
+use Rattle.std.specs.declared.alloc.AllocError.{AllocError}
+use Rattle.rs_mrt.specs.Record.{MrtRecord}
+use Rattle.rs_update.specs.Covering.{covers}
+use Rattle.rs_update.specs.IpPrefix.{IpPrefix}
+use Rattle.rs_session.specs.Change.{Change, ChangeBody, Announced, Withdrawn, Lost, Closed, change_of, is_close}
+use Rattle.rs_session.specs.Effect.{RecordEffect, PassesOver, Gives, Ends, effect_of}
+use Rattle.rs_session.specs.Stage.{Comes, Stage, May, IsOver}
+use Rattle.rs_session.specs.declared.word.Word.{Word}
+
+-- a change concerns a prefix: it announces or withdraws one that covers it, or is a loss or a close of the session
+abbrev pub body_concerns : IpPrefix → ChangeBody → Bool
+body_concerns prefix (Announced changed attributes) = covers changed prefix
+body_concerns prefix (Withdrawn changed) = covers changed prefix
+body_concerns prefix Lost = true
+body_concerns prefix (Closed reason) = true
+
+abbrev pub concerns : IpPrefix → Change → Bool
+concerns prefix change = body_concerns prefix change.body
+
+-- a time is past another; none is where no other is given
+abbrev pub is_past : Option ℕ → ℕ → Bool
+is_past None time = false
+is_past (Some until) time = nat_lt until time
+
+-- a change is later than a time
+abbrev pub is_later : Option ℕ → Change → Bool
+is_later until change = is_past until change.time
+
+-- changes that may be passed over: none concerns the prefix, and none is later than the time
+pub record ArePassedOver (prefix : IpPrefix) (until : Option ℕ) (changes : List Change) : Type 0 where
+  pub beside : list_any (concerns prefix) changes ≡ false
+  pub in_time : list_any (is_later until) changes ≡ false
+
+-- ---- what an answer to `next_word_on` says
+
+-- whatever may come after may come before, with these changes in front
+abbrev pub KeepsBehindAll : {S : Type 0} → Comes S → (S → Option MrtRecord) → List Change → Stage S → Stage S → Type 0
+KeepsBehindAll comes shows front old new =
+    (changes : List Change) (passed : ℕ) → May comes shows new changes passed
+    → May comes shows old (front ++ changes) passed
+
+-- behind the changes that were passed over, an answer says what one to `next_word` says
+abbrev pub SaysBehind : {S : Type 0} → Comes S → (S → Option MrtRecord) → List Change → Stage S → Stage S
+    → Result (Option Word) AllocError → Type 0
+SaysBehind comes shows over old new (Ok (Some word)) =
+    KeepsBehindAll comes shows (over ++ change_of word ∷ []) old new
+    × (is_close (change_of word) ≡ true → IsOver comes shows new)
+SaysBehind comes shows over old new (Ok None) = IsOver comes shows old × (new ≡ old)
+SaysBehind comes shows over old new (Err refused) = KeepsBehindAll comes shows over old new × (new.passed ≡ old.passed)
+
+-- some changes were passed over, none of which concerns the prefix or is later than the time, and behind them an
+-- answer says what one to `next_word` says; refused memory, what was passed over stays passed over
+pub record SaysOn {S : Type 0} (comes : Comes S) (shows : S → Option MrtRecord) (prefix : IpPrefix) (until : Option ℕ)
+    (old new : Stage S) (result : Result (Option Word) AllocError) : Type 0 where
+  pub over : List Change
+  pub are_over : ArePassedOver prefix until over
+  pub says : SaysBehind comes shows over old new result
+
+-- ---- one step
+
+-- what a record says may be passed over: changes that don't concern the prefix and aren't later than the time
+abbrev pub IsBeside : IpPrefix → Option ℕ → RecordEffect → Type 0
+IsBeside prefix until (Gives changes) = ArePassedOver prefix until changes
+IsBeside prefix until PassesOver = ⊥
+IsBeside prefix until (Ends reason) = ⊥
+
+-- the record that is shown is passed over, as what it says may be; or nothing changes
+abbrev pub PassesShown : {S : Type 0} → Option MrtRecord → IpPrefix → Option ℕ → Stage S → Bool → Stage S → Type 0
+PassesShown shown prefix until old false new = new ≡ old
+PassesShown (Some r) prefix until old true new =
+    IsBeside prefix until (effect_of old.errors old.peer r) × (new ≡ record old { held = false })
+PassesShown None prefix until old true new = ⊥
+
+-- behind the changes that were passed over, the session goes on, and no more may come than before; or the close is given
+abbrev pub StepsBehind : {S : Type 0} → Comes S → (S → Option MrtRecord) → List Change → Stage S → Stage S
+    → Result (Option Word) AllocError → Type 0
+StepsBehind comes shows over old new (Ok None) =
+    KeepsBehindAll comes shows over old new × (new.closed ≡ false) × (new.passed ≡ old.passed)
+StepsBehind comes shows over old new (Ok (Some word)) =
+    KeepsBehindAll comes shows (over ++ change_of word ∷ []) old new
+    × (is_close (change_of word) ≡ true) × (new.closed ≡ true)
+StepsBehind comes shows over old new (Err refused) =
+    KeepsBehindAll comes shows over old new × (new.closed ≡ false) × (new.passed ≡ old.passed)
+
+pub record StepsOn {S : Type 0} (comes : Comes S) (shows : S → Option MrtRecord) (prefix : IpPrefix)
+    (until : Option ℕ) (old new : Stage S) (result : Result (Option Word) AllocError) : Type 0 where
+  pub over : List Change
+  pub are_over : ArePassedOver prefix until over
+  pub steps : StepsBehind comes shows over old new result

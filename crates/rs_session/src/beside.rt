@@ -1,0 +1,48 @@
+//! Which records may be passed over where one prefix is asked for, up to a time: UPDATEs that list no prefix that
+//! covers it (RFC 4271, sections 4.3 and 9.1.4).
+
+ghost use Rattle.std.specs.Prelude.{◌≡◌, IsTrue};
+ghost use Rattle.rs_mrt.specs.Record.{record_of};
+ghost use Rattle.rs_session.specs.Concerning.{IsBeside, is_past};
+ghost use Rattle.rs_session.specs.Effect.{effect_of};
+
+use crate::peer::PeerId;
+use rs_mrt::{Entry, Record, entry};
+use rs_update::{Errors, Prefix, concerns_prefix};
+
+// Whether a record may be passed over: it is an UPDATE of the peer, its faults handled by one of the standards,
+// that lists no prefix that covers this one, and it isn't past the time. Nothing is allocated.
+#[tactic(auto, unfolding(crate::specs::Effect::effect_of), using(crate::proofs::BesideLemmas::beside_message))]
+pub(crate) fn is_beside(
+    errors: Errors,
+    peer: PeerId,
+    record: &Record<'_>,
+    prefix: Prefix,
+    until: Option<u32>,
+) -> bool
+    ensures { IsTrue result → IsBeside prefix until (effect_of errors peer (record_of «record».now)) }
+{
+    if is_past(until, record.time) {
+        return false;
+    }
+    match entry(record) {
+        Ok(
+            Entry::Message {
+                peer_as,
+                peer: address,
+                message,
+            },
+        ) if peer.is(peer_as, address) => !concerns_prefix(errors, message, prefix),
+        _ => false,
+    }
+}
+
+// Whether a time is past another; none is where no other is given.
+fn is_past(until: Option<u32>, time: u32) -> bool
+    ensures { result ≡ is_past until time }
+{
+    match until {
+        Some(until) => time > until,
+        None => false,
+    }
+}
