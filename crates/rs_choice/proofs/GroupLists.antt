@@ -19,6 +19,9 @@ level_then a b c h k = (h.0 ∙ k.0, h.1 ∙ k.1, h.2 ∙ k.2)
 pub behind : (a b : Standing) → (IsAhead a b → ⊥) → (IsLevel a b → ⊥) → IsAhead b a
 behind a b h k = grind arith
 
+pub level : (a b : Standing) → (IsAhead a b → ⊥) → (IsAhead b a → ⊥) → IsLevel a b
+level a b h k = grind arith
+
 pub stands_for_itself : (a : Standing) (place : ℕ) → StandsFor a place a place
 stands_for_itself a place = inr ((refl, refl, refl), refl, inr (refl, inr (refl, refl, omega arith)))
 

@@ -5,6 +5,7 @@ pub mod CommunityLemmas
 pub mod ContenderLemmas
 pub mod Eliminations
 pub mod Examples
+pub mod EntrantLemmas
 pub mod GroupChoice
 pub mod GroupLemmas
 pub mod GroupLists

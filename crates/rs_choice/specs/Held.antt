@@ -1,7 +1,8 @@
 -- Routes as they are held for decisions.
-use Rattle.std.specs.Prelude.{◌≡◌, ◌≢◌, ◌<◌, ◌↔◌, ℕ, IsTrue, List, length, slice_get, slice_index_or}
+use Rattle.std.specs.Prelude.{◌≡◌, ◌≢◌, ◌<◌, ◌↔◌, ℕ, IsTrue, List, length, slice_get, slice_index_or, unwrap_or}
 use Rattle.std.specs.List.{All}
 use Rattle.std.specs.Option.{option_map_or}
+use Rattle.rs_update.specs.AsPath.{neighbour_of}
 use Rattle.rs_update.specs.PathAttributes.{PathAttributes}
 use Rattle.rs_choice.specs.declared.candidate.Standing.{Standing}
 use Rattle.rs_choice.specs.declared.held_route.HeldRoute.{HeldRoute}
@@ -30,14 +31,15 @@ AscendByPeer held =
 abbrev pub AreEligible : Plan → List SentRoute → Type 0
 AreEligible plan routes = All (λ sent. IsTrue (is_eligible plan sent.peer sent.attributes)) routes
 
--- what the decision process asks of a held route, by what is held of it and by the plan
+-- what the decision process asks of a held route, by what is held of it and by the plan: neighbour AS and MED
+-- by its attributes
 abbrev pub standing_with : Peer → HeldRoute → Standing
 standing_with sender held = record {
   preference = sender.preference;
   path_length = held.path_length;
   origin = origin_of_candidacy held.candidacy;
-  neighbour = held.neighbour;
-  med = held.med;
+  neighbour = neighbour_of held.attributes.value.path sender.asn;
+  med = unwrap_or held.attributes.value.med 0;
   id = sender.id;
   address = sender.address;
 }
@@ -45,6 +47,10 @@ standing_with sender held = record {
 abbrev pub held_standing : Plan → HeldRoute → Standing
 held_standing plan held =
     option_map_or (λ sender. standing_with sender held) (slice_get plan.peers held.peer) no_standing
+
+-- a standing without neighbour AS and MED, for which 0 stands: all steps but MED ask no more
+abbrev pub without_med : Standing → Standing
+without_med standing = record standing { neighbour = 0; med = 0 }
 
 -- what is held of a route is true of it under a plan, and where it is eligible a decision needs no more
 pub record IsJudged (plan : Plan) (held : HeldRoute) : Type 0 where

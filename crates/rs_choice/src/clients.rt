@@ -14,7 +14,7 @@ ghost use Rattle.rs_choice.specs.Clients.{best_peer_for, is_sent_to, peer_or_own
 ghost use Rattle.rs_choice.specs.Contenders.{AreContenders, Contends, IsOutdone};
 ghost use Rattle.rs_choice.specs.Decision.{choice, member_at, standing_of};
 ghost use Rattle.rs_choice.specs.Entrants.{chosen_of};
-ghost use Rattle.rs_choice.specs.Held.{sent_of_held, AreEligible, IsJudged};
+ghost use Rattle.rs_choice.specs.Held.{held_standing, sent_of_held, AreEligible, IsJudged};
 ghost use Rattle.rs_choice.specs.Sharing.{sents_at, ArePlaces, AreWeighing, IsFirst, IsShared};
 
 use crate::candidate::{Placed, Standing};
@@ -215,21 +215,21 @@ impl Exchange {
         if !one.candidacy.is_eligible() {
             return None;
         }
-        let standing = self.held_standing(one);
-        if is_outdone(&standing, last) || !self.permits_held(client, one) {
+        if self.is_outdone(one, last) || !self.permits_held(client, one) {
             return None;
         }
-        Some(standing)
+        Some(self.held_standing(one))
     }
-}
 
-// Whether another candidate, if there is one, outdoes a route.
-fn is_outdone(standing: &Standing, other: &Option<Standing>) -> bool
-    ensures { IsTrue result ↔ IsOutdone standing.now other.now }
-{
-    match other {
-        None => false,
-        Some(other) => other.outdoes(standing),
+    // Whether another candidate, if there is one, outdoes a route.
+    fn is_outdone(&self, one: &HeldRoute, other: &Option<Standing>) -> bool
+        requires { one.now.peer < length self.now.peers }
+        ensures { IsTrue result ↔ IsOutdone (held_standing self.now one.now) other.now }
+    {
+        match other {
+            None => false,
+            Some(other) => self.is_outdone_by(one, other),
+        }
     }
 }
 

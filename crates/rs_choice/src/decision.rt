@@ -63,18 +63,20 @@ fn take_in<E: Entrants>(
     ensures grouped { AreGroups (standing_in (E.standings entrants.now)) (place + 1) groups.new }
     ensures leads { LeadsAll (standing_in (E.standings entrants.now)) groups.new (Some result) }
 {
-    let standing = entrants.standing(place);
     let Some(leader) = leader else {
+        let standing = entrants.standing(place);
         groups.restart(Group::of(place, &standing));
         return standing;
     };
+    if entrants.is_behind(place, &leader) {
+        return leader;
+    }
+    let standing = entrants.standing(place);
     if standing.is_ahead_of(&leader) {
         groups.restart(Group::of(place, &standing));
         return standing;
     }
-    if standing.is_level_with(&leader) {
-        join(entrants, groups, place, &standing);
-    }
+    join(entrants, groups, place, &standing);
     leader
 }
 

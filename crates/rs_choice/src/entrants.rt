@@ -1,7 +1,8 @@
 //! What takes part in a decision: standings, each asked for by its place.
 
-ghost use Rattle.std.specs.Prelude.{◌≡◌, ◌<◌, List, length};
+ghost use Rattle.std.specs.Prelude.{◌≡◌, ◌<◌, ◌↔◌, IsTrue, List, length};
 ghost use Rattle.rs_choice.specs.declared.candidate.Standing.{Standing};
+ghost use Rattle.rs_choice.specs.Comparison.{IsAhead};
 ghost use Rattle.rs_choice.specs.Grouping.{standing_in};
 
 use crate::candidate::{Candidate, Standing};
@@ -23,6 +24,11 @@ pub(crate) trait Entrants {
     fn standing(&self, place: usize) -> Standing
         requires { place < length (standings self.now) }
         ensures { result ≡ standing_in (standings self.now) place };
+
+    // Whether something is ahead of the one at a place by preference, path length and origin.
+    fn is_behind(&self, place: usize, leader: &Standing) -> bool
+        requires { place < length (standings self.now) }
+        ensures { IsTrue result ↔ IsAhead leader.now (standing_in (standings self.now) place) };
 }
 
 // The candidates of a list.
@@ -54,6 +60,10 @@ impl<'a> Entrants for Listed<'a> {
 
     fn standing(&self, place: usize) -> Standing {
         self.plan.standing(&self.candidates[place])
+    }
+
+    fn is_behind(&self, place: usize, leader: &Standing) -> bool {
+        leader.is_ahead_of(&self.standing(place))
     }
 }
 
@@ -88,5 +98,10 @@ impl<'a> Entrants for Chosen<'a> {
     fn standing(&self, place: usize) -> Standing {
         self.plan
             .held_standing(&self.held[self.places.place(place)])
+    }
+
+    fn is_behind(&self, place: usize, leader: &Standing) -> bool {
+        self.plan
+            .leaves_behind(leader, &self.held[self.places.place(place)])
     }
 }

@@ -1,13 +1,15 @@
-//! Routes as they are held for decisions: what each decision asks of a route by itself is found once, when
+//! Routes as they are held for decisions: what most decisions ask of a route by itself is found once, when
 //! the route comes, and stands beside it. A decision among held routes looks at no attributes but those of a
-//! route that export policy refuses to someone.
+//! route that export policy refuses to someone, and of those among which MED may decide: routes that
+//! preference, path length and origin leave.
 
 ghost use Rattle.std.specs.Prelude.{◌≡◌, ◌<◌, ◌↔◌, IsTrue, length};
 ghost use Rattle.rs_update.specs.AsPath.{path_length_of};
 ghost use Rattle.rs_choice.specs.Candidacy.{is_candidate, is_open_candidate, origin_of_candidacy};
 ghost use Rattle.rs_choice.specs.Clients.{is_sent_to};
 ghost use Rattle.rs_choice.specs.Eligibility.{is_eligible};
-ghost use Rattle.rs_choice.specs.Held.{held_standing, sent_of_held, IsJudged, IsOpen};
+ghost use Rattle.rs_choice.specs.Held.{held_standing, sent_of_held, without_med, IsJudged, IsOpen};
+ghost use Rattle.rs_choice.specs.Comparison.{IsAhead, Outdoes};
 
 use crate::candidacy::Candidacy;
 use crate::candidate::Standing;
@@ -16,7 +18,7 @@ use rs_update::Attributes;
 use std::mem::size_of;
 use std::sync::Arc;
 
-/// A route of a peer as it is held for decisions, in 24 octets.
+/// A route of a peer as it is held for decisions, in 16 octets.
 #[derive(Drop)]
 pub struct HeldRoute {
     /// The number of the peer that sent it.
@@ -25,17 +27,13 @@ pub struct HeldRoute {
     pub candidacy: Candidacy,
     /// AS numbers in AS_PATH, an AS_SET counting 1.
     pub path_length: u16,
-    /// The neighbour AS.
-    pub neighbour: u32,
-    /// MULTI_EXIT_DISC, 0 where it is missing.
-    pub med: u32,
     /// When it was announced, in seconds since 1970. No decision looks at it.
     pub time: u32,
     /// Its path attributes.
     pub attributes: Arc<Attributes>,
 }
 
-const _: () = prove!(size_of::<HeldRoute>() == 24);
+const _: () = prove!(size_of::<HeldRoute>() == 16);
 
 impl Exchange {
     /// A route of the peer of number `peer`, announced at `time`, with what decisions ask of it. It takes no memory.
@@ -49,14 +47,10 @@ impl Exchange {
         let _peers = self.count();
         let candidacy = self.candidacy(peer, &attributes);
         let path_length = path_length(&attributes);
-        let neighbour = attributes.neighbour(self.peer(peer).asn);
-        let med = attributes.med().unwrap_or(0);
         HeldRoute {
             peer: peer as u8,
             candidacy,
             path_length,
-            neighbour,
-            med,
             time,
             attributes,
         }
@@ -77,21 +71,79 @@ impl Exchange {
         }
     }
 
-    // What the decision process asks of a held route: it follows no pointer to attributes.
+    // What the decision process asks of a held route.
     pub(crate) fn held_standing(&self, held: &HeldRoute) -> Standing
         requires { held.now.peer < length self.now.peers }
         ensures { result ≡ held_standing self.now held.now }
     {
         let sender = self.peer(usize::from(held.peer));
         Standing {
+            neighbour: held.attributes.neighbour(sender.asn),
+            med: held.attributes.med().unwrap_or(0),
+            ..self.standing_without_med(held)
+        }
+    }
+
+    // What all steps but MED ask of a held route: 0 stands for neighbour AS and MED. It follows no pointer to
+    // attributes, which most often lie far away.
+    fn standing_without_med(&self, held: &HeldRoute) -> Standing
+        requires { held.now.peer < length self.now.peers }
+        ensures { result ≡ without_med (held_standing self.now held.now) }
+    {
+        let sender = self.peer(usize::from(held.peer));
+        Standing {
             preference: sender.preference,
             path_length: u32::from(held.path_length),
             origin: held.candidacy.origin(),
-            neighbour: held.neighbour,
-            med: held.med,
+            neighbour: 0,
+            med: 0,
             id: sender.id,
             address: sender.address,
         }
+    }
+
+    // Whether a held route is ahead of another by preference, path length and origin.
+    pub(crate) fn held_is_ahead(&self, one: &HeldRoute, other: &HeldRoute) -> bool
+        requires one_known { one.now.peer < length self.now.peers }
+        requires other_known { other.now.peer < length self.now.peers }
+        ensures { IsTrue result ↔ IsAhead (held_standing self.now one.now) (held_standing self.now other.now) }
+    {
+        self.standing_without_med(one)
+            .is_ahead_of(&self.standing_without_med(other))
+    }
+
+    // Whether something is ahead of a held route by preference, path length and origin.
+    pub(crate) fn leaves_behind(&self, leader: &Standing, one: &HeldRoute) -> bool
+        requires { one.now.peer < length self.now.peers }
+        ensures { IsTrue result ↔ IsAhead leader.now (held_standing self.now one.now) }
+    {
+        leader.is_ahead_of(&self.standing_without_med(one))
+    }
+
+    // Whether something outdoes a held route. It follows the pointer to attributes only where the first three
+    // steps leave both.
+    pub(crate) fn is_outdone_by(&self, one: &HeldRoute, best: &Standing) -> bool
+        requires { one.now.peer < length self.now.peers }
+        ensures { IsTrue result ↔ Outdoes best.now (held_standing self.now one.now) }
+    {
+        let front = self.standing_without_med(one);
+        best.is_ahead_of(&front)
+            || (best.is_level_with(&front) && best.outdoes_by_med(&self.held_standing(one)))
+    }
+
+    // Whether one held route outdoes another, in the same way.
+    pub(crate) fn held_outdoes(&self, one: &HeldRoute, other: &HeldRoute) -> bool
+        requires one_known { one.now.peer < length self.now.peers }
+        requires other_known { other.now.peer < length self.now.peers }
+        ensures { IsTrue result ↔ Outdoes (held_standing self.now one.now) (held_standing self.now other.now) }
+    {
+        let front = self.standing_without_med(one);
+        let other_front = self.standing_without_med(other);
+        front.is_ahead_of(&other_front)
+            || (front.is_level_with(&other_front)
+                && self
+                    .held_standing(one)
+                    .outdoes_by_med(&self.held_standing(other)))
     }
 
     // Whether a client may get a held route.

@@ -57,9 +57,7 @@ impl Exchange {
         }
         match former_best(held, change, best) {
             None => false,
-            Some(was) => self
-                .held_standing(one)
-                .is_ahead_of(&self.held_standing(was)),
+            Some(was) => self.held_is_ahead(one, was),
         }
     }
 }

@@ -18,7 +18,6 @@ ghost use Rattle.rs_choice.specs.RouteChanges.{AreBehind, AreBehindAll, AreNoCan
 ghost use Rattle.rs_choice.specs.RouteChanges.{HadBest, IsNextTouched, IsUntouched, KnowsBest};
 ghost use Rattle.rs_choice.specs.Sharing.{IsShared};
 
-use crate::candidate::Standing;
 use crate::clients::Shared;
 use crate::exchange::Exchange;
 use crate::held_order::{is_at, place_of_peer};
@@ -250,33 +249,35 @@ impl Exchange {
         let Some(place) = place_from(held, peer) else {
             return false;
         };
-        self.are_behind(held, change, &self.held_standing(&held[place]))
+        self.are_behind(held, change, &held[place])
     }
 
-    // Whether something outdoes both routes of a change, if they may be candidates.
-    fn are_behind(&self, held: &[HeldRoute], change: &RouteChange, standing: &Standing) -> bool
+    // Whether a route outdoes both routes of a change, if they may be candidates.
+    fn are_behind(&self, held: &[HeldRoute], change: &RouteChange, best: &HeldRoute) -> bool
         requires judged { All (IsJudged self.now) held.now }
         requires known { IsKnown self.now held.now change.now }
-        ensures { IsTrue result → AreBehindAll self.now held.now change.now standing.now }
+        requires best_known { best.now.peer < length self.now.peers }
+        ensures { IsTrue result → AreBehindAll self.now held.now change.now (held_standing self.now best.now) }
     {
         let old_is_behind = match &change.old {
             None => true,
-            Some(old) => self.is_behind(old, standing),
+            Some(old) => self.is_behind(old, best),
         };
         let new_is_behind = match change.new {
             None => true,
-            Some(place) => self.is_behind(&held[place], standing),
+            Some(place) => self.is_behind(&held[place], best),
         };
         old_is_behind && new_is_behind
     }
 
-    // Whether a route is no candidate of any client, or something outdoes it.
-    fn is_behind(&self, one: &HeldRoute, standing: &Standing) -> bool
-        requires { one.now.peer < length self.now.peers }
+    // Whether a route is no candidate of any client, or another one outdoes it.
+    fn is_behind(&self, one: &HeldRoute, best: &HeldRoute) -> bool
+        requires one_known { one.now.peer < length self.now.peers }
+        requires best_known { best.now.peer < length self.now.peers }
         ensures { IsTrue result → IsTrue (is_candidate one.now.candidacy)
-            → Outdoes standing.now (held_standing self.now one.now) }
+            → Outdoes (held_standing self.now best.now) (held_standing self.now one.now) }
     {
-        !one.candidacy.is_eligible() || standing.outdoes(&self.held_standing(one))
+        !one.candidacy.is_eligible() || self.held_outdoes(best, one)
     }
 }
 

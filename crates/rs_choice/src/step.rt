@@ -78,7 +78,7 @@ impl Standing {
     }
 
     // Whether the last three steps do so, of two from one neighbour AS.
-    fn outdoes_by_med(&self, other: &Standing) -> bool
+    pub(crate) fn outdoes_by_med(&self, other: &Standing) -> bool
         ensures { IsTrue result ↔ OutdoesByMed self.now other.now }
     {
         self.neighbour == other.neighbour

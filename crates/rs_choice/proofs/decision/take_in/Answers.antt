@@ -1,8 +1,8 @@
 use Rattle.std.proofs.Common.{ℕ, None, Some}
 use Rattle.rs_choice.specs.declared.candidate.Standing.{Standing}
-use Rattle.rs_choice.specs.Comparison.{IsAhead, IsLevel}
+use Rattle.rs_choice.specs.Comparison.{IsAhead}
 use Rattle.rs_choice.specs.Grouping.{standing_in, LeadsAll}
-use Rattle.rs_choice.proofs.GroupLists.{behind}
+use Rattle.rs_choice.proofs.GroupLists.{level}
 use Rattle.rs_choice.proofs.GroupMarks.{ahead_of_leader, ahead_of_no_leader, alone_marked, behind_leader, leads_alone, leads_joined, level_with_leader}
 use Rattle.rs_choice.proofs.ScanLemmas.{when_false}
 use Rattle.rs_choice.proofs.decision.take_in.Goals as goal
@@ -12,27 +12,27 @@ join-requires-clause-level g c =
     let S : ℕ → Standing = standing_in (g.E.Entrants.standings c.args.entrants.now) in
     let leader = c.in-Some.leader in
     let leads : LeadsAll S c.args.groups.now (Some leader) = rw c.in-Some.is at c.requires.leads in
-    let level : IsLevel (S c.args.place) leader = rw c.standing-standing.ensures at (c.is_level_with.ensures.0 c.if-is_level_with.true) in
-    level_with_leader S c.args.place c.args.groups.now leader leads level
-
-pub returns-then-is_level_with-clause-leads : goal.returns-then-is_level_with-clause-leads
-returns-then-is_level_with-clause-leads g c =
-    let S : ℕ → Standing = standing_in (g.E.Entrants.standings c.args.entrants.now) in
-    let leader = c.in-Some.leader in
-    let leads : LeadsAll S c.args.groups.now (Some leader) = rw c.in-Some.is at c.requires.leads in
-    let level : IsLevel (S c.args.place) leader = rw c.standing-standing.ensures at (c.is_level_with.ensures.0 c.if-is_level_with.true) in
-    leads_joined S c.args.place c.args.groups.now c.join.new.groups leader c.requires.grouped leads level c.join.ensures
-
-pub returns-else-is_level_with-clause-grouped : goal.returns-else-is_level_with-clause-grouped
-returns-else-is_level_with-clause-grouped g c =
-    let S : ℕ → Standing = standing_in (g.E.Entrants.standings c.args.entrants.now) in
-    let leader = c.in-Some.leader in
-    let leads : LeadsAll S c.args.groups.now (Some leader) = rw c.in-Some.is at c.requires.leads in
+    let behind_not : IsAhead leader (S c.args.place) → ⊥ = when_false c.is_behind.result (IsAhead leader (S c.args.place)) c.is_behind.ensures c.if-is_behind.false in
     let ahead_not : IsAhead (S c.args.place) leader → ⊥ =
-    rw c.standing-standing.ensures at (when_false c.is_ahead_of.result (IsAhead c.standing-standing.result leader) c.is_ahead_of.ensures c.if-is_ahead_of.false) in
-    let level_not : IsLevel (S c.args.place) leader → ⊥ =
-    rw c.standing-standing.ensures at (when_false c.is_level_with.result (IsLevel c.standing-standing.result leader) c.is_level_with.ensures c.if-is_level_with.false) in
-    behind_leader S c.args.place c.args.groups.now leader c.requires.grouped leads (behind (S c.args.place) leader ahead_not level_not)
+    rw c.standing-standing-2.ensures at (when_false c.is_ahead_of.result (IsAhead c.standing-standing-2.result leader) c.is_ahead_of.ensures c.if-is_ahead_of.false) in
+    level_with_leader S c.args.place c.args.groups.now leader leads (level (S c.args.place) leader ahead_not behind_not)
+
+pub returns-clause-leads : goal.returns-clause-leads
+returns-clause-leads g c =
+    let S : ℕ → Standing = standing_in (g.E.Entrants.standings c.args.entrants.now) in
+    let leader = c.in-Some.leader in
+    let leads : LeadsAll S c.args.groups.now (Some leader) = rw c.in-Some.is at c.requires.leads in
+    let behind_not : IsAhead leader (S c.args.place) → ⊥ = when_false c.is_behind.result (IsAhead leader (S c.args.place)) c.is_behind.ensures c.if-is_behind.false in
+    let ahead_not : IsAhead (S c.args.place) leader → ⊥ =
+    rw c.standing-standing-2.ensures at (when_false c.is_ahead_of.result (IsAhead c.standing-standing-2.result leader) c.is_ahead_of.ensures c.if-is_ahead_of.false) in
+    leads_joined S c.args.place c.args.groups.now c.join.new.groups leader c.requires.grouped leads (level (S c.args.place) leader ahead_not behind_not) c.join.ensures
+
+pub returns-then-is_behind-clause-grouped : goal.returns-then-is_behind-clause-grouped
+returns-then-is_behind-clause-grouped g c =
+    let S : ℕ → Standing = standing_in (g.E.Entrants.standings c.args.entrants.now) in
+    let leader = c.in-Some.leader in
+    let leads : LeadsAll S c.args.groups.now (Some leader) = rw c.in-Some.is at c.requires.leads in
+    behind_leader S c.args.place c.args.groups.now leader c.requires.grouped leads (c.is_behind.ensures.0 c.if-is_behind.true)
 
 pub returns-in_default-clause-grouped : goal.returns-in_default-clause-grouped
 returns-in_default-clause-grouped g c =
@@ -50,11 +50,11 @@ returns-then-is_ahead_of-clause-grouped g c =
     let S : ℕ → Standing = standing_in (g.E.Entrants.standings c.args.entrants.now) in
     let leader = c.in-Some.leader in
     let leads : LeadsAll S c.args.groups.now (Some leader) = rw c.in-Some.is at c.requires.leads in
-    let ahead : IsAhead (S c.args.place) leader = rw c.standing-standing.ensures at (c.is_ahead_of.ensures.0 c.if-is_ahead_of.true) in
-    rw (c.restart-then-is_ahead_of.ensures, c.of-then-is_ahead_of.ensures, c.standing-standing.ensures)
+    let ahead : IsAhead (S c.args.place) leader = rw c.standing-standing-2.ensures at (c.is_ahead_of.ensures.0 c.if-is_ahead_of.true) in
+    rw (c.restart-then-is_ahead_of.ensures, c.of-then-is_ahead_of.ensures, c.standing-standing-2.ensures)
     (alone_marked S c.args.place (ahead_of_leader S c.args.place c.args.groups.now leader c.requires.grouped leads ahead))
 
 pub returns-then-is_ahead_of-clause-leads : goal.returns-then-is_ahead_of-clause-leads
 returns-then-is_ahead_of-clause-leads g c =
     let S : ℕ → Standing = standing_in (g.E.Entrants.standings c.args.entrants.now) in
-    rw (c.restart-then-is_ahead_of.ensures, c.of-then-is_ahead_of.ensures, c.standing-standing.ensures) (leads_alone S c.args.place)
+    rw (c.restart-then-is_ahead_of.ensures, c.of-then-is_ahead_of.ensures, c.standing-standing-2.ensures) (leads_alone S c.args.place)

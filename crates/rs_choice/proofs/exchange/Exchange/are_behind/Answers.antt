@@ -13,7 +13,7 @@ use Rattle.rs_choice.proofs.exchange.Exchange.are_behind.Goals.{in-None, in-Some
 pub returns-then-old_is_behind : goal.returns-then-old_is_behind
 returns-then-old_is_behind c = λ new_true one is_one candidate.
     let held = c.args.held.now in
-    let behind = λ (one : HeldRoute). IsTrue (is_candidate one.candidacy) → Outdoes c.args.standing.now (held_standing c.args.self.now one) in
+    let behind = λ (one : HeldRoute). IsTrue (is_candidate one.candidacy) → Outdoes (held_standing c.args.self.now c.args.best.now) (held_standing c.args.self.now one) in
     elim is_one [
       | inl old ↦ elim c.match-change.branch [
         | in-None w ↦ absurd (none_is_no_some c.args.change.now.old one w.in-None.is old)

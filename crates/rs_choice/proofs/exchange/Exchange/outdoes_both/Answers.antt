@@ -22,6 +22,6 @@ returns c = λ behind.
         found.0,
         contains_at held place found.0 found.1,
         found.2,
-        subst (λ (standing : Standing). Outdoes standing (held_standing plan one)) (c.held_standing.ensures ∙ ap (held_standing plan) same) (c.are_behind.ensures behind one is_one candidate),
+        subst (λ (standing : Standing). Outdoes standing (held_standing plan one)) (ap (held_standing plan) same) (c.are_behind.ensures behind one is_one candidate),
       ),
     )
