@@ -98,15 +98,16 @@ fn withdraw(cells: &mut BTreeMap<Prefix, Cell>, plan: &Exchange, peer: usize, pr
     }
 }
 
-// All cells of two maps that have no prefix in common. Each is moved, and none made anew.
+// All cells of two maps that have no prefix in common. Each is moved, and none made anew. The map that takes
+// them in stays and grows: no third one is built beside the two.
 pub(crate) fn join(
     mut cells: BTreeMap<Prefix, Cell>,
-    mut others: BTreeMap<Prefix, Cell>,
+    others: BTreeMap<Prefix, Cell>,
 ) -> Result<BTreeMap<Prefix, Cell>, AllocError>
     ensures cells { IfOk result (λ joined. AreJoined cells.entries others.entries joined.entries) }
     ensures ordered { IfOk result (λ joined. IsOrdered prefix_cmp joined) }
 {
-    cells.append(&mut others)?;
+    cells.extend(others)?;
     Ok(cells)
 }
 
