@@ -1,11 +1,11 @@
 //! Plain tables with the same structures as `rs_table`: an ordered map from prefix to a cell, held routes of
-//! 24 octets sorted by peer, one octet for each client. They decide as `rs_choice` does. What decisions ask of
-//! a route by itself is found when it comes, and stands beside it. One pass by neighbour groups chooses among
+//! 16 octets sorted by peer, one octet for each client. They decide as `rs_choice` does. What the first three steps
+//! ask of a route by itself is found when it comes, and stands beside it. One pass by neighbour groups chooses among
 //! all eligible routes, and that choice is shared by the clients to which the few routes on which it rests
 //! are permitted; each other client has a pass of its own. After a change only the clients are decided anew
 //! that it may touch: of a route for named clients alone these are found by the communities.
 use crate::update::{Attributes, Prefix};
-use std::cmp::Reverse;
+use std::cmp::{Ordering, Reverse};
 use std::collections::BTreeMap;
 use std::sync::Arc;
 
@@ -43,8 +43,6 @@ pub struct Held {
     pub peer: u8,
     candidacy: Candidacy,
     path_length: u16,
-    neighbour: u32,
-    med: u32,
     pub time: u32,
     pub attributes: Arc<Attributes>,
 }
@@ -118,11 +116,9 @@ impl Standing {
         (self.id, self.address)
     }
 
-    fn outdoes(&self, other: &Standing) -> bool {
-        self.front() < other.front()
-            || (self.front() == other.front()
-                && self.neighbour == other.neighbour
-                && (self.med, self.last()) < (other.med, other.last()))
+    // Whether one goes before another that is level with it by the first three.
+    fn outdoes_by_med(&self, other: &Standing) -> bool {
+        self.neighbour == other.neighbour && (self.med, self.last()) < (other.med, other.last())
     }
 }
 
@@ -198,8 +194,6 @@ impl Plan {
             peer: peer as u8,
             candidacy: self.candidacy(peer, &attributes),
             path_length: attributes.path_length,
-            neighbour: attributes.neighbour.unwrap_or(self.peers[peer].asn),
-            med: attributes.med.unwrap_or(0),
             time,
             attributes,
         }
@@ -216,10 +210,25 @@ impl Plan {
             preference: sender.preference,
             path_length: u32::from(held.path_length),
             origin: held.candidacy.origin(),
-            neighbour: held.neighbour,
-            med: held.med,
+            neighbour: held.attributes.neighbour.unwrap_or(sender.asn),
+            med: held.attributes.med.unwrap_or(0),
             id: sender.id,
             address: sender.address,
+        }
+    }
+
+    // What the first three steps compare of a held route. It follows no pointer to attributes.
+    fn front(&self, held: &Held) -> (Reverse<u32>, u32, u8) {
+        let sender = &self.peers[usize::from(held.peer)];
+        (Reverse(sender.preference), u32::from(held.path_length), held.candidacy.origin())
+    }
+
+    // Whether a held route outdoes another. Attributes are looked at only where the first three steps leave both.
+    fn outdoes(&self, one: &Held, other: &Held) -> bool {
+        match self.front(one).cmp(&self.front(other)) {
+            Ordering::Less => true,
+            Ordering::Equal => self.standing(one).outdoes_by_med(&self.standing(other)),
+            Ordering::Greater => false,
         }
     }
 
@@ -236,10 +245,13 @@ impl Plan {
             if !route.candidacy.is_eligible() || !takes_part(route) {
                 continue;
             }
+            let front = self.front(route);
+            if leader.as_ref().is_some_and(|leader| front > leader.front()) {
+                continue;
+            }
             let one = self.standing(route);
             match &leader {
-                Some(leader) if one.front() > leader.front() => {}
-                Some(leader) if one.front() == leader.front() => self.join(held, &mut groups, place, &one),
+                Some(leader) if front == leader.front() => self.join(held, &mut groups, place, &one),
                 _ => {
                     groups.len = 0;
                     groups.push(place, one.neighbour);
@@ -347,7 +359,7 @@ impl Plan {
         } else {
             route_of(held, best)
         };
-        (self.standing(one).front() < self.standing(was?).front()).then_some(one.peer)
+        (self.front(one) < self.front(was?)).then_some(one.peer)
     }
 
     // The first client from one on to which it may be of matter.
@@ -412,11 +424,8 @@ impl Plan {
 
     fn outdoes_both(&self, held: &[Held], change: &Change, peer: u8) -> bool {
         let Some(one) = route_of(held, peer) else { return false };
-        let one = self.standing(one);
         peer != change.peer
-            && change
-                .both(held)
-                .all(|route| !route.candidacy.is_eligible() || one.outdoes(&self.standing(route)))
+            && change.both(held).all(|route| !route.candidacy.is_eligible() || self.outdoes(one, route))
     }
 }
 
