@@ -2,7 +2,8 @@
 use Rattle.std.proofs.Common.{◌≡◌, ◌∙◌, sym, ap, refl, ℕ, Bool, true, false, not, cond, List, [], ◌∷◌, ◌++◌, append_assoc}
 use Rattle.std.specs.Prelude.{Option}
 use Rattle.rs_session.specs.Change.{Change}
-use Rattle.rs_explain.specs.Cut.{is_later, HasTakenIf, IsCut, IsShort, TakenIsCut}
+use Rattle.rs_session.specs.Concerning.{is_later}
+use Rattle.rs_explain.specs.Cut.{HasTakenIf, IsCut, IsShort, TakenIsCut}
 use Rattle.rs_explain.proofs.SaidLemmas.{none-append, none-one}
 
 module _ (time : Option ℕ) (change : Change) where

@@ -1,12 +1,8 @@
 -- Up to when changes count: the longest beginning of a list of changes none of which is later than a time.
-use Rattle.std.specs.Prelude.{◌≡◌, ℕ, nat_lt, Bool, true, false, List, [], ◌∷◌, ◌++◌, Option, None, Some}
+use Rattle.std.specs.Prelude.{◌≡◌, ℕ, Bool, true, false, List, [], ◌∷◌, ◌++◌, Option}
 use Rattle.std.specs.List.{list_any}
 use Rattle.rs_session.specs.Change.{Change}
-
--- a change is later than a time; none is later where no time is given
-abbrev pub is_later : Option ℕ → Change → Bool
-is_later None change = false
-is_later (Some time) change = nat_lt time change.time
+use Rattle.rs_session.specs.Concerning.{is_later}
 
 -- changes begin with one that is later, if with any
 abbrev pub BeginsLater : Option ℕ → List Change → Type 0

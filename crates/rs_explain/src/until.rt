@@ -2,7 +2,8 @@
 
 ghost use Rattle.std.specs.Prelude.{◌≡◌, ◌++◌, ◌∷◌, [], List, if◌then◌else◌};
 ghost use Rattle.rs_session.specs.Change.{change_of, Change};
-ghost use Rattle.rs_explain.specs.Cut.{is_later, HasTaken};
+ghost use Rattle.rs_session.specs.Concerning.{is_later};
+ghost use Rattle.rs_explain.specs.Cut.{HasTaken};
 
 use rs_session::Word;
 use std::marker::Model;

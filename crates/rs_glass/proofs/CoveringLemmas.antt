@@ -7,13 +7,14 @@ use Rattle.std.specs.Ordering.{is_eq, nat_cmp, ordering_then}
 use Rattle.std.specs.declared.cmp.Ordering.{Ordering}
 use Rattle.std.specs.declared.cmp.Ordering.TheVariants.{Less, Equal, Greater}
 use Rattle.std.proofs.lemmas.Bool.{cases_Bool, le-ltb, ltb-false, ltb-true}
+use Rattle.rs_update.specs.Covering.{covers}
 use Rattle.rs_update.specs.IpPrefix.{IpPrefix}
 use Rattle.rs_update.specs.Prefix.{network_of}
 use Rattle.rs_update.specs.PrefixOrder.{prefix_cmp}
 use Rattle.rs_table.specs.Content.{RibContent}
 use Rattle.rs_table.specs.Left.{same_prefix}
 use Rattle.rs_table.specs.Listing.{is_held}
-use Rattle.rs_glass.specs.Covering.{IsLongestHeld, NoneIsHeld, covers}
+use Rattle.rs_glass.specs.Covering.{IsLongestHeld, NoneIsHeld}
 
 then_first : (r s : Ordering) → ordering_then r s ≡ Equal → r ≡ Equal
 then_first Less s e = cc e

@@ -12,7 +12,8 @@ use Rattle.rs_session.specs.Stage.{Comes, Stage, IsOver, May, Says, Closes}
 use Rattle.rs_session.specs.declared.peer.PeerId.{PeerId}
 use Rattle.rs_session.specs.declared.word.Word.{Word}
 use Rattle.rs_table.proofs.RibLemmas.{any-one_more}
-use Rattle.rs_explain.specs.Cut.{BeginsLater, HasTaken, IsCut, TakenIsCut, UntilContent, is_later}
+use Rattle.rs_session.specs.Concerning.{is_later}
+use Rattle.rs_explain.specs.Cut.{BeginsLater, HasTaken, IsCut, TakenIsCut, UntilContent}
 use Rattle.rs_glass.specs.Recorded.{AreInTime}
 use Rattle.rs_glass.specs.declared.question.Question.{Question}
 

@@ -3,6 +3,7 @@ pub mod GivenLemmas
 pub mod HappenedLemmas
 pub mod HistoryLemmas
 pub mod ListLemmas
+pub mod PassedOverLemmas
 pub mod ReadingLemmas
 pub mod RecordingLemmas
 pub mod RoutesLeftLemmas

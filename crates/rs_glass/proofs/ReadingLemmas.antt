@@ -15,7 +15,8 @@ use Rattle.rs_session.specs.declared.peer.PeerId.{PeerId}
 use Rattle.rs_table.specs.Laws.{LeftAfterOneMore, LeftByLastChanges, LeftByPart}
 use Rattle.rs_table.specs.Left.{Routes, after, body_prefix, left, same_prefix}
 use Rattle.rs_explain.specs.Cut.{UntilContent}
-use Rattle.rs_glass.specs.Covering.{body_concerns, concerns, covers}
+use Rattle.rs_update.specs.Covering.{covers}
+use Rattle.rs_session.specs.Concerning.{body_concerns, concerns}
 use Rattle.rs_glass.specs.Recorded.{AreInTime, AreTold, IsSaid, IsSaidBefore}
 use Rattle.rs_glass.specs.declared.question.Question.{Question}
 use Rattle.rs_glass.specs.declared.said.Said.{Said}

@@ -3,6 +3,7 @@ use Rattle.std.specs.Prelude.{◌≡◌, ◌↔◌, ◌<◌, ℕ, Bool, true, fa
 use Rattle.std.specs.FinMap.{get}
 use Rattle.std.specs.List.{find}
 use Rattle.std.specs.Option.{option_and_then, option_map_or}
+use Rattle.rs_update.specs.Covering.{covers}
 use Rattle.rs_update.specs.IpPrefix.{IpPrefix}
 use Rattle.rs_mrt.specs.Reader.{ReadEnd}
 use Rattle.rs_session.specs.Change.{Change, ChangeBody, Announced, Withdrawn, Lost, Closed, is_read, is_close}
@@ -19,7 +20,6 @@ use Rattle.rs_explain.specs.declared.last_said.EndedBy.{EndedBy}
 use Rattle.rs_explain.specs.declared.last_said.EndedBy.TheVariants as ended
 use Rattle.rs_explain.specs.declared.last_said.LastSaid.{LastSaid}
 use Rattle.rs_explain.specs.declared.last_said.LastSaid.TheVariants as last
-use Rattle.rs_glass.specs.Covering.{covers}
 use Rattle.rs_glass.specs.declared.fault.GlassFault.{GlassFault}
 use Rattle.rs_glass.specs.declared.fault.GlassFault.TheVariants.{Memory, Read}
 use Rattle.rs_glass.specs.declared.question.Question.{Question}

@@ -3,10 +3,10 @@
 ghost use Rattle.std.specs.Prelude.{◌≡◌, ◌≤◌};
 ghost use Rattle.rs_update.specs.Prefix.{network_of};
 ghost use Rattle.rs_session.specs.Change.{change_of};
-ghost use Rattle.rs_glass.specs.Covering.{concerns, covers};
+ghost use Rattle.rs_session.specs.Concerning.{concerns};
 
 use rs_session::{Body, Word};
-use rs_update::Prefix;
+use rs_update::{Prefix, covers};
 
 // The prefix of so many of the first bits of a prefix: of those that cover it, the one of that length.
 pub(crate) fn cover(prefix: Prefix, len: u8) -> Prefix
@@ -18,16 +18,6 @@ pub(crate) fn cover(prefix: Prefix, len: u8) -> Prefix
         Some(wide) => wide,
         None => unreachable!(),
     }
-}
-
-// Whether a prefix covers another: the other's first bits are its.
-pub(crate) fn covers(wide: Prefix, prefix: Prefix) -> bool
-    ensures { result ≡ covers wide prefix }
-{
-    if prefix.len() < wide.len() {
-        return false;
-    }
-    cover(prefix, wide.len()) == wide
 }
 
 // Whether a change concerns a prefix: it announces or withdraws one that covers it, or is a loss or a close.

@@ -2,8 +2,8 @@
 
 ghost use Rattle.std.specs.Prelude.{◌≡◌, ◌<◌, IfErr, IfOk, OnOk, if◌then◌else◌};
 ghost use Rattle.rs_session.specs.Change.{change_of};
+ghost use Rattle.rs_session.specs.Concerning.{concerns};
 ghost use Rattle.rs_table.specs.Left.{after};
-ghost use Rattle.rs_glass.specs.Covering.{concerns};
 ghost use Rattle.rs_glass.specs.Losses.{loss_behind};
 ghost use Rattle.rs_glass.specs.Recorded.{IsFaultOf, IsSaidBefore, IsSaidOf};
 
@@ -18,7 +18,7 @@ use rs_explain::{Until, what_is_taken_is_the_longest_beginning};
 use rs_mrt::{Read, RecordReader};
 use rs_session::{Body, PeerId, Session, Word, a_reader_gives_a_file_or_fails};
 use rs_table::{left_after_one_more, left_by_last_changes, left_by_part};
-use rs_update::Prefix;
+use rs_update::{Prefix, a_prefix_covers_itself};
 use std::alloc::{AllocError, Global};
 
 /// What the recorded session of a peer says of a prefix.
@@ -49,7 +49,7 @@ pub(crate) fn hear<R: Read + Drop>(
     Ok(heard)
 }
 
-// The same, a failed read being the reason of the close.
+// The same, a failed read being the reason of the close. Changes that don't concern the prefix leave what is said and held.
 fn hear_changes<R: Read + Drop>(
     alloc: Global,
     id: PeerId,
@@ -64,11 +64,12 @@ fn hear_changes<R: Read + Drop>(
     left_after_one_more();
     left_by_part();
     left_by_last_changes();
+    a_prefix_covers_itself(question.prefix);
     let mut session = Session::over_by(alloc, RecordReader::new(reader), id, question.errors);
     let mut until = Until::new(question.until);
     let mut said = Said::nothing();
     let mut routes = RoutesLeft::none(alloc);
-    while let Some(word) = session.next_word()? {
+    while let Some(word) = session.next_word_on(question.prefix, question.until)? {
         if !until.takes(&word) {
             return Ok(Heard { said, routes });
         }

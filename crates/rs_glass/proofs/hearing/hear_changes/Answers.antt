@@ -1,11 +1,12 @@
--- A change that is given comes before whatever may come, and the routes take it where it concerns the prefix; once none is given, or one is too late, all that are in
--- time were given.
+-- A change that is given comes before whatever may come, behind those that were passed over, and the routes take it where it concerns the prefix; once none is given, or
+-- one is too late, all that are in time were given or passed over.
 use Rattle.std.proofs.Common.{◌≡◌, ◌∙◌, ◌++◌, ◌∷◌, [], false, refl, sym}
 use Rattle.std.specs.List.{list_any}
 use Rattle.rs_mrt.specs.RecordReading.{MayCome, room_left, unread}
 use Rattle.rs_session.specs.Change.{change_of, is_close}
 use Rattle.rs_session.specs.Stage.{fresh, most_changes}
-use Rattle.rs_glass.proofs.GivenLemmas.{few-smaller, given-all, given-late, given-more, given-none}
+use Rattle.rs_glass.proofs.GivenLemmas.{few-smaller, given-all, given-none}
+use Rattle.rs_glass.proofs.PassedOverLemmas.{given-late-behind, given-more-behind, open-over, taken-over, takes-over}
 use Rattle.rs_glass.proofs.ReadingLemmas.{taken-more, taken-none, taken-said}
 use Rattle.rs_glass.proofs.hearing.hear_changes.Goals as goal
 
@@ -23,7 +24,7 @@ pub loop-routes-smaller : goal.loop-routes-smaller
 loop-routes-smaller g c =
     let closes = rw c.in-Some.is at c.in_ok-word.ensures.closes in
     let fewer = rw c.in-Some.is at c.in_ok-word.ensures.fewer in
-    few-smaller (most_changes (λ r. room_left r) (λ r. r.shown) c.loop-routes.session) (most_changes (λ r. room_left r) (λ r. r.shown) c.next_word.new.self) c.loop-routes.session.closed c.next_word.new.self.closed (is_close (change_of c.in-Some.word)) closes.0 closes.1 fewer
+    few-smaller (most_changes (λ r. room_left r) (λ r. r.shown) c.loop-routes.session) (most_changes (λ r. room_left r) (λ r. r.shown) c.next_word_on.new.self) c.loop-routes.session.closed c.next_word_on.new.self.closed (is_close (change_of c.in-Some.word)) closes.0 closes.1 fewer
 
 pub loop-routes-preserved : goal.loop-routes-preserved
 loop-routes-preserved g c =
@@ -32,14 +33,18 @@ loop-routes-preserved g c =
     let says = rw c.in-Some.is at c.in_ok-word.ensures.says in
     let closes = rw c.in-Some.is at c.in_ok-word.ensures.closes in
     let r = c.loop-routes.invariant in
+    let over = says.over in
+    let given = r.given ++ over in
+    let takes = takes-over c.loop-routes.until question.until r.given over r.is_given.time says.are_over.in_time r.is_given.takes in
     let taken = rw c.if-not-takes.false at c.takes.ensures.taken in
-    let none : list_any is_close r.given ≡ false = sym r.is_given.closed ∙ closes.0 in
+    let held = taken-over question.prefix c.a_prefix_covers_itself.ensures r.given over c.loop-routes.routes c.loop-routes.said says.are_over.beside r.is_taken in
+    let none : list_any is_close given ≡ false = open-over question.prefix r.given over says.are_over.beside (sym r.is_given.closed ∙ closes.0) in
     record {
-      given = r.given ++ change_of c.in-Some.word ∷ [];
-      is_given = given-more (MayCome g.R.Read.gives) (λ r. r.shown) start question.until r.given c.loop-routes.session c.next_word.new.self c.loop-routes.until c.takes.new.self c.in-Some.word r.is_given says closes
-          (taken r.given r.given r.is_given.takes) c.takes.ensures.time;
-      is_taken = taken-more question.prefix r.given (change_of c.in-Some.word) c.loop-routes.routes c.take_change.new.routes c.loop-routes.said c.after-said.result c.left_after_one_more.ensures r.is_taken none
-          (c.after-said.ensures r.given r.is_taken.is_said) c.in_ok-take_change.ensures;
+      given = given ++ change_of c.in-Some.word ∷ [];
+      is_given = given-more-behind (MayCome g.R.Read.gives) (λ r. r.shown) start question.until question.prefix r.given over c.loop-routes.session c.next_word_on.new.self c.loop-routes.until c.takes.new.self c.in-Some.word says.are_over.beside
+          r.is_given says.says closes (taken given given takes) c.takes.ensures.time;
+      is_taken = taken-more question.prefix given (change_of c.in-Some.word) c.loop-routes.routes c.take_change.new.routes c.loop-routes.said c.after-said.result c.left_after_one_more.ensures held none
+          (c.after-said.ensures given held.is_said) c.in_ok-take_change.ensures;
     }
 
 pub returns-then-not-takes : goal.returns-then-not-takes
@@ -48,10 +53,15 @@ returns-then-not-takes g c =
     let start = fresh (unread c.args.reader) c.args.id question.errors in
     let says = rw c.in-Some.is at c.in_ok-word.ensures.says in
     let r = c.loop-routes.invariant in
+    let over = says.over in
+    let given = r.given ++ over in
+    let takes = takes-over c.loop-routes.until question.until r.given over r.is_given.time says.are_over.in_time r.is_given.takes in
     let taken = rw c.if-not-takes.true at c.takes.ensures.taken in
-    let late = given-late (MayCome g.R.Read.gives) (λ r. r.shown) start question.until g.R.Read.gives question c.args.id c.args.reader refl (c.a_reader_gives_a_file_or_fails.ensures question.errors c.args.id) c.what_is_taken_is_the_longest_beginning.ensures
-    r.given c.loop-routes.session c.next_word.new.self c.loop-routes.until c.takes.new.self c.in-Some.word r.is_given says c.in_ok-word.ensures.more (taken r.given r.given r.is_given.takes) c.takes.ensures.time in
-    taken-said question.prefix g.R.Read.gives question c.args.id c.args.reader refl r.given c.loop-routes.routes c.loop-routes.said r.is_taken late c.left_by_part.ensures c.left_by_last_changes.ensures
+    let held = taken-over question.prefix c.a_prefix_covers_itself.ensures r.given over c.loop-routes.routes c.loop-routes.said says.are_over.beside r.is_taken in
+    let late = given-late-behind (MayCome g.R.Read.gives) (λ r. r.shown) start question.until g.R.Read.gives question c.args.id c.args.reader refl (c.a_reader_gives_a_file_or_fails.ensures question.errors c.args.id)
+    c.what_is_taken_is_the_longest_beginning.ensures r.given over c.loop-routes.session c.next_word_on.new.self c.loop-routes.until c.takes.new.self c.in-Some.word r.is_given says.says c.in_ok-word.ensures.more (taken given given takes)
+    c.takes.ensures.time in
+    taken-said question.prefix g.R.Read.gives question c.args.id c.args.reader refl given c.loop-routes.routes c.loop-routes.said held late c.left_by_part.ensures c.left_by_last_changes.ensures
 
 pub returns : goal.returns
 returns g c =
@@ -60,5 +70,5 @@ returns g c =
     let says = rw c.in_default.is at c.in_ok-word.ensures.says in
     let r = c.loop-routes.invariant in
     let all = given-all (MayCome g.R.Read.gives) (λ r. r.shown) start question.until g.R.Read.gives question c.args.id c.args.reader refl (c.a_reader_gives_a_file_or_fails.ensures question.errors c.args.id) c.what_is_taken_is_the_longest_beginning.ensures
-    r.given c.loop-routes.session c.next_word.new.self c.loop-routes.until r.is_given says c.in_ok-word.ensures.more in
+    r.given c.loop-routes.session c.next_word_on.new.self c.loop-routes.until r.is_given says.says c.in_ok-word.ensures.more in
     taken-said question.prefix g.R.Read.gives question c.args.id c.args.reader refl r.given c.loop-routes.routes c.loop-routes.said r.is_taken all c.left_by_part.ensures c.left_by_last_changes.ensures

@@ -1,0 +1,179 @@
+-- Changes that don't concern a prefix are passed over: what is said of the prefix stays, and what is left on those that cover it.
+use Rattle.std.proofs.Common.{◌≡◌, ◌∙◌, sym, ap, subst, refl, ℕ, Bool, true, false, List, [], ◌∷◌, ◌++◌, Option, Some, Ok, append_assoc, inl, inr}
+use Rattle.std.specs.Prelude.{◌||◌, cond, filter}
+use Rattle.std.specs.List.{list_any}
+use Rattle.std.specs.Option.{is_some}
+use Rattle.std.proofs.lemmas.Bool.{cases_Bool}
+use Rattle.std.proofs.lemmas.List.{append-nil, append_cancel_left}
+use Rattle.std.proofs.lemmas.List.Elements.{filter-append}
+use Rattle.rs_update.specs.Covering.{covers}
+use Rattle.rs_update.specs.IpPrefix.{IpPrefix}
+use Rattle.rs_mrt.specs.Reader.{ReadEnd}
+use Rattle.rs_mrt.specs.Record.{MrtRecord}
+use Rattle.rs_session.specs.Change.{Change, ChangeBody, Announced, Withdrawn, Lost, Closed, body_closes, change_of, is_close}
+use Rattle.rs_session.specs.Concerning.{SaysBehind, body_concerns, concerns, is_later}
+use Rattle.rs_session.specs.Given.{IsRead}
+use Rattle.rs_session.specs.Laws.{SomethingMayCome}
+use Rattle.rs_session.specs.Stage.{Comes, Stage, May, Closes}
+use Rattle.rs_session.specs.declared.peer.PeerId.{PeerId}
+use Rattle.rs_session.specs.declared.word.Reason.{Reason}
+use Rattle.rs_session.specs.declared.word.Word.{Word}
+use Rattle.rs_table.proofs.RibLemmas.{any-one_more}
+use Rattle.rs_table.specs.Left.{Routes, left, same_prefix}
+use Rattle.rs_explain.specs.Cut.{BeginsLater, HasTaken, HasTakenIf, TakenIsCut, UntilContent}
+use Rattle.rs_explain.specs.LastSaid.{IsSaidLast, EndRoute, KeepRoute, announces, body_announces, body_ends_by}
+use Rattle.rs_explain.specs.declared.last_said.LastSaid.{LastSaid}
+use Rattle.rs_explain.specs.declared.last_said.LastSaid.TheVariants as last
+use Rattle.rs_explain.proofs.SaidLemmas.{announced_before, ended_before, kept, none-append, none-one}
+use Rattle.rs_glass.specs.Recorded.{AreInTime, IsSaid, close_after, close_in}
+use Rattle.rs_glass.specs.declared.question.Question.{Question}
+use Rattle.rs_glass.specs.declared.said.Said.{Said}
+use Rattle.rs_glass.proofs.CoveringLemmas.{same_prefix-is}
+use Rattle.rs_glass.proofs.GivenLemmas.{IsGiven}
+use Rattle.rs_glass.proofs.ReadingLemmas.{IsTaken, or-first, or-second}
+use Rattle.rs_glass.proofs.SaidLemmas.{close_in-more}
+
+-- ---- what is said of a prefix
+
+module _ (prefix : IpPrefix) (itself : covers prefix prefix ≡ true) where
+  -- a prefix that doesn't cover it is another one
+  other-prefix : (changed : IpPrefix) → covers changed prefix ≡ false → same_prefix prefix changed ≡ false
+  other-prefix changed beside = elim (cases_Bool (same_prefix prefix changed)) [
+    | inl same ↦
+        let covering : covers changed prefix ≡ true = subst (λ (one : IpPrefix). covers one prefix ≡ true) (same_prefix-is prefix changed same) itself in
+        let clash : true ≡ false = sym covering ∙ beside in
+        absurd cc
+    | inr other ↦ other
+  ]
+
+  -- a change that doesn't concern it neither announces it nor takes its route away
+  beside-announces : (body : ChangeBody) → body_concerns prefix body ≡ false → body_announces prefix body ≡ false
+  beside-announces (Announced changed attributes) beside = other-prefix changed beside
+  beside-announces (Withdrawn changed) beside = refl
+  beside-announces Lost beside = refl
+  beside-announces (Closed reason) beside = refl
+
+  beside-ends : (body : ChangeBody) → body_concerns prefix body ≡ false → is_some (body_ends_by prefix body) ≡ false
+  beside-ends (Announced changed attributes) beside = refl
+  beside-ends (Withdrawn changed) beside = rw (other-prefix changed beside) refl
+  beside-ends Lost beside = absurd cc
+  beside-ends (Closed reason) beside = absurd cc
+
+  -- nor closes the session
+  beside-close_after : (before : Option Reason) (body : ChangeBody) → body_concerns prefix body ≡ false → close_after before body ≡ before
+  beside-close_after before (Announced changed attributes) beside = refl
+  beside-close_after before (Withdrawn changed) beside = refl
+  beside-close_after before Lost beside = refl
+  beside-close_after before (Closed reason) beside = absurd cc
+
+  said_last-over : (given : List Change) (change : Change) → concerns prefix change ≡ false → (one : LastSaid) → IsSaidLast prefix given one → IsSaidLast prefix (given ++ change ∷ []) one
+  said_last-over given change beside last.NeverAnnounced said = none-append (announces prefix) given (change ∷ []) said (none-one (announces prefix) change (beside-announces change.body beside))
+  said_last-over given change beside (last.Announced time) said =
+      announced_before prefix change given time (KeepRoute prefix) (KeepRoute prefix) (beside-announces change.body beside) (kept prefix change (beside-ends change.body beside)) said
+  said_last-over given change beside (last.Ended time ending) said =
+      announced_before prefix change given time (EndRoute prefix ending) (EndRoute prefix ending) (beside-announces change.body beside) (ended_before prefix change ending) said
+
+  said-over_one : (given : List Change) (change : Change) (said : Said) → concerns prefix change ≡ false → IsSaid prefix given said → IsSaid prefix (given ++ change ∷ []) said
+  said-over_one given change said beside is = record {
+    last = said_last-over given change beside said.last is.last;
+    close = is.close ∙ sym (close_in-more given change ∙ beside-close_after (close_in given) change.body beside);
+  }
+
+  said-over : (given over : List Change) (said : Said) → list_any (concerns prefix) over ≡ false → IsSaid prefix given said → IsSaid prefix (given ++ over) said
+  said-over given [] said beside is = subst (λ (all : List Change). IsSaid prefix all said) (sym (append-nil given)) is
+  said-over given (change ∷ over) said beside is =
+      subst (λ (all : List Change). IsSaid prefix all said) (append_assoc given (change ∷ []) over)
+      (said-over (given ++ change ∷ []) over said (or-second (concerns prefix change) (list_any (concerns prefix) over) beside)
+      (said-over_one given change said (or-first (concerns prefix change) (list_any (concerns prefix) over) beside) is))
+
+  none-kept : (over : List Change) → list_any (concerns prefix) over ≡ false → filter (concerns prefix) over ≡ []
+  none-kept [] beside = refl
+  none-kept (change ∷ over) beside =
+      let first : concerns prefix change ≡ false = or-first (concerns prefix change) (list_any (concerns prefix) over) beside in
+      ap (λ (b : Bool). cond b (change ∷ filter (concerns prefix) over) (filter (concerns prefix) over)) first
+      ∙ none-kept over (or-second (concerns prefix change) (list_any (concerns prefix) over) beside)
+
+  pub taken-over : (given over : List Change) (routes : Routes) (said : Said) → list_any (concerns prefix) over ≡ false → IsTaken prefix given routes said → IsTaken prefix (given ++ over) routes said
+  taken-over given over routes said beside is = record {
+    left_is = ap left (filter-append (concerns prefix) given over ∙ ap (λ (rest : List Change). filter (concerns prefix) given ++ rest) (none-kept over beside) ∙ append-nil (filter (concerns prefix) given)) ∙ is.left_is;
+    is_said = said-over given over said beside is.is_said;
+  }
+
+-- none of those that don't concern a prefix is a close
+over-open : (prefix : IpPrefix) (over : List Change) → list_any (concerns prefix) over ≡ false → list_any is_close over ≡ false
+over-open prefix [] beside = refl
+over-open prefix (change ∷ over) beside =
+    open_one change.body (or-first (concerns prefix change) (list_any (concerns prefix) over) beside) (over-open prefix over (or-second (concerns prefix change) (list_any (concerns prefix) over) beside))
+  where
+    open_one : (body : ChangeBody) → body_concerns prefix body ≡ false → list_any is_close over ≡ false → (body_closes body || list_any is_close over) ≡ false
+    open_one (Announced changed attributes) b later = later
+    open_one (Withdrawn changed) b later = later
+    open_one Lost b later = absurd cc
+    open_one (Closed reason) b later = absurd cc
+
+pub open-over : (prefix : IpPrefix) (given over : List Change) → list_any (concerns prefix) over ≡ false → list_any is_close given ≡ false → list_any is_close (given ++ over) ≡ false
+open-over prefix given over beside none = none-append is_close given over none (over-open prefix over beside)
+
+-- ---- what is taken up to a time
+
+not_longer : (given rest : List Change) (first : Change) → given ≡ given ++ first ∷ rest → ⊥
+not_longer given rest first e =
+    let nothing : [] ≡ first ∷ rest = append_cancel_left given [] (first ∷ rest) (append-nil given ∙ e) in
+    absurd cc
+
+takes_if-over : (passed : Bool) (time : Option ℕ) (given over : List Change) → list_any (is_later time) over ≡ false → HasTakenIf passed time given given → HasTakenIf passed time (given ++ over) (given ++ over)
+takes_if-over false time given over in_time taken = (refl, none-append (is_later time) given over taken.1 in_time)
+takes_if-over true time given over in_time taken = absurd (not_longer given taken.rest taken.first taken.splits)
+
+pub takes-over : (taken : UntilContent) (until : Option ℕ) (given over : List Change) → taken.time ≡ until → list_any (is_later until) over ≡ false → HasTaken taken given given → HasTaken taken (given ++ over) (given ++ over)
+takes-over taken until given over at in_time is =
+    takes_if-over taken.passed taken.time given over (subst (λ (time : Option ℕ). list_any (is_later time) over ≡ false) (sym at) in_time) is
+
+-- ---- what was given and passed over
+
+module _ {S : Type 0} (comes : Comes S) (shows : S → Option MrtRecord) (start : Stage S) (until : Option ℕ) where
+  -- those that were passed over come behind those that were given, and what is given then behind these
+  before-behind : (given over : List Change) (old new : Stage S) (taken : UntilContent) (word : Word) → IsGiven comes shows start until given old taken → SaysBehind comes shows over old new (Ok (Some word))
+      → (changes : List Change) (passed : ℕ) → May comes shows new changes passed → May comes shows start (((given ++ over) ++ change_of word ∷ []) ++ changes) passed
+  before-behind given over old new taken word is says changes passed may =
+      let change = change_of word in
+      let same : given ++ ((over ++ change ∷ []) ++ changes) ≡ ((given ++ over) ++ change ∷ []) ++ changes =
+      ap (λ (rest : List Change). given ++ rest) (append_assoc over (change ∷ []) changes)
+      ∙ sym (append_assoc (given ++ over) (change ∷ []) changes ∙ append_assoc given over (change ∷ changes)) in
+      subst (λ (all : List Change). May comes shows start all passed) same (is.before ((over ++ change ∷ []) ++ changes) passed (says.0 changes passed may))
+
+  pub given-more-behind : (prefix : IpPrefix) (given over : List Change) (old new : Stage S) (taken later : UntilContent) (word : Word) → list_any (concerns prefix) over ≡ false → IsGiven comes shows start until given old taken
+      → SaysBehind comes shows over old new (Ok (Some word)) → Closes old.closed new.closed (Ok (Some word))
+      → HasTaken later ((given ++ over) ++ change_of word ∷ []) ((given ++ over) ++ change_of word ∷ []) → later.time ≡ taken.time → IsGiven comes shows start until ((given ++ over) ++ change_of word ∷ []) new later
+  given-more-behind prefix given over old new taken later word beside is says closes takes time = record {
+    before = before-behind given over old new taken word is says;
+    closed = closes.1 ∙ sym (any-one_more is_close (given ++ over) (change_of word) (open-over prefix given over beside (sym is.closed ∙ closes.0)));
+    takes = takes;
+    time = time ∙ is.time;
+  }
+
+  -- where the next one is too late, those that were given and those that were passed over are all in time
+  pub given-late-behind : {R : Type 0} (gives : R → List ℕ → ReadEnd → Type 0) (question : Question) (peer : PeerId) (reader : R) (same : question.until ≡ until)
+      (read : (changes : List Change) (passed : ℕ) → May comes shows start changes passed → IsRead gives question.errors peer reader changes passed) (cuts : TakenIsCut)
+      (given over : List Change) (old new : Stage S) (taken later : UntilContent) (word : Word) → IsGiven comes shows start until given old taken → SaysBehind comes shows over old new (Ok (Some word)) → SomethingMayCome comes shows new
+      → HasTaken later ((given ++ over) ++ change_of word ∷ []) (given ++ over) → later.time ≡ taken.time → AreInTime gives question peer reader (given ++ over)
+  given-late-behind gives question peer reader same read cuts given over old new taken later word is says some takes time =
+      let change : Change = change_of word in
+      let all = given ++ over in
+      let cut = cuts later (all ++ change ∷ []) all takes in
+      let rest : change ∷ [] ≡ cut.rest = append_cancel_left all (change ∷ []) cut.rest cut.splits in
+      let at : later.time ≡ question.until = time ∙ is.time ∙ sym same in
+      let late : BeginsLater later.time (change ∷ []) = subst (BeginsLater later.time) (sym rest) cut.longest in
+      let whole : May comes shows start (all ++ change ∷ some.0) some.1 =
+      subst (λ (given : List Change). May comes shows start given some.1) (append_assoc all (change ∷ []) some.0) (before-behind given over old new taken word is says some.0 some.1 some.2) in
+      record {
+        changes = all ++ change ∷ some.0;
+        passed = some.1;
+        says = read (all ++ change ∷ some.0) some.1 whole;
+        cut = record {
+          rest = change ∷ some.0;
+          splits = refl;
+          in_time = subst (λ (time : Option ℕ). list_any (is_later time) all ≡ false) at cut.in_time;
+          longest = subst (λ (time : Option ℕ). is_later time change ≡ true) at late;
+        };
+      }
