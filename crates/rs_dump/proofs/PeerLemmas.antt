@@ -43,3 +43,6 @@ length_peer_index plan client =
     let entries = flat_map peer_entry plan.peers in
     let count = big_bytes 2 (length plan.peers) in
     omega (arith, length-append name count, length-append (name ++ count) entries, length-peer_entries plan.peers)
+
+-- how many octets the body has, and that those of its name fit their count
+pub ruleset body_sizes = (view_name_fits, length_peer_index)

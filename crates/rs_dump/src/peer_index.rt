@@ -50,7 +50,7 @@ fn client_name(plan: &Exchange, client: usize) -> &[u8]
 }
 
 // How many octets the body has.
-#[tactic(auto, using(crate::proofs::PeerLemmas::view_name_fits, crate::proofs::PeerLemmas::length_peer_index))]
+#[tactic(auto, using(crate::proofs::PeerLemmas::body_sizes))]
 fn body_len(plan: &Exchange, client: usize) -> u32
     requires { client < length plan.now.peers }
     ensures value { result ≡ length (peer_index plan.now client) }
@@ -62,7 +62,7 @@ fn body_len(plan: &Exchange, client: usize) -> u32
 }
 
 // Appends the body: the server's identifier, the client's name, and the peers.
-#[tactic(auto, using(crate::proofs::PeerLemmas::view_name_fits, crate::proofs::PeerLemmas::length_peer_index), unfolding(crate::specs::PeerIndex::peer_index))]
+#[tactic(auto, using(crate::proofs::PeerLemmas::body_sizes), unfolding(crate::specs::PeerIndex::peer_index))]
 fn spell_body(buffer: &mut Vec<u8>, plan: &Exchange, client: usize)
     requires client_known { client < length plan.now.peers }
     requires room { HasRoom buffer.old (length (peer_index plan.now client)) }

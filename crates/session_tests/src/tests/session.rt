@@ -1,5 +1,6 @@
 //! What recorded sessions say, and that announcements share attributes.
 
+mod beside;
 mod closing;
 mod losses;
 mod messages;
