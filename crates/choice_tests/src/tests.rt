@@ -215,11 +215,7 @@ fn is_permitted(
 fn are_alike(one: &HeldRoute, other: &HeldRoute) -> bool
     ensures { IsTrue result → AreAlike one.now other.now }
 {
-    let alike = one.candidacy == other.candidacy;
-    alike
-        && one.path_length == other.path_length
-        && one.neighbour == other.neighbour
-        && one.med == other.med
+    one.candidacy == other.candidacy && one.path_length == other.path_length
 }
 
 // Whether what is held of a route is what is held of its attributes.

@@ -325,14 +325,18 @@ const KEYS: &[(&[&str], u16, u32, u32)] = &[
 ];
 
 #[test]
-fn what_the_steps_compare_is_held_with_a_route(rt: HostRuntime) -> Result<(), Fail> {
+fn what_the_steps_compare_is_found_of_a_route(rt: HostRuntime) -> Result<(), Fail> {
     let alloc = rt.alloc();
     let exchange = exchange(alloc, true, FOUR)?;
     for (texts, path_length, neighbour, med) in KEYS {
         let attributes = Arc::new(alloc, attributes(alloc, texts)?)?;
         let held = exchange.hold(0, 1_700_000_000, attributes);
+        let standing = exchange.standing(&Candidate {
+            peer: 0,
+            attributes: &held.attributes,
+        });
         assert_eq!(rt;
-            (held.path_length, held.neighbour, held.med),
+            (held.path_length, standing.neighbour, standing.med),
             (*path_length, *neighbour, *med)
         );
     }
