@@ -49,7 +49,8 @@ pub(crate) fn hear<R: Read + Drop>(
     Ok(heard)
 }
 
-// The same, a failed read being the reason of the close. Changes that don't concern the prefix leave what is said and held.
+// The same, a failed read being the reason of the close. Changes that don't concern the prefix are passed over:
+// they leave what is said of it and held on those that cover it.
 fn hear_changes<R: Read + Drop>(
     alloc: Global,
     id: PeerId,
