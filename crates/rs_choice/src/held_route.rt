@@ -120,8 +120,9 @@ impl Exchange {
         leader.is_ahead_of(&self.standing_without_med(one))
     }
 
-    // Whether something outdoes a held route. It follows the pointer to attributes only where the first three
-    // steps leave both.
+    // Whether something outdoes a held route: the six steps, one after another, remove the route and keep it.
+    // Between different neighbour ASes the first three alone say so, since a third route of its AS may remove
+    // it by MED. The pointer to attributes is followed only where the first three steps leave both.
     pub(crate) fn is_outdone_by(&self, one: &HeldRoute, best: &Standing) -> bool
         requires { one.now.peer < length self.now.peers }
         ensures { IsTrue result ↔ Outdoes best.now (held_standing self.now one.now) }

@@ -3,7 +3,7 @@
 //! All peers are external and no interior cost is known, so the RFC's steps d and e remove nothing and are left out.
 
 ghost use Rattle.std.specs.Prelude.{◌≡◌, ◌↔◌, IsTrue};
-ghost use Rattle.rs_choice.specs.Comparison.{IsAhead, IsLevel, Outdoes, OutdoesByMed, Precedes};
+ghost use Rattle.rs_choice.specs.Comparison.{IsAhead, IsLevel, OutdoesByMed, Precedes};
 ghost use Rattle.rs_choice.specs.Decision as spec;
 
 use crate::candidate::Standing;
@@ -69,15 +69,8 @@ impl Standing {
             || (self.id == other.id && Step::Address.beats(self, other))
     }
 
-    // Whether the six steps, one after another, remove the other and keep this one. Between different
-    // neighbour ASes the first three alone say so, since a third route of this one's AS may remove it by MED.
-    pub(crate) fn outdoes(&self, other: &Standing) -> bool
-        ensures { IsTrue result ↔ Outdoes self.now other.now }
-    {
-        self.is_ahead_of(other) || (self.is_level_with(other) && self.outdoes_by_med(other))
-    }
-
-    // Whether the last three steps do so, of two from one neighbour AS.
+    // Whether the last three steps, one after another, remove the other and keep this one, of two from one
+    // neighbour AS.
     pub(crate) fn outdoes_by_med(&self, other: &Standing) -> bool
         ensures { IsTrue result ↔ OutdoesByMed self.now other.now }
     {
