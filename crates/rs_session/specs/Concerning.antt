@@ -1,6 +1,7 @@
 -- Which changes concern a prefix, and which of a session are passed over where only that prefix is asked for, up
 -- to a time (RFC 4271, sections 3.1 and 9.1.4).
-use Rattle.std.specs.Prelude.{◌≡◌, ℕ, nat_lt, Bool, true, false, List, [], ◌∷◌, ◌++◌, Option, Some, None, Result, Ok, Err}
+use Rattle.std.specs.Prelude.{◌≡◌, ℕ, nat_lt, Bool, true, false, List, [], ◌∷◌, ◌++◌}
+use Rattle.std.specs.Prelude.{Option, Some, None, Result, Ok, Err}
 use Rattle.std.specs.List.{list_any}
 use Rattle.std.specs.declared.alloc.AllocError.{AllocError}
 use Rattle.rs_mrt.specs.Record.{MrtRecord}
@@ -75,7 +76,8 @@ PassesShown (Some r) prefix until old true new =
     IsBeside prefix until (effect_of old.errors old.peer r) × (new ≡ record old { held = false })
 PassesShown None prefix until old true new = ⊥
 
--- behind the changes that were passed over, the session goes on, and no more may come than before; or the close is given
+-- behind the changes that were passed over, the session goes on, and no more may come than before; or the close is
+-- given
 abbrev pub StepsBehind : {S : Type 0} → Comes S → (S → Option MrtRecord) → List Change → Stage S → Stage S
     → Result (Option Word) AllocError → Type 0
 StepsBehind comes shows over old new (Ok None) =

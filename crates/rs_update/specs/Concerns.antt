@@ -1,6 +1,7 @@
 -- The messages that may concern a prefix: UPDATEs that list one that covers it (RFC 4271, sections 4.3 and
 -- 9.1.4), and all that aren't UPDATEs without a fault that closes the session.
-use Rattle.std.specs.Prelude.{◌≡◌, ℕ, ◌<◌, Bool, true, false, ◌||◌, ◌&&◌, List, slice_index_or, is_some, Result, Ok, Err, is_err}
+use Rattle.std.specs.Prelude.{◌≡◌, ℕ, ◌<◌, Bool, true, false, ◌||◌, ◌&&◌, List, slice_index_or}
+use Rattle.std.specs.Prelude.{is_some, Result, Ok, Err, is_err}
 use Rattle.std.specs.Option.{option_map_or}
 use Rattle.rs_update.specs.declared.errors.Errors.{Errors}
 use Rattle.rs_update.specs.declared.errors.Errors.TheVariants.{Rfc4271, Rfc7606}
