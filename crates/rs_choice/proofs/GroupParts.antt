@@ -1,11 +1,15 @@
 -- Neighbour groups in two arrays: reading and writing one of them.
-use Rattle.std.proofs.Common.{◌≡◌, ◌<◌, ◌≤◌, ◌∙◌, ap, refl, arith, ℕ, suc, zero, ◌+◌, List, [], ◌∷◌, ◌++◌, length, take, set, get_or, Some}
-use Rattle.std.specs.Prelude.{slice_get}
+use Rattle.std.proofs.Common.{◌≡◌, ◌<◌, ◌≤◌, ◌∙◌, ap, refl, sym, arith, ℕ, suc, zero, ◌+◌, false, List, [], ◌∷◌, ◌++◌, length, take, set, get_or, Some, None}
+use Rattle.std.specs.Prelude.{slice_get, slice_index, IfSome}
 use Rattle.std.proofs.Math.Seq.{take-set-lt}
-use Rattle.std.proofs.lemmas.List.{length-take-le, take_more_set}
+use Rattle.std.proofs.lemmas.List.{length-take-le, set-get_or, take_more_set}
+use Rattle.std.proofs.lemmas.Option.{slice_get_within}
 use Rattle.rs_choice.specs.declared.neighbour_groups.Group.{Group}
 use Rattle.rs_choice.specs.declared.neighbour_groups.Mark.{Mark}
-use Rattle.rs_choice.specs.GroupsView.{joined_parts, mark_of}
+use Rattle.rs_choice.specs.Grouping.{IsNeighboursGroup}
+use Rattle.rs_choice.specs.declared.neighbour_groups.NeighbourGroups.TheInside.{Inside}
+use Rattle.rs_choice.specs.declared.plan.TheConstants.{MAX_PEERS}
+use Rattle.rs_choice.specs.GroupsView.{AreFull, groups_view, joined_parts, mark_of}
 
 pub length_joined : (marks : List Mark) (neighbours : List ℕ) → length marks ≡ length neighbours → length (joined_parts marks neighbours) ≡ length marks
 length_joined [] neighbours same = refl
@@ -55,9 +59,43 @@ module _ (marks : List Mark) (neighbours : List ℕ) (now : List Group) (len : �
       ∙ take_more_set (joined_parts marks neighbours) len group (omega (arith, within, all))
       ∙ ap (λ list. list ++ group ∷ []) view
 
--- and where the first one is written alone
-pub written_first : (marks : List Mark) (neighbours : List ℕ) (group : Group) → length marks ≡ length neighbours → 0 < length marks →
-    take 1 (joined_parts (set marks 0 (mark_of group)) (set neighbours 0 group.neighbour)) ≡ group ∷ []
-written_first [] neighbours group same some = absurd (omega (arith, some))
-written_first (mark ∷ marks) [] group same some = absurd (omega (arith, same))
-written_first (mark ∷ marks) (neighbour ∷ neighbours) group same some = refl
+abbrev no_mark : Mark
+no_mark = record { place = 0; keeps_out = false }
+
+-- the same of groups by their fields
+module _ (fields : Inside) (now : List Group) (full : AreFull fields) (view : groups_view fields ≡ now) where
+  same_parts : length fields.marks ≡ length fields.neighbours
+  same_parts = full.marks ∙ sym full.neighbours
+
+  few : fields.len ≤ length fields.marks
+  few = omega (arith, full.few, full.marks)
+
+  pub counted : length now ≡ fields.len
+  counted = view_length fields.marks fields.neighbours now fields.len same_parts few view
+
+  pub group_at : (i : ℕ) → i < fields.len →
+      slice_get now i ≡ Some (record { place = (get_or fields.marks i no_mark).place; keeps_out = (get_or fields.marks i no_mark).keeps_out; neighbour = slice_index fields.neighbours i })
+  group_at i within = ap (λ groups. slice_get groups i) (sym view) ∙ joined_at fields.marks fields.neighbours fields.len i no_mark 0 same_parts few within
+
+  -- the group of a neighbour AS is where that is written
+  pub found_at : (i neighbour : ℕ) → i < fields.len → slice_index fields.neighbours i ≡ neighbour → IsNeighboursGroup now neighbour (Some i)
+  found_at i neighbour within is = (_, group_at i within, is)
+
+  pub found_nowhere : (neighbour : ℕ) → ((i : ℕ) → i < fields.len → slice_index fields.neighbours i ≡ neighbour → ⊥) → IsNeighboursGroup now neighbour None
+  found_nowhere neighbour none i group at is =
+      let within : i < fields.len = omega (arith, slice_get_within now i group at, counted) in
+      let there = group_at i within in
+      let e = sym at ∙ there in
+      none i within (cc (e, is))
+
+  -- where the neighbour AS stays, it needn't be written
+  pub marked_at : (group : Group) (i : ℕ) → i < length now → IfSome (slice_get now i) (λ held. group.neighbour ≡ held.neighbour) →
+      take fields.len (joined_parts (set fields.marks i (mark_of group)) fields.neighbours) ≡ set now i group
+  marked_at group i within keeps =
+      let stays : group.neighbour ≡ slice_index fields.neighbours i = rw (group_at i (omega (arith, within, counted))) at keeps in
+      ap (λ list. take fields.len (joined_parts (set fields.marks i (mark_of group)) list)) (sym (ap (set fields.neighbours i) stays ∙ set-get_or fields.neighbours i 0))
+      ∙ written_at fields.marks fields.neighbours now fields.len group same_parts few view i within
+
+  pub pushed : (group : Group) → length now < MAX_PEERS →
+      take (fields.len + 1) (joined_parts (set fields.marks fields.len (mark_of group)) (set fields.neighbours fields.len group.neighbour)) ≡ now ++ group ∷ []
+  pushed group room = written_next fields.marks fields.neighbours now fields.len group same_parts (omega (arith, room, counted, full.marks)) view

@@ -1,4 +1,5 @@
 pub mod BehindLemmas
+pub mod ChainLemmas
 pub mod ChosenLemmas
 pub mod ClientLemmas
 pub mod CommunityLemmas

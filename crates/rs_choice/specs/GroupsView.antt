@@ -1,8 +1,9 @@
 -- Neighbour groups, by their fields.
-use Rattle.std.specs.Prelude.{◌≡◌, ◌≤◌, ℕ, List, [], ◌∷◌, length, take}
+use Rattle.std.specs.Prelude.{◌≡◌, ◌<◌, ◌≤◌, ◌%◌, ℕ, List, [], ◌∷◌, length, slice_index, take}
 use Rattle.rs_choice.specs.declared.neighbour_groups.Group.{Group}
 use Rattle.rs_choice.specs.declared.neighbour_groups.Mark.{Mark}
 use Rattle.rs_choice.specs.declared.neighbour_groups.NeighbourGroups.TheInside.{Inside}
+use Rattle.rs_choice.specs.declared.neighbour_groups.TheConstants.{CHAINS}
 use Rattle.rs_choice.specs.declared.plan.TheConstants.{MAX_PEERS}
 
 -- a group without its neighbour AS
@@ -19,8 +20,25 @@ joined_parts (mark ∷ marks) (neighbour ∷ neighbours) =
 abbrev pub groups_view : Inside → List Group
 groups_view fields = take fields.len (joined_parts fields.marks fields.neighbours)
 
--- there is a place for each peer
+-- the neighbour ASes that are equal in their low bits have one chain
+abbrev pub chain_of : ℕ → ℕ
+chain_of neighbour = neighbour % CHAINS
+
+-- where any of the first groups is in a chain, this is the last of them
+abbrev pub IsLastOf : List ℕ → ℕ → ℕ → ℕ → Type 0
+IsLastOf neighbours n chain last =
+    (i : ℕ) → i < n → chain_of (slice_index neighbours i) ≡ chain
+    → (i ≤ last) × (last < n) × (chain_of (slice_index neighbours last) ≡ chain)
+
+-- there is a place for each peer; each chain begins with its last group, and goes from each group to the last
+-- one before it
 pub record AreFull (fields : Inside) : Type 0 where
   pub few : fields.len ≤ MAX_PEERS
   pub marks : length fields.marks ≡ MAX_PEERS
   pub neighbours : length fields.neighbours ≡ MAX_PEERS
+  pub chains : length fields.latest ≡ CHAINS
+  pub places : length fields.earlier ≡ MAX_PEERS
+  pub latest : (chain : ℕ) → chain < CHAINS
+      → IsLastOf fields.neighbours fields.len chain (slice_index fields.latest chain)
+  pub earlier : (i : ℕ) → i < fields.len
+      → IsLastOf fields.neighbours i (chain_of (slice_index fields.neighbours i)) (slice_index fields.earlier i)

@@ -9,7 +9,7 @@ ghost use Rattle.std.specs.Prelude.{◌≡◌, ◌<◌, ◌≤◌, ◌+◌, ◌�
 ghost use Rattle.std.specs.List.{All};
 ghost use Rattle.rs_choice.specs.Decision.{standing_of_candidate, choice, member_at, place_of_choice};
 ghost use Rattle.rs_choice.specs.Grouping.{places_of, standing_in, AreGroups, BeatsInGroup, GoesBeforeSome, IsFirstOf};
-ghost use Rattle.rs_choice.specs.Grouping.{IsJoined, IsLevelWithSome, IsNeighboursGroup, LeadsAll};
+ghost use Rattle.rs_choice.specs.Grouping.{IsJoined, IsLevelWithSome, LeadsAll};
 
 use crate::candidate::{Candidate, Placed, Standing};
 use crate::entrants::{Entrants, Listed};
@@ -89,7 +89,7 @@ fn join<E: Entrants>(entrants: &E, groups: &mut NeighbourGroups, place: usize, s
     requires level { IsLevelWithSome (standing_in (E.standings entrants.now)) place (places_of groups.old) }
     ensures { AreGroups (standing_in (E.standings entrants.now)) (place + 1) groups.new }
 {
-    let Some(number) = group_of(groups, standing.neighbour) else {
+    let Some(number) = groups.find(standing.neighbour) else {
         groups.push(Group::of(place, standing));
         return;
     };
@@ -109,18 +109,6 @@ fn joined(group: &Group, held: &Standing, place: usize, standing: &Standing) -> 
         keeps_out: group.keeps_out || standing.med != held.med,
         neighbour: group.neighbour,
     }
-}
-
-// The number of the group of a neighbour AS, if there is one.
-fn group_of(groups: &NeighbourGroups, neighbour: u32) -> Option<usize>
-    ensures { IsNeighboursGroup groups.now neighbour result }
-{
-    for number in 0..groups.len() {
-        if groups.group(number).neighbour == neighbour {
-            return Some(number);
-        }
-    }
-    None
 }
 
 // Of the entrants that stand for groups, the one that goes before all others.

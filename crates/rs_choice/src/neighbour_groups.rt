@@ -1,11 +1,18 @@
-//! The entrants that stand for a neighbour AS each, in an array: it takes no memory.
+//! The entrants that stand for a neighbour AS each, in arrays: they take no memory.
+//!
+//! Each route of a decision looks for the group of its neighbour AS. So that it needn't look at all groups,
+//! those whose neighbour AS is equal in its low bits are in one chain, the latest first.
 
-ghost use Rattle.std.specs.Prelude.{◌≡◌, ◌<◌, ◌≤◌, [], ◌∷◌, ◌++◌, false, length, slice_get, slice_set, Some};
-ghost use Rattle.rs_choice.specs.GroupsView.{mark_of};
+ghost use Rattle.std.specs.Prelude.{◌≡◌, ◌<◌, ◌≤◌, [], ◌∷◌, ◌++◌, false, length, slice_get, slice_set, IfSome, Some};
+ghost use Rattle.rs_choice.specs.Grouping.{IsNeighboursGroup};
+ghost use Rattle.rs_choice.specs.GroupsView.{chain_of, mark_of};
 
 use crate::candidate::Standing;
 use crate::plan::MAX_PEERS;
 use std::marker::Model;
+
+/// How many chains there are, one for each value of the low six bits of an AS number.
+pub(crate) const CHAINS: usize = 64;
 
 /// The entrant that stands for those of its neighbour AS.
 #[derive(Clone, Copy)]
@@ -39,12 +46,29 @@ pub(crate) struct Mark {
     keeps_out: bool,
 }
 
-/// At most 256 groups, in order. The neighbour ASes have an array of their own: they alone are looked
-/// through, and two small arrays are filled more quickly than one of padded groups.
+impl Mark {
+    // That of a group.
+    fn of(group: &Group) -> Mark
+        ensures { result ≡ mark_of group.now }
+    {
+        Mark {
+            place: group.place,
+            keeps_out: group.keeps_out,
+        }
+    }
+}
+
+/// At most 256 groups, in order. The neighbour ASes have an array of their own: a look-up reads them alone,
+/// and two small arrays are filled more quickly than one of padded groups.
 #[derive(Drop)]
 pub(crate) struct NeighbourGroups {
     marks: [Mark; MAX_PEERS],
     neighbours: [u32; MAX_PEERS],
+    // For each chain the last group in it, and for each group the last one before it in its chain. Where there
+    // is none the number is what an earlier decision left, which is known by the neighbour AS that it leads to:
+    // so nothing is cleared between decisions.
+    latest: [u8; CHAINS],
+    earlier: [u8; MAX_PEERS],
     len: usize,
 }
 
@@ -73,6 +97,8 @@ impl NeighbourGroups {
         NeighbourGroups {
             marks: [unseen; MAX_PEERS],
             neighbours: [0; MAX_PEERS],
+            latest: [0; CHAINS],
+            earlier: [0; MAX_PEERS],
             len: 0,
         }
     }
@@ -100,6 +126,29 @@ impl NeighbourGroups {
         }
     }
 
+    // The number of the group of a neighbour AS, if there is one: its chain is followed from the last group on.
+    pub(crate) fn find(&self, neighbour: u32) -> Option<usize>
+        ensures { IsNeighboursGroup self.now neighbour result }
+    {
+        let neighbours = &self.neighbours;
+        let earlier = &self.earlier;
+        let chain = chain_of(neighbour);
+        let mut end = self.len;
+        let mut number = usize::from(self.latest[chain]);
+        while number < end {
+            let found = neighbours[number];
+            if found == neighbour {
+                return Some(number);
+            }
+            if chain_of(found) != chain {
+                return None;
+            }
+            end = number;
+            number = usize::from(earlier[number]);
+        }
+        None
+    }
+
     // Drops all groups.
     pub(crate) fn clear(&mut self)
         ensures { self.new ≡ [] }
@@ -111,42 +160,38 @@ impl NeighbourGroups {
     pub(crate) fn restart(&mut self, group: Group)
         ensures { self.new ≡ group ∷ [] }
     {
-        write(&mut self.marks, &mut self.neighbours, 0, group);
-        self.len = 1;
+        self.clear();
+        self.push(group);
     }
 
-    // Adds a group.
+    // Adds a group, which comes first in its chain.
     pub(crate) fn push(&mut self, group: Group)
         requires { length self.old < MAX_PEERS }
         ensures { self.new ≡ self.old ++ group ∷ [] }
     {
-        write(&mut self.marks, &mut self.neighbours, self.len, group);
-        self.len += 1;
+        let number = self.len();
+        let chain = chain_of(group.neighbour);
+        self.marks[number] = Mark::of(&group);
+        self.neighbours[number] = group.neighbour;
+        self.earlier[number] = self.latest[chain];
+        self.latest[chain] = number as u8;
+        self.len = number + 1;
     }
 
-    // Puts a group in the place of another.
+    // Puts a group in the place of another of its neighbour AS.
     pub(crate) fn replace(&mut self, number: usize, group: Group)
-        requires { number < length self.old }
+        requires number { number < length self.old }
+        requires neighbour { IfSome (slice_get self.old number) (λ held. group.neighbour ≡ held.neighbour) }
         ensures { self.new ≡ slice_set self.old number group }
     {
-        write(&mut self.marks, &mut self.neighbours, number, group);
+        let marks = &mut self.marks;
+        marks[number] = Mark::of(&group);
     }
 }
 
-// Writes the parts of a group at a place.
-fn write(
-    marks: &mut [Mark; MAX_PEERS],
-    neighbours: &mut [u32; MAX_PEERS],
-    place: usize,
-    group: Group,
-)
-    requires { place < MAX_PEERS }
-    ensures marks { marks.new ≡ slice_set marks.old place (mark_of group) }
-    ensures neighbours { neighbours.new ≡ slice_set neighbours.old place group.neighbour }
+// The chain of a neighbour AS.
+fn chain_of(neighbour: u32) -> usize
+    ensures { result ≡ chain_of neighbour }
 {
-    marks[place] = Mark {
-        place: group.place,
-        keeps_out: group.keeps_out,
-    };
-    neighbours[place] = group.neighbour;
+    neighbour as usize % CHAINS
 }

@@ -22,7 +22,12 @@ standing-held-requires g c =
     omega (arith, within, c.from.ensures, c.requires.within)
 
 pub replace-requires : goal.replace-requires
-replace-requires g c = let found = c.in-Some.ensures in slice_get_within c.args.groups.now c.in-Some.number found.0 found.1
+replace-requires g c =
+    let found = c.in-Some.ensures in
+    record {
+      number = slice_get_within c.args.groups.now c.in-Some.number found.0 found.1;
+      neighbour = rw c.group-group.ensures c.joined.ensures.neighbour;
+    }
 
 pub returns : goal.returns
 returns g c =

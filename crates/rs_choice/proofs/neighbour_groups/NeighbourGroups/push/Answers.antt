@@ -1,25 +1,16 @@
-use Rattle.std.proofs.Common.{◌∙◌, ap, sym, arith, length}
-use Rattle.std.proofs.lemmas.List.{length-set}
-use Rattle.rs_choice.specs.GroupsView.{mark_of}
-use Rattle.rs_choice.proofs.GroupParts.{view_length, written_next}
+use Rattle.std.proofs.Common.{◌≡◌, ◌<◌, ◌∙◌, arith}
+use Rattle.rs_choice.specs.declared.plan.TheConstants.{MAX_PEERS}
+use Rattle.rs_choice.proofs.ChainLemmas.{pushed_full}
+use Rattle.rs_choice.proofs.GroupParts.{counted, pushed}
 use Rattle.rs_choice.proofs.neighbour_groups.NeighbourGroups.push.Goals as goal
-
-pub write-requires : goal.write-requires
-write-requires c =
-    let count = view_length c.self.inside.marks c.self.inside.neighbours c.args.self.now c.self.inside.len (c.self.invariant.marks ∙ sym c.self.invariant.neighbours) (omega (arith, c.self.invariant.few, c.self.invariant.marks)) c.self.view_is in
-    omega (arith, c.requires, count)
 
 pub invariant_of-self : goal.invariant_of-self
 invariant_of-self c =
-    let count = view_length c.self.inside.marks c.self.inside.neighbours c.args.self.now c.self.inside.len (c.self.invariant.marks ∙ sym c.self.invariant.neighbours) (omega (arith, c.self.invariant.few, c.self.invariant.marks)) c.self.view_is in
-    record {
-      few = omega (arith, c.requires, count);
-      marks = ap length c.write.ensures.marks ∙ length-set c.self.inside.marks c.self.inside.len (mark_of c.args.group) ∙ c.self.invariant.marks;
-      neighbours = ap length c.write.ensures.neighbours ∙ length-set c.self.inside.neighbours c.self.inside.len c.args.group.neighbour ∙ c.self.invariant.neighbours;
-    }
+    let same : c.len-number.result ≡ c.self.inside.len = c.len-number.ensures.value ∙ counted c.self.inside c.args.self.now c.self.invariant c.self.view_is in
+    let room : c.self.inside.len < MAX_PEERS = omega (arith, c.requires, same, c.len-number.ensures.value) in
+    rw (same, c.chain_of-chain.ensures) (pushed_full c.self.inside c.of.result c.args.group.neighbour c.self.invariant room)
 
 pub returns : goal.returns
 returns c =
-    let count = view_length c.self.inside.marks c.self.inside.neighbours c.args.self.now c.self.inside.len (c.self.invariant.marks ∙ sym c.self.invariant.neighbours) (omega (arith, c.self.invariant.few, c.self.invariant.marks)) c.self.view_is in
-    rw (c.write.ensures.marks, c.write.ensures.neighbours)
-    (written_next c.self.inside.marks c.self.inside.neighbours c.args.self.now c.self.inside.len c.args.group (c.self.invariant.marks ∙ sym c.self.invariant.neighbours) (omega (arith, c.requires, count, c.self.invariant.marks)) c.self.view_is)
+    let same : c.len-number.result ≡ c.self.inside.len = c.len-number.ensures.value ∙ counted c.self.inside c.args.self.now c.self.invariant c.self.view_is in
+    rw (same, c.of.ensures) (pushed c.self.inside c.args.self.now c.self.invariant c.self.view_is c.args.group c.requires)
