@@ -25,11 +25,12 @@ impl Random {
     }
 }
 
-// A peer with one of few preferences, AS numbers and identifiers.
+// A peer with one of few preferences, identifiers and AS numbers, which are equal in their low bits: a route without
+// a path is of its peer's AS.
 fn crowd_member(alloc: Global, number: u32, random: &mut Random) -> Result<PeerSpec, Fail> {
     Ok(PeerSpec {
         name: format!(in alloc; "peer-{number}")?,
-        asn: 64501 + random.below(3),
+        asn: 64501 + 32 * random.below(40),
         address: 0x0A00_0000u32.wrapping_add(number),
         id: random.below(3),
         preference: 100 + random.below(2),
@@ -53,7 +54,7 @@ const PATHS: &[&str] = &[
     PATH_64501_65010,
     PATH_64502_65010,
     PATH_64503_65010,
-    PATH_64501_65010,
+    "400200",
     "400200",
 ];
 
