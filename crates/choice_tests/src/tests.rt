@@ -15,7 +15,7 @@ mod export_policy;
 mod plans;
 
 use rs_choice::{Candidacy, Candidate, Exchange, HeldRoute, Local, MAX_PEERS, PeerSpec, PlanFault};
-use rs_update::{Attributes, Message, Prefix, read_message};
+use rs_update::{Attributes, Prefix};
 use std::alloc::{AllocError, Global};
 use std::process::Abort;
 use std::sync::Arc;
@@ -126,54 +126,9 @@ fn exchange(alloc: Global, subnet: bool, rows: &[Row]) -> Result<Exchange, Fail>
     Ok(Exchange::new(alloc, server(subnet), peers(alloc, rows)?)?)
 }
 
-// The digit that the letter is.
-fn digit(letter: u8) -> Option<u8> {
-    match letter {
-        b'0'..=b'9' => Some(letter - b'0'),
-        b'A'..=b'F' => Some(letter - b'A' + 10),
-        _ => None,
-    }
-}
-
-// The octets that the hexadecimal digits of the texts spell.
-fn octets(alloc: Global, texts: &[&str]) -> Result<Vec<u8>, AllocError> {
-    let mut octets = Vec::new(alloc);
-    let mut high = None;
-    for text in texts {
-        for digit in text.bytes().filter_map(digit) {
-            high = match high {
-                None => Some(digit),
-                Some(first) => {
-                    octets.push(digit.wrapping_add(16u8.wrapping_mul(first)))?;
-                    None
-                }
-            };
-        }
-    }
-    Ok(octets)
-}
-
-// An UPDATE that announces 203.0.113.0/24 with these attributes.
-fn update(alloc: Global, attributes: &[&str]) -> Result<Vec<u8>, Fail> {
-    let section = octets(alloc, attributes)?;
-    let section_len = u16::try_from(section.len())?;
-    let len = section_len.checked_add(27).ok_or("a long section")?;
-    let mut message = octets(alloc, &["FFFFFFFFFFFFFFFFFFFFFFFFFFFFFFFF"])?;
-    message.extend_from_slice(&len.to_be_bytes())?;
-    message.extend_from_slice(&[2, 0, 0])?;
-    message.extend_from_slice(&section_len.to_be_bytes())?;
-    message.extend_from_slice(&section)?;
-    message.extend_from_slice(&[24, 203, 0, 113])?;
-    Ok(message)
-}
-
-// The attributes of that UPDATE.
+// The attributes of a route.
 fn attributes(alloc: Global, texts: &[&str]) -> Result<Attributes, Fail> {
-    let message = update(alloc, texts)?;
-    let Ok(Message::Update(update)) = read_message(alloc, &message) else {
-        return Err(Fail::from("the UPDATE is at fault"));
-    };
-    Ok(update.attributes.ok_or("the UPDATE announces nothing")?)
+    Ok(spelled_in_hex::attributes(alloc, texts).ok_or("no attributes of a route")?)
 }
 
 // Whether all candidates are of peers of the exchange.

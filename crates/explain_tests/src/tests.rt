@@ -9,7 +9,7 @@ use rs_choice::{Exchange, Local, PeerSpec, Step};
 use rs_explain::{Condition, Explanation, Refusal, explain};
 use rs_session::{Body, Word};
 use rs_table::{Tables, Why};
-use rs_update::{Attributes, Message, Prefix, read_message};
+use rs_update::{Attributes, Prefix};
 use std::alloc::Global;
 use std::process::Abort;
 use std::sync::Arc;
@@ -66,48 +66,9 @@ const FOUR: [Row; 4] = [
     },
 ];
 
-// The octets that hexadecimal digits spell; what stands between them is for reading.
-fn octets(alloc: Global, text: &str) -> Option<Vec<u8>> {
-    let mut octets = Vec::new(alloc);
-    let mut high = None;
-    for digit in text.chars().filter_map(|letter| letter.to_digit(16)) {
-        let digit = u8::try_from(digit).unwrap_or(0);
-        match high {
-            None => high = Some(digit),
-            Some(first) => {
-                octets.push((first & 15) << 4 | digit).ok()?;
-                high = None;
-            }
-        }
-    }
-    Some(octets)
-}
-
-// An UPDATE that announces 203.0.113.0/24 with these attributes.
-fn update(alloc: Global, attributes: &str) -> Option<Vec<u8>> {
-    let section = octets(alloc, attributes)?;
-    let section_len = u16::try_from(section.len()).ok()?;
-    let mut message = octets(alloc, "FFFFFFFF FFFFFFFF FFFFFFFF FFFFFFFF")?;
-    let fields: [&[u8]; 5] = [
-        &section_len.checked_add(27)?.to_be_bytes(),
-        &[2, 0, 0],
-        &section_len.to_be_bytes(),
-        &section,
-        &[24, 203, 0, 113],
-    ];
-    for field in fields {
-        message.extend_from_slice(field).ok()?;
-    }
-    Some(message)
-}
-
-// The attributes of that UPDATE.
+// The attributes of a route.
 fn attributes(alloc: Global, text: &str) -> Option<Arc<Attributes>> {
-    let message = update(alloc, text)?;
-    match read_message(alloc, &message) {
-        Ok(Message::Update(update)) => Arc::new(alloc, update.attributes?).ok(),
-        _ => None,
-    }
+    Arc::new(alloc, spelled_in_hex::attributes(alloc, &[text])?).ok()
 }
 
 // 203.0.113.0/24.

@@ -9,7 +9,8 @@ mod readers;
 
 use rs_inventory::{Inventory, read_inventory};
 use rs_mrt::{MemoryReader, ReadLimits};
-use std::alloc::{AllocError, Global};
+use spelled_in_hex::octets;
+use std::alloc::Global;
 use std::test::Fail;
 
 // The Types BGP4MP, and BGP4MP with microseconds.
@@ -50,25 +51,6 @@ const REFRESH: &str = "0017 05 00010001";
 // multiprotocol and of AS numbers of four octets.
 const OPEN_OF_F: &str = "002D 01 04 5BA0 005A C0000274 10 0206 0104 00010001 0206 4104 FA56EA06";
 
-// The octets that the hexadecimal digits of the texts spell.
-fn octets(alloc: Global, texts: &[&str]) -> Result<Vec<u8>, AllocError> {
-    let mut octets = Vec::new(alloc);
-    let mut high = None;
-    for text in texts {
-        for digit in text.chars().filter_map(|letter| letter.to_digit(16)) {
-            let digit = u8::try_from(digit).unwrap_or(0);
-            high = match high {
-                None => Some(digit),
-                Some(first) => {
-                    octets.push(digit.wrapping_add(16u8.wrapping_mul(first)))?;
-                    None
-                }
-            };
-        }
-    }
-    Ok(octets)
-}
-
 // A recorded file that is being made.
 #[derive(Drop)]
 struct Recording {
@@ -85,29 +67,24 @@ impl Recording {
     }
 
     // Adds a record with a body in hexadecimal. The Type and the Subtype are hexadecimal too.
-    fn add(
-        &mut self,
-        time: u32,
-        kind: &str,
-        subtype: &str,
-        body: &[&str],
-    ) -> Result<(), AllocError> {
+    fn add(&mut self, time: u32, kind: &str, subtype: &str, body: &[&str]) -> Result<(), Fail> {
         let body = octets(self.alloc, body)?;
         let length = u32::try_from(body.len()).unwrap_or(0);
         self.octets.extend_from_slice(&time.to_be_bytes())?;
         self.octets
             .extend_from_slice(&octets(self.alloc, &[kind, subtype])?)?;
         self.octets.extend_from_slice(&length.to_be_bytes())?;
-        self.octets.extend_from_slice(&body)
+        self.octets.extend_from_slice(&body)?;
+        Ok(())
     }
 
     // Adds a message of a session with four-octet AS numbers.
-    fn say(&mut self, time: u32, fields: &str, message: &str) -> Result<(), AllocError> {
+    fn say(&mut self, time: u32, fields: &str, message: &str) -> Result<(), Fail> {
         self.add(time, BGP4MP, "0004", &[fields, MARKER, message])
     }
 
     // Adds a change of state.
-    fn change(&mut self, time: u32, fields: &str, states: &str) -> Result<(), AllocError> {
+    fn change(&mut self, time: u32, fields: &str, states: &str) -> Result<(), Fail> {
         self.add(time, BGP4MP, "0005", &[fields, states])
     }
 

@@ -3,7 +3,7 @@
 mod mrt;
 mod session;
 
-use std::alloc::{AllocError, Global};
+use spelled_in_hex::octets;
 
 // AS 64501 at 192.0.2.11, its recorder of AS 64500 at 192.0.2.1, interface 0, IPv4; and the peers after it.
 const A: &str = "0000FBF5 0000FBF4 0000 0001 C000020B C0000201";
@@ -21,30 +21,3 @@ const MARKER: &str = "FFFFFFFFFFFFFFFFFFFFFFFFFFFFFFFF";
 const UPDATE: &str = "002F 02 0000 0014 40010100 40020602010000FBF5 400304C000020B 18CB0071";
 
 const KEEPALIVE: &str = "0013 04";
-
-// The digit that the letter is.
-fn digit(letter: u8) -> Option<u8> {
-    match letter {
-        b'0'..=b'9' => Some(letter - b'0'),
-        b'A'..=b'F' => Some(letter - b'A' + 10),
-        _ => None,
-    }
-}
-
-// The octets that the hexadecimal digits of the texts spell.
-fn octets(alloc: Global, texts: &[&str]) -> Result<Vec<u8>, AllocError> {
-    let mut octets = Vec::new(alloc);
-    let mut high = None;
-    for text in texts {
-        for digit in text.bytes().filter_map(digit) {
-            high = match high {
-                None => Some(digit),
-                Some(first) => {
-                    octets.push(digit.wrapping_add(16u8.wrapping_mul(first)))?;
-                    None
-                }
-            };
-        }
-    }
-    Ok(octets)
-}

@@ -16,7 +16,8 @@ mod writers;
 use rs_choice::{Exchange, Local, PeerSpec};
 use rs_session::{Body, Reason, Word};
 use rs_table::{Tables, Why};
-use rs_update::{Attributes, Message, Origin, Prefix, read_message};
+use rs_update::{Attributes, Origin, Prefix};
+use spelled_in_hex::octets;
 use std::alloc::Global;
 use std::process::Abort;
 use std::sync::Arc;
@@ -75,48 +76,9 @@ fn first_peers(count: usize) -> Peers<'static> {
     FOUR_PEERS.get(..count).unwrap_or(&[])
 }
 
-// The octets that hexadecimal digits spell; what stands between them is for reading.
-fn octets(alloc: Global, text: &str) -> Option<Vec<u8>> {
-    let mut octets = Vec::new(alloc);
-    let mut high = None;
-    for digit in text.chars().filter_map(|letter| letter.to_digit(16)) {
-        let digit = u8::try_from(digit).unwrap_or(0);
-        match high {
-            None => high = Some(digit),
-            Some(first) => {
-                octets.push((first & 15) << 4 | digit).ok()?;
-                high = None;
-            }
-        }
-    }
-    Some(octets)
-}
-
-// An UPDATE that announces 203.0.113.0/24 with these attributes.
-fn update(alloc: Global, attributes: &str) -> Option<Vec<u8>> {
-    let section = octets(alloc, attributes)?;
-    let section_len = u16::try_from(section.len()).ok()?;
-    let mut message = octets(alloc, "FFFFFFFF FFFFFFFF FFFFFFFF FFFFFFFF")?;
-    let fields: [&[u8]; 5] = [
-        &section_len.checked_add(27)?.to_be_bytes(),
-        &[2, 0, 0],
-        &section_len.to_be_bytes(),
-        &section,
-        &[24, 203, 0, 113],
-    ];
-    for field in fields {
-        message.extend_from_slice(field).ok()?;
-    }
-    Some(message)
-}
-
-// The attributes of that UPDATE.
+// The attributes of a route.
 fn attributes(alloc: Global, text: &str) -> Option<Arc<Attributes>> {
-    let message = update(alloc, text)?;
-    match read_message(alloc, &message) {
-        Ok(Message::Update(update)) => Arc::new(alloc, update.attributes?).ok(),
-        _ => None,
-    }
+    Arc::new(alloc, spelled_in_hex::attributes(alloc, &[text])?).ok()
 }
 
 // 203.0.113.0/24.
@@ -186,6 +148,16 @@ fn announce(
     let prefix = prefix.expect(rt, "a prefix");
     let attributes = attributes.expect(rt, "attributes");
     take(rt, tables, peer, time, Body::Announce(prefix, attributes));
+}
+
+// Tables of these peers that took routes on 203.0.113.0/24 in this order, each at 100.
+fn announced(rt: &impl Abort, alloc: Global, rows: Peers, sent: &[(usize, &str)]) -> Tables {
+    let mut tables = tables(alloc, subnet(), rows).expect(rt, "tables");
+    for (sender, route) in sent {
+        let route = attributes(alloc, route);
+        announce(rt, &mut tables, (*sender, 100), documentation(), route);
+    }
+    tables
 }
 
 // Whose route a client gets on 203.0.113.0/24, the only prefix there is: `best` and `rows` say the same.

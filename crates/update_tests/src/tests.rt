@@ -14,7 +14,8 @@ use rs_update::{
     Aggregator, Attributes, Errors, HeaderFault, Message, MessageFault, Origin, Prefix, Segment,
     Update, UpdateFault, read_message, read_message_by, write_attributes,
 };
-use std::alloc::{AllocError, Global};
+use spelled_in_hex::octets;
+use std::alloc::Global;
 use std::test::Fail;
 
 // The Marker of a header.
@@ -29,33 +30,6 @@ const NEXT_HOP: &str = "400304 C000020B";
 
 // NLRI: 203.0.113.0/24.
 const ROUTE: &str = "18CB0071";
-
-// The digit that a letter is.
-fn digit(letter: u8) -> Option<u8> {
-    match letter {
-        b'0'..=b'9' => Some(letter - b'0'),
-        b'A'..=b'F' => Some(letter - b'A' + 10),
-        _ => None,
-    }
-}
-
-// The octets that the hexadecimal digits of the texts spell.
-fn octets(alloc: Global, texts: &[&str]) -> Result<Vec<u8>, AllocError> {
-    let mut octets = Vec::new(alloc);
-    let mut high = None;
-    for text in texts {
-        for digit in text.bytes().filter_map(digit) {
-            high = match high {
-                None => Some(digit),
-                Some(first) => {
-                    octets.push(digit.wrapping_add(16u8.wrapping_mul(first)))?;
-                    None
-                }
-            };
-        }
-    }
-    Ok(octets)
-}
 
 // Appends a length of two octets, and as many octets.
 fn push_field(contents: &mut Vec<u8>, field: &[u8]) -> Result<(), Fail> {

@@ -10,6 +10,7 @@ use rs_mrt::{MemoryReader, ReadLimits};
 use rs_session::Reason;
 use rs_table::Tables;
 use rs_update::Errors;
+use spelled_in_hex::octets;
 use std::alloc::{AllocError, Global};
 use std::process::Abort;
 use std::sync::atomic::{AtomicU64, Ordering};
@@ -71,31 +72,14 @@ const COLLECTORS_FILE: Case = Case {
     ],
 };
 
-// The octets that hexadecimal digits spell.
-fn octets(alloc: Global, text: &str) -> Result<Vec<u8>, AllocError> {
-    let mut octets = Vec::new(alloc);
-    let mut high = None;
-    for digit in text.chars().filter_map(|letter| letter.to_digit(16)) {
-        let digit = u8::try_from(digit).unwrap_or(0);
-        match high {
-            None => high = Some(digit),
-            Some(first) => {
-                octets.push((first & 15) << 4 | digit)?;
-                high = None;
-            }
-        }
-    }
-    Ok(octets)
-}
-
 // The files of a case.
-fn files(alloc: Global, case: &Case) -> Result<[Vec<u8>; 4], AllocError> {
+fn files(alloc: Global, case: &Case) -> Option<[Vec<u8>; 4]> {
     let [a, b, c, d] = case.recorded;
-    Ok([
-        octets(alloc, a)?,
-        octets(alloc, b)?,
-        octets(alloc, c)?,
-        octets(alloc, d)?,
+    Some([
+        octets(alloc, &[a]).ok()?,
+        octets(alloc, &[b]).ok()?,
+        octets(alloc, &[c]).ok()?,
+        octets(alloc, &[d]).ok()?,
     ])
 }
 
@@ -217,7 +201,7 @@ fn check_run(rt: &impl Abort, case: &Case, answer: Result<Served, FloorRefused>)
 
 // Runs a case through rings of this capacity. A thread that is left would come to the gate after the answer.
 fn run_case<R: Threads + Wait + Sync + Abort>(rt: &R, alloc: Global, case: &Case, capacity: usize) {
-    let (Some(plan), Ok(files)) = (exchange(alloc, 4), files(alloc, case)) else {
+    let (Some(plan), Some(files)) = (exchange(alloc, 4), files(alloc, case)) else {
         return;
     };
     let gate = Passes::none();
@@ -250,7 +234,7 @@ fn turns(alloc: Global, case: &Case) -> Result<Vec<Turn>, AllocError> {
 
 // Takes a case's schedule through rings of this capacity: it is refused, or the tables are those of the case.
 fn replay_case(rt: &impl Abort, alloc: Global, case: &Case, capacity: usize) {
-    let (Some(plan), Ok(files)) = (exchange(alloc, 4), files(alloc, case)) else {
+    let (Some(plan), Some(files)) = (exchange(alloc, 4), files(alloc, case)) else {
         return;
     };
     let Ok(turns) = turns(alloc, case) else {
@@ -311,7 +295,7 @@ fn whichever_read_fails_the_least_such_peer_is_told(rt: HostRuntime) {
     let files = [
         Vec::new(alloc),
         file,
-        octets(alloc, NO_PATH_IS_HIDDEN.recorded[2]).expect(&rt, "memory"),
+        octets(alloc, &[NO_PATH_IS_HIDDEN.recorded[2]]).expect(&rt, "memory"),
         Vec::new(alloc),
     ];
     for before_failure in 0..508usize {

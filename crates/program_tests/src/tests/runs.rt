@@ -8,6 +8,7 @@ use rs_options::Options;
 use rs_run::{Kept, MemoryOutlet, OutletLimits, RunFault, run};
 use rs_setup::read_setup;
 use rs_update::Errors;
+use spelled_in_hex::octets;
 use std::alloc::Global;
 use std::process::Abort;
 use std::sync::Wait;
@@ -136,7 +137,7 @@ fn run_over(
         shards: manner.shards,
         errors: manner.errors,
     };
-    let file = hex::decode(alloc, file.as_bytes())?;
+    let file = octets(alloc, &[file])?;
     let [first, second, third, fourth] = limits;
     let readers = Vec::from_array(
         alloc,
@@ -173,11 +174,7 @@ fn check_kept(rt: &(impl AllocGlobal + Abort), kept: &[Kept], count: usize) -> R
     assert_eq!(rt; kept.len(), count);
     for (dump, (name, expected)) in kept.iter().zip(DUMPS) {
         assert_eq!(rt; dump.name.as_str(), name);
-        assert_eq!(rt;
-            dump.octets,
-            hex::decode(rt.alloc(), expected.as_bytes())?,
-            "of {name}"
-        );
+        assert_eq!(rt; dump.octets, octets(rt.alloc(), &[expected])?, "of {name}");
     }
     Ok(())
 }

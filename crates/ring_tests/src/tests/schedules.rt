@@ -9,6 +9,7 @@ use rs_floor::{Floor, FloorRefused, Open, Served, Turn, replay, serve_sharded};
 use rs_mrt::{IoReader, Limits, MemoryWriter};
 use rs_table::{Row, Tables};
 use rs_update::Prefix;
+use spelled_in_hex::octets;
 use std::alloc::Global;
 use std::process::Abort;
 use std::sync::{Arc, Wait};
@@ -96,23 +97,6 @@ fn exchange(alloc: Global, rows: &[Peer]) -> Option<Arc<Exchange>> {
     Arc::new(alloc, Exchange::new(alloc, local, peers).ok()?).ok()
 }
 
-// The octets that hexadecimal digits spell.
-fn octets(alloc: Global, text: &str) -> Option<Vec<u8>> {
-    let mut octets = Vec::new(alloc);
-    let mut high = None;
-    for digit in text.chars().filter_map(|letter| letter.to_digit(16)) {
-        let digit = u8::try_from(digit).unwrap_or(0);
-        match high {
-            None => high = Some(digit),
-            Some(first) => {
-                octets.push((first & 15) << 4 | digit).ok()?;
-                high = None;
-            }
-        }
-    }
-    Some(octets)
-}
-
 // How many octets the texts spell, beside others.
 fn spelled(others: usize, texts: [&str; 3]) -> usize {
     let digits = texts[0].len().saturating_add(texts[1].len());
@@ -144,7 +128,7 @@ fn file(alloc: Global, peer: &Peer, updates: &[[&str; 3]]) -> Option<Vec<u8>> {
         text.push_str(&update(alloc, time, peer, *texts)?).ok()?;
         time = time.saturating_add(1);
     }
-    octets(alloc, &text)
+    octets(alloc, &[text.as_str()]).ok()
 }
 
 // The end of a schedule.
@@ -277,7 +261,7 @@ fn changes_are_in_the_tables_once_they_are_received(rt: HostRuntime) {
     }
     let floor = run(&rt, alloc, &plan, &[&a, &[]], 2, &turns).expect(&rt, "a floor");
     let written = dump(&rt, alloc, &plan, floor.tables(), B).expect(&rt, "a dump");
-    assert_eq!(rt; Some(written), octets(alloc, DUMP_OF_B));
+    assert_eq!(rt; Ok(written), octets(alloc, &[DUMP_OF_B]));
 }
 
 // The files of four peers: by steps 1 to 3 all routes are alike, MED decides between the first two, and the
@@ -374,7 +358,7 @@ fn dozen(alloc: Global, peer: usize) -> Option<Vec<u8>> {
         text.push_str(&update(alloc, time, EIGHT.get(peer)?, texts)?)
             .ok()?;
     }
-    octets(alloc, &text)
+    octets(alloc, &[text.as_str()]).ok()
 }
 
 // The files of all eight peers.

@@ -62,16 +62,17 @@ fn seen(word: &Word) -> Given {
 type Recorded<'a> = (u32, u16, u16, &'a [&'a str]);
 
 // Appends a record, its Length counted.
-fn append(file: &mut Vec<u8>, alloc: Global, recorded: &Recorded<'_>) -> Result<(), AllocError> {
+fn append(file: &mut Vec<u8>, alloc: Global, recorded: &Recorded<'_>) -> Result<(), Fail> {
     let (time, kind, subtype, texts) = *recorded;
     let body = octets(alloc, texts)?;
     let length = u32::try_from(body.len()).unwrap_or(0);
     write_header(file, time, kind, subtype, length)?;
-    file.extend_from_slice(&body)
+    file.extend_from_slice(&body)?;
+    Ok(())
 }
 
 // The file of these records.
-fn file_of(alloc: Global, records: &[Recorded<'_>]) -> Result<Vec<u8>, AllocError> {
+fn file_of(alloc: Global, records: &[Recorded<'_>]) -> Result<Vec<u8>, Fail> {
     let mut file = Vec::new(alloc);
     for recorded in records {
         append(&mut file, alloc, recorded)?;
@@ -106,7 +107,7 @@ fn assert_says(
     records: &[Recorded<'_>],
     changes: &[Given],
     passed: u64,
-) -> Result<(), AllocError> {
+) -> Result<(), Fail> {
     let file = file_of(alloc, records)?;
     let (found, passed_over) = read(alloc, &file)?;
     let last = last_text(records);

@@ -20,15 +20,12 @@ fn med_decides_within_a_neighbour_as_in_any_order(rt: HostRuntime) {
         [c, a, b],
         [c, b, a],
     ] {
-        let mut tables = tables(alloc, subnet(), peers).expect(&rt, "tables");
-        for (sender, route) in order {
-            let route = attributes(alloc, route);
-            announce(&rt, &mut tables, (sender, 100), documentation(), route);
-        }
-        assert_eq!(rt; winner(&rt, &tables, D), Some(C), "{order:?}");
+        let mut tables = announced(&rt, alloc, peers, &order);
+        let before = winner(&rt, &tables, D);
         let withdrawn = Body::Withdraw(documentation().expect(&rt, "a prefix"));
         take(&rt, &mut tables, B, 101, withdrawn);
-        assert_eq!(rt; winner(&rt, &tables, D), Some(A), "{order:?}");
+        let both = (before, winner(&rt, &tables, D));
+        assert_eq!(rt; both, (Some(C), Some(A)), "{order:?}");
     }
 }
 
@@ -40,22 +37,14 @@ fn the_lower_address_breaks_the_last_tie(rt: HostRuntime) {
         ("b", 64501, 0xC000_020C, 0xC000_0209, ""),
         ("c", 64503, 0xC000_020D, 0xC000_020D, ""),
     ];
-    let mut tables = tables(alloc, subnet(), peers).expect(&rt, "tables");
-    for sender in [B, A] {
-        let route = attributes(alloc, BY_ANOTHER);
-        announce(&rt, &mut tables, (sender, 100), documentation(), route);
-    }
+    let tables = announced(&rt, alloc, peers, &[(B, BY_ANOTHER), (A, BY_ANOTHER)]);
     assert_eq!(rt; winner(&rt, &tables, C), Some(A));
 }
 
 #[test]
 fn what_policy_keeps_from_one_client_hides_no_other(rt: HostRuntime) {
     let alloc = rt.alloc();
-    let mut tables = tables(alloc, subnet(), FOUR_PEERS).expect(&rt, "tables");
-    for (sender, route) in [(A, NOT_TO_64502), (C, VIA_64503)] {
-        let route = attributes(alloc, route);
-        announce(&rt, &mut tables, (sender, 100), documentation(), route);
-    }
+    let tables = announced(&rt, alloc, FOUR_PEERS, &[(A, NOT_TO_64502), (C, VIA_64503)]);
     for (client, sender) in [(A, C), (B, C), (C, A), (D, A)] {
         assert_eq!(rt;
             winner(&rt, &tables, client),

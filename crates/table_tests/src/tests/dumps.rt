@@ -125,6 +125,6 @@ fn tables_are_dumped_as_the_standard_says(rt: HostRuntime) {
         let rows = rows_on(alloc, prefixes, &route).expect(&rt, "rows");
         let (answer, written) = dump(&rt, alloc, Limits::none(), (&plan, client, time), &rows);
         assert_eq!(rt; answer, Ok(count));
-        assert_eq!(rt; Some(written), octets(alloc, wanted), "{wanted}");
+        assert_eq!(rt; Ok(written), octets(alloc, &[wanted]), "{wanted}");
     }
 }

@@ -7,14 +7,15 @@ use super::*;
 fn an_ineligible_route_replaces_an_eligible_one(rt: HostRuntime) {
     let alloc = rt.alloc();
     for later in [VIA_THE_SERVER, BY_THE_SERVER, BY_AN_OUTSIDER] {
-        let mut tables = tables(alloc, subnet(), FOUR_PEERS).expect(&rt, "tables");
-        let route = attributes(alloc, VIA_64501);
-        announce(&rt, &mut tables, (A, 100), documentation(), route);
-        assert_eq!(rt; winner(&rt, &tables, B), Some(A), "{later}");
+        let mut tables = announced(&rt, alloc, FOUR_PEERS, &[(A, VIA_64501)]);
+        let before = winner(&rt, &tables, B);
         let route = attributes(alloc, later);
         announce(&rt, &mut tables, (A, 101), documentation(), route);
-        assert_eq!(rt; winner(&rt, &tables, B), None, "{later}");
-        assert_eq!(rt; reason(&rt, &tables, B, A), Why::Ineligible, "{later}");
+        assert_eq!(rt;
+            (before, winner(&rt, &tables, B), reason(&rt, &tables, B, A)),
+            (Some(A), None, Why::Ineligible),
+            "{later}"
+        );
     }
 }
 

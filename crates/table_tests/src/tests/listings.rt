@@ -31,6 +31,16 @@ fn rows_ascend_and_show_the_last_announcement(rt: HostRuntime) {
     assert!(rt; tables.best(4, ten).is_none());
 }
 
+// The rows of a client's table, one after another.
+fn one_after_another(alloc: Global, tables: &Tables, client: usize) -> Option<Vec<Shown>> {
+    let mut rows = Vec::new(alloc);
+    for row in tables.iter_rows(client) {
+        rows.push((row.prefix, row.route.peer, row.route.time))
+            .ok()?;
+    }
+    Some(rows)
+}
+
 #[test]
 fn rows_come_one_after_another_as_in_the_list(rt: HostRuntime) {
     let alloc = rt.alloc();
@@ -46,17 +56,10 @@ fn rows_come_one_after_another_as_in_the_list(rt: HostRuntime) {
         announce(&rt, &mut tables, (sender, 100), Some(prefix), route);
     }
     for (client, wanted) in [(A, 1), (B, 2), (C, 2), (D, 2), (4, 0)] {
-        let listed = tables.rows(client).expect(&rt, "rows");
         assert_eq!(rt; tables.iter_rows(client).size_hint(), (0, Some(2)));
-        let mut count: usize = 0;
-        for row in tables.iter_rows(client) {
-            let same = listed.get(count).expect(&rt, "a row of the list");
-            assert_eq!(rt; row.prefix, same.prefix, "client {client}");
-            assert_eq!(rt; row.route.peer, same.route.peer, "client {client}");
-            assert_eq!(rt; row.route.time, same.route.time, "client {client}");
-            count = count.wrapping_add(1);
-        }
-        assert_eq!(rt; count, listed.len(), "client {client}");
+        let listed = shown(alloc, &tables, client).expect(&rt, "rows");
         assert_eq!(rt; listed.len(), wanted, "client {client}");
+        let rows = one_after_another(alloc, &tables, client);
+        assert_eq!(rt; rows, Some(listed), "client {client}");
     }
 }

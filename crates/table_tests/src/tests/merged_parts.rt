@@ -4,6 +4,7 @@ ghost use Rattle.std.specs.Prelude.{IfSome};
 ghost use Rattle.table_tests.specs.Parts.{IsOnLength};
 
 use super::*;
+use refusals::exchange_again;
 use slow_reading::History;
 
 // Which peer announces which route on the prefix of 10.0.0.0 that has this length.
@@ -52,19 +53,13 @@ fn whole(alloc: Global, plan: &Arc<Exchange>) -> Option<Vec<Vec<Shown>>> {
         history.add(peer, Word { time: 100, body })?;
         prefixes.push(prefix).ok()?;
     }
-    let mut all = Vec::new(alloc);
-    for client in 0..4 {
-        all.push(history.rows(alloc, client, &prefixes)?).ok()?;
-    }
-    Some(all)
+    history.all_rows(alloc, &prefixes)
 }
 
 #[test]
 fn parts_are_made_one_and_come_again_where_memory_is_refused(rt: HostRuntime) {
     let alloc = rt.alloc();
-    let plan = exchange(alloc, subnet(), FOUR_PEERS)
-        .or_else(|| exchange(alloc, subnet(), FOUR_PEERS))
-        .expect(&rt, "an exchange");
+    let plan = exchange_again(&rt, alloc, FOUR_PEERS);
     let wanted = whole(alloc, &plan)
         .or_else(|| whole(alloc, &plan))
         .expect(&rt, "what the rules say");

@@ -8,6 +8,7 @@ use super::*;
 use dumps::{PLAIN_DUMP, are_known, row};
 use rs_dump::{DumpFault, write_dump};
 use rs_mrt::{Failed, Write};
+use rs_table::Row;
 use slow_reading::{History, again};
 
 // What a peer says.
@@ -70,11 +71,7 @@ fn wanted(alloc: Global, words: &[(usize, Word)]) -> Option<Vec<All>> {
     let mut wanted = Vec::new(alloc);
     for (peer, word) in words {
         history.add(*peer, again(word)?)?;
-        let mut all = Vec::new(alloc);
-        for client in 0..4 {
-            all.push(history.rows(alloc, client, &prefixes)?).ok()?;
-        }
-        wanted.push(all).ok()?;
+        wanted.push(history.all_rows(alloc, &prefixes)?).ok()?;
     }
     Some(wanted)
 }
@@ -176,27 +173,44 @@ impl Write for Fixed {
     }
 }
 
+/// The exchange of these peers, made once more where memory is refused.
+pub fn exchange_again(rt: &impl Abort, alloc: Global, rows: Peers) -> Arc<Exchange> {
+    exchange(alloc, subnet(), rows)
+        .or_else(|| exchange(alloc, subnet(), rows))
+        .expect(rt, "an exchange")
+}
+
+/// The dump of rows for a client, written once more where memory is refused, and how many they are.
+pub fn dump_again(
+    rt: &impl Abort,
+    alloc: Global,
+    plan: &Exchange,
+    client: usize,
+    rows: &[Row],
+) -> (u32, Fixed) {
+    let mut out = Fixed::new();
+    assert!(rt; client < plan.count());
+    assert!(rt; are_known(plan, rows));
+    let mut answer = write_dump(alloc, &mut out, plan, client, rows, 0);
+    if answer == Err(DumpFault::Memory) {
+        assert_eq!(rt; out.octets(), Some([].as_slice()));
+        answer = write_dump(alloc, &mut out, plan, client, rows, 0);
+    }
+    (answer.expect(rt, "a dump"), out)
+}
+
 #[test]
 fn a_refused_dump_writes_nothing_and_comes_when_asked_again(rt: HostRuntime) {
     let alloc = rt.alloc();
-    let plan = exchange(alloc, subnet(), first_peers(2))
-        .or_else(|| exchange(alloc, subnet(), first_peers(2)))
-        .expect(&rt, "an exchange");
+    let plan = exchange_again(&rt, alloc, first_peers(2));
     let route = attributes(alloc, VIA_64501)
         .or_else(|| attributes(alloc, VIA_64501))
         .expect(&rt, "attributes");
-    let wanted = octets(alloc, PLAIN_DUMP)
-        .or_else(|| octets(alloc, PLAIN_DUMP))
+    let wanted = octets(alloc, &[PLAIN_DUMP])
+        .or_else(|_| octets(alloc, &[PLAIN_DUMP]))
         .expect(&rt, "octets");
     let rows = [row(documentation().expect(&rt, "a prefix"), &route)];
-    let mut out = Fixed::new();
-    assert!(rt; 1 < plan.count());
-    assert!(rt; are_known(&plan, &rows));
-    let mut answer = write_dump(alloc, &mut out, &plan, 1, &rows, 0);
-    if answer == Err(DumpFault::Memory) {
-        assert_eq!(rt; out.octets(), Some([].as_slice()));
-        answer = write_dump(alloc, &mut out, &plan, 1, &rows, 0);
-    }
-    assert_eq!(rt; answer, Ok(1));
+    let (count, out) = dump_again(&rt, alloc, &plan, B, &rows);
+    assert_eq!(rt; count, 1);
     assert_eq!(rt; out.octets(), Some(wanted.as_slice()));
 }

@@ -173,6 +173,15 @@ impl History {
         }
         Some(rows)
     }
+
+    /// The rows of each of four clients.
+    pub fn all_rows(&self, alloc: Global, prefixes: &[Prefix]) -> Option<Vec<Vec<Shown>>> {
+        let mut all = Vec::new(alloc);
+        for client in 0..4 {
+            all.push(self.rows(alloc, client, prefixes)?).ok()?;
+        }
+        Some(all)
+    }
 }
 
 /// The same change again.

@@ -5,8 +5,8 @@ ghost use Rattle.std.specs.Prelude.{IfSome};
 ghost use Rattle.table_tests.specs.Parts.{IsEmpty, IsOpen, IsOnPrefix};
 
 use super::*;
-use refusals::Fixed;
-use rs_dump::{DumpFault, write_dump, write_table_dump};
+use refusals::{Fixed, dump_again, exchange_again};
+use rs_dump::{DumpFault, write_table_dump};
 
 // The path 64501, not to AS 64502, and the path 64503 65010 of c's.
 const OF_A: &str = "40010100 4002060201 0000FBF5 400304C000020B C00804 0000FBF6";
@@ -137,17 +137,11 @@ fn are_dumped(rt: &impl Abort, alloc: Global, tables: &Tables, client: usize, ge
         .rows(client)
         .or_else(|_| tables.rows(client))
         .expect(rt, "rows");
-    let mut out = Fixed::new();
-    let mut answer = write_dump(alloc, &mut out, tables.plan(), client, &rows, 0);
-    if answer == Err(DumpFault::Memory) {
-        assert_eq!(rt; out.octets(), Some([].as_slice()));
-        answer = write_dump(alloc, &mut out, tables.plan(), client, &rows, 0);
-    }
-    assert_eq!(rt; answer.map(|count| count as usize), Ok(rows.len()));
+    let (listed, out) = dump_again(rt, alloc, tables.plan(), client, &rows);
     assert_eq!(rt; out.octets(), Some(wanted.as_slice()), "{name}");
     let (count, out) = table_dump(rt, alloc, tables, client);
-    assert_eq!(rt; count as usize, rows.len());
     assert_eq!(rt; out.octets(), Some(wanted.as_slice()), "{name}");
+    assert_eq!(rt; (listed as usize, count as usize), (rows.len(), rows.len()));
 }
 
 // The dump of a client's table, without a list of its rows, and how many they are.
@@ -164,20 +158,13 @@ fn table_dump(rt: &impl Abort, alloc: Global, tables: &Tables, client: usize) ->
 
 // The octets of the dump for the client of this name with these rows.
 fn dump_of(alloc: Global, name: &str, rows: &str) -> Option<Vec<u8>> {
-    let mut dump = octets(alloc, INDEX)?;
-    for text in [name, PEERS, rows] {
-        let part = octets(alloc, text)?;
-        dump.extend_from_slice(&part).ok()?;
-    }
-    Some(dump)
+    octets(alloc, &[INDEX, name, PEERS, rows]).ok()
 }
 
 #[test]
 fn worked_exchanges_are_merged_and_dumped_where_memory_is_refused(rt: HostRuntime) {
     let alloc = rt.alloc();
-    let plan = exchange(alloc, subnet(), FOUR_PEERS)
-        .or_else(|| exchange(alloc, subnet(), FOUR_PEERS))
-        .expect(&rt, "an exchange");
+    let plan = exchange_again(&rt, alloc, FOUR_PEERS);
     let hidden = no_hidden_path(alloc, &plan)
         .or_else(|| no_hidden_path(alloc, &plan))
         .expect(&rt, "tables");

@@ -23,22 +23,39 @@ fn failing_after(calls: u64, piece: usize) -> Limits {
     }
 }
 
+// Of a dump whose writer failed after so many writes of an octet, all that was written before is out.
+fn check_cut(
+    rt: &impl Abort,
+    calls: u64,
+    answer: Result<u32, DumpFault>,
+    written: &[u8],
+    whole: &[u8],
+) {
+    assert_eq!(rt; answer, Err(DumpFault::Write), "after {calls} writes");
+    assert_eq!(rt; written.len() as u64, calls);
+    assert!(rt; whole.starts_with(written));
+}
+
+// Writes the plain dump to memory within the limits; answers what `write_dump` does, and what the writer has
+// taken then.
+fn plain_dump(rt: &impl Abort, alloc: Global, limits: Limits) -> (Result<u32, DumpFault>, Vec<u8>) {
+    let plan = exchange(alloc, subnet(), first_peers(2)).expect(rt, "an exchange");
+    let route = attributes(alloc, VIA_64501).expect(rt, "attributes");
+    let rows = [row(documentation().expect(rt, "a prefix"), &route)];
+    dump(rt, alloc, limits, (&plan, B, 0), &rows)
+}
+
 #[test]
 fn a_writer_may_take_one_octet_a_call(rt: HostRuntime) {
     let alloc = rt.alloc();
-    let plan = exchange(alloc, subnet(), first_peers(2)).expect(&rt, "an exchange");
-    let route = attributes(alloc, VIA_64501).expect(&rt, "attributes");
-    let rows = [row(documentation().expect(&rt, "a prefix"), &route)];
-    let whole = octets(alloc, PLAIN_DUMP).expect(&rt, "octets");
-    let (answer, written) = dump(&rt, alloc, in_pieces(1), (&plan, B, 0), &rows);
+    let whole = octets(alloc, &[PLAIN_DUMP]).expect(&rt, "octets");
+    let (answer, written) = plain_dump(&rt, alloc, in_pieces(1));
     assert_eq!(rt; answer, Ok(1));
     assert_eq!(rt; written, whole);
     // 97 writes of one octet: each is refused in turn, and what is out then is all that was written before.
     for calls in 0..97 {
-        let (answer, written) = dump(&rt, alloc, failing_after(calls, 1), (&plan, B, 0), &rows);
-        assert_eq!(rt; answer, Err(DumpFault::Write), "after {calls} writes");
-        assert_eq!(rt; written.len() as u64, calls);
-        assert!(rt; whole.starts_with(&written));
+        let (answer, written) = plain_dump(&rt, alloc, failing_after(calls, 1));
+        check_cut(&rt, calls, answer, &written, &whole);
     }
 }
 
@@ -60,36 +77,29 @@ fn table_dump(
 #[test]
 fn a_table_is_dumped_and_may_fail_at_each_octet(rt: HostRuntime) {
     let alloc = rt.alloc();
-    let mut tables = tables(alloc, subnet(), first_peers(2)).expect(&rt, "tables");
-    let route = attributes(alloc, VIA_64501);
-    announce(&rt, &mut tables, (A, 100), documentation(), route);
-    let whole = octets(alloc, PLAIN_DUMP).expect(&rt, "octets");
+    let tables = announced(&rt, alloc, first_peers(2), &[(A, VIA_64501)]);
+    let whole = octets(alloc, &[PLAIN_DUMP]).expect(&rt, "octets");
     let (answer, written) = table_dump(&rt, alloc, in_pieces(1), &tables, B);
     assert_eq!(rt; answer, Ok(1));
     assert_eq!(rt; written, whole);
     for calls in 0..97 {
         let (answer, written) = table_dump(&rt, alloc, failing_after(calls, 1), &tables, B);
-        assert_eq!(rt; answer, Err(DumpFault::Write), "after {calls} writes");
-        assert_eq!(rt; written.len() as u64, calls);
-        assert!(rt; whole.starts_with(&written));
+        check_cut(&rt, calls, answer, &written, &whole);
     }
 }
 
 #[test]
 fn a_full_device_has_the_beginning_of_the_dump(rt: HostRuntime) {
     let alloc = rt.alloc();
-    let plan = exchange(alloc, subnet(), first_peers(2)).expect(&rt, "an exchange");
-    let route = attributes(alloc, VIA_64501).expect(&rt, "attributes");
-    let rows = [row(documentation().expect(&rt, "a prefix"), &route)];
     let small = Limits {
         calls_before_failure: None,
         room: 30,
         piece: usize::MAX,
     };
-    let (answer, written) = dump(&rt, alloc, small, (&plan, B, 0), &rows);
+    let (answer, written) = plain_dump(&rt, alloc, small);
     assert_eq!(rt; answer, Err(DumpFault::Write));
     let front = "00000000 000D 0001 00000023 C0000201 0001 62 0002 02 C000020B C000020B";
-    assert_eq!(rt; Some(written), octets(alloc, front));
+    assert_eq!(rt; Ok(written), octets(alloc, &[front]));
 }
 
 // 3,000 rows of 50 octets each make three pieces: each write is refused in turn.
@@ -111,8 +121,11 @@ fn each_write_may_fail(rt: HostRuntime) {
     ] {
         let limits = failing_after(calls, usize::MAX);
         let (given, written) = dump(&rt, alloc, limits, (&plan, B, 0), &rows);
-        assert_eq!(rt; given, answer, "after {calls} writes");
-        assert_eq!(rt; written.len(), taken);
+        assert_eq!(rt;
+            (given, written.len()),
+            (answer, taken),
+            "after {calls} writes"
+        );
         assert!(rt; whole.starts_with(&written));
     }
 }

@@ -9,7 +9,7 @@ fn says(
     subtype: u16,
     body: &[&str],
     expected: Result<Entry<'_>, MrtFault>,
-) -> Result<bool, AllocError> {
+) -> Result<bool, Fail> {
     let body = octets(alloc, body)?;
     let record = Record {
         time: 100,

@@ -6,13 +6,10 @@ use super::*;
 const FAULTY: &str = "40010103 40020602010000FBF5 400304C000020B";
 
 // What a file of these records says where faults are handled by RFC 7606.
-fn read_by_rfc_7606(
-    alloc: Global,
-    records: &[Recorded<'_>],
-) -> Result<(Vec<Given>, u64), AllocError> {
+fn read_by_rfc_7606(alloc: Global, records: &[Recorded<'_>]) -> Result<(Vec<Given>, u64), Fail> {
     let file = file_of(alloc, records)?;
     let session = Session::over_by(alloc, Records::new(&file), PEER, Errors::Rfc7606);
-    read_session(alloc, session)
+    Ok(read_session(alloc, session)?)
 }
 
 // Four prefixes, the third one with a fault.
