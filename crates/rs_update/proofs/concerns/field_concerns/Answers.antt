@@ -1,4 +1,4 @@
-use Rattle.std.proofs.Common.{◌∙◌, ◌||◌, Bool, ap, sym, not}
+use Rattle.std.proofs.Common.{◌∙◌, ◌||◌, Bool, ap, sym, not, rules}
 use Rattle.rs_update.specs.Concerns.{field_concerns}
 use Rattle.rs_update.proofs.ConcernLemmas.{concerns_more, concerns_end}
 use Rattle.rs_update.proofs.PrefixLemmas.{prefix_at-shrinks}
@@ -23,3 +23,6 @@ loop-split-preserved c =
 
 pub returns : goal.returns
 returns c = ap not c.is_empty.ensures ∙ sym (concerns_end c.args.prefix c.loop-split.rest.now c.in_default.ensures) ∙ c.loop-split.invariant
+
+pub loop-split-init : goal.loop-split-init
+loop-split-init c = search rules

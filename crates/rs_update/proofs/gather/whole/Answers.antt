@@ -1,4 +1,4 @@
-use Rattle.std.proofs.Common.{◌≡◌, ◌∙◌, sym, ap, arith, ℕ, List, Some, length}
+use Rattle.std.proofs.Common.{◌≡◌, ◌∙◌, sym, ap, arith, ℕ, List, Some, length, rules}
 use Rattle.std.specs.Option.{option_map}
 use Rattle.byteorder.specs.Endian.{big_number}
 use Rattle.rs_update.specs.AsPath.{path_length_of, first_as_of}
@@ -137,3 +137,6 @@ returns c =
     let path = c.requires.path_is in
     let next_hop = c.requires.next_hop_is in
     attributes_of-found items (item_of c.args.origin) (item_of c.args.path) (item_of c.args.next_hop) origin path next_hop ∙ ap (λ (attributes : PathAttributes). Some attributes) (same c)
+
+pub returns-in_err-spelling : goal.returns-in_err-spelling
+returns-in_err-spelling c = search rules

@@ -10,3 +10,12 @@ returns-in-OptionalNonTransitive c = search rules
 
 pub returns-in-Optional : goal.returns-in-Optional
 returns-in-Optional c = search rules
+
+pub returns-in-Any : goal.returns-in-Any
+returns-in-Any c = search rules
+
+pub returns-in-OptionalTransitive : goal.returns-in-OptionalTransitive
+returns-in-OptionalTransitive c = search rules
+
+pub returns-in_default : goal.returns-in_default
+returns-in_default c = search rules

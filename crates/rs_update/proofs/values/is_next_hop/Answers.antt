@@ -7,3 +7,6 @@ returns-then-first-ne0 c = search rules
 
 pub returns-else-first-ne0 : goal.returns-else-first-ne0
 returns-else-first-ne0 c = search rules
+
+pub returns-in_default : goal.returns-in_default
+returns-in_default c = search rules

@@ -10,3 +10,6 @@ returns-then-count-ne0 c = search rules
 
 pub returns-else-count-ne0 : goal.returns-else-count-ne0
 returns-else-count-ne0 c = search rules
+
+pub returns-in-AnyLength : goal.returns-in-AnyLength
+returns-in-AnyLength c = search rules

@@ -1,4 +1,4 @@
-use Rattle.std.proofs.Common.{◌∙◌, ◌-◌, ap, sym, arith, ℕ, List, ◌∷◌, drop, length}
+use Rattle.std.proofs.Common.{◌∙◌, ◌-◌, ap, sym, arith, ℕ, List, ◌∷◌, drop, length, rules}
 use Rattle.std.proofs.lemmas.List.{take_all, length-drop}
 use Rattle.rs_update.specs.Numbers.{numbers_at}
 use Rattle.rs_update.specs.Shapes.{numbers_in}
@@ -25,3 +25,6 @@ returns-clause-goes c =
     (numbers_at-step c.args.self.now.count octets c.if-self-eq0.false
     ∙ ap (λ (number : ℕ). number ∷ numbers_at (c.args.self.now.count - 1) (drop 4 octets)) (sym c.number_at-number.ensures)
     ∙ ap (λ (rest : List ℕ). c.number_at-number.result ∷ numbers_at (c.args.self.now.count - 1) rest) (sym (take_all (length octets - 4) (drop 4 octets) (omega (arith, length-drop 4 octets)))))
+
+pub invariant_of-self : goal.invariant_of-self
+invariant_of-self c = search rules
