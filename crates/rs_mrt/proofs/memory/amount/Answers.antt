@@ -4,3 +4,9 @@ use Rattle.rs_mrt.proofs.memory.amount.Goals as goal
 
 pub returns : goal.returns
 returns c = search rules
+
+pub returns-then-eq : goal.returns-then-eq
+returns-then-eq c = search rules
+
+pub returns-then-piece-gt0 : goal.returns-then-piece-gt0
+returns-then-piece-gt0 c = search rules

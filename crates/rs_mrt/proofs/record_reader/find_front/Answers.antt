@@ -1,4 +1,5 @@
 use Rattle.std.proofs.Common.{◌≡◌, ◌+◌, ◌-◌, ◌<◌, length, Ok, true, sym, ◌∙◌, arith, rules}
+use Rattle.std.proofs.lemmas.Grind.{common_steps}
 use Rattle.std.proofs.lemmas.Result.{err_from_is_err_and}
 use Rattle.rs_mrt.specs.Reader.{FileEnds, ReadFails}
 use Rattle.rs_mrt.specs.Record.{length_field}
@@ -79,3 +80,27 @@ returns-then-is_empty-clause-finds g c = search rules
 
 pub returns-then-is_empty-clause-room : goal.returns-then-is_empty-clause-room
 returns-then-is_empty-clause-room g c = search
+
+pub returns-clause-room : goal.returns-clause-room
+returns-clause-room g c = search rules
+
+pub returns-in_err-fill-2-clause-room : goal.returns-in_err-fill-2-clause-room
+returns-in_err-fill-2-clause-room g c = search rules
+
+pub returns-in_err-fill-clause-room : goal.returns-in_err-fill-clause-room
+returns-in_err-fill-clause-room g c = search rules
+
+pub returns-in_err-skip-clause-room : goal.returns-in_err-skip-clause-room
+returns-in_err-skip-clause-room g c = search rules
+
+pub returns-then-not-branch-2-clause-room : goal.returns-then-not-branch-2-clause-room
+returns-then-not-branch-2-clause-room g c = search rules
+
+pub returns-then-not-branch-3-clause-room : goal.returns-then-not-branch-3-clause-room
+returns-then-not-branch-3-clause-room g c = search rules
+
+pub returns-then-not-branch-clause-finds : goal.returns-then-not-branch-clause-finds
+returns-then-not-branch-clause-finds g c = grind (arith, common_steps)
+
+pub returns-then-not-branch-clause-room : goal.returns-then-not-branch-clause-room
+returns-then-not-branch-clause-room g c = search rules

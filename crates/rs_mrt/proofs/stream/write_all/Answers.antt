@@ -1,4 +1,5 @@
-use Rattle.std.proofs.Common.{arith}
+use Rattle.std.proofs.Common.{arith, rules}
+use Rattle.std.proofs.lemmas.Grind.{common_steps}
 use Rattle.rs_mrt.proofs.StreamLemmas.{Written-more, Written-stopped, Keeps-from_nothing, took_some}
 use Rattle.rs_mrt.proofs.stream.write_all.Goals as goal
 
@@ -28,3 +29,33 @@ returns-in-Ok-eq0-clause-ok g c = search
 
 pub returns-in-Ok-eq0-clause-ok_failures : goal.returns-in-Ok-eq0-clause-ok_failures
 returns-in-Ok-eq0-clause-ok_failures g c = search
+
+pub loop-rest-init : goal.loop-rest-init
+loop-rest-init g c = search rules
+
+pub loop-rest-smaller : goal.loop-rest-smaller
+loop-rest-smaller g c = search rules
+
+pub returns-clause-err : goal.returns-clause-err
+returns-clause-err g c = search rules
+
+pub returns-clause-err_failures : goal.returns-clause-err_failures
+returns-clause-err_failures g c = search rules
+
+pub returns-clause-ok : goal.returns-clause-ok
+returns-clause-ok g c = grind (arith, common_steps)
+
+pub returns-clause-ok_failures : goal.returns-clause-ok_failures
+returns-clause-ok_failures g c = search rules
+
+pub returns-in-Err-clause-err_failures : goal.returns-in-Err-clause-err_failures
+returns-in-Err-clause-err_failures g c = search rules
+
+pub returns-in-Err-clause-ok : goal.returns-in-Err-clause-ok
+returns-in-Err-clause-ok g c = search rules
+
+pub returns-in-Err-clause-ok_failures : goal.returns-in-Err-clause-ok_failures
+returns-in-Err-clause-ok_failures g c = search rules
+
+pub returns-in-Ok-eq0-clause-err_failures : goal.returns-in-Ok-eq0-clause-err_failures
+returns-in-Ok-eq0-clause-err_failures g c = search rules

@@ -1,4 +1,4 @@
--- Each answer is one search, so that a wrong body is refused soon.
+-- Each answer is one call of a tactic, so that a wrong body is refused soon.
 use Rattle.std.proofs.Common.{rules}
 use Rattle.rs_mrt.proofs.record.RecordsSource.advance.Goals as goal
 
