@@ -1,4 +1,5 @@
-use Rattle.std.proofs.Common.{◌≡◌, ◌∙◌, ◌<◌, sym, ap, refl, arith, ℕ, List, length, map, get_or, None, Some}
+use Rattle.std.proofs.Common.{◌≡◌, ◌∙◌, ◌<◌, sym, ap, refl, arith, ℕ, List, length, map, get_or, None, Some, rules}
+use Rattle.std.proofs.lemmas.Grind.{common_steps}
 use Rattle.std.proofs.Math.ListN.{get_or-map}
 use Rattle.std.proofs.lemmas.List.{length-map}
 use Rattle.std.specs.Prelude.{string_bytes}
@@ -41,3 +42,12 @@ loop-number-preserved c =
     ∙ sym (has_names-map c.args.peers.now item) in
     let here : first_fault (name_tests peers number peer) ≡ None = rw (← named, c.if-not-has_names.false) refl in
     first_fault-later tests peers number peer within is c.loop-number.invariant here
+
+pub loop-number-init : goal.loop-number-init
+loop-number-init c = search rules
+
+pub loop-number-smaller : goal.loop-number-smaller
+loop-number-smaller c = search rules
+
+pub returns : goal.returns
+returns c = grind (arith, common_steps)

@@ -1,4 +1,4 @@
-use Rattle.std.proofs.Common.{◌≡◌, ◌∙◌, sym, ap, refl, arith, ◌==◌, false, true}
+use Rattle.std.proofs.Common.{◌≡◌, ◌∙◌, sym, ap, refl, arith, ◌==◌, false, true, rules}
 use Rattle.std.proofs.lemmas.Bool.Decides.{nat_tests}
 use Rattle.rs_choice.specs.Checks.{has_address_among}
 use Rattle.rs_choice.specs.Plan.{is_name}
@@ -31,3 +31,6 @@ returns c =
     let zero : (c.args.peer.now.asn == 0) ≡ false = grind (arith, nat_tests) in
     sym (peer_fault-is c.args.earlier.now c.args.number c.args.peer.now c.is_name.result c.has_name.result c.has_address.result named c.has_name.ensures c.has_address.ensures
     ∙ rw (c.if-not-is_name.false, c.if-has_name.false, c.if-has_address.false, zero) refl)
+
+pub returns-then-not-is_name : goal.returns-then-not-is_name
+returns-then-not-is_name c = search rules

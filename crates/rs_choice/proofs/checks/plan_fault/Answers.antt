@@ -1,4 +1,4 @@
-use Rattle.std.proofs.Common.{◌∙◌, ◌++◌, sym, map}
+use Rattle.std.proofs.Common.{◌∙◌, ◌++◌, sym, map, rules}
 use Rattle.rs_choice.specs.Plan.{peer_of, whole_tests, peers_tests, names_tests}
 use Rattle.rs_choice.proofs.PlanLemmas.{first_fault-Some, first_fault-None}
 use Rattle.rs_choice.proofs.checks.plan_fault.Goals as goal
@@ -19,3 +19,6 @@ returns c =
     let peers_none = sym c.first_peer_fault.ensures ∙ c.in_default-first_peer_fault.is in
     c.first_unknown_name.ensures
     ∙ sym (first_fault-None (whole ++ peers_tests peers) (names_tests peers) (first_fault-None whole (peers_tests peers) whole_none ∙ peers_none))
+
+pub returns-in-Some : goal.returns-in-Some
+returns-in-Some c = search rules

@@ -1,4 +1,4 @@
-use Rattle.std.proofs.Common.{◌≡◌, ◌∙◌, sym, ap, arith, filter, length, take, ◌++◌, ◌∷◌, [], Some}
+use Rattle.std.proofs.Common.{◌≡◌, ◌∙◌, sym, ap, arith, filter, length, take, ◌++◌, ◌∷◌, [], Some, rules}
 use Rattle.std.specs.Prelude.{slice_get}
 use Rattle.std.proofs.lemmas.Option.{slice_get_read}
 use Rattle.rs_choice.specs.declared.held_route.HeldRoute.{HeldRoute}
@@ -33,3 +33,12 @@ loop-place-preserved c =
                 ∙ sym (ap (filter (λ (held : HeldRoute). is_candidate held.candidacy)) more ∙ filter_skip (λ (held : HeldRoute). is_candidate held.candidacy) (take i held) one fails);
           })
     ]
+
+pub loop-place-init : goal.loop-place-init
+loop-place-init c = search rules
+
+pub loop-place-smaller : goal.loop-place-smaller
+loop-place-smaller c = search rules
+
+pub returns-clause-places : goal.returns-clause-places
+returns-clause-places g c = search rules

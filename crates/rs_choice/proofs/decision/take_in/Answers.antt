@@ -1,4 +1,4 @@
-use Rattle.std.proofs.Common.{ℕ, None, Some}
+use Rattle.std.proofs.Common.{ℕ, None, Some, rules}
 use Rattle.rs_choice.specs.declared.candidate.Standing.{Standing}
 use Rattle.rs_choice.specs.Comparison.{IsAhead}
 use Rattle.rs_choice.specs.Grouping.{standing_in, LeadsAll}
@@ -58,3 +58,9 @@ pub returns-then-is_ahead_of-clause-leads : goal.returns-then-is_ahead_of-clause
 returns-then-is_ahead_of-clause-leads g c =
     let S : ℕ → Standing = standing_in (g.E.Entrants.standings c.args.entrants.now) in
     rw (c.restart-then-is_ahead_of.ensures, c.of-then-is_ahead_of.ensures, c.standing-standing-2.ensures) (leads_alone S c.args.place)
+
+pub returns-clause-grouped : goal.returns-clause-grouped
+returns-clause-grouped g c = search rules
+
+pub returns-then-is_behind-clause-leads : goal.returns-then-is_behind-clause-leads
+returns-then-is_behind-clause-leads g c = search rules

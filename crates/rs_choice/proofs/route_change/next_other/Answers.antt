@@ -22,3 +22,9 @@ returns-clause-within c = search rules
 
 pub returns-clause-passed : goal.returns-clause-passed
 returns-clause-passed c = search rules
+
+pub loop-client-init : goal.loop-client-init
+loop-client-init c = search rules
+
+pub loop-client-smaller : goal.loop-client-smaller
+loop-client-smaller c = search rules

@@ -1,4 +1,4 @@
-use Rattle.std.proofs.Common.{◌≡◌, ◌∙◌, sym, ap, subst, inl, inr, arith, length, Some}
+use Rattle.std.proofs.Common.{◌≡◌, ◌∙◌, sym, ap, subst, inl, inr, arith, length, Some, rules}
 use Rattle.std.specs.Option.{option_and_then}
 use Rattle.std.specs.Prelude.{IfSome, slice_get, ◌<◌}
 use Rattle.std.proofs.lemmas.Option.{slice_get_read}
@@ -26,3 +26,6 @@ returns-then-old_is_for_named c = λ new_true one is_one.
             subst named (same_some (slice_get held w.in-Some-new.place) other one at is) (w.is_for_named-new_is_for_named.ensures (sym w.new_is_for_named-is ∙ new_true))
       ]
     ]
+
+pub returns-else-old_is_for_named : goal.returns-else-old_is_for_named
+returns-else-old_is_for_named c = search rules

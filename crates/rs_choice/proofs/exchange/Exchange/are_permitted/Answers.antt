@@ -1,4 +1,4 @@
-use Rattle.std.proofs.Common.{◌≡◌, ◌∙◌, sym, ap, arith, ℕ, List, length, take, Some, subst}
+use Rattle.std.proofs.Common.{◌≡◌, ◌∙◌, sym, ap, arith, ℕ, List, length, take, Some, subst, rules}
 use Rattle.std.specs.List.{All}
 use Rattle.std.specs.Prelude.{slice_get, IsTrue}
 use Rattle.std.proofs.Math.Seq.{take-length}
@@ -30,3 +30,12 @@ returns c =
     let end : c.loop-number.number ≡ length places = omega (arith, c.loop-number.auto.number-end, c.loop-number-test.false, c.len-number-end.ensures.value) in
     λ answered. subst (λ (list : List ℕ). All (λ sent. IsTrue (is_sent_to c.args.self.now c.args.client sent)) (sents_at c.args.held.now list))
     (ap (λ n. take n places) end ∙ take-length places) c.loop-number.invariant
+
+pub loop-number-init : goal.loop-number-init
+loop-number-init c = search rules
+
+pub loop-number-smaller : goal.loop-number-smaller
+loop-number-smaller c = search rules
+
+pub returns-then-not-permits_held : goal.returns-then-not-permits_held
+returns-then-not-permits_held c = search rules

@@ -1,4 +1,4 @@
-use Rattle.std.proofs.Common.{refl, length}
+use Rattle.std.proofs.Common.{refl, length, rules}
 use Rattle.std.proofs.lemmas.Option.{slice_get_read}
 use Rattle.rs_choice.specs.Comparison.{IsLevel}
 use Rattle.rs_choice.specs.Decision.{standing_of_candidate}
@@ -40,3 +40,15 @@ loop-place-preserved c =
                 (λ left. level_not (none_ahead_is_level plan candidates leader one i candidate at refl c.in_ok-leader.ensures left.0))
           ])
     ]
+
+pub loop-place-init : goal.loop-place-init
+loop-place-init c = search rules
+
+pub loop-place-smaller : goal.loop-place-smaller
+loop-place-smaller c = search rules
+
+pub returns : goal.returns
+returns c = search rules
+
+pub returns-in_err-leader : goal.returns-in_err-leader
+returns-in_err-leader c = search rules

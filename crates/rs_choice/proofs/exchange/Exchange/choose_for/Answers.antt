@@ -1,4 +1,4 @@
-use Rattle.std.proofs.Common.{◌∙◌, sym, ap, subst}
+use Rattle.std.proofs.Common.{◌∙◌, sym, ap, subst, rules}
 use Rattle.std.specs.Option.{option_map}
 use Rattle.std.specs.Prelude.{IsTrue}
 use Rattle.rs_choice.specs.Clients.{is_sent_to, peer_or_own}
@@ -12,3 +12,6 @@ returns-then-are_permitted c =
     subst (λ (sent : SentRoute). IsTrue (permitted sent)) found.2 (c.are_permitted.ensures c.if-are_permitted.true found.0 route found.1)) in
     c.number.ensures
     ∙ ap (λ peer. peer_or_own peer c.args.client) (c.requires.shared.peer ∙ sym (ap (option_map (λ (sent : SentRoute). sent.peer)) stays))
+
+pub returns : goal.returns
+returns c = search rules

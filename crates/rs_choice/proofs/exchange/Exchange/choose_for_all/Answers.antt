@@ -10,3 +10,9 @@ returns-clause-count c = search
 
 pub returns-clause-best : goal.returns-clause-best
 returns-clause-best c = search rules
+
+pub loop-client-init : goal.loop-client-init
+loop-client-init c = search rules
+
+pub loop-client-smaller : goal.loop-client-smaller
+loop-client-smaller c = search rules

@@ -1,4 +1,4 @@
-use Rattle.std.proofs.Common.{◌<◌, ◌+◌, ◌∙◌, sym, subst, refl, arith, length, set}
+use Rattle.std.proofs.Common.{◌<◌, ◌+◌, ◌∙◌, sym, subst, refl, arith, length, set, rules}
 use Rattle.std.proofs.lemmas.List.{get_or_read, length-set}
 use Rattle.rs_choice.specs.RouteChanges.{IsNextTouched}
 use Rattle.rs_choice.proofs.StayLemmas.{found_more, later_stay, further}
@@ -58,3 +58,9 @@ choose_again-requires-clause-had c =
     let within : client < length items = omega (arith, c.loop-client-test.true, c.count-count.ensures.value, c.loop-client.invariant.count) in
     let read = get_or_read items client c.index-best.result.now within c.index-best.ensures 0 in
     (bests, c.requires.change, sym (read ∙ c.loop-client.invariant.later client (omega arith)))
+
+pub loop-client-smaller : goal.loop-client-smaller
+loop-client-smaller c = search rules
+
+pub returns-clause-best : goal.returns-clause-best
+returns-clause-best g c = search rules

@@ -10,3 +10,9 @@ loop-client-preserved c = search rules
 
 pub returns : goal.returns
 returns c = search rules
+
+pub loop-client-init : goal.loop-client-init
+loop-client-init c = search rules
+
+pub loop-client-smaller : goal.loop-client-smaller
+loop-client-smaller c = search rules

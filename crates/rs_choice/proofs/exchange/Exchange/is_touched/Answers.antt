@@ -1,4 +1,4 @@
-use Rattle.std.proofs.Common.{◌≡◌, ◌∙◌, subst, refl, Bool, true, false, not, inr}
+use Rattle.std.proofs.Common.{◌≡◌, ◌∙◌, subst, refl, Bool, true, false, not, inr, rules}
 use Rattle.rs_choice.specs.RouteChanges.{AreBehind}
 use Rattle.rs_choice.proofs.exchange.Exchange.is_touched.Goals as goal
 
@@ -15,3 +15,18 @@ returns-else-best-client-clause-untouched c = λ untouched.
       (λ same. known.0 (peer ∙ same)),
       subst (AreBehind c.args.self.now c.args.held.now c.args.change.now) peer known.1,
     )
+
+pub returns-else-best-client-clause-knows : goal.returns-else-best-client-clause-knows
+returns-else-best-client-clause-knows g c = search rules
+
+pub returns-then-best-client-clause-knows : goal.returns-then-best-client-clause-knows
+returns-then-best-client-clause-knows g c = search rules
+
+pub returns-then-best-client-clause-untouched : goal.returns-then-best-client-clause-untouched
+returns-then-best-client-clause-untouched g c = search rules
+
+pub returns-then-not-reaches-clause-knows : goal.returns-then-not-reaches-clause-knows
+returns-then-not-reaches-clause-knows g c = search rules
+
+pub returns-then-not-reaches-clause-untouched : goal.returns-then-not-reaches-clause-untouched
+returns-then-not-reaches-clause-untouched g c = search rules

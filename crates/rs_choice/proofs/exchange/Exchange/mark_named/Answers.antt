@@ -1,4 +1,4 @@
-use Rattle.std.proofs.Common.{◌∙◌, sym, ap, inl, inr, List, ℕ}
+use Rattle.std.proofs.Common.{◌∙◌, sym, ap, inl, inr, List, ℕ, rules}
 use Rattle.rs_update.specs.Community.{has_value}
 use Rattle.rs_choice.specs.declared.plan.Local.{Local}
 use Rattle.rs_choice.proofs.CommunityLemmas.{first_or_later}
@@ -41,3 +41,21 @@ returns-clause-named c = λ client one at named. elim (c.loop-value.invariant.na
       let server = c.args.self.now.local.asn in
       absurd (true_not_false _ listed (ap (λ (list : List ℕ). has_value list server one.asn) c.in_default.ensures.steps.0 ∙ none_of_none server one.asn))
 ]
+
+pub loop-value-init : goal.loop-value-init
+loop-value-init c = search rules
+
+pub loop-value-init-derived : goal.loop-value-init-derived
+loop-value-init-derived c = search rules
+
+pub loop-value-preserved-derived : goal.loop-value-preserved-derived
+loop-value-preserved-derived c = search rules
+
+pub loop-value-preserved-then-value-server-derived : goal.loop-value-preserved-then-value-server-derived
+loop-value-preserved-then-value-server-derived c = search rules
+
+pub loop-value-smaller : goal.loop-value-smaller
+loop-value-smaller c = search rules
+
+pub returns-clause-kept : goal.returns-clause-kept
+returns-clause-kept g c = search rules

@@ -1,4 +1,4 @@
-use Rattle.std.proofs.Common.{◌≡◌, ◌<◌, ◌∙◌, sym, ap, subst, arith, length, Some}
+use Rattle.std.proofs.Common.{◌≡◌, ◌<◌, ◌∙◌, sym, ap, subst, arith, length, Some, rules}
 use Rattle.std.specs.Prelude.{slice_get}
 use Rattle.std.proofs.lemmas.Option.{slice_get_read, slice_get_within}
 use Rattle.rs_choice.specs.declared.candidate.Standing.{Standing}
@@ -25,3 +25,9 @@ returns c = λ behind.
         subst (λ (standing : Standing). Outdoes standing (held_standing plan one)) (ap (held_standing plan) same) (c.are_behind.ensures behind one is_one candidate),
       ),
     )
+
+pub returns-in_default : goal.returns-in_default
+returns-in_default c = search rules
+
+pub returns-then-peer-change : goal.returns-then-peer-change
+returns-then-peer-change c = search rules

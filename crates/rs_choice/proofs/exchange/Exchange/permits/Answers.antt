@@ -1,4 +1,4 @@
-use Rattle.std.proofs.Common.{◌≡◌, ◌∙◌, ap, arith, false}
+use Rattle.std.proofs.Common.{◌≡◌, ◌∙◌, ap, arith, false, rules}
 use Rattle.rs_choice.specs.Plan.{peer_of}
 use Rattle.rs_choice.specs.Policy.{permits_by_communities}
 use Rattle.rs_choice.specs.declared.plan.Local.{Local}
@@ -17,3 +17,6 @@ returns-then-not-refuses c =
           w.refuses.result c.permitted_by_communities.result c.peer.ensures c.requires.peer_known w.if-client-peer.true w.refuses.ensures refuses_not decided
       | else-client-peer w ↦ absurd (grind (arith, w.value-is, c.if-not-refuses.true))
     ]
+
+pub returns-else-not-refuses : goal.returns-else-not-refuses
+returns-else-not-refuses c = search rules

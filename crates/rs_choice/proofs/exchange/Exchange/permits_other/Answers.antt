@@ -1,4 +1,4 @@
-use Rattle.std.proofs.Common.{◌∙◌, sym}
+use Rattle.std.proofs.Common.{◌∙◌, sym, rules}
 use Rattle.rs_choice.proofs.PolicyLemmas.{is_permitted-without_0}
 use Rattle.rs_choice.proofs.exchange.Exchange.permits_other.Goals as goal
 
@@ -7,3 +7,6 @@ pub returns-else-refuses : goal.returns-else-refuses
 returns-else-refuses c =
     is_permitted-without_0 c.args.self.now c.args.client c.args.peer c.args.attributes.now c.refuses.result
     c.requires.client_known c.requires.peer_known c.requires.other c.refuses.ensures (sym c.requires.refuses ∙ c.if-refuses.false)
+
+pub returns-then-refuses : goal.returns-then-refuses
+returns-then-refuses c = search rules

@@ -1,4 +1,4 @@
-use Rattle.std.proofs.Common.{◌∙◌, sym, arith}
+use Rattle.std.proofs.Common.{rules, ◌∙◌, sym, arith}
 use Rattle.rs_choice.proofs.ChainLemmas.{passed_all}
 use Rattle.rs_choice.proofs.GroupParts.{found_at, found_nowhere}
 use Rattle.rs_choice.proofs.neighbour_groups.NeighbourGroups.find.Goals as goal
@@ -20,3 +20,12 @@ returns c =
     found_nowhere c.self.inside c.args.self.now c.self.invariant c.self.view_is c.args.neighbour
     (passed_all c.self.inside.neighbours c.self.inside.len c.args.neighbour c.loop-number.end c.loop-number.number c.loop-number.invariant.last c.loop-number.invariant.passed
     (λ within same. omega (arith, within, c.loop-number-test.false)))
+
+pub loop-number-init : goal.loop-number-init
+loop-number-init c = search rules
+
+pub loop-number-preserved : goal.loop-number-preserved
+loop-number-preserved c = search rules
+
+pub loop-number-smaller : goal.loop-number-smaller
+loop-number-smaller c = search rules

@@ -1,4 +1,4 @@
-use Rattle.std.proofs.Common.{◌≡◌, ◌<◌, ◌∙◌, arith}
+use Rattle.std.proofs.Common.{◌∙◌, arith, ◌≡◌, ◌<◌}
 use Rattle.rs_choice.specs.declared.plan.TheConstants.{MAX_PEERS}
 use Rattle.rs_choice.proofs.ChainLemmas.{pushed_full}
 use Rattle.rs_choice.proofs.GroupParts.{counted, pushed}
