@@ -1,4 +1,5 @@
-use Rattle.std.proofs.Common.{◌≡◌, ◌∙◌, ◌+◌, [], ◌∷◌, ◌++◌, map, take, ap, sym, string_bytes}
+use Rattle.std.proofs.Common.{◌≡◌, ◌∙◌, ◌+◌, [], ◌∷◌, ◌++◌, map, take, ap, sym, string_bytes, arith, rules}
+use Rattle.std.proofs.lemmas.Grind.{common_steps}
 use Rattle.std.proofs.lemmas.List.{take_more, map-append}
 use Rattle.toml.specs.Data.{string}
 use Rattle.toml.specs.View.{items_view, view}
@@ -17,3 +18,24 @@ loop-value-preserved c =
     let seen : view value ≡ string text = as_str-string (view value) text (rw c.in_ok-from_str.ensures.ok (sym c.in-Some.ensures)) in
     let written : map string_bytes c.push.new.self.items ≡ texts ++ text ∷ [] = ap (map string_bytes) c.in_ok-push.ensures.items ∙ map-append string_bytes c.loop-value.texts.items (c.in_ok-from_str.field-0 ∷ []) in
     ap items_view more ∙ items_view-push (take index values) value ∙ rw (c.loop-value.invariant, seen, written) (sym (items_of-push texts text))
+
+pub loop-value-init : goal.loop-value-init
+loop-value-init c = search rules
+
+pub loop-value-smaller : goal.loop-value-smaller
+loop-value-smaller c = search rules
+
+pub returns : goal.returns
+returns c = grind (arith, common_steps)
+
+pub returns-in_default : goal.returns-in_default
+returns-in_default c = search rules
+
+pub returns-in_err-from_str : goal.returns-in_err-from_str
+returns-in_err-from_str c = search rules
+
+pub returns-in_err-push : goal.returns-in_err-push
+returns-in_err-push c = search rules
+
+pub returns-in_err-texts : goal.returns-in_err-texts
+returns-in_err-texts c = search rules
