@@ -1,4 +1,4 @@
-use Rattle.std.proofs.Common.{◌≡◌, ◌∙◌, sym, ap, subst, Option, None}
+use Rattle.std.proofs.Common.{◌≡◌, ◌∙◌, sym, ap, subst, Option, None, rules}
 use Rattle.rs_mrt.specs.RecordReading.{MayCome, unread}
 use Rattle.rs_inventory.specs.Compression.{compression_of}
 use Rattle.rs_inventory.specs.Front.{RewoundGives, rewound}
@@ -25,3 +25,18 @@ returns-clause-compressed g c =
     subst (λ (compression : Option Compression). MayBeCompressed g.R.Read.gives c.args.reader compression)
     (sym (c.in_ok-inventory.ensures.uncompressed ∙ none))
     (may-be-compressed g.R.Read.gives g.met.R.Read.may_come c.args.reader c.of.new.reader c.in_ok-front.front c.in_ok-front.ensures.gives c.in_ok-front.ensures.done)
+
+pub returns-in-Some-clause-records : goal.returns-in-Some-clause-records
+returns-in-Some-clause-records g c = search rules
+
+pub returns-in_err-front-clause-compressed : goal.returns-in_err-front-clause-compressed
+returns-in_err-front-clause-compressed g c = search rules
+
+pub returns-in_err-front-clause-records : goal.returns-in_err-front-clause-records
+returns-in_err-front-clause-records g c = search rules
+
+pub returns-in_err-inventory-clause-compressed : goal.returns-in_err-inventory-clause-compressed
+returns-in_err-inventory-clause-compressed g c = search rules
+
+pub returns-in_err-inventory-clause-records : goal.returns-in_err-inventory-clause-records
+returns-in_err-inventory-clause-records g c = search rules
