@@ -1,4 +1,5 @@
-use Rattle.std.proofs.Common.{◌≡◌, ◌∙◌, ap, sym, subst, length, refl, false}
+use Rattle.std.proofs.Common.{◌≡◌, ◌∙◌, ap, sym, subst, length, refl, false, arith}
+use Rattle.std.proofs.lemmas.Grind.{common_steps}
 use Rattle.std.specs.List.{remove}
 use Rattle.std.specs.Prelude.{slice_get, IsTrue}
 use Rattle.std.proofs.lemmas.Option.{slice_get_read}
@@ -45,3 +46,6 @@ returns-clause-old c =
           let nowhere : IsAt held place peer → ⊥ = not_there c w.if-is_at.false in
           rw w.old-is (λ at. nowhere (subst (λ k. IsAt held k peer) (sym (the_place c)) at))
     ]
+
+pub returns-clause-new : goal.returns-clause-new
+returns-clause-new g c = grind (arith, common_steps)

@@ -1,4 +1,4 @@
-use Rattle.std.proofs.Common.{◌∙◌, ap, subst, sym, arith}
+use Rattle.std.proofs.Common.{◌∙◌, ap, subst, sym, arith, rules}
 use Rattle.rs_table.specs.Cell.{AreHeld}
 use Rattle.rs_table.proofs.HeldLemmas.{few-held}
 use Rattle.rs_table.proofs.cell.Cell.decide_after.Goals as goal
@@ -8,3 +8,6 @@ choose_after-requires-clause-bound c =
     let held : AreHeld c.args.plan.now c.deref.result.now =
     subst (AreHeld c.args.plan.now) (sym (c.deref.ensures.value ∙ ap (λ cell. cell.held) c.self.view_is)) c.requires.held in
     omega (arith, few-held c.args.plan.now c.deref.result.now held, c.count-peers.ensures.value, c.count-peers.ensures.bound)
+
+pub invariant_of-self : goal.invariant_of-self
+invariant_of-self c = search rules

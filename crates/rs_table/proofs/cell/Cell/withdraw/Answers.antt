@@ -1,4 +1,5 @@
-use Rattle.std.proofs.Common.{◌∙◌, ap, sym, subst, arith, length, map}
+use Rattle.std.proofs.Common.{◌∙◌, ap, sym, subst, arith, length, map, rules}
+use Rattle.std.proofs.lemmas.Grind.{common_steps}
 use Rattle.rs_table.specs.ByPeer.{without_route}
 use Rattle.rs_table.specs.Cell.{IsCell}
 use Rattle.rs_choice.specs.Held.{sent_of_held}
@@ -51,3 +52,18 @@ invariant_of-self-2 c =
       room = omega (arith, c.self.invariant.room, c.take_out-change.ensures.capacity);
       ascending = (length plan.peers, (held-without plan c.self.inside.held.items c.take_out-change.new.held.items c.args.peer cell.held c.take_out-change.ensures.held).row);
     }
+
+pub invariant_of-self : goal.invariant_of-self
+invariant_of-self c = grind (arith, common_steps)
+
+pub returns-clause-none : goal.returns-clause-none
+returns-clause-none g c = search rules
+
+pub returns-clause-some : goal.returns-clause-some
+returns-clause-some g c = search rules
+
+pub returns-then-is_empty-clause-none : goal.returns-then-is_empty-clause-none
+returns-then-is_empty-clause-none g c = grind (arith, common_steps)
+
+pub returns-then-is_empty-clause-some : goal.returns-then-is_empty-clause-some
+returns-then-is_empty-clause-some g c = search rules

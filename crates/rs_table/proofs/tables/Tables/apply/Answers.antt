@@ -80,3 +80,15 @@ returns-else-closes-clause-others c = λ other apart.
     let inside = c.self.inside in
     rib-other inside.cells.entries c.change.new.cells.entries c.args.peer (change_of c.args.word) c.in_ok-change.ensures.routes inside.closed.items inside.closed.items refl other apart refl
     ∙ ap (λ tables. rib_of tables other) c.self.view_is
+
+pub invariant_of-self : goal.invariant_of-self
+invariant_of-self c = search rules
+
+pub invariant_of-self-else-closes : goal.invariant_of-self-else-closes
+invariant_of-self-else-closes c = search rules
+
+pub invariant_of-self-then-closes : goal.invariant_of-self-then-closes
+invariant_of-self-then-closes c = search rules
+
+pub returns-in_err-change-clause-others : goal.returns-in_err-change-clause-others
+returns-in_err-change-clause-others g c = search rules

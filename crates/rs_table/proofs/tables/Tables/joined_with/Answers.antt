@@ -1,4 +1,4 @@
-use Rattle.std.proofs.Common.{◌≡◌, length, sym, ap, subst, ◌∙◌}
+use Rattle.std.proofs.Common.{◌≡◌, length, sym, ap, subst, ◌∙◌, rules}
 use Rattle.rs_table.specs.Content.{TablesContent}
 use Rattle.rs_table.specs.Merge.{IsJoined}
 use Rattle.rs_table.specs.Cells.{AreCells}
@@ -31,3 +31,6 @@ returns c =
     subst (λ t. IsJoined t c.args.other joined) c.self.view_is
     (subst (λ t. IsJoined (tables one.plan.value one.cells.entries one.closed.items) t joined)
     (ap (λ plan. tables plan other.cells.entries other.closed.items) (sym plans) ∙ c.other.view_is) is)
+
+pub returns-in_err-cells : goal.returns-in_err-cells
+returns-in_err-cells c = search rules

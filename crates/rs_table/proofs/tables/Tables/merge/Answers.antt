@@ -1,4 +1,4 @@
-use Rattle.std.proofs.Common.{◌≡◌, [], ◌∷◌, ◌++◌, List, length, AllPairs, arith, refl, sym, ap, subst, ◌∙◌}
+use Rattle.std.proofs.Common.{◌≡◌, [], ◌∷◌, ◌++◌, List, length, AllPairs, arith, refl, sym, ap, subst, ◌∙◌, rules}
 use Rattle.std.specs.Option.{option_to_list}
 use Rattle.std.specs.Vec.Iter.{into_iter_items, into_iter_len}
 use Rattle.rs_table.specs.Content.{TablesContent}
@@ -53,3 +53,15 @@ returns c =
     let none : into_iter_items c.loop-part.part-iterator ≡ [] = nothing_left (into_iter_items c.loop-part.part-iterator) (sym c.loop-part.invariant.1 ∙ c.in-None.ensures.steps.0) in
     subst (λ parts. IsMerged parts c.loop-part.merged) all
     (way-ends (first ∷ later) c.loop-part.merged (subst (IsUnderWay (first ∷ later) c.loop-part.merged) none c.loop-part.invariant.0))
+
+pub loop-part-init-derived : goal.loop-part-init-derived
+loop-part-init-derived c = search rules
+
+pub loop-part-preserved-derived : goal.loop-part-preserved-derived
+loop-part-preserved-derived c = search rules
+
+pub loop-part-smaller : goal.loop-part-smaller
+loop-part-smaller c = search rules
+
+pub returns-in_err-merged : goal.returns-in_err-merged
+returns-in_err-merged c = search rules

@@ -9,3 +9,9 @@ returns-clause-empty c = λ peer. empty-ribs c.new-cells.result.entries c.new-ce
 pub returns-clause-count : goal.returns-clause-count
 returns-clause-count c =
     length-ribs c.new-cells.result.entries 0 c.resize.new.self.items ∙ search rules
+
+pub invariant_of-result : goal.invariant_of-result
+invariant_of-result c = search rules
+
+pub returns-clause-plan : goal.returns-clause-plan
+returns-clause-plan g c = search rules

@@ -1,4 +1,4 @@
-use Rattle.std.proofs.Common.{◌≡◌, ◌++◌, ◌<◌, All, length, map, sym, ap, subst, ◌∙◌}
+use Rattle.std.proofs.Common.{◌≡◌, ◌++◌, ◌<◌, All, length, map, sym, ap, subst, ◌∙◌, rules}
 use Rattle.std.proofs.lemmas.List.{append-nil}
 use Rattle.rs_table.specs.RouteView.{row_of}
 use Rattle.rs_table.specs.Table.{TableRow, IsTable}
@@ -25,3 +25,12 @@ returns-clause-known c =
     let listed : map row_of c.loop-row.rows.items ≡ c.iter_rows-row-items.result =
     sym (append-nil _) ∙ ap (λ later. map row_of c.loop-row.rows.items ++ later) (sym c.in-None.ensures.steps.0) ∙ c.loop-row.invariant ∙ c.into_iter-row-iterator.ensures.into_iter_gives in
     subst (All (λ (row : TableRow). row.route.peer < length c.args.self.now.plan.peers)) (sym listed) c.iter_rows-row-items.ensures.known
+
+pub loop-row-init-derived : goal.loop-row-init-derived
+loop-row-init-derived c = search rules
+
+pub loop-row-preserved-derived : goal.loop-row-preserved-derived
+loop-row-preserved-derived c = search rules
+
+pub loop-row-smaller : goal.loop-row-smaller
+loop-row-smaller c = search rules
