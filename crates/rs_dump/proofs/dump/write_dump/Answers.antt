@@ -1,4 +1,5 @@
 use Rattle.std.proofs.Common.{◌++◌, ◌<◌, ◌∙◌, List, ℕ, length, map, take, drop, sym, subst, arith, rules}
+use Rattle.std.proofs.lemmas.Grind.{common_steps}
 use Rattle.rs_mrt.specs.Record.{record_spelling}
 use Rattle.rs_mrt.specs.Stream.{AppendsBeginning}
 use Rattle.rs_table.specs.declared.route.Row.{Row}
@@ -75,3 +76,120 @@ returns-in_err-write_all-clause-failed g c =
     let P : List ℕ → Type 0 = λ piece. AppendsBeginning (taken c.loop-sequence.out) (taken c.write_all.new.out) piece in
     let sent = subst P c.deref.ensures.value c.in_err-write_all.ensures.err in
     λ _. AppendsBeginning-part (taken c.args.out.now) (taken c.loop-sequence.out) (taken c.write_all.new.out) c.loop-sequence.buffer.items (dumped c.args.plan.now c.args.client part c.args.time) rest (dumped c.args.plan.now c.args.client (map row_of rows) c.args.time) c.loop-sequence.invariant.under_way sent (dumped-parts c.args.plan.now c.args.client rows place c.args.time)
+
+pub loop-sequence-smaller : goal.loop-sequence-smaller
+loop-sequence-smaller g c = search rules
+
+pub returns-clause-count : goal.returns-clause-count
+returns-clause-count g c = search rules
+
+pub returns-clause-failed : goal.returns-clause-failed
+returns-clause-failed g c = search rules
+
+pub returns-clause-failed_failures : goal.returns-clause-failed_failures
+returns-clause-failed_failures g c = search rules
+
+pub returns-clause-memory_writes_nothing : goal.returns-clause-memory_writes_nothing
+returns-clause-memory_writes_nothing g c = search rules
+
+pub returns-clause-too_many : goal.returns-clause-too_many
+returns-clause-too_many g c = search rules
+
+pub returns-clause-too_many_writes_nothing : goal.returns-clause-too_many_writes_nothing
+returns-clause-too_many_writes_nothing g c = search rules
+
+pub returns-clause-written : goal.returns-clause-written
+returns-clause-written g c = grind (arith, common_steps)
+
+pub returns-clause-written_failures : goal.returns-clause-written_failures
+returns-clause-written_failures g c = search rules
+
+pub returns-in_default-clause-count : goal.returns-in_default-clause-count
+returns-in_default-clause-count g c = search rules
+
+pub returns-in_default-clause-failed : goal.returns-in_default-clause-failed
+returns-in_default-clause-failed g c = search rules
+
+pub returns-in_default-clause-failed_failures : goal.returns-in_default-clause-failed_failures
+returns-in_default-clause-failed_failures g c = search rules
+
+pub returns-in_default-clause-memory_writes_nothing : goal.returns-in_default-clause-memory_writes_nothing
+returns-in_default-clause-memory_writes_nothing g c = search rules
+
+pub returns-in_default-clause-too_many : goal.returns-in_default-clause-too_many
+returns-in_default-clause-too_many g c = search rules
+
+pub returns-in_default-clause-too_many_writes_nothing : goal.returns-in_default-clause-too_many_writes_nothing
+returns-in_default-clause-too_many_writes_nothing g c = search rules
+
+pub returns-in_default-clause-written : goal.returns-in_default-clause-written
+returns-in_default-clause-written g c = search rules
+
+pub returns-in_default-clause-written_failures : goal.returns-in_default-clause-written_failures
+returns-in_default-clause-written_failures g c = search rules
+
+pub returns-in_err-add_row-clause-count : goal.returns-in_err-add_row-clause-count
+returns-in_err-add_row-clause-count g c = search rules
+
+pub returns-in_err-add_row-clause-failed_failures : goal.returns-in_err-add_row-clause-failed_failures
+returns-in_err-add_row-clause-failed_failures g c = search rules
+
+pub returns-in_err-add_row-clause-memory_writes_nothing : goal.returns-in_err-add_row-clause-memory_writes_nothing
+returns-in_err-add_row-clause-memory_writes_nothing g c = search rules
+
+pub returns-in_err-add_row-clause-too_many : goal.returns-in_err-add_row-clause-too_many
+returns-in_err-add_row-clause-too_many g c = search rules
+
+pub returns-in_err-add_row-clause-too_many_writes_nothing : goal.returns-in_err-add_row-clause-too_many_writes_nothing
+returns-in_err-add_row-clause-too_many_writes_nothing g c = search rules
+
+pub returns-in_err-add_row-clause-written : goal.returns-in_err-add_row-clause-written
+returns-in_err-add_row-clause-written g c = search rules
+
+pub returns-in_err-add_row-clause-written_failures : goal.returns-in_err-add_row-clause-written_failures
+returns-in_err-add_row-clause-written_failures g c = search rules
+
+pub returns-in_err-buffer-clause-count : goal.returns-in_err-buffer-clause-count
+returns-in_err-buffer-clause-count g c = search rules
+
+pub returns-in_err-buffer-clause-failed : goal.returns-in_err-buffer-clause-failed
+returns-in_err-buffer-clause-failed g c = search rules
+
+pub returns-in_err-buffer-clause-failed_failures : goal.returns-in_err-buffer-clause-failed_failures
+returns-in_err-buffer-clause-failed_failures g c = search rules
+
+pub returns-in_err-buffer-clause-memory_writes_nothing : goal.returns-in_err-buffer-clause-memory_writes_nothing
+returns-in_err-buffer-clause-memory_writes_nothing g c = search rules
+
+pub returns-in_err-buffer-clause-too_many : goal.returns-in_err-buffer-clause-too_many
+returns-in_err-buffer-clause-too_many g c = search rules
+
+pub returns-in_err-buffer-clause-too_many_writes_nothing : goal.returns-in_err-buffer-clause-too_many_writes_nothing
+returns-in_err-buffer-clause-too_many_writes_nothing g c = search rules
+
+pub returns-in_err-buffer-clause-written : goal.returns-in_err-buffer-clause-written
+returns-in_err-buffer-clause-written g c = search rules
+
+pub returns-in_err-buffer-clause-written_failures : goal.returns-in_err-buffer-clause-written_failures
+returns-in_err-buffer-clause-written_failures g c = search rules
+
+pub returns-in_err-write_all-clause-count : goal.returns-in_err-write_all-clause-count
+returns-in_err-write_all-clause-count g c = search rules
+
+pub returns-in_err-write_all-clause-failed_failures : goal.returns-in_err-write_all-clause-failed_failures
+returns-in_err-write_all-clause-failed_failures g c = search rules
+
+pub returns-in_err-write_all-clause-memory_writes_nothing : goal.returns-in_err-write_all-clause-memory_writes_nothing
+returns-in_err-write_all-clause-memory_writes_nothing g c = search rules
+
+pub returns-in_err-write_all-clause-too_many : goal.returns-in_err-write_all-clause-too_many
+returns-in_err-write_all-clause-too_many g c = search rules
+
+pub returns-in_err-write_all-clause-too_many_writes_nothing : goal.returns-in_err-write_all-clause-too_many_writes_nothing
+returns-in_err-write_all-clause-too_many_writes_nothing g c = search rules
+
+pub returns-in_err-write_all-clause-written : goal.returns-in_err-write_all-clause-written
+returns-in_err-write_all-clause-written g c = search rules
+
+pub returns-in_err-write_all-clause-written_failures : goal.returns-in_err-write_all-clause-written_failures
+returns-in_err-write_all-clause-written_failures g c = search rules

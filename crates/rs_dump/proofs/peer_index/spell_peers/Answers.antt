@@ -1,4 +1,5 @@
-use Rattle.std.proofs.Common.{◌≤◌, List, ℕ, length, take, subst, arith, length-take-le}
+use Rattle.std.proofs.Common.{◌≤◌, List, ℕ, length, take, subst, arith, length-take-le, rules}
+use Rattle.std.proofs.lemmas.Grind.{common_steps}
 use Rattle.std.specs.List.{flat_map}
 use Rattle.rs_choice.specs.Plan.{peer_of}
 use Rattle.rs_dump.specs.Buffer.{Gains}
@@ -22,3 +23,12 @@ loop-number-preserved c =
     let both = Gains-append c.args.buffer.now c.loop-number.buffer c.spell_peer.new.buffer (flat_map peer_entry (take number peers)) (peer_entry peer) c.loop-number.invariant c.spell_peer.ensures in
     let P : List ℕ → Type 0 = λ octets. Gains c.args.buffer.now c.spell_peer.new.buffer octets in
     subst P (peer_entries-more peers number peer c.peer.ensures) both
+
+pub loop-number-init : goal.loop-number-init
+loop-number-init c = search rules
+
+pub loop-number-smaller : goal.loop-number-smaller
+loop-number-smaller c = search rules
+
+pub returns : goal.returns
+returns c = grind (arith, common_steps)

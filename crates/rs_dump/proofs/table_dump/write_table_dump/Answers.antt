@@ -104,3 +104,123 @@ returns-clause-written g c =
     let P : List ℕ → Type 0 = λ piece. Appends mid new piece in
     let Q : List TableRow → Type 0 = λ rows. IsUnderWay old mid waiting (dumped plan client rows time) in
     Appends-whole old mid new waiting (dumped plan client (table_of c.args.tables.now client) time) (subst Q all c.loop-row.invariant.under_way) (subst P c.deref.ensures.value c.in_ok-write_all.ensures.ok)
+
+pub loop-row-init-derived : goal.loop-row-init-derived
+loop-row-init-derived g c = search rules
+
+pub loop-row-preserved-derived : goal.loop-row-preserved-derived
+loop-row-preserved-derived g c = search rules
+
+pub loop-row-smaller : goal.loop-row-smaller
+loop-row-smaller g c = search rules
+
+pub returns-clause-count : goal.returns-clause-count
+returns-clause-count g c = search rules
+
+pub returns-clause-failed : goal.returns-clause-failed
+returns-clause-failed g c = search rules
+
+pub returns-clause-failed_failures : goal.returns-clause-failed_failures
+returns-clause-failed_failures g c = search rules
+
+pub returns-clause-memory_writes_nothing : goal.returns-clause-memory_writes_nothing
+returns-clause-memory_writes_nothing g c = search rules
+
+pub returns-clause-too_many : goal.returns-clause-too_many
+returns-clause-too_many g c = search rules
+
+pub returns-clause-too_many_writes_nothing : goal.returns-clause-too_many_writes_nothing
+returns-clause-too_many_writes_nothing g c = search rules
+
+pub returns-clause-written_failures : goal.returns-clause-written_failures
+returns-clause-written_failures g c = search rules
+
+pub returns-in_default-clause-count : goal.returns-in_default-clause-count
+returns-in_default-clause-count g c = search rules
+
+pub returns-in_default-clause-failed : goal.returns-in_default-clause-failed
+returns-in_default-clause-failed g c = search rules
+
+pub returns-in_default-clause-failed_failures : goal.returns-in_default-clause-failed_failures
+returns-in_default-clause-failed_failures g c = search rules
+
+pub returns-in_default-clause-memory_writes_nothing : goal.returns-in_default-clause-memory_writes_nothing
+returns-in_default-clause-memory_writes_nothing g c = search rules
+
+pub returns-in_default-clause-too_many : goal.returns-in_default-clause-too_many
+returns-in_default-clause-too_many g c = search rules
+
+pub returns-in_default-clause-too_many_writes_nothing : goal.returns-in_default-clause-too_many_writes_nothing
+returns-in_default-clause-too_many_writes_nothing g c = search rules
+
+pub returns-in_default-clause-written : goal.returns-in_default-clause-written
+returns-in_default-clause-written g c = search rules
+
+pub returns-in_default-clause-written_failures : goal.returns-in_default-clause-written_failures
+returns-in_default-clause-written_failures g c = search rules
+
+pub returns-in_err-add_row-clause-count : goal.returns-in_err-add_row-clause-count
+returns-in_err-add_row-clause-count g c = search rules
+
+pub returns-in_err-add_row-clause-failed_failures : goal.returns-in_err-add_row-clause-failed_failures
+returns-in_err-add_row-clause-failed_failures g c = search rules
+
+pub returns-in_err-add_row-clause-memory_writes_nothing : goal.returns-in_err-add_row-clause-memory_writes_nothing
+returns-in_err-add_row-clause-memory_writes_nothing g c = search rules
+
+pub returns-in_err-add_row-clause-too_many : goal.returns-in_err-add_row-clause-too_many
+returns-in_err-add_row-clause-too_many g c = search rules
+
+pub returns-in_err-add_row-clause-too_many_writes_nothing : goal.returns-in_err-add_row-clause-too_many_writes_nothing
+returns-in_err-add_row-clause-too_many_writes_nothing g c = search rules
+
+pub returns-in_err-add_row-clause-written : goal.returns-in_err-add_row-clause-written
+returns-in_err-add_row-clause-written g c = search rules
+
+pub returns-in_err-add_row-clause-written_failures : goal.returns-in_err-add_row-clause-written_failures
+returns-in_err-add_row-clause-written_failures g c = search rules
+
+pub returns-in_err-buffer-clause-count : goal.returns-in_err-buffer-clause-count
+returns-in_err-buffer-clause-count g c = search rules
+
+pub returns-in_err-buffer-clause-failed : goal.returns-in_err-buffer-clause-failed
+returns-in_err-buffer-clause-failed g c = search rules
+
+pub returns-in_err-buffer-clause-failed_failures : goal.returns-in_err-buffer-clause-failed_failures
+returns-in_err-buffer-clause-failed_failures g c = search rules
+
+pub returns-in_err-buffer-clause-memory_writes_nothing : goal.returns-in_err-buffer-clause-memory_writes_nothing
+returns-in_err-buffer-clause-memory_writes_nothing g c = search rules
+
+pub returns-in_err-buffer-clause-too_many : goal.returns-in_err-buffer-clause-too_many
+returns-in_err-buffer-clause-too_many g c = search rules
+
+pub returns-in_err-buffer-clause-too_many_writes_nothing : goal.returns-in_err-buffer-clause-too_many_writes_nothing
+returns-in_err-buffer-clause-too_many_writes_nothing g c = search rules
+
+pub returns-in_err-buffer-clause-written : goal.returns-in_err-buffer-clause-written
+returns-in_err-buffer-clause-written g c = search rules
+
+pub returns-in_err-buffer-clause-written_failures : goal.returns-in_err-buffer-clause-written_failures
+returns-in_err-buffer-clause-written_failures g c = search rules
+
+pub returns-in_err-write_all-clause-count : goal.returns-in_err-write_all-clause-count
+returns-in_err-write_all-clause-count g c = search rules
+
+pub returns-in_err-write_all-clause-failed_failures : goal.returns-in_err-write_all-clause-failed_failures
+returns-in_err-write_all-clause-failed_failures g c = search rules
+
+pub returns-in_err-write_all-clause-memory_writes_nothing : goal.returns-in_err-write_all-clause-memory_writes_nothing
+returns-in_err-write_all-clause-memory_writes_nothing g c = search rules
+
+pub returns-in_err-write_all-clause-too_many : goal.returns-in_err-write_all-clause-too_many
+returns-in_err-write_all-clause-too_many g c = search rules
+
+pub returns-in_err-write_all-clause-too_many_writes_nothing : goal.returns-in_err-write_all-clause-too_many_writes_nothing
+returns-in_err-write_all-clause-too_many_writes_nothing g c = search rules
+
+pub returns-in_err-write_all-clause-written : goal.returns-in_err-write_all-clause-written
+returns-in_err-write_all-clause-written g c = search rules
+
+pub returns-in_err-write_all-clause-written_failures : goal.returns-in_err-write_all-clause-written_failures
+returns-in_err-write_all-clause-written_failures g c = search rules
