@@ -52,3 +52,18 @@ returns-clause-joined g c =
     let none : into_iter_items c.loop-handle.handle-iterator ≡ [] = no-members (into_iter_items c.loop-handle.handle-iterator) (sym c.loop-handle.invariant.left ∙ c.in-None.ensures.steps.0) in
     let joining = rw (none, handles) at c.loop-handle.invariant.joining in
     joining-all g.S.Source.comes g.S.Source.shows (map (λ handle. charged handle.promise) c.args.handles.items) c.args.from.now c.loop-handle.from c.loop-handle.ends.items joining
+
+pub loop-handle-init-derived : goal.loop-handle-init-derived
+loop-handle-init-derived g c = search rules
+
+pub loop-handle-preserved-derived : goal.loop-handle-preserved-derived
+loop-handle-preserved-derived g c = search rules
+
+pub loop-handle-smaller : goal.loop-handle-smaller
+loop-handle-smaller g c = search rules
+
+pub returns-clause-count : goal.returns-clause-count
+returns-clause-count g c = search rules
+
+pub returns-clause-same : goal.returns-clause-same
+returns-clause-same g c = search rules

@@ -1,5 +1,6 @@
 -- The handles are those of the first jobs.
 use Rattle.std.proofs.Common.{suc, arith, ◌≡◌, ◌∙◌, ap, List, ◌∷◌, map, rules}
+use Rattle.std.proofs.lemmas.Grind.{common_steps}
 use Rattle.std.specs.Vec.Iter.{into_iter_items}
 use Rattle.rs_worker.proofs.CrewLemmas.{next-moves}
 use Rattle.rs_worker.specs.Crew.{charge_of, charged}
@@ -23,3 +24,24 @@ loop-job-preserved g c =
       left = search rules;
       room = search rules;
     }
+
+pub loop-job-init : goal.loop-job-init
+loop-job-init g c = search rules
+
+pub loop-job-init-derived : goal.loop-job-init-derived
+loop-job-init-derived g c = search rules
+
+pub loop-job-preserved-derived : goal.loop-job-preserved-derived
+loop-job-preserved-derived g c = search rules
+
+pub loop-job-smaller : goal.loop-job-smaller
+loop-job-smaller g c = search rules
+
+pub returns-clause-all : goal.returns-clause-all
+returns-clause-all g c = search rules
+
+pub returns-clause-tied : goal.returns-clause-tied
+returns-clause-tied g c = grind (arith, common_steps)
+
+pub returns-in_default-clause-all : goal.returns-in_default-clause-all
+returns-in_default-clause-all g c = search rules
