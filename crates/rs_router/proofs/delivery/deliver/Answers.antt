@@ -1,5 +1,5 @@
 -- The shard of the prefix was sent the change, or all were.
-use Rattle.std.proofs.Common.{◌≡◌, ◌∙◌, sym, ap, inl, inr, ℕ, List, Some, get_or, length}
+use Rattle.std.proofs.Common.{◌≡◌, ◌∙◌, sym, ap, inl, inr, ℕ, List, Some, get_or, length, rules}
 use Rattle.std.specs.Prelude.{slice_get, slice_set}
 use Rattle.std.proofs.lemmas.List.{length-map}
 use Rattle.std.proofs.lemmas.Option.{slice_get-get_or}
@@ -37,3 +37,9 @@ returns-in-Announce-clause-same g c =
     let at : ℕ = c.shard_of-shard.result in
     map-set_same (λ (s : Sending Routed). s.ring) to at (get_or to at c.index-to-shard.result) c.offer.new.sender
     (slice_get-get_or to at c.index-to-shard.result c.shard_of-shard.ensures.below) c.offer.ensures.same
+
+pub returns-in-Close-clause-same : goal.returns-in-Close-clause-same
+returns-in-Close-clause-same g c = search rules
+
+pub returns-in-Down-clause-same : goal.returns-in-Down-clause-same
+returns-in-Down-clause-same g c = search rules
