@@ -1,5 +1,5 @@
 -- One more shard was joined.
-use Rattle.std.proofs.Common.{◌≡◌, ◌∙◌, ◌<◌, sym, ap, subst, arith, List, length, map, get_or, Some}
+use Rattle.std.proofs.Common.{◌≡◌, ◌∙◌, ◌<◌, sym, ap, subst, arith, List, length, map, get_or, Some, rules}
 use Rattle.std.specs.Prelude.{slice_get}
 use Rattle.std.specs.Vec.Iter.{into_iter_items}
 use Rattle.std.proofs.lemmas.List.{length-map}
@@ -70,3 +70,21 @@ pub returns-clause-parts : goal.returns-clause-parts
 returns-clause-parts g c complete =
     all-hold c.loop-handle.shard (map (λ handle. charged handle.promise) c.args.handles.items) (sent_lists c.args.to.now) c.loop-handle.parts.items
     (omega (arith, c.loop-handle.invariant.all, c.in-None.ensures.steps.0, length-map c.args.handles.items (λ handle. charged handle.promise))) (c.loop-handle.invariant.parts complete)
+
+pub loop-handle-init : goal.loop-handle-init
+loop-handle-init g c = search rules
+
+pub loop-handle-init-derived : goal.loop-handle-init-derived
+loop-handle-init-derived g c = search rules
+
+pub loop-handle-preserved-derived : goal.loop-handle-preserved-derived
+loop-handle-preserved-derived g c = search rules
+
+pub loop-handle-smaller : goal.loop-handle-smaller
+loop-handle-smaller g c = search rules
+
+pub returns-clause-same : goal.returns-clause-same
+returns-clause-same g c = search rules
+
+pub returns-clause-sent : goal.returns-clause-sent
+returns-clause-sent g c = search rules

@@ -1,5 +1,5 @@
 -- One more shard was started.
-use Rattle.std.proofs.Common.{◌≡◌, ◌++◌, ◌∷◌, subst, ap, arith, length, All, List, map}
+use Rattle.std.proofs.Common.{◌≡◌, ◌++◌, ◌∷◌, subst, ap, arith, length, All, List, map, rules}
 use Rattle.std.specs.Vec.Iter.{into_iter_items}
 use Rattle.rs_shard.specs.Crew.{charge_of, charged, IsReady}
 use Rattle.rs_shard.specs.declared.crew.ShardJob.{ShardJob}
@@ -22,3 +22,27 @@ loop-job-preserved g c =
       all = omega (arith, steps.1, c.push_reserved.ensures.len, c.loop-job.invariant.all);
       room = omega (arith, steps.1, c.push_reserved.ensures.len, c.push_reserved.ensures.capacity, c.loop-job.invariant.room);
     }
+
+pub loop-job-init : goal.loop-job-init
+loop-job-init g c = search rules
+
+pub loop-job-init-derived : goal.loop-job-init-derived
+loop-job-init-derived g c = search rules
+
+pub loop-job-preserved-derived : goal.loop-job-preserved-derived
+loop-job-preserved-derived g c = search rules
+
+pub loop-job-smaller : goal.loop-job-smaller
+loop-job-smaller g c = search rules
+
+pub returns-clause-all : goal.returns-clause-all
+returns-clause-all g c = search rules
+
+pub returns-clause-tied : goal.returns-clause-tied
+returns-clause-tied g c = search rules
+
+pub returns-in_default-clause-all : goal.returns-in_default-clause-all
+returns-in_default-clause-all g c = search rules
+
+pub returns-in_default-clause-tied : goal.returns-in_default-clause-tied
+returns-in_default-clause-tied g c = search rules
