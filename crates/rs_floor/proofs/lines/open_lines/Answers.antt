@@ -24,3 +24,27 @@ returns g c =
     let readers : into_iter_items c.into_iter-reader-iterator.result ≡ c.args.readers.items = c.into_iter-reader-iterator.ensures.into_iter_gives.0 in
     let so_far = rw (none, readers) at c.loop-reader.invariant.opening in
     opening-all g.R.Read.gives c.args.plan.now c.args.readers.items c.loop-reader.jobs.items c.loop-reader.from.items so_far c.requires.as_many
+
+pub loop-reader-init-derived : goal.loop-reader-init-derived
+loop-reader-init-derived g c = search rules
+
+pub loop-reader-preserved-derived : goal.loop-reader-preserved-derived
+loop-reader-preserved-derived g c = search rules
+
+pub loop-reader-smaller : goal.loop-reader-smaller
+loop-reader-smaller g c = search rules
+
+pub returns-in_err-from : goal.returns-in_err-from
+returns-in_err-from g c = search rules
+
+pub returns-in_err-job : goal.returns-in_err-job
+returns-in_err-job g c = search rules
+
+pub returns-in_err-jobs : goal.returns-in_err-jobs
+returns-in_err-jobs g c = search rules
+
+pub returns-in_err-push : goal.returns-in_err-push
+returns-in_err-push g c = search rules
+
+pub returns-in_err-push-2 : goal.returns-in_err-push-2
+returns-in_err-push-2 g c = search rules

@@ -1,5 +1,5 @@
 -- A lane for each peer, one after another.
-use Rattle.std.proofs.Common.{[], ◌∷◌, length-append, map, arith}
+use Rattle.std.proofs.Common.{[], ◌∷◌, length-append, map, arith, rules}
 use Rattle.std.proofs.lemmas.List.{length-map}
 use Rattle.rs_choice.specs.Plan.{peer_of}
 use Rattle.rs_floor.proofs.OpeningLemmas.{one-more, all-opened}
@@ -18,3 +18,9 @@ loop-number-preserved c =
 
 pub returns-clause-fresh : goal.returns-clause-fresh
 returns-clause-fresh c = all-opened c.args.plan.now.peers (map (λ file. file.now) c.args.files.now) c.args.capacity c.loop-number.lanes.items c.loop-number.number (omega (arith, c.requires.files, length-map c.args.files.now (λ file. file.now))) c.loop-number.invariant.fresh
+
+pub loop-number-init : goal.loop-number-init
+loop-number-init c = search rules
+
+pub loop-number-smaller : goal.loop-number-smaller
+loop-number-smaller c = search rules

@@ -1,5 +1,6 @@
 -- A change that is received is the next one recorded, and the tables take it.
-use Rattle.std.proofs.Common.{◌≡◌, ◌∙◌, sym, ap, arith, Some, get_or}
+use Rattle.std.proofs.Common.{◌≡◌, ◌∙◌, sym, ap, arith, Some, get_or, rules}
+use Rattle.std.proofs.lemmas.Grind.{common_steps}
 use Rattle.std.specs.Prelude.{slice_get}
 use Rattle.std.proofs.lemmas.Option.{slice_get-get_or}
 use Rattle.rs_session.specs.Change.{change_of}
@@ -30,3 +31,9 @@ returns-clause-held c =
     ok-both c.apply.result _ _ _ c.apply.ensures.routes c.apply.ensures.closed (λ become closed.
     held-after c.args.lanes.now c.args.tables.now c.apply.new.self c.args.peer lane c.receive.new.self (change_of c.in-Some.word) c.requires.held at
     c.in-Some.ensures.counts c.in-Some.ensures.more c.in-Some.ensures.given c.in-Some.ensures.open c.apply.ensures.others become closed)
+
+pub returns-in_default-clause-held : goal.returns-in_default-clause-held
+returns-in_default-clause-held g c = grind (arith, common_steps)
+
+pub returns-then-peer-lanes-clause-held : goal.returns-then-peer-lanes-clause-held
+returns-then-peer-lanes-clause-held g c = search rules

@@ -1,5 +1,5 @@
 -- What waits first is received.
-use Rattle.std.proofs.Common.{◌≡◌, ◌∙◌, ◌+◌, sym, ap, subst, arith, refl, List, [], ◌∷◌, ◌++◌, Some}
+use Rattle.std.proofs.Common.{◌≡◌, ◌∙◌, ◌+◌, sym, ap, subst, arith, refl, List, [], ◌∷◌, ◌++◌, Some, rules}
 use Rattle.std.specs.Prelude.{slice_get}
 use Rattle.rs_ring.specs.Ends.{Sending, Receiving}
 use Rattle.rs_session.specs.Change.{change_of}
@@ -40,3 +40,9 @@ returns-clause-given c =
     let waited = ap (λ (ws : List Word). ws ++ item ∷ found.0) (sym received) ∙ ap (λ (ws : List Word). c.beside.new.self.received ++ ws) (sym found.1) ∙ c.beside.ensures.all ∙ sent in
     let P : LaneContent → Type 0 = λ lane. slice_get lane.recorded lane.counts.received ≡ Some (change_of item) in
     subst P c.self.view_is (recorded-waiting old.sender.sent old.receiver.received item found.0 (to_come old.session) waited)
+
+pub invariant_of-self : goal.invariant_of-self
+invariant_of-self c = search rules
+
+pub invariant_of-self-in_err-item : goal.invariant_of-self-in_err-item
+invariant_of-self-in_err-item c = search rules

@@ -1,5 +1,6 @@
 -- The first change to come is sent, where the ring has room; else everything stays.
-use Rattle.std.proofs.Common.{◌≡◌, ◌∙◌, sym, ap, subst, arith, refl, ◌+◌, List, [], ◌∷◌, ◌++◌, length, length-append}
+use Rattle.std.proofs.Common.{◌≡◌, ◌∙◌, sym, ap, subst, arith, refl, ◌+◌, List, [], ◌∷◌, ◌++◌, length, length-append, rules}
+use Rattle.std.proofs.lemmas.Grind.{common_steps}
 use Rattle.rs_mrt.specs.Record.{Reading}
 use Rattle.rs_ring.specs.Ends.{Sending, Receiving}
 use Rattle.rs_session.specs.Change.{change_of}
@@ -98,3 +99,15 @@ returns c =
     })
     (c.in-Ok.ensures.sent ∙ ap (λ (s : Sending Word). s.sent ++ c.in-Some.word ∷ []) c.beside.ensures.sender) received first
     (omega (arith, whole, received_count, sent_count, c.beside.ensures.waiting, c.if-beside-self.false)))
+
+pub invariant_of-self : goal.invariant_of-self
+invariant_of-self c = search rules
+
+pub invariant_of-self-in_default : goal.invariant_of-self-in_default
+invariant_of-self-in_default c = search rules
+
+pub returns-in_err-word : goal.returns-in_err-word
+returns-in_err-word c = search rules
+
+pub returns-then-beside-self : goal.returns-then-beside-self
+returns-then-beside-self c = grind (arith, common_steps)
