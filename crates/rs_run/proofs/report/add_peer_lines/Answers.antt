@@ -1,5 +1,5 @@
 -- One line more for one peer more.
-use Rattle.std.proofs.Common.{◌≡◌, ◌++◌, ◌∙◌, ◌+◌, ℕ, List, take, string_bytes, ap, arith}
+use Rattle.std.proofs.Common.{◌≡◌, ◌++◌, ◌∙◌, ◌+◌, ℕ, List, take, string_bytes, ap, arith, rules}
 use Rattle.std.specs.List.{zip, flat_map}
 use Rattle.std.proofs.lemmas.List.{take_all}
 use Rattle.rs_choice.specs.Plan.{peer_of}
@@ -24,3 +24,12 @@ returns c =
     let ends = c.args.served.now.ends in
     let all : take c.loop-number.number (zip peers ends) ≡ zip peers ends = take_all c.loop-number.number (zip peers ends) (omega (arith, length-zip peers ends, c.requires.one_for_each, c.count-number-end.ensures.value)) in
     c.loop-number.invariant ∙ ap (λ lines. string_bytes c.args.report.now ++ flat_map peer_line_of lines) all
+
+pub loop-number-init : goal.loop-number-init
+loop-number-init c = search rules
+
+pub loop-number-smaller : goal.loop-number-smaller
+loop-number-smaller c = search rules
+
+pub returns-in_err-add_peer_line : goal.returns-in_err-add_peer_line
+returns-in_err-add_peer_line c = search rules

@@ -97,3 +97,12 @@ returns-clause-refused g c = search rules
 
 pub returns-clause-fault : goal.returns-clause-fault
 returns-clause-fault g c = search rules
+
+pub returns-in-Err-TooManyRows-clause-no_failure : goal.returns-in-Err-TooManyRows-clause-no_failure
+returns-in-Err-TooManyRows-clause-no_failure g c = search rules
+
+pub returns-in-Ok-write_table_dump-clause-no_failure : goal.returns-in-Ok-write_table_dump-clause-no_failure
+returns-in-Ok-write_table_dump-clause-no_failure g c = search rules
+
+pub returns-in-Ok-write_table_dump-clause-refused : goal.returns-in-Ok-write_table_dump-clause-refused
+returns-in-Ok-write_table_dump-clause-refused g c = search rules

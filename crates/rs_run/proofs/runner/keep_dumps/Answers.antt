@@ -1,5 +1,5 @@
 -- One client more: its dump is kept, and the report tells of its table. After the last one all is kept and told.
-use Rattle.std.proofs.Common.{ℕ, ◌+◌, ◌<◌, ◌≤◌, List, Option, length, take, refl, sym, ap, subst, ◌∙◌, arith}
+use Rattle.std.proofs.Common.{ℕ, ◌+◌, ◌<◌, ◌≤◌, List, Option, length, take, refl, sym, ap, subst, ◌∙◌, arith, rules}
 use Rattle.std.specs.Prelude.{string_bytes}
 use Rattle.rs_choice.specs.Plan.{peer_of}
 use Rattle.rs_dump.specs.Dump.{dumped}
@@ -72,3 +72,51 @@ returns-clause-report g c =
     let plan = c.args.plan.now in
     let past : length plan.peers ≤ c.loop-client.client = omega (arith, c.count-client-end.ensures.value) in
     reported-all plan c.args.served.now.ends c.args.served.now.tables c.loop-client.client (string_bytes c.loop-client.text) past c.loop-client.invariant.report
+
+pub loop-client-init : goal.loop-client-init
+loop-client-init g c = search rules
+
+pub loop-client-smaller : goal.loop-client-smaller
+loop-client-smaller g c = search rules
+
+pub returns-clause-fault : goal.returns-clause-fault
+returns-clause-fault g c = search rules
+
+pub returns-clause-no_failure : goal.returns-clause-no_failure
+returns-clause-no_failure g c = search rules
+
+pub returns-in_err-add_peer_lines-clause-kept : goal.returns-in_err-add_peer_lines-clause-kept
+returns-in_err-add_peer_lines-clause-kept g c = search rules
+
+pub returns-in_err-add_peer_lines-clause-no_failure : goal.returns-in_err-add_peer_lines-clause-no_failure
+returns-in_err-add_peer_lines-clause-no_failure g c = search rules
+
+pub returns-in_err-add_peer_lines-clause-report : goal.returns-in_err-add_peer_lines-clause-report
+returns-in_err-add_peer_lines-clause-report g c = search rules
+
+pub returns-in_err-add_table_line-clause-kept : goal.returns-in_err-add_table_line-clause-kept
+returns-in_err-add_table_line-clause-kept g c = search rules
+
+pub returns-in_err-add_table_line-clause-no_failure : goal.returns-in_err-add_table_line-clause-no_failure
+returns-in_err-add_table_line-clause-no_failure g c = search rules
+
+pub returns-in_err-add_table_line-clause-report : goal.returns-in_err-add_table_line-clause-report
+returns-in_err-add_table_line-clause-report g c = search rules
+
+pub returns-in_err-rows-clause-kept : goal.returns-in_err-rows-clause-kept
+returns-in_err-rows-clause-kept g c = search rules
+
+pub returns-in_err-rows-clause-no_failure : goal.returns-in_err-rows-clause-no_failure
+returns-in_err-rows-clause-no_failure g c = search rules
+
+pub returns-in_err-rows-clause-report : goal.returns-in_err-rows-clause-report
+returns-in_err-rows-clause-report g c = search rules
+
+pub returns-in_err-text-clause-kept : goal.returns-in_err-text-clause-kept
+returns-in_err-text-clause-kept g c = search rules
+
+pub returns-in_err-text-clause-no_failure : goal.returns-in_err-text-clause-no_failure
+returns-in_err-text-clause-no_failure g c = search rules
+
+pub returns-in_err-text-clause-report : goal.returns-in_err-text-clause-report
+returns-in_err-text-clause-report g c = search rules
