@@ -1,4 +1,5 @@
-use Rattle.std.proofs.Common.{◌≡◌, ◌∙◌, ◌+◌, ap, sym, refl, get_or, take, drop, List}
+use Rattle.std.proofs.Common.{◌≡◌, ◌∙◌, ◌+◌, ap, sym, refl, get_or, take, drop, List, arith, rules}
+use Rattle.std.proofs.lemmas.Grind.{common_steps}
 use Rattle.std.specs.Prelude.{None}
 use Rattle.rs_choice.specs.declared.step.Step.{Step}
 use Rattle.rs_choice.specs.declared.step.Step.TheVariants as steps
@@ -33,3 +34,12 @@ loop-step-preserved c =
       set_is ∙ ap (unbeaten standing_in step) c.loop-step.invariant.0 ∙ remaining-more c.args.steps.now c.loop-step.step-index steps.Preference c.args.contenders.items c.loop-step-test.true,
       rw set_is (left_without_rival step c.args.best.now c.args.loser c.loop-step.set.items none c.loop-step.invariant.1),
     )
+
+pub loop-step-smaller : goal.loop-step-smaller
+loop-step-smaller c = search rules
+
+pub returns : goal.returns
+returns c = grind (arith, common_steps)
+
+pub returns-in_err-set : goal.returns-in_err-set
+returns-in_err-set c = search rules
