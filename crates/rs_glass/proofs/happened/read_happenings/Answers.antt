@@ -72,3 +72,42 @@ returns-in_err-listed-clause-fault g c =
     let here : IsFaultOf g.R.Read.gives c.args.question.now k.job.id k.job.reader k.job.peer c.in_err-listed.field-0.0 = IfErr-at_err _ (sym t.1 ∙ c.in_err-listed.was) fault in
     let p = err_from_is_err_and c.from_residual-in_err-listed.result c.from_residual-in_err-listed.ensures.1 in
     rw (p.1, p.2) (fault-recorded g.R.Read.gives c.args.question.now c.args.plan.now c.args.readers.items count k.job is c.in_err-listed.field-0.0 here)
+
+pub loop-list-init-derived : goal.loop-list-init-derived
+loop-list-init-derived g c = search rules
+
+pub loop-list-preserved-derived : goal.loop-list-preserved-derived
+loop-list-preserved-derived g c = search rules
+
+pub loop-list-smaller : goal.loop-list-smaller
+loop-list-smaller g c = search rules
+
+pub returns-clause-fault : goal.returns-clause-fault
+returns-clause-fault g c = search rules
+
+pub returns-in_err-append-clause-fault : goal.returns-in_err-append-clause-fault
+returns-in_err-append-clause-fault g c = search rules
+
+pub returns-in_err-append-clause-happenings : goal.returns-in_err-append-clause-happenings
+returns-in_err-append-clause-happenings g c = search rules
+
+pub returns-in_err-jobs-clause-fault : goal.returns-in_err-jobs-clause-fault
+returns-in_err-jobs-clause-fault g c = search rules
+
+pub returns-in_err-jobs-clause-happenings : goal.returns-in_err-jobs-clause-happenings
+returns-in_err-jobs-clause-happenings g c = search rules
+
+pub returns-in_err-listed-clause-happenings : goal.returns-in_err-listed-clause-happenings
+returns-in_err-listed-clause-happenings g c = search rules
+
+pub returns-in_err-lists-clause-fault : goal.returns-in_err-lists-clause-fault
+returns-in_err-lists-clause-fault g c = search rules
+
+pub returns-in_err-lists-clause-happenings : goal.returns-in_err-lists-clause-happenings
+returns-in_err-lists-clause-happenings g c = search rules
+
+pub returns-in_err-sort_by_key-clause-fault : goal.returns-in_err-sort_by_key-clause-fault
+returns-in_err-sort_by_key-clause-fault g c = search rules
+
+pub returns-in_err-sort_by_key-clause-happenings : goal.returns-in_err-sort_by_key-clause-happenings
+returns-in_err-sort_by_key-clause-happenings g c = search rules

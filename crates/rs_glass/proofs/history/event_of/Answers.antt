@@ -1,0 +1,18 @@
+-- Each answer is one search, so that a wrong body is refused soon.
+use Rattle.std.proofs.Common.{rules}
+use Rattle.rs_glass.proofs.history.event_of.Goals as goal
+
+pub returns-in-Close : goal.returns-in-Close
+returns-in-Close c = search rules
+
+pub returns-in-Down : goal.returns-in-Down
+returns-in-Down c = search rules
+
+pub returns-in-Withdraw : goal.returns-in-Withdraw
+returns-in-Withdraw c = search rules
+
+pub returns-in_err-clone-in-Announce : goal.returns-in_err-clone-in-Announce
+returns-in_err-clone-in-Announce c = search rules
+
+pub returns-in_ok-clone-in-Announce : goal.returns-in_ok-clone-in-Announce
+returns-in_ok-clone-in-Announce c = search rules
