@@ -22,23 +22,29 @@ pub item_there : (before section rest : List ℕ) (split : Item × List ℕ) →
 item_there before section rest split there e =
     ap (λ (octets : List ℕ). option_map (λ (s : Item × List ℕ). s.0) (item_at octets)) (behind before section rest there) ∙ ap (option_map (λ (s : Item × List ℕ). s.0)) e
 
+-- an attribute of the type that is looked for stands first
+pub look-here : (kind : ℕ) (rest : List ℕ) (split : Item × List ℕ) → item_at rest ≡ Some split → split.0.kind ≡ kind → look kind (items_of rest) ≡ Some split.0
+look-here kind rest split e same = ap (look kind) (items_of-step rest split e) ∙ rw (eq-eqb split.0.kind kind same) refl
+
+-- an attribute of another type is passed by
+pub look-past : (kind : ℕ) (rest : List ℕ) (split : Item × List ℕ) → item_at rest ≡ Some split → (split.0.kind ≡ kind → ⊥) → look kind (items_of rest) ≡ look kind (items_of split.1)
+look-past kind rest split e other = ap (look kind) (items_of-step rest split e) ∙ rw (ne_eqb split.0.kind kind other) refl
+
+-- where no attribute stands none is found
+pub look-end : (kind : ℕ) (rest : List ℕ) → item_at rest ≡ None → look kind (items_of rest) ≡ None
+look-end kind rest e = ap (look kind) (items_of-end rest e)
+
 module _ (before section rest : List ℕ) (kind : ℕ) (there : section ≡ before ++ rest) (held : look kind (items_of rest) ≡ look kind (items_of section)) where
   pub item_from-found : (split : Item × List ℕ) → item_at rest ≡ Some split → split.0.kind ≡ kind → item_from section (length section - length rest) ≡ look kind (items_of section)
   item_from-found split e same =
-      item_there before section rest split there e
-      ∙ sym (ap (look kind) (items_of-step rest split e) ∙ rw (eq-eqb split.0.kind kind same) refl)
-      ∙ held
+      item_there before section rest split there e ∙ sym (look-here kind rest split e same) ∙ held
 
   pub item_from-none : item_at rest ≡ None → item_from section (length section - length rest) ≡ look kind (items_of section)
   item_from-none e =
       ap (λ (octets : List ℕ). option_map (λ (s : Item × List ℕ). s.0) (item_at octets)) (behind before section rest there)
       ∙ ap (option_map (λ (s : Item × List ℕ). s.0)) e
-      ∙ sym (ap (look kind) (items_of-end rest e))
+      ∙ sym (look-end kind rest e)
       ∙ held
-
--- an attribute of another type is passed by
-pub look-past : (kind : ℕ) (rest : List ℕ) (split : Item × List ℕ) → item_at rest ≡ Some split → (split.0.kind ≡ kind → ⊥) → look kind (items_of rest) ≡ look kind (items_of split.1)
-look-past kind rest split e other = ap (look kind) (items_of-step rest split e) ∙ rw (ne_eqb split.0.kind kind other) refl
 
 -- no attribute begins past the end
 pub item_from-past : (section : List ℕ) (place : ℕ) → length section < place → item_from section place ≡ None

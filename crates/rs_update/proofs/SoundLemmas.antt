@@ -137,6 +137,14 @@ next_hop_value item sound = eqb-true _ _ (tests_passed types.NextHop item.flags 
 pub med_value : (item : Item) → IsSound 4 item → length item.value ≡ 4
 med_value item sound = eqb-true _ _ (tests_passed types.MultiExitDisc item.flags item.value sound.tests).2
 
+-- the length of a value, by its type alone
+pub look_suits : (section : List ℕ) (kind : ℕ) (item : Item) → section_fault section ≡ None → look kind (items_of section) ≡ Some item → suits_length (type_of kind) (length item.value) ≡ true
+look_suits section kind item faultless e =
+    let items = items_of section in
+    let is : item.kind ≡ kind = kind_of_found (λ (i : Item). i.kind) kind items item e in
+    let tests = look_without [] items kind item (section_without section faultless).0 e in
+    (tests_passed (type_of kind) item.flags item.value (subst (λ (k : ℕ). first_fault (tests_of (type_of k) item.flags item.value) ≡ None) is tests)).2
+
 pub atomic_value : (item : Item) → IsSound 6 item → length item.value ≡ 0
 atomic_value item sound = eqb-true _ _ (tests_passed types.AtomicAggregate item.flags item.value sound.tests).2
 

@@ -1,9 +1,12 @@
 -- What is read of the written form of attributes is these attributes.
-use Rattle.std.proofs.Common.{◌≡◌, ℕ, ◌≤◌, List, length, Option, Some, None, sym, ap, ◌∙◌, arith}
-use Rattle.std.specs.Option.{option_map}
-use Rattle.rs_update.specs.AttributesView.{value_of}
-use Rattle.rs_update.specs.Found.{spelled_section}
-use Rattle.rs_update.specs.Gathered.{look, community_list_of, others_of, attributes_from, attributes_of}
+use Rattle.std.proofs.Common.{◌≡◌, ℕ, ◌≤◌, true, List, length, Option, Some, None, refl, sym, ap, ◌∙◌, arith}
+use Rattle.std.specs.Prelude.{slice_index}
+use Rattle.std.proofs.lemmas.Bool.{eqb-true}
+use Rattle.byteorder.specs.Endian.{big_number}
+use Rattle.rs_update.specs.declared.found.Found.{Found}
+use Rattle.rs_update.specs.AttributesView.{value_of, looked_up_in}
+use Rattle.rs_update.specs.Found.{Finds, stands, spelled_section}
+use Rattle.rs_update.specs.Gathered.{look, origin_with, attributes_from, attributes_of}
 use Rattle.rs_update.specs.Parts.{AreOctets}
 use Rattle.rs_update.specs.PathAttributes.{PathAttributes}
 use Rattle.rs_update.specs.PathSegments.{segments_of}
@@ -11,46 +14,68 @@ use Rattle.rs_update.specs.Section.{Item, items_of, section_fault}
 use Rattle.rs_update.specs.Shapes.{passed_on_from}
 use Rattle.rs_update.specs.Spelling.{written}
 use Rattle.rs_update.proofs.AgainLemmas.{written_is_read, written-others}
-use Rattle.rs_update.proofs.SoundLemmas.{sound_section}
-use Rattle.rs_update.proofs.WholeLemmas.{made_of, attributes_of-found, written-found}
+use Rattle.rs_update.proofs.SoundLemmas.{sound_section, look_suits}
+use Rattle.rs_update.proofs.WholeLemmas.{some_there, attributes_of-found, written-found, same_attributes, made_of}
 
--- the path of attributes is that of AS_PATH
-pub path-shown : (items : List Item) (attributes : PathAttributes) (found : Option Item) → attributes_of items ≡ Some attributes → found ≡ look 2 items → attributes.path ≡ (segments_of (value_of found)).0
-path-shown items attributes found e is =
-    let made = made_of items attributes e in
-    ap (λ (a : PathAttributes). a.path) (sym made.are) ∙ ap (λ (item : Option Item). (segments_of (value_of item)).0) (sym (is ∙ made.has_path))
+-- a written form says the attributes that it gives a route, where it passes them on in order
+pub looked_up : (octets : List ℕ) (attributes : PathAttributes) → attributes_of (items_of octets) ≡ Some attributes → passed_on_from octets ≡ attributes.others → looked_up_in octets ≡ attributes
+looked_up octets attributes given passed =
+    let made = made_of (items_of octets) attributes given in
+    same_attributes
+    (ap (λ (item : Option Item). origin_with (slice_index (value_of item) 0)) made.has_origin)
+    (ap (λ (item : Option Item). (segments_of (value_of item)).0) made.has_path)
+    (ap (λ (item : Option Item). big_number 4 (value_of item)) made.has_next_hop)
+    refl
+    refl
+    refl
+    refl
+    (passed ∙ sym (ap (λ (a : PathAttributes). a.others) made.are))
+    ∙ made.are
 
--- and their communities are those of COMMUNITIES
-pub communities-shown : (items : List Item) (attributes : PathAttributes) (found : Option Item) → attributes_of items ≡ Some attributes → found ≡ look 8 items → attributes.communities ≡ option_map community_list_of found
-communities-shown items attributes found e is =
-    let made = made_of items attributes e in
-    ap (λ (a : PathAttributes). a.communities) (sym made.are) ∙ ap (option_map community_list_of) (sym is)
+-- ---- attributes that a section without fault gives, and octets that are spelled of what is found in it
 
--- ---- attributes that are made of a section without fault, and octets that are spelled of what is found in it
+pub record Says (section octets : List ℕ) (attributes : PathAttributes) : Type 0 where
+  pub given : attributes_of (items_of section) ≡ Some attributes
+  pub is_written : octets ≡ written attributes
+  pub is_faultless : section_fault octets ≡ None
+  pub fits_a_message : length octets ≤ 4073
+  pub given_again : attributes_of (items_of octets) ≡ Some attributes
+  pub is_looked_up : looked_up_in octets ≡ attributes
 
-module _ (section : List ℕ) (fit : AreOctets section) (faultless : section_fault section ≡ None) (short : length section ≤ 4073)
-    (origin path next_hop : Item) (has_origin : look 1 (items_of section) ≡ Some origin) (has_path : look 2 (items_of section) ≡ Some path) (has_next_hop : look 3 (items_of section) ≡ Some next_hop)
-    (spelling : List ℕ) (spelled : spelling ≡ spelled_section (items_of section)) where
-  abbrev the_attributes : PathAttributes
-  the_attributes = attributes_from (items_of section) origin path next_hop
+module _ (section : List ℕ) (fit : AreOctets section) (faultless : section_fault section ≡ None) (short : length section ≤ 4073) where
+  written-says : (attributes : PathAttributes) (octets : List ℕ) → attributes_of (items_of section) ≡ Some attributes → octets ≡ written attributes → Says section octets attributes
+  written-says attributes octets given are =
+      let read = written_is_read section attributes fit faultless given in
+      let again : attributes_of (items_of octets) ≡ Some attributes = ap (λ (os : List ℕ). attributes_of (items_of os)) are ∙ read.1 in
+      record {
+        given = given;
+        is_written = are;
+        is_faultless = ap section_fault are ∙ read.0;
+        fits_a_message = omega (arith, ap length are, read.2, short);
+        given_again = again;
+        is_looked_up = looked_up octets attributes again (ap passed_on_from are ∙ written-others section attributes fit faultless given);
+      }
 
-  given : attributes_of (items_of section) ≡ Some the_attributes
-  given = attributes_of-found (items_of section) origin path next_hop has_origin has_path has_next_hop
+  pub spelled-says : (found : Found) (origin path : Item) (octets : List ℕ) → Finds found section → look 1 (items_of section) ≡ Some origin → look 2 (items_of section) ≡ Some path → stands found 3 ≡ true
+      → octets ≡ spelled_section (items_of section) → (next_hop : Item) × Says section octets (attributes_from (items_of section) origin path next_hop)
+  spelled-says found origin path octets finds has_origin has_path stands spelled =
+      let items = items_of section in
+      let next_hop = some_there (look 3 items) (sym (finds.at_each 3 (omega arith)) ∙ stands) in
+      let given = attributes_of-found items origin path next_hop.0 has_origin has_path next_hop.1 in
+      let are = written-found items origin path next_hop.0 (sound_section section fit faultless) has_origin has_path next_hop.1 in
+      (next_hop.0, written-says (attributes_from items origin path next_hop.0) octets given (spelled ∙ are))
 
-  pub spelling-written : spelling ≡ written the_attributes
-  spelling-written = spelled ∙ written-found (items_of section) origin path next_hop (sound_section section fit faultless) has_origin has_path has_next_hop
+-- ---- the lengths of values in a section without fault
 
-  pub spelling-short : length spelling ≤ 4073
-  spelling-short = omega (arith, (written_is_read section the_attributes fit faultless given).2, ap length spelling-written, short)
+module _ (section : List ℕ) (faultless : section_fault section ≡ None) where
+  pub next_hop-length : (attributes : PathAttributes) → attributes_of (items_of section) ≡ Some attributes → length (value_of (look 3 (items_of section))) ≡ 4
+  next_hop-length attributes given =
+      let made = made_of (items_of section) attributes given in
+      ap (λ (item : Option Item). length (value_of item)) made.has_next_hop
+      ∙ eqb-true _ _ (look_suits section 3 made.next_hop faultless made.has_next_hop)
 
-  spelling-read : attributes_of (items_of spelling) ≡ Some the_attributes
-  spelling-read = ap (λ (octets : List ℕ). attributes_of (items_of octets)) spelling-written ∙ (written_is_read section the_attributes fit faultless given).1
+  pub med-length : (item : Item) → look 4 (items_of section) ≡ Some item → length item.value ≡ 4
+  med-length item there = eqb-true _ _ (look_suits section 4 item faultless there)
 
-  pub spelled-path : (found : Option Item) → found ≡ look 2 (items_of spelling) → (segments_of path.value).0 ≡ (segments_of (value_of found)).0
-  spelled-path found is = path-shown (items_of spelling) the_attributes found spelling-read is
-
-  pub spelled-communities : (found : Option Item) → found ≡ look 8 (items_of spelling) → option_map community_list_of (look 8 (items_of section)) ≡ option_map community_list_of found
-  spelled-communities found is = communities-shown (items_of spelling) the_attributes found spelling-read is
-
-  pub spelled-others : others_of (items_of section) ≡ passed_on_from spelling
-  spelled-others = sym (ap passed_on_from spelling-written ∙ written-others section the_attributes fit faultless given)
+  pub aggregator-length : (item : Item) → look 7 (items_of section) ≡ Some item → length item.value ≡ 8
+  aggregator-length item there = eqb-true _ _ (look_suits section 7 item faultless there)

@@ -1,5 +1,6 @@
 -- Attributes out of what is found in a section without fault.
-use Rattle.std.proofs.Common.{◌≡◌, ℕ, ◌<◌, ◌&&◌, Bool, List, [], ◌∷◌, length, Option, Some, None, refl, sym, ap, ◌∙◌, arith, inl, inr}
+use Rattle.std.proofs.Common.{◌≡◌, ℕ, ◌<◌, ◌&&◌, Bool, true, false, List, [], ◌∷◌, length, Option, Some, None}
+use Rattle.std.proofs.Common.{refl, sym, ap, ◌∙◌, arith, inl, inr}
 use Rattle.std.specs.Prelude.{is_some}
 use Rattle.std.specs.List.{filter_map, flat_map, AllByRecursion}
 use Rattle.std.specs.Option.{option_map}
@@ -27,6 +28,15 @@ not_there kind items field e none =
       | inl nothing ↦ sym e ∙ ap (option_map item_of) nothing
       | inr some ↦ absurd (none some.0 some.1)
     ]
+
+-- a look-up that finds something, and one that finds nothing
+pub some_there : {X : Type 0} (found : Option X) → is_some found ≡ true → (x : X) × (found ≡ Some x)
+some_there None e = absurd cc
+some_there (Some x) e = (x, refl)
+
+pub none_there : {X : Type 0} (found : Option X) → is_some found ≡ false → found ≡ None
+none_there None e = refl
+none_there (Some x) e = absurd cc
 
 pub found_short : (items : List Item) (kind : ℕ) (item : Item) → AreSound items → look kind items ≡ Some item → length item.value < 65536
 found_short items kind item sound e = received_short item (look_sound items kind item sound e).received

@@ -27,4 +27,4 @@ pub mod Shapes  -- attributes by their values, where they stand
 -- What the bodies keep:
 pub mod Found  -- what was found in a section, by type
 pub mod Gathered  -- the attributes that a section gives
-pub mod AttributesView  -- attributes by their fields
+pub mod AttributesView  -- attributes by their written form

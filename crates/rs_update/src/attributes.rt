@@ -1,21 +1,24 @@
 //! The path attributes that a route keeps (RFC 4271, section 5; RFC 6793; RFC 1997).
 
-ghost use Rattle.std.specs.Prelude.{◌≡◌, ◌<◌, ◌≤◌, length, None, Some};
+ghost use Rattle.std.specs.Prelude.{◌≡◌, ◌<◌, ◌≤◌, length, None, Some, unwrap_or};
 ghost use Rattle.std.specs.Option.{option_map};
 ghost use Rattle.rs_update.specs.AsPath.{path_length_of, neighbour_of, holds_as_in};
-ghost use Rattle.rs_update.specs.AttributesView.{item_from as item_from_spec, value_of};
-ghost use Rattle.rs_update.specs.Items.{item_of};
+ghost use Rattle.rs_update.specs.AttributesView.{value_of};
 ghost use Rattle.rs_update.specs.Shapes.{numbers_in, segments_in, communities_of, others_in};
 ghost use Rattle.rs_update.specs.Community.{has_community_in, has_community_of_in, has_value, has_value_of};
-ghost use Rattle.rs_update.specs.Gathered.{attributes_of};
+ghost use Rattle.rs_update.specs.Gathered.{look, attributes_of};
 ghost use Rattle.rs_update.specs.Section.{items_of, section_fault};
 ghost use Rattle.rs_update.specs.Spelling.{written};
 
-use crate::as_path::{Segments, holds_as};
-use crate::item::{is_passed_on, item_from, split_item};
+use crate::as_path::{Segments, holds_as, path_length};
+use crate::found::{AGGREGATOR, AS_PATH, ATOMIC_AGGREGATE, MULTI_EXIT_DISC, NEXT_HOP};
+use crate::item::{find_item, is_passed_on, item_from, split_item};
 use crate::number_list::{NUMBER_LEN, Numbers};
+use crate::readers::{med_of, read_aggregator};
 use crate::values::{Aggregator, Origin};
+use byteorder::{BigEndian, ByteOrder};
 use std::marker::Model;
+use std::mem::size_of;
 
 // The numbers that half a community can hold.
 const HALF: u32 = 65536;
@@ -94,21 +97,20 @@ impl<'a> Iterator for Others<'a> {
 }
 
 /// The path attributes of one UPDATE, as read: made by `read_message` alone. Their written form is all that
-/// they keep in memory of their own; beside it stand the numbers that decisions ask for, and where AS_PATH
-/// and COMMUNITIES begin in it.
+/// they keep in memory of their own, and all is read from it when it is asked for, but for what is asked for
+/// again and again: beside it stand ORIGIN, MED and neighbour AS for decisions, and where COMMUNITIES begins.
 #[derive(Debug, Drop)]
 pub struct Attributes {
-    pub(crate) origin: Origin,
-    pub(crate) atomic: bool,
-    pub(crate) path_place: u16,
-    pub(crate) communities_place: u16,
-    pub(crate) next_hop: u32,
-    pub(crate) path_length: u32,
-    pub(crate) med: Option<u32>,
-    pub(crate) neighbour: Option<u32>,
-    pub(crate) aggregator: Option<Aggregator>,
     pub(crate) spelling: Vec<u8>,
+    pub(crate) neighbour: Option<u32>,
+    pub(crate) compared_med: u32,
+    pub(crate) communities_place: u16,
+    pub(crate) origin: Origin,
 }
+
+// A run holds one for nearly each route, so they are kept small: with the two counts of an `Arc` they fit a
+// block of 64 octets.
+const _: () = prove!(size_of::<Attributes>() == 40);
 
 impl Model for Attributes {
     ghost use Rattle.rs_update.specs.PathAttributes.{PathAttributes};
@@ -135,7 +137,7 @@ impl Attributes {
         ensures { segments_in result ≡ self.now.path }
     {
         Segments {
-            octets: value_from(&self.spelling, self.path_place),
+            octets: value_in(&self.spelling, AS_PATH),
         }
     }
 
@@ -143,28 +145,36 @@ impl Attributes {
     pub fn next_hop(&self) -> u32
         ensures { result ≡ self.now.next_hop }
     {
-        self.next_hop
+        BigEndian::read_u32(value_in(&self.spelling, NEXT_HOP))
     }
 
     /// MULTI_EXIT_DISC, where it was received.
     pub fn med(&self) -> Option<u32>
         ensures { result ≡ self.now.med }
     {
-        self.med
+        med_of(find_item(&self.spelling, MULTI_EXIT_DISC))
+    }
+
+    /// MULTI_EXIT_DISC as the decision process compares it: 0 where none was received (RFC 4271, section
+    /// 9.1.2.2, c).
+    pub fn compared_med(&self) -> u32
+        ensures { result ≡ unwrap_or self.now.med 0 }
+    {
+        self.compared_med
     }
 
     /// Whether ATOMIC_AGGREGATE was received.
     pub fn atomic(&self) -> bool
         ensures { result ≡ self.now.atomic }
     {
-        self.atomic
+        find_item(&self.spelling, ATOMIC_AGGREGATE).is_some()
     }
 
     /// AGGREGATOR, where it was received.
     pub fn aggregator(&self) -> Option<Aggregator>
         ensures { result ≡ self.now.aggregator }
     {
-        self.aggregator
+        read_aggregator(find_item(&self.spelling, AGGREGATOR))
     }
 
     /// COMMUNITIES, where it was received.
@@ -196,7 +206,7 @@ impl Attributes {
         ensures value { result ≡ path_length_of self.now.path }
         ensures bound { result < 65536 }
     {
-        self.path_length
+        path_length(value_in(&self.spelling, AS_PATH))
     }
 
     /// The neighbour AS: the first AS number where the path begins with an AS_SEQUENCE, else `peer_as`, the
@@ -229,7 +239,7 @@ impl Attributes {
     pub fn holds_as(&self, asn: u32) -> bool
         ensures { result ≡ holds_as_in self.now.path asn }
     {
-        holds_as(value_from(&self.spelling, self.path_place), asn)
+        holds_as(value_in(&self.spelling, AS_PATH), asn)
     }
 
     /// Whether the community (`high`, `low`) was received: the value `high` * 65,536 + `low`; no route has
@@ -254,11 +264,11 @@ impl Attributes {
     }
 }
 
-// The value of the attribute that begins at a place of a section, empty where none begins there.
-fn value_from(section: &[u8], place: u16) -> &[u8]
-    ensures { result.now ≡ value_of (item_from_spec section.now place) }
+// The value of the attribute of a type in a section, empty where none stands.
+fn value_in(section: &[u8], kind: u8) -> &[u8]
+    ensures { result.now ≡ value_of (look kind (items_of section.now)) }
 {
-    match item_from(section, place) {
+    match find_item(section, kind) {
         None => &[],
         Some(item) => item.value,
     }

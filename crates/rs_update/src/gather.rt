@@ -1,54 +1,46 @@
 //! The attributes of a route, out of a section that is without fault (RFC 4271, section 5; RFC 1997; RFC 6793).
 //!
-//! They are made whole at once: the fields, what is asked of them again and again, and their written form.
+//! They are made whole at once: their written form, and what is asked of them again and again.
 
-ghost use Rattle.std.specs.Prelude.{◌≡◌, ◌≤◌, length, Some, None, IfOk};
-ghost use Rattle.rs_update.specs.Found.{Finds};
+ghost use Rattle.std.specs.Prelude.{◌≡◌, ◌≤◌, length, Some, None, IfOk, IsTrue};
+ghost use Rattle.rs_update.specs.Found.{Finds, stands};
 ghost use Rattle.rs_update.specs.Gathered.{look, attributes_of};
 ghost use Rattle.rs_update.specs.Items.{item_of};
 ghost use Rattle.rs_update.specs.Section.{items_of, section_fault};
 
-use crate::as_path::{first_as, path_length};
+use crate::as_path::first_as;
 use crate::attributes::Attributes;
 use crate::found::{
-    AGGREGATOR, AS_PATH, ATOMIC_AGGREGATE, COMMUNITIES, Found, MULTI_EXIT_DISC, NEXT_HOP, NOWHERE,
-    ORIGIN, find_items,
+    AS_PATH, COMMUNITIES, Found, MULTI_EXIT_DISC, NEXT_HOP, NOWHERE, ORIGIN, find_items,
 };
 use crate::item::{Item, place_of};
-use crate::readers::{med_of, origin_of, read_aggregator};
+use crate::readers::{med_of, origin_of};
 use crate::section::TYPES;
 use crate::spelling::spell;
-use byteorder::{BigEndian, ByteOrder};
 use std::alloc::{AllocError, Global};
 
-// Makes the attributes whole, out of where they stand and the mandatory ones among them.
+// Makes the attributes whole, out of where they stand, ORIGIN and AS_PATH.
 fn whole(
     alloc: Global,
     section: &[u8],
     found: &Found<'_>,
     origin: Item<'_>,
     path: Item<'_>,
-    next_hop: Item<'_>,
 ) -> Result<Attributes, AllocError>
     requires faultless { section_fault section.now ≡ None }
     requires short { length section.now ≤ 4073 }
     requires are_found { Finds found.now section.now }
     requires origin_is { look 1 (items_of section.now) ≡ Some (item_of origin) }
     requires path_is { look 2 (items_of section.now) ≡ Some (item_of path) }
-    requires next_hop_is { look 3 (items_of section.now) ≡ Some (item_of next_hop) }
+    requires has_next_hop { IsTrue (stands found.now 3) }
     ensures { IfOk result (λ attributes. attributes_of (items_of section.now) ≡ Some attributes) }
 {
     let spelling = spell(alloc, section, found)?;
     Ok(Attributes {
-        origin: origin_of(origin.value),
-        atomic: found.stands(ATOMIC_AGGREGATE),
-        path_place: place_of(&spelling, AS_PATH),
-        communities_place: place_of(&spelling, COMMUNITIES),
-        next_hop: BigEndian::read_u32(next_hop.value),
-        path_length: path_length(path.value),
-        med: med_of(found.get(section, MULTI_EXIT_DISC)),
         neighbour: first_as(path.value),
-        aggregator: read_aggregator(found.get(section, AGGREGATOR)),
+        compared_med: med_of(found.get(section, MULTI_EXIT_DISC)).unwrap_or(0),
+        communities_place: place_of(&spelling, COMMUNITIES),
+        origin: origin_of(origin.value),
         spelling,
     })
 }
@@ -71,10 +63,10 @@ pub(crate) fn gather(
     let Some(path) = found.get(section, AS_PATH) else {
         return Ok(None);
     };
-    let Some(next_hop) = found.get(section, NEXT_HOP) else {
+    if !found.stands(NEXT_HOP) {
         return Ok(None);
-    };
-    Ok(Some(whole(alloc, section, found, origin, path, next_hop)?))
+    }
+    Ok(Some(whole(alloc, section, found, origin, path)?))
 }
 
 /// The same, where they are yet to be found.

@@ -100,6 +100,20 @@ pub(crate) fn item_from(section: &[u8], place: u16) -> Option<Item<'_>>
     Some(split_item(&section[place..])?.0)
 }
 
+/// The first attribute of a type in a section.
+pub(crate) fn find_item(section: &[u8], kind: u8) -> Option<Item<'_>>
+    ensures { option_map item_of result ≡ look kind (items_of section.now) }
+{
+    let mut rest = section;
+    while let Some(front) = split_item(rest) {
+        if front.0.kind == kind {
+            return Some(front.0);
+        }
+        rest = front.1;
+    }
+    None
+}
+
 /// Where the first attribute of a type begins in a section, or where its attributes end.
 pub(crate) fn place_of(section: &[u8], kind: u8) -> u16
     requires { length section.now ≤ 4073 }

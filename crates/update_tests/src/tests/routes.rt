@@ -29,6 +29,7 @@ fn attributes_of_one_route(rt: HostRuntime) -> Result<(), Fail> {
     );
     assert_eq!(rt; attributes.next_hop(), 0xC000_020B);
     assert_eq!(rt; attributes.med(), Some(7));
+    assert_eq!(rt; attributes.compared_med(), 7);
     assert!(rt; attributes.atomic());
     let aggregator = Aggregator {
         asn: 64501,
@@ -60,6 +61,7 @@ fn what_was_not_received_is_not_there(rt: HostRuntime) -> Result<(), Fail> {
     let attributes = attributes_of(alloc, &octets(alloc, &[ORIGIN, AS_PATH, NEXT_HOP])?)?;
     assert_eq!(rt; attributes.origin(), Origin::Igp);
     assert_eq!(rt; attributes.med(), None);
+    assert_eq!(rt; attributes.compared_med(), 0);
     assert_eq!(rt; attributes.aggregator(), None);
     assert!(rt; !attributes.atomic() && !attributes.has_community(0, 0));
     assert!(rt; !attributes.has_community_of(0));

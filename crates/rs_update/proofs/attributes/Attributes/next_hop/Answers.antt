@@ -1,6 +1,16 @@
--- Each answer is one search, so that a wrong body is refused soon.
-use Rattle.std.proofs.Common.{rules}
+use Rattle.std.proofs.Common.{◌∙◌, ap, arith, List, ℕ, length, rules}
+use Rattle.rs_update.specs.AttributesView.{value_of, view_of}
+use Rattle.rs_update.specs.Gathered.{look}
+use Rattle.rs_update.specs.Section.{items_of}
+use Rattle.rs_update.proofs.ViewLemmas.{next_hop-length}
 use Rattle.rs_update.proofs.attributes.Attributes.next_hop.Goals as goal
+
+pub read_u32-requires : goal.read_u32-requires
+read_u32-requires c =
+    let whole = c.self.invariant in
+    let octets = c.self.inside.spelling.items in
+    let value = c.value_in.ensures ∙ ap (λ (os : List ℕ). value_of (look 3 (items_of os))) c.deref.ensures.value in
+    omega (arith, ap length value, next_hop-length octets whole.is_faultless (view_of c.self.inside) whole.says_the_attributes)
 
 pub returns : goal.returns
 returns c = search rules
