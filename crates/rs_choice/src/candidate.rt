@@ -67,7 +67,7 @@ impl Exchange {
             path_length: attributes.path_length(),
             origin: attributes.origin(),
             neighbour: attributes.neighbour(sender.asn),
-            med: attributes.med().unwrap_or(0),
+            med: attributes.compared_med(),
             id: sender.id,
             address: sender.address,
         }

@@ -79,7 +79,7 @@ impl Exchange {
         let sender = self.peer(usize::from(held.peer));
         Standing {
             neighbour: held.attributes.neighbour(sender.asn),
-            med: held.attributes.med().unwrap_or(0),
+            med: held.attributes.compared_med(),
             ..self.standing_without_med(held)
         }
     }
