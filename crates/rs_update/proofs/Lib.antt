@@ -9,6 +9,7 @@ pub mod HandlingLemmas
 pub mod ItemLemmas
 pub mod KeptLemmas
 pub mod KindLemmas
+pub mod MarkerLemmas
 pub mod MessageExamples
 pub mod MessageLemmas
 pub mod OctetLemmas

@@ -66,12 +66,12 @@ impl MessageType {
     }
 }
 
-// Whether the Marker is all ones.
+// Whether the Marker is all ones: its sixteen octets, read as one number.
 fn is_marked(octets: &[u8]) -> bool
     requires { HEADER_LEN ≤ length octets.now }
     ensures { result ≡ spec.is_marked octets.now }
 {
-    octets[..LENGTH_AT].iter().all(|octet| *octet == 0xFF)
+    BigEndian::read_u128(octets) == u128::MAX
 }
 
 // Whether the Length is lawful, and the number of octets that are there.
