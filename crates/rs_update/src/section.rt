@@ -48,6 +48,7 @@ pub(crate) fn find_fault(section: &[u8], seen: &mut [bool; TYPES]) -> Option<Upd
 }
 
 // The fault of one attribute, where `seen` tells which types stood earlier.
+#[inline(always)]
 fn item_fault(seen: &[bool; TYPES], item: &Item) -> Option<UpdateFault>
     ensures { result ≡ (if slice_index_or seen.now item.now.kind false then Some MalformedAttributeList
         else own_fault_of (item_of item.now)) }
@@ -59,6 +60,7 @@ fn item_fault(seen: &[bool; TYPES], item: &Item) -> Option<UpdateFault>
 }
 
 // The fault of one attribute by its own tests: class, flags, length, value.
+#[inline(always)]
 pub(crate) fn own_fault(kind: AttributeType, flags: Flags, value: &[u8]) -> Option<UpdateFault>
     ensures { result ≡ first_fault (tests_of kind flags.octet value.now) }
 {
