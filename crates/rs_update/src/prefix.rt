@@ -2,7 +2,8 @@
 //!
 //! Bits past the length have no meaning in the standard; ours are cleared, so that equal prefixes are equal values.
 
-ghost use Rattle.std.specs.Prelude.{◌≡◌, ◌<◌, ◌≤◌, ◌↔◌, length, Some, IsSome, IfSome, IfOk, OnErr};
+ghost use Rattle.std.specs.Prelude.{◌≡◌, ◌<◌, ◌≤◌, ◌↔◌, length, slice_index, Some, IsSome, IfSome, IfOk};
+ghost use Rattle.std.specs.Prelude.{OnErr};
 ghost use Rattle.std.specs.Option.{option_map};
 ghost use Rattle.byteorder.specs.Endian.{big_number};
 ghost use Rattle.rs_update.specs.Covering.{covers};
@@ -102,12 +103,21 @@ fn network_address(address: u32, len: u8) -> u32
 
 // The address whose first octets these are; the others are 0.
 fn address_of(octets: &[u8]) -> u32
-    requires { length octets.now ≤ 4 }
     ensures { result ≡ big_number 4 octets.now }
 {
-    let mut address = [0; 4];
-    address[..octets.len()].copy_from_slice(octets);
-    BigEndian::read_u32(&address)
+    BigEndian::read_u32(&[
+        octet_at(octets, 0),
+        octet_at(octets, 1),
+        octet_at(octets, 2),
+        octet_at(octets, 3),
+    ])
+}
+
+// The octet at a place, 0 behind the last.
+fn octet_at(octets: &[u8], place: usize) -> u8
+    ensures { result ≡ slice_index octets.now place }
+{
+    octets.get(place).copied().unwrap_or(0)
 }
 
 /// Whether a prefix covers another, itself included: it is no longer, and has the other's first bits (RFC 4271,
