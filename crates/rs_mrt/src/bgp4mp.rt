@@ -54,6 +54,7 @@ const STATES_END: usize = 24;
 /// Reads what a record says. Nothing is copied: a message stands in the record's octets. The fault is
 /// `MicrosecondsCutShort` where a BGP4MP_ET body has fewer than 4 octets, else `FieldsCutShort` where a body
 /// of Subtype 4 or 5 is shorter than its fields.
+// Part of its callers: as a call it would write the fields to memory, to be read again, for each record.
 #[inline(always)]
 #[tactic(auto, unfolding(crate::specs::Entry::entry_of))]
 pub fn entry<'a>(recorded: &Record<'a>) -> Result<Entry<'a>, MrtFault>

@@ -47,7 +47,8 @@ pub(crate) fn find_fault(section: &[u8], seen: &mut [bool; TYPES]) -> Option<Upd
     Some(UpdateFault::MalformedAttributeList)
 }
 
-// The fault of one attribute, where `seen` tells which types stood earlier.
+// The fault of one attribute, where `seen` tells which types stood earlier. It is part of the loop over a
+// section: as a call it would build a whole row of the table of types for each attribute.
 #[inline(always)]
 fn item_fault(seen: &[bool; TYPES], item: &Item) -> Option<UpdateFault>
     ensures { result ≡ (if slice_index_or seen.now item.now.kind false then Some MalformedAttributeList
@@ -59,7 +60,7 @@ fn item_fault(seen: &[bool; TYPES], item: &Item) -> Option<UpdateFault>
     own_fault(AttributeType::of(item.kind), item.flags, item.value)
 }
 
-// The fault of one attribute by its own tests: class, flags, length, value.
+// The fault of one attribute by its own tests: class, flags, length, value. Part of its callers' loops, too.
 #[inline(always)]
 pub(crate) fn own_fault(kind: AttributeType, flags: Flags, value: &[u8]) -> Option<UpdateFault>
     ensures { result ≡ first_fault (tests_of kind flags.octet value.now) }
