@@ -25,6 +25,10 @@ row_record time (place, row) =
 abbrev pub dump_records : Plan → ℕ → List TableRow → ℕ → List MrtRecord
 dump_records plan client rows time = index_record plan client time ∷ map (row_record time) (enumerate_from 0 rows)
 
+-- the octets of the records of rows, of which the first has this place among all rows
+abbrev pub spelled_rows : ℕ → ℕ → List TableRow → List ℕ
+spelled_rows time first rows = flat_map record_spelling (map (row_record time) (enumerate_from first rows))
+
 -- the octets of a dump, and nothing else
 unfoldable pub dumped : Plan → ℕ → List TableRow → ℕ → List ℕ
 dumped plan client rows time = flat_map record_spelling (dump_records plan client rows time)

@@ -7,7 +7,7 @@ ghost use Rattle.rs_table.specs.RouteView.{row_of};
 ghost use Rattle.rs_dump.specs.Dump.{dumped};
 
 use crate::fault::DumpFault;
-use crate::under_way::{add_row, begin_dump};
+use crate::under_way::{add_rows, begin_dump};
 use rs_choice::Exchange;
 use rs_mrt::{Write, write_all};
 use rs_table::Row;
@@ -45,9 +45,7 @@ pub fn write_dump<W: Write>(
         return Err(DumpFault::TooManyRows);
     };
     let mut buffer = begin_dump(alloc, plan, client, time)?;
-    for (sequence, row) in rows.iter().enumerate() {
-        add_row(out, &mut buffer, time, sequence as u32, row)?;
-    }
+    add_rows(out, &mut buffer, time, 0, rows)?;
     write_all(out, &buffer)?;
     Ok(count)
 }

@@ -1,27 +1,34 @@
 //! The dump of a client's table (RFC 6396, section 4.3) without a list of its rows.
 
-ghost use Rattle.std.specs.Prelude.{◌≡◌, ◌+◌, ◌<◌, ◌≤◌, ◌↔◌, All, length, IfNone, IfOk, IfSome, IsErrOf, IsTrue};
-ghost use Rattle.std.specs.Prelude.{OnOk, OnSome};
+ghost use Rattle.std.specs.Prelude.{◌≡◌, ◌+◌, ◌<◌, ◌≤◌, ◌↔◌, ◌++◌, [], All, length, map, IfNone, IfOk, IfSome};
+ghost use Rattle.std.specs.Prelude.{IsErrOf, IsTrue, IsFalse, OnOk, OnSome, vec_capacity};
 ghost use Rattle.std.specs.Io.KnownBytes.{Appends};
 ghost use Rattle.rs_mrt.specs.Stream.{AppendsBeginning};
+ghost use Rattle.rs_table.specs.RouteView.{row_of};
 ghost use Rattle.rs_table.specs.Table.{table_of};
 ghost use Rattle.rs_dump.specs.Dump.{dumped};
 
 use crate::fault::DumpFault;
-use crate::under_way::{add_row, begin_dump};
+use crate::side_by_side::add_side_by_side;
+use crate::under_way::begin_dump;
 use rs_mrt::{Write, write_all};
-use rs_table::{ClientRows, Tables, table_is_computed};
+use rs_table::{ClientRows, Row, Tables, table_is_computed};
 use std::alloc::Global;
+use std::thread::Threads;
 
 // How many rows a dump can number: a Sequence Number has four octets (RFC 6396, section 4.3.2).
 const MAX_ROWS: usize = 4294967295;
 
+// How many rows are gathered before they are spelled: this bounds the memory that is taken for octets of rows.
+const BLOCK_LEN: usize = 16384;
+
 /// Writes the dump of a client's table to `out` as `write_dump` does with the rows of that table, and answers
-/// their number. It takes each row from the tables only when it is written.
+/// their number. Many rows are spelled side by side on threads, at most 16,384 at a time.
 ///
 /// `TooManyRows` comes exactly where the table has more than 4,294,967,295 rows, and is tested first.
 /// `TooManyRows` and `Memory` leave `out` as it was; after `Write` a beginning of the dump is out.
-pub fn write_table_dump<W: Write>(
+pub fn write_table_dump<T: Threads + Sync, W: Write>(
+    rt: &T,
     alloc: Global,
     out: &mut W,
     tables: &Tables,
@@ -42,17 +49,38 @@ pub fn write_table_dump<W: Write>(
         (dumped tables.now.plan client (table_of tables.now client) time) }
     ensures failed_failures { IsErrOf result DumpFault.Write → W.failures out.new ≡ W.failures out.old + 1 }
 {
-    let Some(rows) = numbered_rows(tables, client) else {
+    let Some(mut rows) = numbered_rows(tables, client) else {
         return Err(DumpFault::TooManyRows);
     };
     let mut buffer = begin_dump(alloc, tables.plan(), client, time)?;
-    let mut count = 0;
-    for row in rows {
-        add_row(out, &mut buffer, time, count, &row)?;
-        count += 1;
+    let mut block = Vec::with_capacity(alloc, BLOCK_LEN)?;
+    let mut count: u32 = 0;
+    while gather(&mut rows, &mut block) {
+        add_side_by_side(rt, alloc, out, &mut buffer, time, count, &block)?;
+        count += block.len() as u32;
     }
     write_all(out, &buffer)?;
     Ok(count)
+}
+
+// Gathers the next rows in place of those that were there, as many as a block has; answers whether there were any.
+fn gather<'a>(rows: &mut ClientRows<'a>, block: &mut Vec<Row<'a>>) -> bool
+    requires { BLOCK_LEN ≤ vec_capacity block.old }
+    ensures gathered { rows.old ≡ map row_of block.new.items ++ rows.new }
+    ensures some { IsTrue result → 0 < length block.new.items }
+    ensures none { IsFalse result → rows.old ≡ [] }
+    ensures capacity { BLOCK_LEN ≤ vec_capacity block.new }
+{
+    block.clear();
+    while block.len() < BLOCK_LEN {
+        let Some(row) = rows.next() else {
+            break;
+        };
+        let Ok(()) = block.push(row) else {
+            unreachable!();
+        };
+    }
+    !block.is_empty()
 }
 
 // The rows of a client's table, where a dump can number them all.

@@ -3,12 +3,13 @@
 //! Our choices: one buffer, taken before the first write, in which records are spelled; it is written in
 //! pieces of 64 KiB or more, and nothing is flushed.
 
-ghost use Rattle.std.specs.Prelude.{◌≡◌, ◌+◌, ◌<◌, ◌≤◌, [], ◌++◌, length, IfOk, OnOk, OnErr, vec_capacity};
+ghost use Rattle.std.specs.Prelude.{◌≡◌, ◌+◌, ◌<◌, ◌≤◌, [], ◌++◌, All, length, map, IfOk, OnOk, OnErr};
+ghost use Rattle.std.specs.Prelude.{vec_capacity};
 ghost use Rattle.rs_mrt.specs.Record.{record_spelling};
 ghost use Rattle.rs_mrt.specs.Stream.{AppendsBeginning};
 ghost use Rattle.rs_table.specs.RouteView.{row_of};
 ghost use Rattle.rs_dump.specs.Buffer.{HasRoom};
-ghost use Rattle.rs_dump.specs.Dump.{dumped, row_record};
+ghost use Rattle.rs_dump.specs.Dump.{dumped, row_record, spelled_rows};
 ghost use Rattle.rs_dump.specs.UnderWay.{IsUnderWay};
 
 use crate::peer_index::spell_peer_index;
@@ -43,7 +44,7 @@ pub(crate) fn begin_dump(
 
 // Adds the record of a row, whose place among the rows is its Sequence Number; what waits is written first,
 // where that is a piece.
-pub(crate) fn add_row<W: Write>(
+fn add_row<W: Write>(
     out: &mut W,
     buffer: &mut Vec<u8>,
     time: u32,
@@ -62,6 +63,54 @@ pub(crate) fn add_row<W: Write>(
 {
     make_room(out, buffer)?;
     spell_row(buffer, time, sequence, row);
+    Ok(())
+}
+
+// Adds the records of rows, of which the first has this place among all rows.
+pub(crate) fn add_rows<W: Write>(
+    out: &mut W,
+    buffer: &mut Vec<u8>,
+    time: u32,
+    first: u32,
+    rows: &[Row],
+) -> Result<(), Failed>
+    requires peers_known { All (λ row. row.route.peer < 65536) (map row_of rows.now) }
+    requires numbered { first + length rows.now ≤ u32.MAX }
+    requires failures { W.failures out.old < u64.MAX }
+    requires capacity { BUFFER_LEN ≤ vec_capacity buffer.old }
+    ensures ok { OnOk result (IsUnderWay (W.taken out.old) (W.taken out.new) buffer.new.items
+        (buffer.old.items ++ spelled_rows time first (map row_of rows.now))) }
+    ensures ok_failures { OnOk result (W.failures out.new ≡ W.failures out.old) }
+    ensures err { OnErr result (AppendsBeginning (W.taken out.old) (W.taken out.new)
+        (buffer.old.items ++ spelled_rows time first (map row_of rows.now))) }
+    ensures err_failures { OnErr result (W.failures out.new ≡ W.failures out.old + 1) }
+    ensures capacity { BUFFER_LEN ≤ vec_capacity buffer.new }
+{
+    for place in 0..rows.len() {
+        add_row(out, buffer, time, first + place as u32, &rows[place])?;
+    }
+    Ok(())
+}
+
+// Adds octets that are spelled: what waits is written first, and then these are.
+pub(crate) fn add_octets<W: Write>(
+    out: &mut W,
+    buffer: &mut Vec<u8>,
+    octets: &[u8],
+) -> Result<(), Failed>
+    requires failures { W.failures out.old < u64.MAX }
+    requires capacity { BUFFER_LEN ≤ vec_capacity buffer.old }
+    ensures ok { OnOk result (IsUnderWay (W.taken out.old) (W.taken out.new) buffer.new.items
+        (buffer.old.items ++ octets.now)) }
+    ensures ok_failures { OnOk result (W.failures out.new ≡ W.failures out.old) }
+    ensures err { OnErr result (AppendsBeginning (W.taken out.old) (W.taken out.new)
+        (buffer.old.items ++ octets.now)) }
+    ensures err_failures { OnErr result (W.failures out.new ≡ W.failures out.old + 1) }
+    ensures capacity { BUFFER_LEN ≤ vec_capacity buffer.new }
+{
+    write_all(out, buffer)?;
+    buffer.clear();
+    write_all(out, octets)?;
     Ok(())
 }
 

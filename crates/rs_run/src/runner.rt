@@ -109,7 +109,7 @@ pub fn run<T: Threads + Wait + Sync, O: Outlet, W: Write, R: Read + Send + Drop>
         → report.new ≡ report.old }
 {
     let served = serve_files(rt, alloc, &setup.plan, readers, options)?;
-    let text = keep_dumps(alloc, &setup.plan, &served, options.time, outlet)?;
+    let text = keep_dumps(rt, alloc, &setup.plan, &served, options.time, outlet)?;
     match write_all(report, text.as_bytes()) {
         Ok(()) => Ok(()),
         Err(_) => Err(RunFault::Report),
@@ -154,7 +154,8 @@ fn serve_files<T: Threads + Wait + Sync, R: Read + Send + Drop>(
 }
 
 // Keeps the dump of each client, and answers the report.
-fn keep_dumps<O: Outlet>(
+fn keep_dumps<T: Threads + Sync, O: Outlet>(
+    rt: &T,
     alloc: Global,
     plan: &Exchange,
     served: &Served,
@@ -175,14 +176,15 @@ fn keep_dumps<O: Outlet>(
     add_peer_lines(&mut text, plan, served)?;
     for client in 0..plan.count() {
         let name = plan.peer(client).name.as_str();
-        let rows = keep_dump(alloc, served.tables(), client, name, time, outlet)?;
+        let rows = keep_dump(rt, alloc, served.tables(), client, name, time, outlet)?;
         add_table_line(&mut text, name, rows)?;
     }
     Ok(text)
 }
 
 // Writes and keeps the dump of one client, of this name, and answers how many rows its table has.
-fn keep_dump<O: Outlet>(
+fn keep_dump<T: Threads + Sync, O: Outlet>(
+    rt: &T,
     alloc: Global,
     tables: &Tables,
     client: usize,
@@ -207,7 +209,7 @@ fn keep_dump<O: Outlet>(
     let Ok(mut out) = outlet.start(file.as_str()) else {
         return Err(RunFault::Dump(client));
     };
-    match write_table_dump(alloc, &mut out, tables, client, time) {
+    match write_table_dump(rt, alloc, &mut out, tables, client, time) {
         Ok(count) => match outlet.keep(file.as_str(), out) {
             Ok(()) => Ok(count),
             Err(_) => Err(RunFault::Dump(client)),

@@ -7,6 +7,7 @@ ghost use Rattle.table_tests.specs.Parts.{IsEmpty, IsOpen, IsOnPrefix};
 use super::*;
 use refusals::{Fixed, dump_again, exchange_again};
 use rs_dump::{DumpFault, write_table_dump};
+use std::thread::Threads;
 
 // The path 64501, not to AS 64502, and the path 64503 65010 of c's.
 const OF_A: &str = "40010100 4002060201 0000FBF5 400304C000020B C00804 0000FBF6";
@@ -127,7 +128,13 @@ fn collectors_file(alloc: Global, plan: &Arc<Exchange>) -> Option<Tables> {
 
 // The rows of a client are dumped as wanted, listed and one after another, also where memory is refused once:
 // then nothing is written.
-fn are_dumped(rt: &impl Abort, alloc: Global, tables: &Tables, client: usize, gets: Gets) {
+fn are_dumped<T: Abort + Threads + Sync>(
+    rt: &T,
+    alloc: Global,
+    tables: &Tables,
+    client: usize,
+    gets: Gets,
+) {
     let (name, spelled) = gets;
     let wanted = dump_of(alloc, name, spelled)
         .or_else(|| dump_of(alloc, name, spelled))
@@ -145,13 +152,18 @@ fn are_dumped(rt: &impl Abort, alloc: Global, tables: &Tables, client: usize, ge
 }
 
 // The dump of a client's table, without a list of its rows, and how many they are.
-fn table_dump(rt: &impl Abort, alloc: Global, tables: &Tables, client: usize) -> (u32, Fixed) {
+fn table_dump<T: Abort + Threads + Sync>(
+    rt: &T,
+    alloc: Global,
+    tables: &Tables,
+    client: usize,
+) -> (u32, Fixed) {
     assert!(rt; client < tables.count());
     let mut out = Fixed::new();
-    let mut answer = write_table_dump(alloc, &mut out, tables, client, 0);
+    let mut answer = write_table_dump(rt, alloc, &mut out, tables, client, 0);
     if answer == Err(DumpFault::Memory) {
         assert_eq!(rt; out.octets(), Some([].as_slice()));
-        answer = write_table_dump(alloc, &mut out, tables, client, 0);
+        answer = write_table_dump(rt, alloc, &mut out, tables, client, 0);
     }
     (answer.expect(rt, "a dump"), out)
 }

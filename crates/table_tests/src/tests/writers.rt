@@ -4,6 +4,7 @@ use super::*;
 use dumps::{PLAIN_DUMP, dump, row};
 use rs_dump::{DumpFault, write_table_dump};
 use rs_mrt::{Limits, MemoryWriter};
+use std::thread::Threads;
 
 // A writer that takes so many octets at a call.
 fn in_pieces(piece: usize) -> Limits {
@@ -61,8 +62,8 @@ fn a_writer_may_take_one_octet_a_call(rt: HostRuntime) {
 
 // Writes the dump of the table of a client to memory within the limits; answers what `write_table_dump` does,
 // and what the writer has taken then.
-fn table_dump(
-    rt: &impl Abort,
+fn table_dump<T: Abort + Threads + Sync>(
+    rt: &T,
     alloc: Global,
     limits: Limits,
     tables: &Tables,
@@ -70,7 +71,7 @@ fn table_dump(
 ) -> (Result<u32, DumpFault>, Vec<u8>) {
     assert!(rt; client < tables.count());
     let mut out = MemoryWriter::new(alloc, limits);
-    let answer = write_table_dump(alloc, &mut out, tables, client, 0);
+    let answer = write_table_dump(rt, alloc, &mut out, tables, client, 0);
     (answer, out.into_octets())
 }
 
@@ -85,6 +86,48 @@ fn a_table_is_dumped_and_may_fail_at_each_octet(rt: HostRuntime) {
     for calls in 0..97 {
         let (answer, written) = table_dump(&rt, alloc, failing_after(calls, 1), &tables, B);
         check_cut(&rt, calls, answer, &written, &whole);
+    }
+}
+
+// Tables of two peers, of which the first has a route on each of so many prefixes.
+fn many_routes(rt: &impl Abort, alloc: Global, count: u32) -> Tables {
+    let mut tables = tables(alloc, subnet(), first_peers(2)).expect(rt, "tables");
+    for number in 0..count.min(60000) {
+        let prefix = Prefix::new(0x1400_0000 + number * 256, 24);
+        let route = attributes(alloc, VIA_64501);
+        announce(rt, &mut tables, (A, 100 + number), prefix, route);
+    }
+    tables
+}
+
+// 18,500 rows are dumped in a block of eight parts and one of two, and 2,049 in two parts, which are spelled side
+// by side: with the octets of the same rows in a list. Writes are refused in turn, the last of each dump among them.
+#[test]
+fn many_rows_are_dumped_as_they_are_listed(rt: HostRuntime) {
+    let alloc = rt.alloc();
+    for (count, first, writes) in [(2048, 0, 2), (2049, 0, 3), (18500, 9, 11)] {
+        let tables = many_routes(&rt, alloc, count);
+        let rows = tables.rows(B).expect(&rt, "rows");
+        let (answer, listed) = dump(&rt, alloc, Limits::none(), (tables.plan(), B, 0), &rows);
+        assert_eq!(rt; (answer, rows.len()), (Ok(count), count as usize));
+        let (answer, whole) = table_dump(&rt, alloc, Limits::none(), &tables, B);
+        assert_eq!(rt; answer, Ok(count));
+        assert!(rt; whole == listed);
+        for calls in first..writes {
+            let limits = failing_after(calls, usize::MAX);
+            let (answer, written) = table_dump(&rt, alloc, limits, &tables, B);
+            assert_eq!(rt; answer, Err(DumpFault::Write), "after {calls} writes");
+            assert!(rt; written.len() < whole.len() && whole.starts_with(&written));
+        }
+        let (answer, written) = table_dump(
+            &rt,
+            alloc,
+            failing_after(writes, usize::MAX),
+            &tables,
+            B,
+        );
+        assert_eq!(rt; answer, Ok(count));
+        assert!(rt; written == whole);
     }
 }
 

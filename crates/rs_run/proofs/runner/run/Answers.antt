@@ -7,6 +7,7 @@ use Rattle.rs_run.proofs.runner.run.Goals as goal
 
 pub keep_dumps-requires-clause-one_for_each : goal.keep_dumps-requires-clause-one_for_each
 keep_dumps-requires-clause-one_for_each g c =
+    λ _ _.
     let read = c.in_ok-served.ensures.served in
     ap (λ (ends : List PeerEnd). length ends) read.2.1 ∙ length-ends c.args.options.now.errors c.args.setup.now.plan.value read.0 (read.1.as_many ∙ c.requires.one_for_each)
     ∙ sym (ap (λ (held : Plan). length held.peers) c.deref.ensures)

@@ -1,0 +1,18 @@
+use Rattle.std.proofs.Common.{◌≡◌, ◌≤◌, ◌*◌, ◌++◌, map, take, vec_capacity}
+use Rattle.rs_table.specs.RouteView.{row_of}
+use Rattle.rs_dump.specs.declared.under_way.TheConstants.{BUFFER_LEN}
+use Rattle.rs_dump.specs.declared.side_by_side.TheConstants.{PART_LEN}
+use Rattle.rs_dump.specs.Dump.{spelled_rows}
+use Rattle.rs_dump.specs.UnderWay.{IsUnderWay}
+use Rattle.rs_dump.proofs.side_by_side.add_parts.Given as goal
+
+-- what is out and what waits in the buffer are what waited and the records of the parts so far
+abbrev pub invariant-loop-number : goal.invariant-loop-number
+invariant-loop-number g l =
+    let W = g.W.Write in
+    record {
+      under_way : IsUnderWay (W.taken l.fn.out) (W.taken l.out) l.buffer.items
+          (l.fn.buffer.items ++ spelled_rows l.time l.first (map row_of (take (l.number * PART_LEN) l.rows)));
+      failures : W.failures l.out ≡ W.failures l.fn.out;
+      capacity : BUFFER_LEN ≤ vec_capacity l.buffer;
+    }
