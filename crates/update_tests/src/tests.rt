@@ -12,10 +12,11 @@ mod written_forms;
 
 use rs_update::{
     Aggregator, Attributes, Errors, HeaderFault, Message, MessageFault, Origin, Prefix, Segment,
-    Update, UpdateFault, read_message, read_message_by, write_attributes,
+    Segments, Update, UpdateFault, read_message, read_message_by, write_attributes,
 };
 use spelled_in_hex::octets;
 use std::alloc::Global;
+use std::process::Abort;
 use std::test::Fail;
 
 // The Marker of a header.
@@ -51,6 +52,16 @@ fn update(alloc: Global, withdrawn: &str, attributes: &[u8], nlri: &str) -> Resu
     Ok(message)
 }
 
+// An UPDATE whose path attributes are spelled too.
+fn spelled_update(
+    alloc: Global,
+    withdrawn: &str,
+    attributes: &[&str],
+    nlri: &str,
+) -> Result<Vec<u8>, Fail> {
+    update(alloc, withdrawn, &octets(alloc, attributes)?, nlri)
+}
+
 // What a message says: its type, and of an UPDATE how many prefixes; or its first fault.
 fn says(alloc: Global, message: &[u8]) -> Result<String, Fail> {
     text_of(alloc, read_message(alloc, message))
@@ -84,6 +95,16 @@ fn text_of(alloc: Global, answer: Result<Message, MessageFault>) -> Result<Strin
     Ok(text)
 }
 
+// Asserts that a text is the wanted one, in a case that these texts name.
+fn check_text(rt: &impl Abort, text: &str, wanted: &str, case: &[&str]) {
+    assert_eq!(rt; text, wanted, "{case:?}");
+}
+
+// Asserts that octets are the wanted ones, in a case that these texts name.
+fn check_octets(rt: &impl Abort, octets: &[u8], wanted: &[u8], case: &[&str]) {
+    assert_eq!(rt; octets, wanted, "{case:?}");
+}
+
 // The UPDATE that a message is, which must be one.
 fn update_of(alloc: Global, message: &[u8]) -> Result<Update, Fail> {
     match read_message(alloc, message)? {
@@ -100,4 +121,24 @@ fn attributes_of(alloc: Global, attributes: &[u8]) -> Result<Attributes, Fail> {
             .attributes
             .ok_or("no attributes")?,
     )
+}
+
+// The attributes of an UPDATE whose routes stand.
+fn standing(answer: Result<Message, MessageFault>) -> Result<Attributes, Fail> {
+    let Message::Update(read) = answer? else {
+        return Err(Fail::from("not an UPDATE that stands"));
+    };
+    Ok(read.attributes.ok_or("no attributes")?)
+}
+
+// A prefix of at most 32 bits.
+fn prefix(address: u32, len: u8) -> Result<Prefix, Fail> {
+    Ok(Prefix::new(address, len).ok_or("a length up to 32")?)
+}
+
+// Whether prefixes are these, in order.
+fn are_prefixes(prefixes: &[Prefix], wanted: &[(u32, u8)]) -> bool {
+    prefixes.len() == wanted.len()
+        && prefixes.iter().zip(wanted).all(|(prefix, (address, len))| prefix.address() == *address
+            && prefix.len() == *len)
 }

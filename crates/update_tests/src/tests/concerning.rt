@@ -7,6 +7,22 @@ use rs_update::{concerns_prefix, covers};
 // ORIGIN, AS_PATH and NEXT_HOP.
 const MANDATORY: &str = "40010100 40020602010000FBF5 400304C000020B";
 
+// Asserts whether a message may concern the prefix, by RFC 4271 and by RFC 7606.
+fn check_concerns(
+    rt: &impl Abort,
+    message: &[u8],
+    by_both: (bool, bool),
+    name: &str,
+) -> Result<(), Fail> {
+    let prefix = prefix(0xCB00_7100, 24)?;
+    let concerns = (
+        concerns_prefix(Errors::Rfc4271, message, prefix),
+        concerns_prefix(Errors::Rfc7606, message, prefix),
+    );
+    assert_eq!(rt; concerns, by_both, "{name}");
+    Ok(())
+}
+
 // What an UPDATE is, its withdrawn routes, path attributes and NLRI, and whether it may concern the prefix by
 // RFC 4271 and by RFC 7606.
 const UPDATES: &[(&str, &str, &str, &str, bool, bool)] = &[
@@ -143,19 +159,9 @@ const UPDATES: &[(&str, &str, &str, &str, bool, bool)] = &[
 #[test]
 fn updates_that_may_concern_a_prefix(rt: HostRuntime) -> Result<(), Fail> {
     let alloc = rt.alloc();
-    let prefix = Prefix::new(0xCB00_7100, 24).ok_or("a length of 24")?;
     for (name, withdrawn, attributes, nlri, by_rfc_4271, by_rfc_7606) in UPDATES {
-        let message = update(alloc, withdrawn, &octets(alloc, &[attributes])?, nlri)?;
-        assert_eq!(rt;
-            concerns_prefix(Errors::Rfc4271, &message, prefix),
-            *by_rfc_4271,
-            "{name}"
-        );
-        assert_eq!(rt;
-            concerns_prefix(Errors::Rfc7606, &message, prefix),
-            *by_rfc_7606,
-            "{name}"
-        );
+        let message = spelled_update(alloc, withdrawn, &[attributes], nlri)?;
+        check_concerns(&rt, &message, (*by_rfc_4271, *by_rfc_7606), name)?;
     }
     Ok(())
 }
@@ -174,19 +180,9 @@ const OTHER_MESSAGES: &[(&str, &str, bool)] = &[
 #[test]
 fn messages_of_other_types_and_faults_may_concern_it(rt: HostRuntime) -> Result<(), Fail> {
     let alloc = rt.alloc();
-    let prefix = Prefix::new(0xCB00_7100, 24).ok_or("a length of 24")?;
     for (name, behind, wanted) in OTHER_MESSAGES {
         let message = octets(alloc, &[MARKER, behind])?;
-        assert_eq!(rt;
-            concerns_prefix(Errors::Rfc4271, &message, prefix),
-            *wanted,
-            "{name}"
-        );
-        assert_eq!(rt;
-            concerns_prefix(Errors::Rfc7606, &message, prefix),
-            *wanted,
-            "{name}"
-        );
+        check_concerns(&rt, &message, (*wanted, *wanted), name)?;
     }
     Ok(())
 }
@@ -204,10 +200,10 @@ const COVERS: &[(u32, u8, bool)] = &[
 
 #[test]
 fn a_prefix_covers_itself_and_more_specific_ones(rt: HostRuntime) -> Result<(), Fail> {
-    let prefix = Prefix::new(0xCB00_7100, 24).ok_or("a length of 24")?;
+    let narrow = prefix(0xCB00_7100, 24)?;
     for (address, len, wanted) in COVERS {
-        let wide = Prefix::new(*address, *len).ok_or("a length up to 32")?;
-        assert_eq!(rt; covers(wide, prefix), *wanted, "{address}/{len}");
+        let wide = prefix(*address, *len)?;
+        assert_eq!(rt; covers(wide, narrow), *wanted, "{address}/{len}");
     }
     Ok(())
 }

@@ -236,44 +236,61 @@ fn written_by(alloc: Global, errors: Errors, message: &[u8]) -> Result<Vec<u8>, 
     Ok(written)
 }
 
-// Whether attributes are read as the slow reading reads them, by both standards, with a route and without one:
-// what is said of them, and what is written.
+// Whether an UPDATE of attributes with so many routes is read by a standard as the slow reading reads it: what is
+// said of it, and what is written.
+fn is_read_by(
+    alloc: Global,
+    errors: Errors,
+    attributes: &[Received],
+    message: &[u8],
+    count: usize,
+) -> Result<bool, Fail> {
+    let found = match errors {
+        Errors::Rfc4271 => by_rfc_4271(attributes, count != 0),
+        Errors::Rfc7606 => by_rfc_7606(attributes, count != 0),
+    };
+    let kept = if count != 0 && found == (None, false) {
+        slow_written(alloc, attributes)?
+    } else {
+        Vec::new(alloc)
+    };
+    let written = written_by(alloc, errors, message)?;
+    Ok(
+        written.as_slice() == kept.as_slice()
+            && says_by(alloc, errors, message)? == slow_text(alloc, found, count)?,
+    )
+}
+
+// Whether an UPDATE of attributes, with a route or without one, is read as the slow reading reads it, by both
+// standards, and by RFC 4271 where none is named.
+fn is_read(alloc: Global, attributes: &[Received], nlri: &str, count: usize) -> Result<bool, Fail> {
+    let message = update(alloc, "", &section(alloc, attributes)?, nlri)?;
+    Ok(
+        is_read_by(alloc, Errors::Rfc4271, attributes, &message, count)?
+            && is_read_by(alloc, Errors::Rfc7606, attributes, &message, count)?
+            && says(alloc, &message)? == says_by(alloc, Errors::Rfc4271, &message)?,
+    )
+}
+
+// Whether attributes are read as the slow reading reads them, with a route and without one.
 fn are_read(alloc: Global, attributes: &[Received]) -> Result<bool, Fail> {
-    let section = section(alloc, attributes)?;
-    let kept = slow_written(alloc, attributes)?;
-    for (nlri, count) in [("", 0), (ROUTE, 1)] {
-        let message = update(alloc, "", &section, nlri)?;
-        for (errors, found) in [
-            (Errors::Rfc4271, by_rfc_4271(attributes, count != 0)),
-            (Errors::Rfc7606, by_rfc_7606(attributes, count != 0)),
-        ] {
-            let stands = count != 0 && found == (None, false);
-            let written = written_by(alloc, errors, &message)?;
-            if says_by(alloc, errors, &message)? != slow_text(alloc, found, count)?
-                || written.as_slice() != if stands { kept.as_slice() } else { &[] }
-            {
-                return Ok(false);
-            }
-        }
-        let found = by_rfc_4271(attributes, count != 0);
-        if says(alloc, &message)? != slow_text(alloc, found, count)? {
-            return Ok(false);
-        }
-    }
-    Ok(true)
+    Ok(is_read(alloc, attributes, "", 0)? && is_read(alloc, attributes, ROUTE, 1)?)
+}
+
+// Asserts that attributes, with the mandatory ones, are read as the slow reading reads them.
+fn check_read(rt: &impl Abort, alloc: Global, others: &[(u8, u8, &str)]) -> Result<(), Fail> {
+    let attributes = with_mandatory(alloc, others)?;
+    assert!(rt; are_read(alloc, &attributes)?, "{others:?}");
+    Ok(())
 }
 
 #[test]
 fn each_attribute_alone_and_before_each_other(rt: HostRuntime) -> Result<(), Fail> {
     let alloc = rt.alloc();
     for one in ATTRIBUTES {
-        assert!(rt;
-            are_read(alloc, &with_mandatory(alloc, &[*one])?)?,
-            "{one:?}"
-        );
+        check_read(&rt, alloc, &[*one])?;
         for other in ATTRIBUTES {
-            let both = with_mandatory(alloc, &[*one, *other])?;
-            assert!(rt; are_read(alloc, &both)?, "{one:?} {other:?}");
+            check_read(&rt, alloc, &[*one, *other])?;
         }
     }
     Ok(())
@@ -301,9 +318,9 @@ const UPDATES: &[(&str, &str, &str, &str)] = &[
 fn what_closes_comes_before_what_is_treated(rt: HostRuntime) -> Result<(), Fail> {
     let alloc = rt.alloc();
     for (withdrawn, attributes, nlri, wanted) in UPDATES {
-        let message = update(alloc, withdrawn, &octets(alloc, &[attributes])?, nlri)?;
+        let message = spelled_update(alloc, withdrawn, &[attributes], nlri)?;
         let said = says_by(alloc, Errors::Rfc7606, &message)?;
-        assert_eq!(rt; said.as_str(), *wanted, "{withdrawn}, {attributes}, {nlri}");
+        check_text(&rt, &said, wanted, &[withdrawn, attributes, nlri]);
     }
     Ok(())
 }
@@ -329,18 +346,21 @@ const DISCARDED: &[(&str, &str)] = &[
     ),
 ];
 
+// What is written of attributes as received, whose route stands by RFC 7606.
+fn written_of(alloc: Global, received: &str) -> Result<Vec<u8>, Fail> {
+    let message = spelled_update(alloc, "", &[received], ROUTE)?;
+    let attributes = standing(read_message_by(alloc, Errors::Rfc7606, &message))?;
+    let mut out = Vec::new(alloc);
+    write_attributes(&attributes, &mut out)?;
+    Ok(out)
+}
+
 #[test]
 fn what_is_discarded_is_as_though_not_received(rt: HostRuntime) -> Result<(), Fail> {
     let alloc = rt.alloc();
     for (received, wanted) in DISCARDED {
-        let message = update(alloc, "", &octets(alloc, &[received])?, ROUTE)?;
-        let Message::Update(read) = read_message_by(alloc, Errors::Rfc7606, &message)? else {
-            return Err(Fail::from("not an UPDATE that stands"));
-        };
-        let mut out = Vec::new(alloc);
-        write_attributes(&read.attributes.ok_or("no attributes")?, &mut out)?;
         let wanted = octets(alloc, &[wanted])?;
-        assert_eq!(rt; out.as_slice(), wanted.as_slice(), "{received}");
+        check_octets(&rt, &written_of(alloc, received)?, &wanted, &[received]);
     }
     Ok(())
 }
@@ -348,20 +368,12 @@ fn what_is_discarded_is_as_though_not_received(rt: HostRuntime) -> Result<(), Fa
 #[test]
 fn a_treated_update_lists_all_its_prefixes_in_order(rt: HostRuntime) -> Result<(), Fail> {
     let alloc = rt.alloc();
-    let message = update(
-        alloc,
-        "080A 00",
-        &octets(alloc, &["80060100"])?,
-        "18CB0071 080A",
-    )?;
+    let message = spelled_update(alloc, "080A 00", &["80060100"], "18CB0071 080A")?;
     let Message::Treated { withdrawn, nlri } = read_message_by(alloc, Errors::Rfc7606, &message)?
     else {
         return Err(Fail::from("not treated as withdrawn"));
     };
-    let lens = (
-        withdrawn.iter().map(|prefix| prefix.len()),
-        nlri.iter().map(|prefix| prefix.len()),
-    );
-    assert!(rt; lens.0.eq([8, 0]) && lens.1.eq([24, 8]));
+    assert!(rt; are_prefixes(&withdrawn, &[(0x0A00_0000, 8), (0, 0)]));
+    assert!(rt; are_prefixes(&nlri, &[(0xCB00_7100, 24), (0x0A00_0000, 8)]));
     Ok(())
 }

@@ -1,6 +1,7 @@
 //! The header of a message (RFC 4271, sections 4.1 and 6.1), the five types, and the lengths in an UPDATE.
 
 use super::*;
+use std::fmt::Display;
 
 // A header and the octets behind it, how many octets of 0 follow, and what the message says.
 const MESSAGES: &[(&str, usize, &str)] = &[
@@ -52,55 +53,88 @@ const MESSAGES: &[(&str, usize, &str)] = &[
     ),
 ];
 
+// A message of a marker, these octets, and as many octets of 0.
+fn message(alloc: Global, text: &str, zeros: usize) -> Result<Vec<u8>, Fail> {
+    let mut message = octets(alloc, &[MARKER, text])?;
+    message.extend_from_slice(&vec![in alloc; 0; zeros]?)?;
+    Ok(message)
+}
+
+// Asserts what a message says.
+fn check_says(
+    rt: &impl Abort,
+    alloc: Global,
+    message: &[u8],
+    wanted: &str,
+    name: &str,
+) -> Result<(), Fail> {
+    check_text(rt, &says(alloc, message)?, wanted, &[name]);
+    Ok(())
+}
+
 #[test]
 fn messages_by_their_headers(rt: HostRuntime) -> Result<(), Fail> {
     let alloc = rt.alloc();
     for (text, zeros, wanted) in MESSAGES {
-        let mut message = octets(alloc, &[MARKER, text])?;
-        message.extend_from_slice(&vec![in alloc; 0; *zeros]?)?;
-        assert_eq!(rt; says(alloc, &message)?.as_str(), *wanted, "{text}");
+        check_says(&rt, alloc, &message(alloc, text, *zeros)?, wanted, text)?;
     }
     Ok(())
+}
+
+// What a KEEPALIVE says with an octet of 0 at a place of its marker.
+fn says_without(alloc: Global, place: usize) -> Result<String, Fail> {
+    let mut message = message(alloc, "0013 04", 0)?;
+    if let Some(octet) = message.get_mut(place) {
+        *octet = 0;
+    }
+    says(alloc, &message)
 }
 
 #[test]
 fn a_marker_is_sixteen_octets_of_ones(rt: HostRuntime) -> Result<(), Fail> {
     let alloc = rt.alloc();
-    let mut message = octets(alloc, &[MARKER, "0013 04"])?;
     for place in 0..16 {
-        if let Some(octet) = message.get_mut(place) {
-            *octet = 0;
-        }
-        assert_eq!(rt; says(alloc, &message)?.as_str(), "BGP error 1/1", "{place}");
-        if let Some(octet) = message.get_mut(place) {
-            *octet = 0xFF;
-        }
+        let said = says_without(alloc, place)?;
+        assert_eq!(rt; said.as_str(), "BGP error 1/1", "{place}");
     }
-    assert_eq!(rt; says(alloc, &message)?.as_str(), "KEEPALIVE");
-    assert_eq!(rt; says(alloc, b"")?.as_str(), "BGP error 1/2");
-    assert_eq!(rt; says(alloc, &[0; 18])?.as_str(), "BGP error 1/2");
+    let whole = message(alloc, "0013 04", 0)?;
+    check_says(&rt, alloc, &whole, "KEEPALIVE", "all ones")?;
+    check_says(&rt, alloc, b"", "BGP error 1/2", "no octets")?;
+    check_says(&rt, alloc, &[0; 18], "BGP error 1/2", "18 octets of 0")
+}
+
+// Asserts what a fault is printed as.
+fn check_fault<F: Display + Drop>(
+    rt: &impl Abort,
+    alloc: Global,
+    fault: F,
+    wanted: &str,
+) -> Result<(), Fail> {
+    check_text(rt, &format!(in alloc; "{fault}")?, wanted, &[]);
     Ok(())
 }
 
 #[test]
 fn each_fault_has_a_text_of_the_standard(rt: HostRuntime) -> Result<(), Fail> {
     let alloc = rt.alloc();
-    let texts = [
-        format!(in alloc; "{}", HeaderFault::NotSynchronized)?,
-        format!(in alloc; "{}", HeaderFault::BadLength)?,
-        format!(in alloc; "{}", UpdateFault::MalformedAttributeList)?,
-        format!(in alloc; "{}", UpdateFault::MalformedAsPath)?,
-        format!(in alloc; "{}", MessageFault::Memory)?,
-    ];
-    let wanted = [
+    check_fault(
+        &rt,
+        alloc,
+        HeaderFault::NotSynchronized,
         "Connection Not Synchronized",
-        "Bad Message Length",
+    )?;
+    check_fault(&rt, alloc, HeaderFault::BadLength, "Bad Message Length")?;
+    check_fault(
+        &rt,
+        alloc,
+        UpdateFault::MalformedAttributeList,
         "Malformed Attribute List",
+    )?;
+    check_fault(
+        &rt,
+        alloc,
+        UpdateFault::MalformedAsPath,
         "Malformed AS_PATH",
-        "out of memory",
-    ];
-    for (text, wanted) in texts.iter().zip(wanted) {
-        assert_eq!(rt; text.as_str(), wanted);
-    }
-    Ok(())
+    )?;
+    check_fault(&rt, alloc, MessageFault::Memory, "out of memory")
 }

@@ -15,7 +15,7 @@ const MULTICAST: &[(u32, u8, bool)] = &[
 #[test]
 fn multicast_is_224_to_239(rt: HostRuntime) -> Result<(), Fail> {
     for (address, len, wanted) in MULTICAST {
-        let prefix = Prefix::new(*address, *len).ok_or("a length up to 32")?;
+        let prefix = prefix(*address, *len)?;
         assert_eq!(rt; prefix.is_multicast(), *wanted, "{address}/{len}");
     }
     Ok(())
@@ -23,12 +23,14 @@ fn multicast_is_224_to_239(rt: HostRuntime) -> Result<(), Fail> {
 
 #[test]
 fn a_prefix_has_no_host_bits(rt: HostRuntime) -> Result<(), Fail> {
-    let ten = Prefix::new(0x0A00_0001, 8).ok_or("a length of 8")?;
-    assert_eq!(rt; ten, Prefix::new(0x0A00_0000, 8).ok_or("a length of 8")?);
+    let ten = prefix(0x0A00_0001, 8)?;
+    assert_eq!(rt;
+        (Some(ten), None),
+        (Prefix::new(0x0A00_0000, 8), Prefix::new(0, 33))
+    );
     assert_eq!(rt; (ten.address(), ten.len()), (0x0A00_0000, 8));
-    assert_eq!(rt; Prefix::new(0, 33), None);
-    let longer = Prefix::new(0x0A00_0000, 9).ok_or("a length of 9")?;
-    let lower = Prefix::new(0x0900_0000, 32).ok_or("a length of 32")?;
+    let longer = prefix(0x0A00_0000, 9)?;
+    let lower = prefix(0x0900_0000, 32)?;
     assert!(rt; lower < ten && ten < longer, "by address, then by length");
     Ok(())
 }
@@ -49,25 +51,31 @@ const FIELDS: &[(&str, &[(u32, u8)])] = &[
     ),
 ];
 
-// Whether prefixes are these, in order.
-fn are(prefixes: &[Prefix], wanted: &[(u32, u8)]) -> bool {
-    prefixes.len() == wanted.len()
-        && prefixes.iter().zip(wanted).all(|(prefix, (address, len))| prefix.address() == *address
-            && prefix.len() == *len)
+// The UPDATE of withdrawn routes, path attributes and NLRI, as it is read.
+fn read(alloc: Global, withdrawn: &str, attributes: &[&str], nlri: &str) -> Result<Update, Fail> {
+    update_of(alloc, &spelled_update(alloc, withdrawn, attributes, nlri)?)
+}
+
+// Asserts what a field of withdrawn routes lists, where nothing is announced.
+fn check_withdrawn(rt: &impl Abort, read: &Update, field: &str, wanted: &[(u32, u8)]) {
+    assert!(rt; are_prefixes(&read.withdrawn, wanted), "withdrawn: {field}");
+    assert!(rt; read.nlri.is_empty() && read.attributes.is_none());
+}
+
+// Asserts what NLRI list, where 10.0.0.0/8 is withdrawn.
+fn check_announced(rt: &impl Abort, read: &Update, field: &str, wanted: &[(u32, u8)]) {
+    assert!(rt; are_prefixes(&read.nlri, wanted), "announced: {field}");
+    assert!(rt; are_prefixes(&read.withdrawn, &[(0x0A00_0000, 8)]));
+    assert_eq!(rt; read.attributes.is_some(), !read.nlri.is_empty());
 }
 
 #[test]
 fn both_fields_give_their_prefixes_in_order(rt: HostRuntime) -> Result<(), Fail> {
     let alloc = rt.alloc();
-    let attributes = octets(alloc, &[ORIGIN, AS_PATH, NEXT_HOP])?;
     for (field, wanted) in FIELDS {
-        let read = update_of(alloc, &update(alloc, field, b"", "")?)?;
-        assert!(rt; are(&read.withdrawn, wanted), "withdrawn: {field}");
-        assert!(rt; read.nlri.is_empty() && read.attributes.is_none());
-        let read = update_of(alloc, &update(alloc, "080A", &attributes, field)?)?;
-        assert!(rt; are(&read.nlri, wanted), "announced: {field}");
-        assert!(rt; are(&read.withdrawn, &[(0x0A00_0000, 8)]));
-        assert_eq!(rt; read.attributes.is_some(), !read.nlri.is_empty());
+        check_withdrawn(&rt, &read(alloc, field, &[], "")?, field, wanted);
+        let announced = read(alloc, "080A", &[ORIGIN, AS_PATH, NEXT_HOP], field)?;
+        check_announced(&rt, &announced, field, wanted);
     }
     Ok(())
 }

@@ -23,6 +23,39 @@ fn octets_again(alloc: Global, texts: &[&str]) -> Result<Vec<u8>, Fail> {
     }
 }
 
+// What is written of a route's attributes, written once more where memory was refused.
+fn written_again(rt: &impl Abort, alloc: Global, attributes: &Attributes) -> Result<Vec<u8>, Fail> {
+    let mut out = Vec::new(alloc);
+    if write_attributes(attributes, &mut out).is_err() {
+        assert!(rt; out.is_empty(), "as before");
+        write_attributes(attributes, &mut out)?;
+    }
+    Ok(out)
+}
+
+// Asserts that a route's attributes are written as they are to be.
+fn check_written(rt: &impl Abort, alloc: Global, attributes: &Attributes) -> Result<(), Fail> {
+    let wanted = octets_again(alloc, &[WRITTEN])?;
+    check_octets(rt, &written_again(rt, alloc, attributes)?, &wanted, &[]);
+    Ok(())
+}
+
+// Asserts that a route has two segments of an AS_PATH, and two attributes of unknown type.
+fn check_lists(rt: &impl Abort, attributes: &Attributes) {
+    let mut path = attributes.path();
+    assert!(rt; path.next().is_some() && path.next().is_some() && path.next().is_none());
+    let mut others = attributes.others();
+    assert!(rt; others.next().is_some() && others.next().is_some() && others.next().is_none());
+}
+
+// Asserts that an UPDATE has one prefix withdrawn, two announced, and its attributes.
+fn check_update(rt: &impl Abort, alloc: Global, read: &Update) -> Result<(), Fail> {
+    assert_eq!(rt; (read.withdrawn.len(), read.nlri.len()), (1, 2));
+    let attributes = read.attributes.as_ref().ok_or("no attributes")?;
+    check_lists(rt, attributes);
+    check_written(rt, alloc, attributes)
+}
+
 // The UPDATE, read once more where memory was refused: no other fault may come.
 fn read_again(alloc: Global, received: &[u8]) -> Result<Update, Fail> {
     match read_message(alloc, received) {
@@ -37,21 +70,7 @@ fn read_again(alloc: Global, received: &[u8]) -> Result<Update, Fail> {
 fn refused_memory_is_no_fault_of_a_message(rt: HostRuntime) -> Result<(), Fail> {
     let alloc = rt.alloc();
     let received = octets_again(alloc, &[MARKER, RECEIVED])?;
-    let wanted = octets_again(alloc, &[WRITTEN])?;
-    let read = read_again(alloc, &received)?;
-    assert_eq!(rt; (read.withdrawn.len(), read.nlri.len()), (1, 2));
-    let attributes = read.attributes.ok_or("no attributes")?;
-    let mut path = attributes.path();
-    assert!(rt; path.next().is_some() && path.next().is_some() && path.next().is_none());
-    let mut others = attributes.others();
-    assert!(rt; others.next().is_some() && others.next().is_some() && others.next().is_none());
-    let mut out = Vec::new(alloc);
-    if write_attributes(&attributes, &mut out).is_err() {
-        assert!(rt; out.is_empty(), "as before");
-        write_attributes(&attributes, &mut out)?;
-    }
-    assert_eq!(rt; out.as_slice(), wanted.as_slice());
-    Ok(())
+    check_update(&rt, alloc, &read_again(alloc, &received)?)
 }
 
 // The UPDATE with an ORIGIN more, which RFC 7606 discards.
@@ -63,20 +82,10 @@ const REPEATED: &str =
 fn refused_memory_treats_no_update_as_withdrawn(rt: HostRuntime) -> Result<(), Fail> {
     let alloc = rt.alloc();
     let received = octets_again(alloc, &[MARKER, REPEATED])?;
-    let wanted = octets_again(alloc, &[WRITTEN])?;
     let first = read_message_by(alloc, Errors::Rfc7606, &received);
     let answer = match first {
         Err(MessageFault::Memory) => read_message_by(alloc, Errors::Rfc7606, &received),
         other => other,
     };
-    let Ok(Message::Update(read)) = answer else {
-        return Err(Fail::from("not an UPDATE that stands"));
-    };
-    let mut out = Vec::new(alloc);
-    let attributes = read.attributes.ok_or("no attributes")?;
-    if write_attributes(&attributes, &mut out).is_err() {
-        write_attributes(&attributes, &mut out)?;
-    }
-    assert_eq!(rt; out.as_slice(), wanted.as_slice());
-    Ok(())
+    check_written(&rt, alloc, &standing(answer)?)
 }

@@ -2,6 +2,25 @@
 
 use super::*;
 
+// Asserts what an UPDATE of withdrawn routes, path attributes and NLRI says.
+fn check_update(
+    rt: &impl Abort,
+    alloc: Global,
+    withdrawn: &str,
+    attributes: &[&str],
+    nlri: &str,
+    wanted: &str,
+) -> Result<(), Fail> {
+    let message = spelled_update(alloc, withdrawn, attributes, nlri)?;
+    let said = says(alloc, &message)?;
+    assert_eq!(rt;
+        said.as_str(),
+        wanted,
+        "{withdrawn}, {attributes:?}, {nlri}"
+    );
+    Ok(())
+}
+
 // Withdrawn routes, path attributes, NLRI, and the fault.
 const ORDER: &[(&str, &str, &str, &str)] = &[
     // An unknown well-known attribute before an ORIGIN of 3.
@@ -50,12 +69,7 @@ const ORDER: &[(&str, &str, &str, &str)] = &[
 fn faults_in_their_order(rt: HostRuntime) -> Result<(), Fail> {
     let alloc = rt.alloc();
     for (withdrawn, attributes, nlri, wanted) in ORDER {
-        let message = update(alloc, withdrawn, &octets(alloc, &[attributes])?, nlri)?;
-        assert_eq!(rt;
-            says(alloc, &message)?.as_str(),
-            *wanted,
-            "{withdrawn}, {attributes}, {nlri}"
-        );
+        check_update(&rt, alloc, withdrawn, &[attributes], nlri, wanted)?;
     }
     Ok(())
 }
@@ -91,10 +105,9 @@ const OTHERS: &[(&str, &str)] = &[
 fn faults_of_other_attributes(rt: HostRuntime) -> Result<(), Fail> {
     let alloc = rt.alloc();
     for (other, wanted) in OTHERS {
-        let attributes = octets(alloc, &[ORIGIN, AS_PATH, NEXT_HOP, other])?;
         for nlri in ["", ROUTE] {
-            let message = update(alloc, "", &attributes, nlri)?;
-            assert_eq!(rt; says(alloc, &message)?.as_str(), *wanted, "{other}");
+            let attributes = &[ORIGIN, AS_PATH, NEXT_HOP, other];
+            check_update(&rt, alloc, "", attributes, nlri, wanted)?;
         }
     }
     Ok(())
@@ -128,13 +141,8 @@ const MANDATORY: &[(&str, &str, &str, &str)] = &[
 fn faults_of_mandatory_attributes(rt: HostRuntime) -> Result<(), Fail> {
     let alloc = rt.alloc();
     for (origin, path, next_hop, wanted) in MANDATORY {
-        let attributes = octets(alloc, &[origin, path, next_hop])?;
-        let message = update(alloc, "", &attributes, ROUTE)?;
-        assert_eq!(rt;
-            says(alloc, &message)?.as_str(),
-            *wanted,
-            "{origin} {path} {next_hop}"
-        );
+        let attributes = &[*origin, *path, *next_hop];
+        check_update(&rt, alloc, "", attributes, ROUTE, wanted)?;
     }
     Ok(())
 }

@@ -9,6 +9,27 @@ fn written(alloc: Global, attributes: &[u8]) -> Result<Vec<u8>, Fail> {
     Ok(out)
 }
 
+// ORIGIN, AS_PATH, NEXT_HOP and others, the last of which has so many octets more in its value.
+fn section(alloc: Global, others: &str, more: usize) -> Result<Vec<u8>, Fail> {
+    let mut section = octets(alloc, &[ORIGIN, AS_PATH, NEXT_HOP, others])?;
+    section.extend_from_slice(&vec![in alloc; 0xFB; more]?)?;
+    Ok(section)
+}
+
+// Asserts what is written of these attributes, and that the same is written of what was written.
+fn check_written(
+    rt: &impl Abort,
+    alloc: Global,
+    received: &[u8],
+    wanted: &[u8],
+    name: &str,
+) -> Result<(), Fail> {
+    let given = written(alloc, received)?;
+    check_octets(rt, &given, wanted, &[name]);
+    check_octets(rt, &written(alloc, &given)?, wanted, &["again", name]);
+    Ok(())
+}
+
 // Attributes behind ORIGIN, AS_PATH and NEXT_HOP as they are received and as they are written, and how many
 // octets more their last value has.
 const OTHERS: &[(&str, &str, usize)] = &[
@@ -46,18 +67,9 @@ const OTHERS: &[(&str, &str, usize)] = &[
 fn attributes_as_they_are_written(rt: HostRuntime) -> Result<(), Fail> {
     let alloc = rt.alloc();
     for (others, kept, more) in OTHERS {
-        let more = vec![in alloc; 0xFB; *more]?;
-        let mut received = octets(alloc, &[ORIGIN, AS_PATH, NEXT_HOP, others])?;
-        received.extend_from_slice(&more)?;
-        let mut wanted = octets(alloc, &[ORIGIN, AS_PATH, NEXT_HOP, kept])?;
-        wanted.extend_from_slice(&more)?;
-        let given = written(alloc, &received)?;
-        assert_eq!(rt; given.as_slice(), wanted.as_slice(), "{others}");
-        assert_eq!(rt;
-            written(alloc, &given)?.as_slice(),
-            wanted.as_slice(),
-            "again: {others}"
-        );
+        let received = section(alloc, others, *more)?;
+        let wanted = section(alloc, kept, *more)?;
+        check_written(&rt, alloc, &received, &wanted, others)?;
     }
     Ok(())
 }
@@ -70,7 +82,7 @@ fn type_0_is_written_first(rt: HostRuntime) -> Result<(), Fail> {
         &octets(alloc, &[NEXT_HOP, "E0000108", AS_PATH, ORIGIN])?,
     )?;
     let wanted = octets(alloc, &["E0000108", ORIGIN, AS_PATH, NEXT_HOP])?;
-    assert_eq!(rt; given.as_slice(), wanted.as_slice());
+    check_octets(&rt, &given, &wanted, &[]);
     Ok(())
 }
 
@@ -91,9 +103,22 @@ fn attributes_pass_unchanged(rt: HostRuntime) -> Result<(), Fail> {
             "C00808FBF4FBF6FDE80001 E0200C0000FDE80000000100000002",
         ],
     )?;
-    assert_eq!(rt; (received.len(), wanted.len()), (64, 57));
-    assert_eq!(rt; update(alloc, "", &received, ROUTE)?.len(), 91);
-    assert_eq!(rt; written(alloc, &received)?.as_slice(), wanted.as_slice());
+    let message_len = update(alloc, "", &received, ROUTE)?.len();
+    assert_eq!(rt; (received.len(), wanted.len(), message_len), (64, 57, 91));
+    check_octets(&rt, &written(alloc, &received)?, &wanted, &[]);
+    Ok(())
+}
+
+// Asserts that attributes of 20 octets are written behind an octet without more room than that.
+fn check_room(rt: &impl Abort, alloc: Global, attributes: &Attributes) -> Result<(), Fail> {
+    let mut out = Vec::with_capacity(alloc, 21)?;
+    out.push(7)?;
+    let room = out.capacity();
+    write_attributes(attributes, &mut out)?;
+    assert_eq!(rt;
+        (out.len(), out.capacity(), out.first().copied()),
+        (21, room, Some(7))
+    );
     Ok(())
 }
 
@@ -101,11 +126,5 @@ fn attributes_pass_unchanged(rt: HostRuntime) -> Result<(), Fail> {
 fn writing_needs_no_memory_where_there_is_room(rt: HostRuntime) -> Result<(), Fail> {
     let alloc = rt.alloc();
     let attributes = attributes_of(alloc, &octets(alloc, &[ORIGIN, AS_PATH, NEXT_HOP])?)?;
-    let mut out = Vec::with_capacity(alloc, 21)?;
-    out.push(7)?;
-    let room = out.capacity();
-    write_attributes(&attributes, &mut out)?;
-    assert_eq!(rt; (out.len(), out.capacity()), (21, room));
-    assert_eq!(rt; out.first(), Some(&7));
-    Ok(())
+    check_room(&rt, alloc, &attributes)
 }
