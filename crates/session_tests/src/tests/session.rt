@@ -17,9 +17,11 @@ use rs_mrt::{
     STATE_CHANGE_AS4, Source, write_header,
 };
 use rs_session::*;
-use rs_update::{Errors, Origin, Prefix};
+use rs_update::{Attributes, Errors, Origin, Prefix};
 use std::alloc::{AllocError, Global};
+use std::fmt::Debug;
 use std::process::Abort;
+use std::sync::Arc;
 use std::test::*;
 
 const PEER: PeerId = PeerId {
@@ -80,6 +82,22 @@ fn file_of(alloc: Global, records: &[Recorded<'_>]) -> Result<Vec<u8>, Fail> {
     Ok(file)
 }
 
+// The next change of a session, without its attributes.
+fn next_given<S: Source>(session: &mut Session<S>) -> Result<Option<Given>, AllocError> {
+    Ok(session.next_word()?.as_ref().map(seen))
+}
+
+// The attributes of the next change of a session, which is an announcement; its name is the error if it isn't.
+fn next_attributes<S: Source>(
+    session: &mut Session<S>,
+    name: &'static str,
+) -> Result<Arc<Attributes>, Fail> {
+    match session.next_word()?.map(|word| word.body) {
+        Some(Body::Announce(_, attributes)) => Ok(attributes),
+        _ => Err(name.into()),
+    }
+}
+
 // What a session says in its first thousand changes, and how many records are passed over.
 fn read_session<S: Source + Drop>(
     alloc: Global,
@@ -87,8 +105,8 @@ fn read_session<S: Source + Drop>(
 ) -> Result<(Vec<Given>, u64), AllocError> {
     let mut changes = Vec::new(alloc);
     for _ in 0..1000 {
-        match session.next_word()? {
-            Some(word) => changes.push(seen(&word))?,
+        match next_given(&mut session)? {
+            Some(change) => changes.push(change)?,
             None => break,
         }
     }
@@ -100,6 +118,18 @@ fn read(alloc: Global, file: &[u8]) -> Result<(Vec<Given>, u64), AllocError> {
     read_session(alloc, Session::new(alloc, file, PEER))
 }
 
+// That just these changes are found, and that so many records are passed over, in the case of this name.
+fn assert_found(
+    rt: &impl Abort,
+    found: &(Vec<Given>, u64),
+    changes: &[Given],
+    passed: u64,
+    name: &impl Debug,
+) {
+    assert_eq!(rt; found.0.as_slice(), changes, "of {name:?}");
+    assert_eq!(rt; found.1, passed, "of {name:?}");
+}
+
 // That a file of these records says just these changes, and so many are passed over.
 fn assert_says(
     rt: &impl Abort,
@@ -109,10 +139,8 @@ fn assert_says(
     passed: u64,
 ) -> Result<(), Fail> {
     let file = file_of(alloc, records)?;
-    let (found, passed_over) = read(alloc, &file)?;
-    let last = last_text(records);
-    assert_eq!(rt; found.as_slice(), changes, "up to {last}");
-    assert_eq!(rt; passed_over, passed, "up to {last}");
+    let found = read(alloc, &file)?;
+    assert_found(rt, &found, changes, passed, &last_text(records));
     Ok(())
 }
 

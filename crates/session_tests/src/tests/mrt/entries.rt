@@ -104,19 +104,21 @@ const MESSAGES: &[(u16, &[&str], &[&str])] = &[
     (16, &[A], &[]),
 ];
 
+// Whether a record of this Type is of the first peer's message of these octets.
+fn says_message(alloc: Global, kind: u16, body: &[&str], message: &[&str]) -> Result<bool, Fail> {
+    let message = octets(alloc, message)?;
+    let expected = Entry::Message {
+        peer_as: 64501,
+        peer: PEER,
+        message: &message,
+    };
+    says(alloc, kind, MESSAGE_AS4, body, Ok(expected))
+}
+
 #[test]
 fn messages_are_read(rt: HostRuntime) -> Result<(), Fail> {
-    for (kind, body, texts) in MESSAGES {
-        let message = octets(rt.alloc(), texts)?;
-        let expected = Entry::Message {
-            peer_as: 64501,
-            peer: PEER,
-            message: &message,
-        };
-        assert!(rt;
-            says(rt.alloc(), *kind, MESSAGE_AS4, body, Ok(expected))?,
-            "{body:?}"
-        );
+    for (kind, body, message) in MESSAGES {
+        assert!(rt; says_message(rt.alloc(), *kind, body, message)?, "{body:?}");
     }
     Ok(())
 }

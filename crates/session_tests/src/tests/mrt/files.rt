@@ -2,24 +2,44 @@
 
 use super::*;
 
+// That the records of a file end from here on in this way, each time that the next one is asked for.
+fn assert_ends(
+    rt: &impl Abort,
+    records: &mut Records<'_>,
+    end: Result<Option<Record<'_>>, MrtFault>,
+    file_len: usize,
+) {
+    assert_eq!(rt; records.next(), end, "at {file_len} octets");
+    assert_eq!(rt; records.next(), end, "again at {file_len} octets");
+}
+
+// That a file gives this record, and then ends in this way.
+fn assert_gives(
+    rt: &impl Abort,
+    file: &[u8],
+    record: Record<'_>,
+    end: Result<Option<Record<'_>>, MrtFault>,
+) {
+    let mut records = Records::new(file);
+    assert_eq!(rt; records.next(), Ok(Some(record)));
+    assert_ends(rt, &mut records, end, file.len());
+}
+
+// A file of 79 octets, with a record of 67.
+const ONE_RECORD: &[&str] = &["00000064 0010 0004 00000043", A, MARKER, UPDATE];
+
 #[test]
 fn a_record_is_given_and_then_the_end(rt: HostRuntime) -> Result<(), Fail> {
-    let body = octets(rt.alloc(), &[A, MARKER, UPDATE])?;
-    let file = octets(
-        rt.alloc(),
-        &["00000064 0010 0004 00000043", A, MARKER, UPDATE],
-    )?;
+    let file = octets(rt.alloc(), ONE_RECORD)?;
     assert_eq!(rt; file.len(), 79);
-    let mut records = Records::new(&file);
+    let body = octets(rt.alloc(), &[A, MARKER, UPDATE])?;
     let record = Record {
         time: 100,
         kind: BGP4MP,
         subtype: MESSAGE_AS4,
         body: &body,
     };
-    assert_eq!(rt; records.next(), Ok(Some(record)));
-    assert_eq!(rt; records.next(), Ok(None));
-    assert_eq!(rt; records.next(), Ok(None));
+    assert_gives(&rt, &file, record, Ok(None));
     Ok(())
 }
 
@@ -38,14 +58,10 @@ const CUTS: &[(usize, MrtFault)] = &[
 
 #[test]
 fn a_file_ends_anywhere(rt: HostRuntime) -> Result<(), Fail> {
-    let file = octets(
-        rt.alloc(),
-        &["00000064 0010 0004 00000043", A, MARKER, UPDATE],
-    )?;
+    let file = octets(rt.alloc(), ONE_RECORD)?;
     for (len, fault) in CUTS {
-        let mut records = Records::new(file.get(..*len).ok_or("the file is longer")?);
-        assert_eq!(rt; records.next(), Err(*fault), "at {len} octets");
-        assert_eq!(rt; records.next(), Err(*fault), "again at {len} octets");
+        let cut = file.get(..*len).ok_or("the file is longer")?;
+        assert_ends(&rt, &mut Records::new(cut), Err(*fault), *len);
     }
     Ok(())
 }
@@ -57,16 +73,13 @@ fn a_fault_comes_after_the_records_before_it(rt: HostRuntime) -> Result<(), Fail
         "00000002 0010 0004 00000002 00",
     ];
     let file = octets(rt.alloc(), &texts)?;
-    let mut records = Records::new(&file);
     let record = Record {
         time: 1,
         kind: 13,
         subtype: 1,
         body: &[255],
     };
-    assert_eq!(rt; records.next(), Ok(Some(record)));
-    assert_eq!(rt; records.next(), Err(MrtFault::BodyCutShort));
-    assert_eq!(rt; records.next(), Err(MrtFault::BodyCutShort));
+    assert_gives(&rt, &file, record, Err(MrtFault::BodyCutShort));
     Ok(())
 }
 
@@ -98,28 +111,40 @@ fn records_are_a_source(rt: HostRuntime) -> Result<(), Fail> {
     Ok(())
 }
 
+// Goes to the next record of a source, and gives what that answers and the time of the record that is then shown.
+fn advance_and_show<S: Source>(source: &mut S) -> (Result<bool, SourceFault>, Option<u32>) {
+    let answer = source.advance();
+    (answer, source.shown().map(|record| record.time))
+}
+
+/// That a source shows nothing at first, then a record of time 1, and nothing after this fault.
+pub fn assert_shows_one<S: Source>(rt: &impl Abort, source: &mut S, fault: SourceFault) {
+    assert!(rt; source.shown().is_none());
+    assert_eq!(rt; advance_and_show(source), (Ok(true), Some(1)));
+    assert_eq!(rt; advance_and_show(source), (Err(fault), None));
+}
+
 #[test]
 fn a_source_shows_nothing_after_its_fault(rt: HostRuntime) -> Result<(), Fail> {
     let file = octets(rt.alloc(), TWO_RECORDS)?;
     let cut = file.get(..20).ok_or("the file is longer")?;
     let fault = SourceFault::Mrt(MrtFault::HeaderCutShort);
-    let mut records = Records::new(cut);
-    assert!(rt; records.shown().is_none());
-    assert_eq!(rt; records.advance(), Ok(true));
-    assert_eq!(rt; records.shown().map(|record| record.time), Some(1));
-    assert_eq!(rt; records.advance(), Err(fault));
-    assert!(rt; records.shown().is_none());
+    assert_shows_one(&rt, &mut Records::new(cut), fault);
     assert_eq!(rt; count_records(&mut Records::new(cut)), (1, 3, Some(fault)));
     Ok(())
 }
 
-// The time of a record and the peer that it is of, 0 where it says nothing.
-fn peer_of(record: &Record<'_>) -> Result<(u32, u32), MrtFault> {
-    Ok(match entry(record)? {
-        Entry::Message { peer, .. } => (record.time, peer),
-        Entry::State { peer, .. } => (record.time, peer),
-        Entry::Other => (record.time, 0),
-    })
+// The time of the next record and the peer that it is of, 0 where it says nothing; none at the end.
+fn next_peer(records: &mut Records<'_>) -> Result<Option<(u32, u32)>, MrtFault> {
+    let Some(record) = records.next()? else {
+        return Ok(None);
+    };
+    let peer = match entry(&record)? {
+        Entry::Message { peer, .. } => peer,
+        Entry::State { peer, .. } => peer,
+        Entry::Other => 0,
+    };
+    Ok(Some((record.time, peer)))
 }
 
 const COLLECTED: &[&str] = &[
@@ -156,9 +181,8 @@ fn a_recorder_writes_all_peers_into_one_file(rt: HostRuntime) -> Result<(), Fail
     let file = octets(rt.alloc(), COLLECTED)?;
     let mut records = Records::new(&file);
     for of in PEERS {
-        let record = records.next()?.ok_or("a record is left")?;
-        assert_eq!(rt; peer_of(&record), Ok(*of));
+        assert_eq!(rt; next_peer(&mut records), Ok(Some(*of)));
     }
-    assert_eq!(rt; records.next(), Ok(None));
+    assert_eq!(rt; next_peer(&mut records), Ok(None));
     Ok(())
 }

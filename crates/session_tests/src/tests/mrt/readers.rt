@@ -1,6 +1,6 @@
 //! Readers over memory, with limits and without, and of std; and the records that a reader gives in pieces.
 
-use super::files::{TWO_RECORDS, count_records};
+use super::files::{TWO_RECORDS, assert_shows_one, count_records};
 use super::*;
 use std::io;
 use std::sync::atomic::{AtomicUsize, Ordering};
@@ -13,15 +13,18 @@ fn a_reader_over_memory_gives_its_octets_in_pieces(rt: HostRuntime) {
     };
     let mut reader = MemoryReader::new(&[1, 2, 3, 4, 5, 6, 7], limits);
     let mut into = [0; 4];
-    assert_eq!(rt; reader.read(&mut into), Ok(3));
-    assert_eq!(rt; into, [1, 2, 3, 0]);
-    assert_eq!(rt; reader.read(&mut into), Ok(2));
-    assert_eq!(rt; into, [4, 5, 3, 0]);
-    assert_eq!(rt; reader.read(&mut into), Err(Failed));
-    assert_eq!(rt; reader.read(&mut []), Ok(0));
-    assert_eq!(rt; reader.read(&mut into), Ok(2));
-    assert_eq!(rt; into, [6, 7, 3, 0]);
-    assert_eq!(rt; reader.read(&mut into), Ok(0));
+    let first = (reader.read(&mut into), into);
+    let second = (reader.read(&mut into), into);
+    assert_eq!(rt;
+        (first, second),
+        ((Ok(3), [1, 2, 3, 0]), (Ok(2), [4, 5, 3, 0]))
+    );
+    let failed = reader.read(&mut into);
+    let of_none = reader.read(&mut []);
+    assert_eq!(rt; (failed, of_none), (Err(Failed), Ok(0)));
+    let third = (reader.read(&mut into), into);
+    let end = reader.read(&mut into);
+    assert_eq!(rt; (third, end), ((Ok(2), [6, 7, 3, 0]), Ok(0)));
 }
 
 // A reader of std whose every call fails.
@@ -38,20 +41,19 @@ impl io::Read for Broken {
 fn a_reader_of_std_is_a_reader(rt: HostRuntime) {
     let mut into = [0; 2];
     let mut reader = IoReader::new([1, 2, 3].as_slice());
-    assert_eq!(rt; reader.read(&mut into), Ok(2));
-    assert_eq!(rt; into, [1, 2]);
-    assert_eq!(rt; reader.read(&mut into), Ok(1));
-    assert_eq!(rt; reader.read(&mut into), Ok(0));
+    let first = (reader.read(&mut into), into);
+    let second = reader.read(&mut into);
+    let end = reader.read(&mut into);
+    assert_eq!(rt; (first, second, end), ((Ok(2), [1, 2]), Ok(1), Ok(0)));
     assert_eq!(rt; reader.into_inner().len(), 0);
     assert_eq!(rt; IoReader::new(Broken).read(&mut into), Err(Failed));
 }
 
-// The number of records, of octets of bodies that are shown, and the end, of octets that come within the limits.
-fn count_pieces(
-    file: &[u8],
-    octets_before_failure: Option<usize>,
-    piece: usize,
-) -> (usize, usize, Option<SourceFault>) {
+// How many records a reader shows, how many octets their bodies have, and how it stops.
+type Shown = (usize, usize, Option<SourceFault>);
+
+// What is shown of octets that come within the limits.
+fn count_pieces(file: &[u8], octets_before_failure: Option<usize>, piece: usize) -> Shown {
     let limits = ReadLimits {
         octets_before_failure,
         piece,
@@ -65,8 +67,26 @@ const CUT_BODY: Option<SourceFault> = Some(SourceFault::Mrt(MrtFault::BodyCutSho
 
 const READ: Option<SourceFault> = Some(SourceFault::Read);
 
+// That just this is shown of a file, by each of these numbers of octets at a time.
+fn assert_shown(
+    rt: &impl Abort,
+    file: &[u8],
+    octets_before_failure: Option<usize>,
+    pieces: &[usize],
+    want: Shown,
+) {
+    let len = file.len();
+    for piece in pieces {
+        assert_eq!(rt;
+            count_pieces(file, octets_before_failure, *piece),
+            want,
+            "{len} octets by {piece}, failing after {octets_before_failure:?}"
+        );
+    }
+}
+
 // Of two records of 15 and 12 octets, how many octets come, whether a read then fails, and what is shown.
-const CUTS: &[(usize, bool, (usize, usize, Option<SourceFault>))] = &[
+const CUTS: &[(usize, bool, Shown)] = &[
     (0, false, (0, 0, None)),
     (0, true, (0, 0, READ)),
     (11, false, (0, 0, CUT_HEADER)),
@@ -87,44 +107,34 @@ fn whole_records_are_shown_before_the_end(rt: HostRuntime) -> Result<(), Fail> {
     for (len, fails, want) in CUTS {
         let octets = file.get(..*len).ok_or("the file is longer")?;
         let failing = if *fails { Some(*len) } else { None };
-        for piece in [1, 2, 13, 100] {
-            assert_eq!(rt;
-                count_pieces(octets, failing, piece),
-                *want,
-                "{len} octets by {piece}"
-            );
-        }
+        assert_shown(&rt, octets, failing, &[1, 2, 13, 100], *want);
     }
     Ok(())
 }
 
-#[test]
-fn only_the_front_of_a_long_body_is_shown(rt: HostRuntime) -> Result<(), Fail> {
-    let mut file = Vec::new(rt.alloc());
+// A record of 10,012 octets, and the two records after it.
+fn long_file(alloc: Global) -> Result<Vec<u8>, Fail> {
+    let mut file = Vec::new(alloc);
     write_header(&mut file, 7, 13, 1, 10_000)?;
     file.resize(10_012, 1)?;
-    file.extend_from_slice(&octets(rt.alloc(), TWO_RECORDS)?)?;
-    for piece in [1, 100, 4133, 100_000] {
-        assert_eq!(rt;
-            count_pieces(&file, None, piece),
-            (3, 4124, None),
-            "by {piece}"
-        );
-        assert_eq!(rt;
-            count_pieces(&file, Some(10_012), piece),
-            (1, 4121, READ),
-            "by {piece}"
-        );
-        assert_eq!(rt;
-            count_pieces(&file, Some(10_011), piece),
-            (0, 0, READ),
-            "by {piece}"
-        );
-        assert_eq!(rt;
-            count_pieces(&file[..10_011.min(file.len())], None, piece),
-            (0, 0, CUT_BODY),
-            "by {piece}"
-        );
+    file.extend_from_slice(&octets(alloc, TWO_RECORDS)?)?;
+    Ok(file)
+}
+
+// How many octets of it are there, after how many a read fails, and what is shown.
+const OF_LONG_FILE: &[(usize, Option<usize>, Shown)] = &[
+    (10_039, None, (3, 4124, None)),
+    (10_039, Some(10_012), (1, 4121, READ)),
+    (10_039, Some(10_011), (0, 0, READ)),
+    (10_011, None, (0, 0, CUT_BODY)),
+];
+
+#[test]
+fn only_the_front_of_a_long_body_is_shown(rt: HostRuntime) -> Result<(), Fail> {
+    let file = long_file(rt.alloc())?;
+    for (len, failing, want) in OF_LONG_FILE {
+        let octets = file.get(..*len).ok_or("the file is longer")?;
+        assert_shown(&rt, octets, *failing, &[1, 100, 4133, 100_000], *want);
     }
     Ok(())
 }
@@ -137,11 +147,7 @@ fn a_reader_is_not_asked_again_after_a_failed_read(rt: HostRuntime) -> Result<()
         piece: 100,
     };
     let mut records = RecordReader::new(MemoryReader::new(&file, limits));
-    assert!(rt; records.shown().is_none());
-    assert_eq!(rt; records.advance(), Ok(true));
-    assert_eq!(rt; records.shown().map(|record| record.time), Some(1));
-    assert_eq!(rt; records.advance(), Err(SourceFault::Read));
-    assert!(rt; records.shown().is_none());
+    assert_shows_one(&rt, &mut records, SourceFault::Read);
     assert_eq!(rt; records.advance(), Err(SourceFault::Read));
     Ok(())
 }

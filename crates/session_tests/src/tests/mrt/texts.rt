@@ -1,6 +1,7 @@
 //! Headers that are written, and the texts of faults.
 
 use super::*;
+use std::fmt::Display;
 
 #[test]
 fn a_header_is_appended(rt: HostRuntime) -> Result<(), Fail> {
@@ -8,6 +9,18 @@ fn a_header_is_appended(rt: HostRuntime) -> Result<(), Fail> {
     write_header(&mut out, 0x0102_0304, 13, 2, 38)?;
     let expected = octets(rt.alloc(), &["FF 01020304 000D 0002 00000026"])?;
     assert_eq!(rt; out.as_slice(), expected.as_slice());
+    Ok(())
+}
+
+// That a fault has this text.
+fn assert_text(
+    rt: &impl Abort,
+    alloc: Global,
+    fault: &impl Display,
+    text: &str,
+) -> Result<(), Fail> {
+    let shown = format!(in alloc; "{fault}")?;
+    assert_eq!(rt; shown.as_str(), text);
     Ok(())
 }
 
@@ -38,18 +51,20 @@ const FAULTS: &[(MrtFault, u8, &str)] = &[
 fn faults_have_numbers_and_texts(rt: HostRuntime) -> Result<(), Fail> {
     for (fault, number, text) in FAULTS {
         assert_eq!(rt; fault.number(), *number);
-        assert_eq!(rt; format!(in rt.alloc(); "{fault}")?.as_str(), *text);
-        let of_source = SourceFault::Mrt(*fault);
-        assert_eq!(rt; format!(in rt.alloc(); "{of_source}")?.as_str(), *text);
+        assert_text(&rt, rt.alloc(), fault, text)?;
+        assert_text(&rt, rt.alloc(), &SourceFault::Mrt(*fault), text)?;
     }
     Ok(())
 }
 
 #[test]
 fn failures_have_texts(rt: HostRuntime) -> Result<(), Fail> {
-    let unread = format!(in rt.alloc(); "{}", SourceFault::Read)?;
-    assert_eq!(rt; unread.as_str(), "records could not be read");
-    let failed = format!(in rt.alloc(); "{Failed}")?;
-    assert_eq!(rt; failed.as_str(), "the call failed");
+    assert_text(
+        &rt,
+        rt.alloc(),
+        &SourceFault::Read,
+        "records could not be read",
+    )?;
+    assert_text(&rt, rt.alloc(), &Failed, "the call failed")?;
     Ok(())
 }

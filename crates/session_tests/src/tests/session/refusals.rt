@@ -36,13 +36,10 @@ impl Source for Unreadable {
 
 #[test]
 fn a_failed_read_closes(rt: HostRuntime) -> Result<(), Fail> {
-    let mut session = Session::over(rt.alloc(), Unreadable, PEER);
-    assert_eq!(rt;
-        session.next_word()?.as_ref().map(seen),
-        Some(Given::Close(0, Reason::Read))
-    );
-    assert_eq!(rt; session.next_word()?.as_ref().map(seen), None);
-    assert_eq!(rt; session.passed_over(), 0);
+    let session = Session::over(rt.alloc(), Unreadable, PEER);
+    let found = read_session(rt.alloc(), session)?;
+    let want = [Given::Close(0, Reason::Read)];
+    assert_found(&rt, &found, &want, 0, &"a failed read");
     Ok(())
 }
 
@@ -82,12 +79,21 @@ const EXPECTED: [Given; 16] = [
 
 #[test]
 fn a_recording_says_its_changes(rt: HostRuntime) -> Result<(), Fail> {
-    let mut session = Session::new(rt.alloc(), RECORDED, PEER);
-    for change in EXPECTED {
-        assert_eq!(rt; session.next_word()?.as_ref().map(seen), Some(change));
-    }
-    assert_eq!(rt; session.next_word()?.as_ref().map(seen), None);
+    let found = read(rt.alloc(), RECORDED)?;
+    assert_found(&rt, &found, &EXPECTED, 1, &"the recording");
     Ok(())
+}
+
+// The next change of a session, which is asked again where memory was refused; it has then passed over no record.
+fn next_after_refusals<S: Source>(rt: &impl Abort, session: &mut Session<S>) -> Option<Given> {
+    for _ in 0..4 {
+        let passed = session.passed_over();
+        match next_given(session) {
+            Ok(change) => return change,
+            Err(AllocError) => assert_eq!(rt; session.passed_over(), passed),
+        }
+    }
+    None
 }
 
 // It holds whichever allocation is refused: the recording takes none, so that all of them are the session's.
@@ -95,18 +101,9 @@ fn a_recording_says_its_changes(rt: HostRuntime) -> Result<(), Fail> {
 #[test]
 fn refused_memory_loses_nothing(rt: HostRuntime) {
     let mut session = Session::new(rt.alloc(), RECORDED, PEER);
-    let mut given: usize = 0;
-    for _ in 0..20 {
-        let passed = session.passed_over();
-        match session.next_word() {
-            Ok(Some(word)) => {
-                assert_eq!(rt; Some(&seen(&word)), EXPECTED.get(given));
-                given += 1;
-            }
-            Ok(None) => break,
-            Err(AllocError) => assert_eq!(rt; session.passed_over(), passed),
-        }
+    for change in &EXPECTED {
+        assert_eq!(rt; next_after_refusals(&rt, &mut session), Some(*change));
     }
-    assert_eq!(rt; given, EXPECTED.len());
+    assert_eq!(rt; next_after_refusals(&rt, &mut session), None);
     assert_eq!(rt; session.passed_over(), 1);
 }

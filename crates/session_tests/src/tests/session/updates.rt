@@ -1,7 +1,6 @@
 //! What UPDATE messages give: which prefixes, in which order, and one set of attributes for all.
 
 use super::*;
-use std::sync::Arc;
 
 const BOTH: &[Recorded<'static>] = &[(
     100,
@@ -163,18 +162,24 @@ const THREE: &[Recorded<'static>] = &[(
     &[A, MARKER, "0031 02 0000 0014", ATTRIBUTES, "0801 0802 0803"],
 )];
 
+// By how many the attributes of the next two announcements are shared, and the NEXT_HOP of the first one.
+fn next_two_are_shared<S: Source>(session: &mut Session<S>) -> Result<(usize, usize, u32), Fail> {
+    let one = next_attributes(session, "a first announcement")?;
+    let other = next_attributes(session, "a second announcement")?;
+    Ok((
+        Arc::strong_count(&one),
+        Arc::strong_count(&other),
+        one.next_hop(),
+    ))
+}
+
 #[test]
 fn announcements_of_one_update_share_their_attributes(rt: HostRuntime) -> Result<(), Fail> {
     let file = file_of(rt.alloc(), THREE)?;
     let mut session = Session::new(rt.alloc(), &file, PEER);
-    let first = session.next_word()?.ok_or("a first change")?;
-    let second = session.next_word()?.ok_or("a second change")?;
-    let (Body::Announce(_, one), Body::Announce(_, other)) = (first.body, second.body) else {
-        return Err("two announcements".into());
-    };
+    let (by_one, by_other, next_hop) = next_two_are_shared(&mut session)?;
     // The two share with one another, and with the announcement that is still to come.
-    assert!(rt; Arc::strong_count(&one) >= 3);
-    assert_eq!(rt; Arc::strong_count(&one), Arc::strong_count(&other));
-    assert_eq!(rt; one.next_hop(), 0xC000_020B);
+    assert!(rt; by_one >= 3);
+    assert_eq!(rt; (by_one, next_hop), (by_other, 0xC000_020B));
     Ok(())
 }

@@ -5,9 +5,9 @@ use super::*;
 #[test]
 fn an_empty_file_says_its_end(rt: HostRuntime) -> Result<(), Fail> {
     let mut session = Session::new(rt.alloc(), &[], PEER);
-    assert_eq!(rt; session.next_word()?.as_ref().map(seen), Some(END));
-    assert_eq!(rt; session.next_word()?.as_ref().map(seen), None);
-    assert_eq!(rt; session.next_word()?.as_ref().map(seen), None);
+    for want in &[Some(END), None, None] {
+        assert_eq!(rt; next_given(&mut session)?, *want);
+    }
     assert_eq!(rt; session.passed_over(), 0);
     Ok(())
 }
@@ -27,9 +27,8 @@ fn a_file_that_is_cut_short_says_so(rt: HostRuntime) -> Result<(), Fail> {
     let file = octets(rt.alloc(), &texts)?;
     assert_eq!(rt; file.len(), 79);
     for (len, want) in BEGINNINGS {
-        let (changes, passed) = read(rt.alloc(), &file[..(*len).min(file.len())])?;
-        assert_eq!(rt; changes.as_slice(), *want, "at {len}");
-        assert_eq!(rt; passed, 0);
+        let found = read(rt.alloc(), &file[..(*len).min(file.len())])?;
+        assert_found(&rt, &found, want, 0, len);
     }
     Ok(())
 }
