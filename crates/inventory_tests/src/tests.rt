@@ -51,6 +51,15 @@ const REFRESH: &str = "0017 05 00010001";
 // multiprotocol and of AS numbers of four octets.
 const OPEN_OF_F: &str = "002D 01 04 5BA0 005A C0000274 10 0206 0104 00010001 0206 4104 FA56EA06";
 
+// What is recorded at a time: a message or a change of state of a session with four-octet AS numbers, after the fields
+// of its record; or any record by its Type, its Subtype and its body. All are hexadecimal.
+#[derive(Clone, Copy, Drop)]
+enum Recorded<'a> {
+    Message(u32, &'a str, &'a str),
+    StateChange(u32, &'a str, &'a str),
+    Record(u32, &'a str, &'a str, &'a [&'a str]),
+}
+
 // A recorded file that is being made.
 #[derive(Drop)]
 struct Recording {
@@ -63,6 +72,24 @@ impl Recording {
         Recording {
             alloc,
             octets: Vec::new(alloc),
+        }
+    }
+
+    // A file of these records.
+    fn of(alloc: Global, records: &[Recorded<'_>]) -> Result<Recording, Fail> {
+        let mut file = Recording::new(alloc);
+        for recorded in records {
+            file.record(*recorded)?;
+        }
+        Ok(file)
+    }
+
+    // Adds what is recorded.
+    fn record(&mut self, recorded: Recorded<'_>) -> Result<(), Fail> {
+        match recorded {
+            Recorded::Message(time, fields, message) => self.say(time, fields, message),
+            Recorded::StateChange(time, fields, states) => self.change(time, fields, states),
+            Recorded::Record(time, kind, subtype, body) => self.add(time, kind, subtype, body),
         }
     }
 

@@ -1,51 +1,62 @@
 //! Files that end within a record, that are empty, and that are no recordings.
 
+use super::Recorded::Message;
 use super::{A, BGP4MP, KEEPALIVE, Recording, inventory_of};
+use rs_inventory::Inventory;
 use rs_mrt::MrtFault;
+use std::alloc::Global;
 use std::process::Abort;
 use std::test::Fail;
 
+// How many records are held, what the end is that they come to, and how many octets they have.
+type Held = (u64, Option<MrtFault>, Option<u64>);
+
+// The same of these octets.
+fn held(alloc: Global, octets: &[u8]) -> Result<Held, Fail> {
+    let held = inventory_of(alloc, octets)?;
+    Ok((held.records(), held.end(), held.octets()))
+}
+
+// What the first octets of two records of 51 hold.
+const BEGINNINGS: &[(usize, Held)] = &[
+    (102, (2, None, Some(102))),
+    (101, (1, Some(MrtFault::BodyCutShort), Some(51))),
+    (63, (1, Some(MrtFault::BodyCutShort), Some(51))),
+    (62, (1, Some(MrtFault::HeaderCutShort), Some(51))),
+    (52, (1, Some(MrtFault::HeaderCutShort), Some(51))),
+    (51, (1, None, Some(51))),
+    (5, (0, Some(MrtFault::HeaderCutShort), Some(0))),
+    (0, (0, None, Some(0))),
+];
+
 #[test]
 fn a_file_ends_where_its_octets_end(rt: HostRuntime) -> Result<(), Fail> {
-    let mut file = Recording::new(rt.alloc());
-    file.say(100, A, KEEPALIVE)?;
-    file.say(101, A, KEEPALIVE)?;
-    let rows = [
-        (102, 2, None),
-        (101, 1, Some(MrtFault::BodyCutShort)),
-        (63, 1, Some(MrtFault::BodyCutShort)),
-        (62, 1, Some(MrtFault::HeaderCutShort)),
-        (52, 1, Some(MrtFault::HeaderCutShort)),
-        (51, 1, None),
-        (5, 0, Some(MrtFault::HeaderCutShort)),
-        (0, 0, None),
-    ];
-    for (length, records, end) in rows {
-        let Some(octets) = file.octets.get(..length) else {
-            assert!(rt; false, "so many octets are there");
-            return Ok(());
-        };
-        let held = inventory_of(rt.alloc(), octets)?;
-        assert_eq!(rt; held.records(), records, "{length} octets");
-        assert_eq!(rt; held.end(), end, "{length} octets");
-        assert_eq!(rt; held.octets(), Some(51 * records), "{length} octets");
+    let records = [Message(100, A, KEEPALIVE), Message(101, A, KEEPALIVE)];
+    let file = Recording::of(rt.alloc(), &records)?;
+    for (length, want) in BEGINNINGS {
+        let octets = file.octets.get(..*length);
+        let octets = octets.ok_or("so many octets are there")?;
+        assert_eq!(rt; held(rt.alloc(), octets)?, *want, "{length} octets");
     }
     Ok(())
+}
+
+// What a record holds that has so many octets of body.
+fn long_record(alloc: Global, count: usize) -> Result<Inventory, Fail> {
+    let mut file = Recording::new(alloc);
+    file.add(100, BGP4MP, "000C", &[])?;
+    file.octets.truncate(8);
+    let length = u32::try_from(count).unwrap_or(0);
+    file.octets.extend_from_slice(&length.to_be_bytes())?;
+    file.octets.extend_from_slice(&vec![in alloc; 0; count]?)?;
+    file.inventory()
 }
 
 #[test]
 fn of_long_records_the_octets_are_not_counted(rt: HostRuntime) -> Result<(), Fail> {
     for (count, octets) in [(4120, Some(4132)), (4121, None)] {
-        let mut file = Recording::new(rt.alloc());
-        file.add(100, BGP4MP, "000C", &[])?;
-        let body = vec![in rt.alloc(); 0; count]?;
-        file.octets.truncate(8);
-        file.octets
-            .extend_from_slice(&u32::try_from(count).unwrap_or(0).to_be_bytes())?;
-        file.octets.extend_from_slice(&body)?;
-        let held = file.inventory()?;
-        assert_eq!(rt; held.records(), 1);
-        assert_eq!(rt; held.octets(), octets);
+        let held = long_record(rt.alloc(), count)?;
+        assert_eq!(rt; (held.records(), held.octets()), (1, octets));
     }
     Ok(())
 }
@@ -56,8 +67,7 @@ fn a_text_has_no_records(rt: HostRuntime) -> Result<(), Fail> {
         rt.alloc(),
         b"This is a text, and no recording of any session.\n",
     )?;
-    assert_eq!(rt; held.records(), 0);
-    assert_eq!(rt; held.end(), Some(MrtFault::BodyCutShort));
-    assert_eq!(rt; held.first(), None);
+    let found = (held.records(), held.end(), held.first());
+    assert_eq!(rt; found, (0, Some(MrtFault::BodyCutShort), None));
     Ok(())
 }

@@ -1,8 +1,9 @@
 //! Lists of two files: for people, as JSON, and as a configuration.
 
+use super::Recorded::{Message, Record, StateChange};
 use super::{
     A, B, BGP4MP, F, F_TWO_OCTETS, FAULTY, KEEPALIVE, MARKER, NOTIFICATION, OPEN, OPEN_OF_F,
-    Recording, UPDATE, inventory_of, octets,
+    Recorded, Recording, UPDATE, inventory_of, octets,
 };
 use rs_listing::{RecordedFile, as_json, as_text, as_toml};
 use rs_setup::read_setup;
@@ -10,40 +11,43 @@ use std::alloc::Global;
 use std::process::Abort;
 use std::test::Fail;
 
-// A file of a session that is lost and comes back, of another peer's, and of two OPENs; it ends within a record. Then
-// a compressed one.
-fn files(alloc: Global) -> Result<Vec<RecordedFile>, Fail> {
-    let mut file = Recording::new(alloc);
-    file.add(
+// A file of these octets at a path.
+fn file_at(alloc: Global, path: &str, octets: &[u8]) -> Result<RecordedFile, Fail> {
+    Ok(RecordedFile {
+        path: String::from_str(alloc, path)?,
+        inventory: inventory_of(alloc, octets)?,
+    })
+}
+
+// A session that is lost and comes back, another peer's, and two OPENs.
+const RECORDS: &[Recorded<'static>] = &[
+    Record(
         1700000000,
         BGP4MP,
         "0001",
         &[F_TWO_OCTETS, MARKER, OPEN_OF_F],
-    )?;
-    file.change(1700000000, F, "0005 0006")?;
-    file.say(1700000001, F, UPDATE)?;
-    file.say(1700000002, A, OPEN)?;
-    file.say(1700000003, F, NOTIFICATION)?;
-    file.change(1700000004, F, "0005 0006")?;
-    file.say(1700000060, B, FAULTY)?;
-    file.change(
+    ),
+    StateChange(1700000000, F, "0005 0006"),
+    Message(1700000001, F, UPDATE),
+    Message(1700000002, A, OPEN),
+    Message(1700000003, F, NOTIFICATION),
+    StateChange(1700000004, F, "0005 0006"),
+    Message(1700000060, B, FAULTY),
+    StateChange(
         1700003600,
         "0000FBF6 0000FBF4 0000 0001 00000000 C0000201",
         "0006 0001",
-    )?;
-    file.say(1700000000, A, KEEPALIVE)?;
-    let Some(octets) = file.octets.split_last().map(|(_, octets)| octets) else {
-        return Ok(Vec::new(alloc));
-    };
+    ),
+    Message(1700000000, A, KEEPALIVE),
+];
+
+// A file of these records that ends within the last one, and a compressed one.
+fn files(alloc: Global) -> Result<Vec<RecordedFile>, Fail> {
+    let file = Recording::of(alloc, RECORDS)?;
+    let (_, octets) = file.octets.split_last().ok_or("a file of records")?;
     let mut files = Vec::new(alloc);
-    files.push(RecordedFile {
-        path: String::from_str(alloc, "a \"b\"\n.mrt")?,
-        inventory: inventory_of(alloc, octets)?,
-    })?;
-    files.push(RecordedFile {
-        path: String::from_str(alloc, "c.mrt.gz")?,
-        inventory: inventory_of(alloc, b"\x1f\x8b\x08\x00")?,
-    })?;
+    files.push(file_at(alloc, "a \"b\"\n.mrt", octets)?)?;
+    files.push(file_at(alloc, "c.mrt.gz", b"\x1f\x8b\x08\x00")?)?;
     Ok(files)
 }
 
@@ -139,10 +143,7 @@ file = "a \"b\"\u000a.mrt"
 fn a_configuration_to_start_from(rt: HostRuntime) -> Result<(), Fail> {
     let text = as_toml(rt.alloc(), &files(rt.alloc())?)?;
     assert_eq!(rt; text.as_str(), TOML);
-    let Ok(setup) = read_setup(rt.alloc(), text.as_bytes()) else {
-        assert!(rt; false, "the configuration is read");
-        return Ok(());
-    };
+    let setup = read_setup(rt.alloc(), text.as_bytes())?;
     assert_eq!(rt; setup.plan.count(), 3);
     assert!(rt;
         setup
@@ -150,64 +151,64 @@ fn a_configuration_to_start_from(rt: HostRuntime) -> Result<(), Fail> {
             .iter()
             .all(|path| path.as_str() == "a \"b\"\n.mrt")
     );
-    assert_eq!(rt; setup.plan.peer(1).id, 0xC000020C);
-    assert_eq!(rt; setup.plan.peer(2).id, 0xC0000274);
+    let identifiers = (setup.plan.peer(1).id, setup.plan.peer(2).id);
+    assert_eq!(rt; identifiers, (0xC000020C, 0xC0000274));
     Ok(())
 }
+
+// A peer, another one of its AS, and another one at its address.
+const ALIKE: &[Recorded<'static>] = &[
+    Message(100, A, KEEPALIVE),
+    Message(
+        100,
+        "0000FBF5 0000FBF4 0000 0001 C000020D C0000201",
+        KEEPALIVE,
+    ),
+    Message(
+        100,
+        "0000FBF9 0000FBF4 0000 0001 C000020B C0000201",
+        KEEPALIVE,
+    ),
+];
+
+// The configuration of two files of these three peers each.
+fn configuration_of_alike(alloc: Global) -> Result<String, Fail> {
+    let file = Recording::of(alloc, ALIKE)?;
+    let mut files = Vec::new(alloc);
+    for path in ["a.mrt", "b.mrt"] {
+        files.push(file_at(alloc, path, &file.octets)?)?;
+    }
+    Ok(as_toml(alloc, &files)?)
+}
+
+// The remarks in it.
+const REMARKS: [&str; 2] = [
+    "# 192.0.2.11 AS 64505 in \"a.mrt\": a peer above has this address\n",
+    "# 192.0.2.13 AS 64501 in \"b.mrt\": a peer above has this address\n",
+];
 
 #[test]
 fn an_address_is_configured_once_and_an_as_number_names_each_peer(
     rt: HostRuntime,
 ) -> Result<(), Fail> {
-    let alloc = rt.alloc();
-    let mut file = Recording::new(alloc);
-    file.say(100, A, KEEPALIVE)?;
-    file.say(
-        100,
-        "0000FBF5 0000FBF4 0000 0001 C000020D C0000201",
-        KEEPALIVE,
-    )?;
-    file.say(
-        100,
-        "0000FBF9 0000FBF4 0000 0001 C000020B C0000201",
-        KEEPALIVE,
-    )?;
-    let mut files = Vec::new(alloc);
-    for path in ["a.mrt", "b.mrt"] {
-        files.push(RecordedFile {
-            path: String::from_str(alloc, path)?,
-            inventory: file.inventory()?,
-        })?;
+    let text = configuration_of_alike(rt.alloc())?;
+    for remark in REMARKS {
+        assert!(rt; text.as_str().contains(remark), "{remark}");
     }
-    let text = as_toml(alloc, &files)?;
-    let Ok(setup) = read_setup(alloc, text.as_bytes()) else {
-        assert!(rt; false, "the configuration is read");
-        return Ok(());
-    };
+    let setup = read_setup(rt.alloc(), text.as_bytes())?;
     assert_eq!(rt; setup.plan.count(), 2);
-    assert_eq!(rt; setup.plan.peer(0).name.as_str(), "as64501");
-    assert_eq!(rt; setup.plan.peer(1).name.as_str(), "as64501-2");
-    assert!(rt;
-        text.as_str().contains(
-            "# 192.0.2.11 AS 64505 in \"a.mrt\": a peer above has this address\n"
-        )
-    );
-    assert!(rt;
-        text.as_str().contains(
-            "# 192.0.2.13 AS 64501 in \"b.mrt\": a peer above has this address\n"
-        )
-    );
+    let names = [
+        setup.plan.peer(0).name.as_str(),
+        setup.plan.peer(1).name.as_str(),
+    ];
+    assert_eq!(rt; names, ["as64501", "as64501-2"]);
     Ok(())
 }
 
 #[test]
 fn without_a_message_there_is_no_configuration(rt: HostRuntime) -> Result<(), Fail> {
     let alloc = rt.alloc();
-    let mut files = Vec::new(alloc);
-    files.push(RecordedFile {
-        path: String::from_str(alloc, "a.mrt")?,
-        inventory: inventory_of(alloc, &[])?,
-    })?;
+    let files = [file_at(alloc, "a.mrt", &[])?];
     assert_eq!(rt;
         as_toml(alloc, &files)?.as_str(),
         "# no message of a session with four-octet AS numbers is recorded\n"
@@ -258,10 +259,7 @@ fn the_worked_case_of_the_manual(rt: HostRuntime) -> Result<(), Fail> {
         ("examples/policy/c.mrt", C.as_slice()),
         ("examples/policy/d.mrt", D.as_slice()),
     ] {
-        files.push(RecordedFile {
-            path: String::from_str(alloc, path)?,
-            inventory: inventory_of(alloc, &octets(alloc, text)?)?,
-        })?;
+        files.push(file_at(alloc, path, &octets(alloc, text)?)?)?;
     }
     assert_eq!(rt; as_text(alloc, &files)?.as_str(), EXAMPLE);
     Ok(())
