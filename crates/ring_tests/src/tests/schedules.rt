@@ -60,9 +60,11 @@ const PATH_64501_65010: &str = "4001010040020A02020000FBF50000FDF2400304C000020B
 
 const PATH_64502_65010: &str = "4001010040020A02020000FBF60000FDF2400304C000020B";
 
-const MED_10: &str = "8004040000000A";
+const PATH_64501_65010_MED_10: &str =
+    "4001010040020A02020000FBF50000FDF2400304C000020B8004040000000A";
 
-const MED_5: &str = "80040400000005";
+const PATH_64501_65010_MED_5: &str =
+    "4001010040020A02020000FBF50000FDF2400304C000020B80040400000005";
 
 // 203.0.113.0/24 and 198.51.100.0/24, spelled.
 const DOCUMENTATION: &str = "18CB0071";
@@ -111,13 +113,11 @@ fn update(alloc: Global, time: u32, peer: &Peer, texts: [&str; 3]) -> Option<Str
     let message = spelled(23, texts);
     let record = spelled(43, texts);
     let (first, second) = (withdrawn.len() / 2, attributes.len() / 2);
-    let marker = "FFFFFFFFFFFFFFFFFFFFFFFFFFFFFFFF";
-    let head = format!(in alloc;
-        "{time:08X}00100004{record:08X}{asn:08X}0000FBF400000001{address:08X}C0000201"
-    ).ok()?;
     format!(in alloc;
-        "{head}{marker}{message:04X}02{first:04X}{withdrawn}{second:04X}{attributes}{nlri}"
-    ).ok()
+        "{time:08X}00100004{record:08X}{asn:08X}0000FBF400000001{address:08X}C0000201\
+        FFFFFFFFFFFFFFFFFFFFFFFFFFFFFFFF{message:04X}02{first:04X}{withdrawn}{second:04X}{attributes}{nlri}"
+    )
+    .ok()
 }
 
 // The octets of some records of a peer, at times from 100 on.
@@ -184,25 +184,36 @@ fn dump(
     tables: &Tables,
     client: usize,
 ) -> Option<Vec<u8>> {
-    assert!(rt; client < tables.count());
+    assert!(rt; client < tables.count() && client < plan.count());
     let rows = tables.rows(client).ok()?;
-    assert!(rt; client < plan.count());
     assert!(rt; are_known(plan, &rows));
     let mut out = MemoryWriter::new(alloc, Limits::none());
     write_dump(alloc, &mut out, plan, client, &rows, 0).ok()?;
     Some(out.into_octets())
 }
 
+// An exchange of two peers after these turns, where the first has this file and the second an empty one: so many
+// changes of each were sent, and so many received.
+fn after_turns(
+    rt: &impl Abort,
+    alloc: Global,
+    a: &[u8],
+    capacity: usize,
+    turns: &[Turn],
+    wanted: [(u64, u64); 2],
+) -> Floor {
+    let plan = exchange(alloc, TWO).expect(rt, "an exchange");
+    let floor = run(rt, alloc, &plan, &[a, &[]], capacity, turns).expect(rt, "a floor");
+    let found = [counts(rt, &floor, A), counts(rt, &floor, B)];
+    assert_eq!(rt; found, wanted, "after {taken} turns", taken = turns.len());
+    floor
+}
+
 #[test]
 fn a_ring_of_one_change_takes_turns(rt: HostRuntime) {
     let alloc = rt.alloc();
-    let plan = exchange(alloc, TWO).expect(&rt, "an exchange");
-    let a = file(
-        alloc,
-        &TWO[A],
-        &[["", PATH_64501, DOCUMENTATION], ["", PATH_64501, OTHER]],
-    )
-    .expect(&rt, "a file");
+    let updates = [["", PATH_64501, DOCUMENTATION], ["", PATH_64501, OTHER]];
+    let a = file(alloc, &TWO[A], &updates).expect(&rt, "a file");
     let turns = [
         Turn::Send(A),
         Turn::Send(A),
@@ -218,18 +229,49 @@ fn a_ring_of_one_change_takes_turns(rt: HostRuntime) {
         (4, (1, 1)),
         (5, (2, 1)),
     ] {
-        let floor = run(&rt, alloc, &plan, &[&a, &[]], 1, &turns[..taken]).expect(&rt, "a floor");
-        assert_eq!(rt; counts(&rt, &floor, A), wanted, "after {taken} turns");
-        assert_eq!(rt; counts(&rt, &floor, B), (0, 0));
+        after_turns(&rt, alloc, &a, 1, &turns[..taken], [wanted, (0, 0)]);
     }
+}
+
+// How many rows a client has.
+fn count_rows(rt: &impl Abort, alloc: Global, floor: &Floor, client: usize) -> usize {
+    shown(alloc, floor, client).expect(rt, "rows").len()
+}
+
+// After these turns, only the second of two peers has rows: so many, each of the route that the first announced at
+// 100. The first is closed after all eight turns.
+fn check_stage(
+    rt: &impl Abort,
+    alloc: Global,
+    a: &[u8],
+    turns: &[Turn],
+    wanted: [(u64, u64); 2],
+    rows: usize,
+) {
+    let taken = turns.len();
+    let documentation = Prefix::new(0xCB00_7100, 24).expect(rt, "a prefix");
+    let floor = after_turns(rt, alloc, a, 2, turns, wanted);
+    let of_b = shown(alloc, &floor, B).expect(rt, "rows");
+    let found = (
+        count_rows(rt, alloc, &floor, A),
+        of_b.len(),
+        floor.tables().is_closed(A),
+    );
+    assert_eq!(rt; found, (0, rows, taken == 8), "after {taken} turns");
+    assert!(rt; of_b.iter().all(|row| *row == (documentation, A, 100)));
+}
+
+// The second of two peers has this dump.
+fn check_dump_of_b(rt: &impl Abort, alloc: Global, floor: &Floor, wanted: &str) {
+    let plan = exchange(alloc, TWO).expect(rt, "an exchange");
+    let written = dump(rt, alloc, &plan, floor.tables(), B).expect(rt, "a dump");
+    assert_eq!(rt; Ok(written), octets(alloc, &[wanted]));
 }
 
 #[test]
 fn changes_are_in_the_tables_once_they_are_received(rt: HostRuntime) {
     let alloc = rt.alloc();
-    let plan = exchange(alloc, TWO).expect(&rt, "an exchange");
     let a = file(alloc, &TWO[A], &[["", PATH_64501, DOCUMENTATION]]).expect(&rt, "a file");
-    let documentation = Prefix::new(0xCB00_7100, 24).expect(&rt, "a prefix");
     let turns = [
         Turn::Send(B),
         Turn::Send(A),
@@ -250,35 +292,30 @@ fn changes_are_in_the_tables_once_they_are_received(rt: HostRuntime) {
         (7, (2, 1), (1, 1), 1),
         (8, (2, 2), (1, 1), 1),
     ] {
-        let floor = run(&rt, alloc, &plan, &[&a, &[]], 2, &turns[..taken]).expect(&rt, "a floor");
-        assert_eq!(rt; counts(&rt, &floor, A), of_a, "after {taken} turns");
-        assert_eq!(rt; counts(&rt, &floor, B), of_b, "after {taken} turns");
-        let b = shown(alloc, &floor, B).expect(&rt, "rows");
-        assert_eq!(rt; b.len(), rows, "after {taken} turns");
-        assert!(rt; b.iter().all(|row| *row == (documentation, A, 100)));
-        assert_eq!(rt; shown(alloc, &floor, A).expect(&rt, "rows").len(), 0);
-        assert_eq!(rt; floor.tables().is_closed(A), taken == 8);
+        check_stage(&rt, alloc, &a, &turns[..taken], [of_a, of_b], rows);
     }
-    let floor = run(&rt, alloc, &plan, &[&a, &[]], 2, &turns).expect(&rt, "a floor");
-    let written = dump(&rt, alloc, &plan, floor.tables(), B).expect(&rt, "a dump");
-    assert_eq!(rt; Ok(written), octets(alloc, &[DUMP_OF_B]));
+    let floor = after_turns(&rt, alloc, &a, 2, &turns, [(2, 2), (1, 1)]);
+    check_dump_of_b(&rt, alloc, &floor, DUMP_OF_B);
 }
 
-// The files of four peers: by steps 1 to 3 all routes are alike, MED decides between the first two, and the
+// What four peers say: by steps 1 to 3 all routes are alike, MED decides between the first two, and the
 // identifier between the last.
+const THREE_ROUTES: &[&[[&str; 3]]] = &[
+    &[["", PATH_64501_65010_MED_10, DOCUMENTATION]],
+    &[
+        ["", PATH_64501_65010_MED_5, DOCUMENTATION],
+        [DOCUMENTATION, "", ""],
+    ],
+    &[["", PATH_64502_65010, DOCUMENTATION]],
+    &[],
+];
+
+// Their files.
 fn three_routes(alloc: Global) -> Option<Vec<Vec<u8>>> {
-    let with_10 = format!(in alloc; "{PATH_64501_65010}{MED_10}").ok()?;
-    let with_5 = format!(in alloc; "{PATH_64501_65010}{MED_5}").ok()?;
     let mut files = Vec::new(alloc);
-    files
-        .push(file(alloc, &FOUR[A], &[["", &with_10, DOCUMENTATION]])?)
-        .ok()?;
-    let of_b = [["", &with_5, DOCUMENTATION], [DOCUMENTATION, "", ""]];
-    files.push(file(alloc, &FOUR[B], &of_b)?).ok()?;
-    files
-        .push(file(alloc, &FOUR[C], &[["", PATH_64502_65010, DOCUMENTATION]])?)
-        .ok()?;
-    files.push(file(alloc, &FOUR[D], &[])?).ok()?;
+    for (peer, updates) in FOUR.iter().zip(THREE_ROUTES) {
+        files.push(file(alloc, peer, updates)?).ok()?;
+    }
     Some(files)
 }
 
@@ -291,13 +328,55 @@ fn slices<'a>(alloc: Global, files: &'a [Vec<u8>]) -> Option<Vec<&'a [u8]>> {
     Some(slices)
 }
 
+// Whose route the last of four peers has after these turns.
+fn winner(
+    rt: &impl Abort,
+    alloc: Global,
+    plan: &Arc<Exchange>,
+    files: &[&[u8]],
+    turns: &[Turn],
+) -> Option<usize> {
+    let floor = run(rt, alloc, plan, files, 4, turns).expect(rt, "a floor");
+    let rows = shown(alloc, &floor, D).expect(rt, "rows");
+    rows.first().map(|row| row.1)
+}
+
+// Where three peers announce in this order, c has the best route, and a once b has withdrawn its own.
+fn check_order(
+    rt: &impl Abort,
+    alloc: Global,
+    plan: &Arc<Exchange>,
+    files: &[&[u8]],
+    order: [usize; 3],
+) {
+    let [first, second, third] = order;
+    let turns = [
+        Turn::Send(first),
+        Turn::Send(second),
+        Turn::Send(third),
+        Turn::Receive(first),
+        Turn::Receive(second),
+        Turn::Receive(third),
+        Turn::Send(B),
+        Turn::Receive(B),
+    ];
+    for (taken, wanted) in [(6, C), (8, A)] {
+        let found = winner(rt, alloc, plan, files, &turns[..taken]);
+        assert_eq!(rt;
+            found,
+            Some(wanted),
+            "{first} {second} {third}, {taken} turns"
+        );
+    }
+}
+
 #[test]
 fn the_order_of_arrival_does_not_decide(rt: HostRuntime) {
     let alloc = rt.alloc();
     let plan = exchange(alloc, FOUR).expect(&rt, "an exchange");
     let files = three_routes(alloc).expect(&rt, "files");
     let slices = slices(alloc, &files).expect(&rt, "slices");
-    for [first, second, third] in [
+    for order in [
         [A, B, C],
         [A, C, B],
         [B, A, C],
@@ -305,26 +384,14 @@ fn the_order_of_arrival_does_not_decide(rt: HostRuntime) {
         [C, A, B],
         [C, B, A],
     ] {
-        let turns = [
-            Turn::Send(first),
-            Turn::Send(second),
-            Turn::Send(third),
-            Turn::Receive(first),
-            Turn::Receive(second),
-            Turn::Receive(third),
-            Turn::Send(B),
-            Turn::Receive(B),
-        ];
-        for (taken, winner) in [(6, C), (8, A)] {
-            let floor = run(&rt, alloc, &plan, &slices, 4, &turns[..taken]).expect(&rt, "a floor");
-            let rows = shown(alloc, &floor, D).expect(&rt, "rows");
-            assert_eq!(rt;
-                rows.first().map(|row| row.1),
-                Some(winner),
-                "{first} {second} {third}, {taken} turns"
-            );
-        }
+        check_order(&rt, alloc, &plan, &slices, order);
     }
+}
+
+// Whether a schedule of two peers without changes is refused for its capacity.
+fn is_refused(rt: &impl Abort, alloc: Global, plan: &Arc<Exchange>, capacity: usize) -> bool {
+    let answer = run(rt, alloc, plan, &[&[], &[]], capacity, &[]).err();
+    answer == Some(FloorRefused::Capacity)
 }
 
 #[test]
@@ -332,31 +399,30 @@ fn a_capacity_out_of_range_is_refused(rt: HostRuntime) {
     let alloc = rt.alloc();
     let plan = exchange(alloc, TWO).expect(&rt, "an exchange");
     for (capacity, refused) in [(0, true), (1, false), (65_536, false), (65_537, true)] {
-        let answer = run(&rt, alloc, &plan, &[&[], &[]], capacity, &[]).err();
-        assert_eq!(rt;
-            answer == Some(FloorRefused::Capacity),
-            refused,
-            "at {capacity}"
-        );
+        let found = is_refused(&rt, alloc, &plan, capacity);
+        assert_eq!(rt; found, refused, "at {capacity}");
     }
 }
 
-// The announcements and withdrawals of a peer: a dozen, of seven prefixes.
+// The record of one of a dozen announcements and withdrawals of a peer, of seven prefixes.
+fn one_of_dozen(alloc: Global, peer: usize, step: usize) -> Option<String> {
+    let row = EIGHT.get(peer)?;
+    let time = u32::try_from(step).unwrap_or(0);
+    let number = peer.wrapping_mul(5).wrapping_add(step.wrapping_mul(3)) % 7;
+    let prefix = format!(in alloc; "100A{number:02X}").ok()?;
+    if step % 5 == 4 {
+        return update(alloc, time, row, [&prefix, "", ""]);
+    }
+    let med = peer.wrapping_add(step) % 3;
+    let attributes = format!(in alloc; "{PATH_64501_65010}800404{med:08X}").ok()?;
+    update(alloc, time, row, ["", &attributes, &prefix])
+}
+
+// The octets of all twelve.
 fn dozen(alloc: Global, peer: usize) -> Option<Vec<u8>> {
     let mut text = String::new(alloc);
     for step in 0..12usize {
-        let number = peer.wrapping_mul(5).wrapping_add(step.wrapping_mul(3)) % 7;
-        let med = peer.wrapping_add(step) % 3;
-        let prefix = format!(in alloc; "100A{number:02X}").ok()?;
-        let attributes = format!(in alloc; "{PATH_64501_65010}800404{med:08X}").ok()?;
-        let texts = if step % 5 == 4 {
-            [prefix.as_str(), "", ""]
-        } else {
-            ["", &attributes, &prefix]
-        };
-        let time = u32::try_from(step).unwrap_or(0);
-        text.push_str(&update(alloc, time, EIGHT.get(peer)?, texts)?)
-            .ok()?;
+        text.push_str(&one_of_dozen(alloc, peer, step)?).ok()?;
     }
     octets(alloc, &[text.as_str()]).ok()
 }
@@ -399,23 +465,51 @@ fn turns_by_peer(alloc: Global) -> Option<Vec<Turn>> {
     Some(turns)
 }
 
+// The end of a schedule of all eight peers.
+fn floor_of_eight(
+    rt: &impl Abort,
+    alloc: Global,
+    plan: &Arc<Exchange>,
+    capacity: usize,
+    turns: &[Turn],
+) -> Floor {
+    let files = dozens(alloc).expect(rt, "files");
+    let slices = slices(alloc, &files).expect(rt, "slices");
+    run(rt, alloc, plan, &slices, capacity, turns).expect(rt, "a floor")
+}
+
+// All thirteen changes of a peer were sent and received, and it has more than three rows.
+fn check_drained(rt: &impl Abort, alloc: Global, floor: &Floor, peer: usize) {
+    assert_eq!(rt; counts(rt, floor, peer), (13, 13));
+    assert!(rt; count_rows(rt, alloc, floor, peer) > 3);
+}
+
+// A client has the same dump at the end of two schedules.
+fn check_same_dump(
+    rt: &impl Abort,
+    alloc: Global,
+    plan: &Exchange,
+    floors: [&Floor; 2],
+    client: usize,
+) {
+    let [one, other] = floors;
+    let written = dump(rt, alloc, plan, one.tables(), client).expect(rt, "a dump");
+    let again = dump(rt, alloc, plan, other.tables(), client);
+    assert_eq!(rt; Some(written), again, "of client {client}");
+}
+
 #[test]
 fn drained_schedules_give_the_same_dumps(rt: HostRuntime) {
     let alloc = rt.alloc();
     let plan = exchange(alloc, EIGHT).expect(&rt, "an exchange");
-    let files = dozens(alloc).expect(&rt, "files");
-    let slices = slices(alloc, &files).expect(&rt, "slices");
     let random = random_turns(alloc, 10_000).expect(&rt, "turns");
     let ordered = turns_by_peer(alloc).expect(&rt, "turns");
-    let one = run(&rt, alloc, &plan, &slices, 3, &random).expect(&rt, "a floor");
-    let other = run(&rt, alloc, &plan, &slices, 1, &ordered).expect(&rt, "a floor");
+    let one = floor_of_eight(&rt, alloc, &plan, 3, &random);
+    let other = floor_of_eight(&rt, alloc, &plan, 1, &ordered);
     for peer in 0..8 {
-        assert_eq!(rt; counts(&rt, &one, peer), (13, 13));
-        assert_eq!(rt; counts(&rt, &other, peer), (13, 13));
-        assert!(rt; shown(alloc, &one, peer).expect(&rt, "rows").len() > 3);
-        let written = dump(&rt, alloc, &plan, one.tables(), peer).expect(&rt, "a dump");
-        let again = dump(&rt, alloc, &plan, other.tables(), peer);
-        assert_eq!(rt; Some(written), again, "of client {peer}");
+        check_drained(&rt, alloc, &one, peer);
+        check_drained(&rt, alloc, &other, peer);
+        check_same_dump(&rt, alloc, &plan, [&one, &other], peer);
     }
 }
 
@@ -445,20 +539,40 @@ fn dumps(rt: &impl Abort, alloc: Global, plan: &Exchange, tables: &Tables) -> Op
     Some(dumps)
 }
 
+// Every client's dump where one peer after another had its turns.
+fn dumps_by_peer(rt: &impl Abort, alloc: Global, plan: &Arc<Exchange>) -> Vec<Vec<u8>> {
+    let ordered = turns_by_peer(alloc).expect(rt, "turns");
+    let floor = floor_of_eight(rt, alloc, plan, 1, &ordered);
+    dumps(rt, alloc, plan, floor.tables()).expect(rt, "dumps")
+}
+
+// The run of this number leaves these dumps: each is through rings of another capacity or with other shards.
+fn check_run<R: Threads + Wait + Sync + Abort>(
+    rt: &R,
+    alloc: Global,
+    plan: &Arc<Exchange>,
+    files: &[&[u8]],
+    number: usize,
+    wanted: &[Vec<u8>],
+) {
+    let capacity = number % 8 + 1;
+    let shards = number / 8 % 4 + 1;
+    let served = serve(rt, alloc, plan, files, capacity, shards).expect(rt, "a run");
+    let given = dumps(rt, alloc, plan, served.tables()).expect(rt, "dumps");
+    assert!(rt;
+        given.as_slice() == wanted,
+        "through {capacity}, with {shards} shards"
+    );
+}
+
 #[test]
 fn runs_on_threads_give_the_dumps_of_a_schedule(rt: HostRuntime) {
     let alloc = rt.alloc();
     let plan = exchange(alloc, EIGHT).expect(&rt, "an exchange");
+    let wanted = dumps_by_peer(&rt, alloc, &plan);
     let files = dozens(alloc).expect(&rt, "files");
     let slices = slices(alloc, &files).expect(&rt, "slices");
-    let ordered = turns_by_peer(alloc).expect(&rt, "turns");
-    let floor = run(&rt, alloc, &plan, &slices, 1, &ordered).expect(&rt, "a floor");
-    let wanted = dumps(&rt, alloc, &plan, floor.tables()).expect(&rt, "dumps");
     for number in 0..200usize {
-        let capacity = number % 8 + 1;
-        let shards = number / 8 % 4 + 1;
-        let served = serve(&rt, alloc, &plan, &slices, capacity, shards).expect(&rt, "a run");
-        let given = dumps(&rt, alloc, &plan, served.tables()).expect(&rt, "dumps");
-        assert!(rt; given == wanted, "through {capacity}, with {shards} shards");
+        check_run(&rt, alloc, &plan, &slices, number, &wanted);
     }
 }
