@@ -59,9 +59,10 @@ const BY_ANOTHER: &str = "40010100 4002060201 0000FBF5 400304C0000214";
 
 const BY_AN_OUTSIDER: &str = "40010100 4002060201 0000FBF5 400304C6336401";
 
-// The peers of an exchange, each by its name, AS number, address, identifier, and a peer whose routes it
-// refuses or none.
-type Peers<'a> = &'a [(&'a str, u32, u32, u32, &'a str)];
+// A peer of an exchange by its name, AS number, address, identifier, and a peer whose routes it refuses or none.
+type Peer<'a> = (&'a str, u32, u32, u32, &'a str);
+
+type Peers<'a> = &'a [Peer<'a>];
 
 // Four peers of AS 64501 and on, at 192.0.2.11 and on.
 const FOUR_PEERS: Peers<'static> = &[
@@ -99,22 +100,8 @@ fn subnet() -> Option<Prefix> {
 // The exchange of AS 64500 at 192.0.2.1 with these peers.
 fn exchange(alloc: Global, subnet: Option<Prefix>, rows: Peers) -> Option<Arc<Exchange>> {
     let mut peers = Vec::new(alloc);
-    for (name, asn, address, id, refused) in rows {
-        let mut refuse_from = Vec::new(alloc);
-        if !refused.is_empty() {
-            refuse_from
-                .push(String::from_str(alloc, refused).ok()?)
-                .ok()?;
-        }
-        let peer = PeerSpec {
-            name: String::from_str(alloc, name).ok()?,
-            asn: *asn,
-            address: *address,
-            id: *id,
-            preference: 100,
-            refuse_from,
-        };
-        peers.push(peer).ok()?;
+    for row in rows {
+        peers.push(peer_of(alloc, row)?).ok()?;
     }
     let local = Local {
         asn: 64500,
@@ -123,6 +110,24 @@ fn exchange(alloc: Global, subnet: Option<Prefix>, rows: Peers) -> Option<Arc<Ex
         subnet,
     };
     Arc::new(alloc, Exchange::new(alloc, local, peers).ok()?).ok()
+}
+
+// The peer of a row, preferred as all others.
+fn peer_of(alloc: Global, (name, asn, address, id, refused): &Peer) -> Option<PeerSpec> {
+    let mut refuse_from = Vec::new(alloc);
+    if !refused.is_empty() {
+        refuse_from
+            .push(String::from_str(alloc, refused).ok()?)
+            .ok()?;
+    }
+    Some(PeerSpec {
+        name: String::from_str(alloc, name).ok()?,
+        asn: *asn,
+        address: *address,
+        id: *id,
+        preference: 100,
+        refuse_from,
+    })
 }
 
 // The tables of an exchange with these peers, before any change.
@@ -160,6 +165,16 @@ fn announced(rt: &impl Abort, alloc: Global, rows: Peers, sent: &[(usize, &str)]
     tables
 }
 
+// Tables of four peers that took announcements, each of a peer at a time, on a prefix with these attributes.
+fn announced_on(rt: &impl Abort, alloc: Global, sent: &[(usize, u32, Prefix, &str)]) -> Tables {
+    let mut tables = tables(alloc, subnet(), FOUR_PEERS).expect(rt, "tables");
+    for (sender, time, prefix, route) in sent {
+        let route = attributes(alloc, route);
+        announce(rt, &mut tables, (*sender, *time), Some(*prefix), route);
+    }
+    tables
+}
+
 // Whose route a client gets on 203.0.113.0/24, the only prefix there is: `best` and `rows` say the same.
 fn winner(rt: &impl Abort, tables: &Tables, client: usize) -> Option<usize> {
     let best = tables
@@ -168,6 +183,12 @@ fn winner(rt: &impl Abort, tables: &Tables, client: usize) -> Option<usize> {
     let rows = tables.rows(client).expect(rt, "rows");
     assert_eq!(rt; rows.first().map(|row| row.route.peer), best);
     best
+}
+
+// A client gets the route of this peer on 203.0.113.0/24.
+fn check_winner(rt: &impl Abort, tables: &Tables, client: usize, sender: usize) {
+    let given = winner(rt, tables, client);
+    assert_eq!(rt; given, Some(sender), "client {client}");
 }
 
 // Why a client has a peer's route on 203.0.113.0/24, or not.
@@ -187,4 +208,10 @@ fn shown(alloc: Global, tables: &Tables, client: usize) -> Option<Vec<Shown>> {
         .map(|row| (row.prefix, row.route.peer, row.route.time))
         .collect(alloc)
         .ok()
+}
+
+// A client's table has these rows.
+fn check_rows(rt: &impl Abort, alloc: Global, tables: &Tables, client: usize, wanted: &[Shown]) {
+    let rows = shown(alloc, tables, client).expect(rt, "rows");
+    assert_eq!(rt; rows.as_slice(), wanted, "client {client}");
 }

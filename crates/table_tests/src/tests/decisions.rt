@@ -2,6 +2,20 @@
 
 use super::*;
 
+// Whose route d gets when routes were announced in this order, and whose when b has withdrawn its own.
+fn with_and_without_b(
+    rt: &impl Abort,
+    alloc: Global,
+    peers: Peers,
+    order: &[(usize, &str)],
+) -> (Option<usize>, Option<usize>) {
+    let mut tables = announced(rt, alloc, peers, order);
+    let before = winner(rt, &tables, D);
+    let withdrawn = Body::Withdraw(documentation().expect(rt, "a prefix"));
+    take(rt, &mut tables, B, 101, withdrawn);
+    (before, winner(rt, &tables, D))
+}
+
 #[test]
 fn med_decides_within_a_neighbour_as_in_any_order(rt: HostRuntime) {
     let alloc = rt.alloc();
@@ -20,11 +34,7 @@ fn med_decides_within_a_neighbour_as_in_any_order(rt: HostRuntime) {
         [c, a, b],
         [c, b, a],
     ] {
-        let mut tables = announced(&rt, alloc, peers, &order);
-        let before = winner(&rt, &tables, D);
-        let withdrawn = Body::Withdraw(documentation().expect(&rt, "a prefix"));
-        take(&rt, &mut tables, B, 101, withdrawn);
-        let both = (before, winner(&rt, &tables, D));
+        let both = with_and_without_b(&rt, alloc, peers, &order);
         assert_eq!(rt; both, (Some(C), Some(A)), "{order:?}");
     }
 }
@@ -38,7 +48,13 @@ fn the_lower_address_breaks_the_last_tie(rt: HostRuntime) {
         ("c", 64503, 0xC000_020D, 0xC000_020D, ""),
     ];
     let tables = announced(&rt, alloc, peers, &[(B, BY_ANOTHER), (A, BY_ANOTHER)]);
-    assert_eq!(rt; winner(&rt, &tables, C), Some(A));
+    check_winner(&rt, &tables, C, A);
+}
+
+// A client has a peer's route on 203.0.113.0/24, or not, for this reason.
+fn check_reason(rt: &impl Abort, tables: &Tables, (client, sender): (usize, usize), why: Why) {
+    let answer = reason(rt, tables, client, sender);
+    assert_eq!(rt; answer, why, "client {client}, peer {sender}");
 }
 
 #[test]
@@ -46,11 +62,7 @@ fn what_policy_keeps_from_one_client_hides_no_other(rt: HostRuntime) {
     let alloc = rt.alloc();
     let tables = announced(&rt, alloc, FOUR_PEERS, &[(A, NOT_TO_64502), (C, VIA_64503)]);
     for (client, sender) in [(A, C), (B, C), (C, A), (D, A)] {
-        assert_eq!(rt;
-            winner(&rt, &tables, client),
-            Some(sender),
-            "client {client}"
-        );
+        check_winner(&rt, &tables, client, sender);
     }
     for (client, sender, why) in [
         (B, A, Why::Refused),
@@ -59,7 +71,6 @@ fn what_policy_keeps_from_one_client_hides_no_other(rt: HostRuntime) {
         (A, A, Why::Own),
         (A, B, Why::Absent),
     ] {
-        let answer = reason(&rt, &tables, client, sender);
-        assert_eq!(rt; answer, why, "client {client}, peer {sender}");
+        check_reason(&rt, &tables, (client, sender), why);
     }
 }

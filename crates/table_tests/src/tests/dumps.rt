@@ -102,29 +102,48 @@ pub fn dump(
     (answer, out.into_octets())
 }
 
+// Writes to memory the dump at that time, for a client of the first peers, of a's rows on prefixes.
+fn dump_on(
+    rt: &impl Abort,
+    alloc: Global,
+    (peers, client, time): (usize, usize, u32),
+    prefixes: &[(u32, u8)],
+    route: &str,
+) -> (Result<u32, DumpFault>, Vec<u8>) {
+    let plan = exchange(alloc, subnet(), first_peers(peers)).expect(rt, "an exchange");
+    let route = attributes(alloc, route).expect(rt, "attributes");
+    let rows = rows_on(alloc, prefixes, &route).expect(rt, "rows");
+    dump(rt, alloc, Limits::none(), (&plan, client, time), &rows)
+}
+
+/// What was written are the octets that are spelled so.
+pub fn check_octets(rt: &impl Abort, alloc: Global, written: Vec<u8>, wanted: &str) {
+    assert_eq!(rt; Ok(written), octets(alloc, &[wanted]), "{wanted}");
+}
+
+// Prefixes of one row and of four rows.
+const PLAIN: &[(u32, u8)] = &[(0xCB00_7100, 24)];
+
+const FOUR: &[(u32, u8)] = &[
+    (0xCB00_7100, 24),
+    (0, 0),
+    (0x0A0B_0C0D, 32),
+    (0x0AF0_0000, 12),
+];
+
 #[test]
 fn tables_are_dumped_as_the_standard_says(rt: HostRuntime) {
     let alloc = rt.alloc();
-    let plain: &[(u32, u8)] = &[(0xCB00_7100, 24)];
-    let four: &[(u32, u8)] = &[
-        (0xCB00_7100, 24),
-        (0, 0),
-        (0x0A0B_0C0D, 32),
-        (0x0AF0_0000, 12),
-    ];
-    for (peers, client, time, prefixes, route, count, wanted) in [
-        (2, B, 0, plain, VIA_64501, 1, PLAIN_DUMP),
-        (2, B, 0x0102_0304, four, VIA_64501, 4, FOUR_ROWS_DUMP),
-        (2, B, 0, plain, FULL, 1, FULL_DUMP),
-        (2, A, 0, &[], VIA_64501, 0, EMPTY_OF_A),
-        (2, B, 0, &[], VIA_64501, 0, EMPTY_OF_B),
-        (3, C, 0, &[], VIA_64501, 0, EMPTY_OF_C),
+    for (place, prefixes, route, count, wanted) in [
+        ((2, B, 0), PLAIN, VIA_64501, 1, PLAIN_DUMP),
+        ((2, B, 0x0102_0304), FOUR, VIA_64501, 4, FOUR_ROWS_DUMP),
+        ((2, B, 0), PLAIN, FULL, 1, FULL_DUMP),
+        ((2, A, 0), &[], VIA_64501, 0, EMPTY_OF_A),
+        ((2, B, 0), &[], VIA_64501, 0, EMPTY_OF_B),
+        ((3, C, 0), &[], VIA_64501, 0, EMPTY_OF_C),
     ] {
-        let plan = exchange(alloc, subnet(), first_peers(peers)).expect(&rt, "an exchange");
-        let route = attributes(alloc, route).expect(&rt, "attributes");
-        let rows = rows_on(alloc, prefixes, &route).expect(&rt, "rows");
-        let (answer, written) = dump(&rt, alloc, Limits::none(), (&plan, client, time), &rows);
+        let (answer, written) = dump_on(&rt, alloc, place, prefixes, route);
         assert_eq!(rt; answer, Ok(count));
-        assert_eq!(rt; Ok(written), octets(alloc, &[wanted]), "{wanted}");
+        check_octets(&rt, alloc, written, wanted);
     }
 }

@@ -3,19 +3,21 @@
 
 use super::*;
 
+// Whose route b gets before and after a announces a later one, and why a's then or why not.
+fn seen_of_two(rt: &impl Abort, alloc: Global, later: &str) -> (Option<usize>, Option<usize>, Why) {
+    let mut tables = announced(rt, alloc, FOUR_PEERS, &[(A, VIA_64501)]);
+    let before = winner(rt, &tables, B);
+    let route = attributes(alloc, later);
+    announce(rt, &mut tables, (A, 101), documentation(), route);
+    (before, winner(rt, &tables, B), reason(rt, &tables, B, A))
+}
+
 #[test]
 fn an_ineligible_route_replaces_an_eligible_one(rt: HostRuntime) {
     let alloc = rt.alloc();
     for later in [VIA_THE_SERVER, BY_THE_SERVER, BY_AN_OUTSIDER] {
-        let mut tables = announced(&rt, alloc, FOUR_PEERS, &[(A, VIA_64501)]);
-        let before = winner(&rt, &tables, B);
-        let route = attributes(alloc, later);
-        announce(&rt, &mut tables, (A, 101), documentation(), route);
-        assert_eq!(rt;
-            (before, winner(&rt, &tables, B), reason(&rt, &tables, B, A)),
-            (Some(A), None, Why::Ineligible),
-            "{later}"
-        );
+        let seen = seen_of_two(&rt, alloc, later);
+        assert_eq!(rt; seen, (Some(A), None, Why::Ineligible), "{later}");
     }
 }
 
@@ -25,5 +27,5 @@ fn without_a_subnet_any_other_next_hop_is_eligible(rt: HostRuntime) {
     let mut tables = tables(alloc, None, FOUR_PEERS).expect(&rt, "tables");
     let route = attributes(alloc, BY_AN_OUTSIDER);
     announce(&rt, &mut tables, (A, 100), documentation(), route);
-    assert_eq!(rt; winner(&rt, &tables, B), Some(A));
+    check_winner(&rt, &tables, B, A);
 }

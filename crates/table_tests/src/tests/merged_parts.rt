@@ -45,15 +45,34 @@ fn merged(alloc: Global, plan: &Arc<Exchange>) -> Option<Tables> {
 
 // What tables give every client that took all of those routes.
 fn whole(alloc: Global, plan: &Arc<Exchange>) -> Option<Vec<Vec<Shown>>> {
+    let [first, second, third] = ROUTES;
+    let prefixes = [prefix_of(first)?, prefix_of(second)?, prefix_of(third)?];
     let mut history = History::new(alloc, plan.clone().ok()?);
-    let mut prefixes = Vec::new(alloc);
-    for (peer, len, route) in ROUTES {
-        let prefix = Prefix::new(0x0A00_0000, len)?;
-        let body = Body::Announce(prefix, attributes(alloc, route)?);
+    for (route, prefix) in ROUTES.iter().zip(&prefixes) {
+        let (peer, _, route) = *route;
+        let body = Body::Announce(*prefix, attributes(alloc, route)?);
         history.add(peer, Word { time: 100, body })?;
-        prefixes.push(prefix).ok()?;
     }
     history.all_rows(alloc, &prefixes)
+}
+
+// The prefix of a route of the table above.
+fn prefix_of((_, len, _): (usize, u8, &str)) -> Option<Prefix> {
+    Prefix::new(0x0A00_0000, len)
+}
+
+// A client's table has these rows, asked once more where memory is refused.
+fn check_rows_again(
+    rt: &impl Abort,
+    alloc: Global,
+    tables: &Tables,
+    client: usize,
+    rows: &[Shown],
+) {
+    let given = shown(alloc, tables, client)
+        .or_else(|| shown(alloc, tables, client))
+        .expect(rt, "rows");
+    assert!(rt; given.as_slice() == rows, "client {client}");
 }
 
 #[test]
@@ -67,10 +86,7 @@ fn parts_are_made_one_and_come_again_where_memory_is_refused(rt: HostRuntime) {
         .or_else(|| merged(alloc, &plan))
         .expect(&rt, "tables");
     for (client, rows) in wanted.iter().enumerate() {
-        let given = shown(alloc, &tables, client)
-            .or_else(|| shown(alloc, &tables, client))
-            .expect(&rt, "rows");
-        assert!(rt; given == *rows, "client {client}");
+        check_rows_again(&rt, alloc, &tables, client, rows);
     }
     assert!(rt; !tables.is_closed(A));
 }

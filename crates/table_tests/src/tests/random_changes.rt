@@ -128,6 +128,14 @@ impl Both {
     }
 }
 
+// After the change of this time every client gets what the slow reading says.
+fn check_clients(rt: &impl Abort, alloc: Global, both: &Both, time: u32, prefixes: &[Prefix]) {
+    for client in 0..6 {
+        let agree = both.agree(alloc, client, prefixes);
+        assert_eq!(rt; agree, Some(true), "change {time}, client {client}");
+    }
+}
+
 #[test]
 fn random_changes_leave_what_the_rules_say(rt: HostRuntime) {
     let alloc = rt.alloc();
@@ -142,9 +150,6 @@ fn random_changes_leave_what_the_rules_say(rt: HostRuntime) {
         let peer = random.next() % 6;
         let body = some_body(&mut random, &prefixes, &routes).expect(&rt, "a change");
         both.take(peer, Word { time, body }).expect(&rt, "memory");
-        for client in 0..6 {
-            let agree = both.agree(alloc, client, &prefixes);
-            assert_eq!(rt; agree, Some(true), "change {time}, client {client}");
-        }
+        check_clients(&rt, alloc, &both, time, &prefixes);
     }
 }

@@ -66,8 +66,8 @@ fn changes(alloc: Global) -> Option<Vec<(usize, Word)>> {
 
 // What the rules, read slowly, say after each change.
 fn wanted(alloc: Global, words: &[(usize, Word)]) -> Option<Vec<All>> {
-    let mut history = History::new(alloc, exchange(alloc, subnet(), FOUR_PEERS)?);
     let prefixes = [within(10)?, within(198)?, within(203)?];
+    let mut history = History::new(alloc, exchange(alloc, subnet(), FOUR_PEERS)?);
     let mut wanted = Vec::new(alloc);
     for (peer, word) in words {
         history.add(*peer, again(word)?)?;
@@ -85,6 +85,13 @@ fn given(alloc: Global, tables: &Tables) -> Option<All> {
     Some(all)
 }
 
+// The same, asked once more where memory is refused.
+fn given_again(rt: &impl Abort, alloc: Global, tables: &Tables) -> All {
+    given(alloc, tables)
+        .or_else(|| given(alloc, tables))
+        .expect(rt, "all rows")
+}
+
 // Takes a change, and once more where memory is refused: then nothing had changed.
 fn take_once_more(
     rt: &impl Abort,
@@ -94,9 +101,7 @@ fn take_once_more(
     word: &Word,
     may_be_refused: bool,
 ) {
-    let before = given(alloc, tables)
-        .or_else(|| given(alloc, tables))
-        .expect(rt, "all rows");
+    let before = given_again(rt, alloc, tables);
     assert!(rt; peer < tables.count());
     assert!(rt; !tables.is_closed(peer));
     if tables
@@ -114,6 +119,12 @@ fn take_once_more(
     }
 }
 
+// After a change on the prefix that begins with this octet, tables give every client these rows.
+fn check_given(rt: &impl Abort, alloc: Global, tables: &Tables, octet: u32, all: &All) {
+    let given = given_again(rt, alloc, tables);
+    assert!(rt; given == *all, "prefix {octet}");
+}
+
 #[test]
 fn a_refused_change_changes_nothing_and_comes_when_taken_again(rt: HostRuntime) {
     let alloc = rt.alloc();
@@ -127,11 +138,9 @@ fn a_refused_change_changes_nothing_and_comes_when_taken_again(rt: HostRuntime) 
         .or_else(|| tables(alloc, subnet(), FOUR_PEERS))
         .expect(&rt, "tables");
     for (((peer, word), all), row) in words.iter().zip(&wanted).zip(&CHANGES) {
-        take_once_more(&rt, alloc, &mut tables, *peer, word, row.3);
-        let given = given(alloc, &tables)
-            .or_else(|| given(alloc, &tables))
-            .expect(&rt, "all rows");
-        assert!(rt; given == *all, "prefix {}", row.1);
+        let (_, octet, _, may_be_refused) = *row;
+        take_once_more(&rt, alloc, &mut tables, *peer, word, may_be_refused);
+        check_given(&rt, alloc, &tables, octet, all);
     }
 }
 
@@ -154,6 +163,11 @@ impl Fixed {
     /// The octets that were written; none where there are more than are kept.
     pub fn octets(&self) -> Option<&[u8]> {
         self.octets.get(..self.len)
+    }
+
+    /// These octets were written, and no others, by a dump of the list or of the table of that name.
+    pub fn check(&self, rt: &impl Abort, wanted: &[u8], dump: &str, name: &str) {
+        assert_eq!(rt; self.octets(), Some(wanted), "{dump} {name}");
     }
 }
 
@@ -180,6 +194,13 @@ pub fn exchange_again(rt: &impl Abort, alloc: Global, rows: Peers) -> Arc<Exchan
         .expect(rt, "an exchange")
 }
 
+/// The octets that are spelled so, read once more where memory is refused.
+pub fn octets_again(rt: &impl Abort, alloc: Global, texts: &[&str]) -> Vec<u8> {
+    octets(alloc, texts)
+        .or_else(|_| octets(alloc, texts))
+        .expect(rt, "octets")
+}
+
 /// The dump of rows for a client, written once more where memory is refused, and how many they are.
 pub fn dump_again(
     rt: &impl Abort,
@@ -193,7 +214,7 @@ pub fn dump_again(
     assert!(rt; are_known(plan, rows));
     let mut answer = write_dump(alloc, &mut out, plan, client, rows, 0);
     if answer == Err(DumpFault::Memory) {
-        assert_eq!(rt; out.octets(), Some([].as_slice()));
+        out.check(rt, &[], "list", "refused");
         answer = write_dump(alloc, &mut out, plan, client, rows, 0);
     }
     (answer.expect(rt, "a dump"), out)
@@ -206,11 +227,9 @@ fn a_refused_dump_writes_nothing_and_comes_when_asked_again(rt: HostRuntime) {
     let route = attributes(alloc, VIA_64501)
         .or_else(|| attributes(alloc, VIA_64501))
         .expect(&rt, "attributes");
-    let wanted = octets(alloc, &[PLAIN_DUMP])
-        .or_else(|_| octets(alloc, &[PLAIN_DUMP]))
-        .expect(&rt, "octets");
+    let wanted = octets_again(&rt, alloc, &[PLAIN_DUMP]);
     let rows = [row(documentation().expect(&rt, "a prefix"), &route)];
     let (count, out) = dump_again(&rt, alloc, &plan, B, &rows);
     assert_eq!(rt; count, 1);
-    assert_eq!(rt; out.octets(), Some(wanted.as_slice()));
+    out.check(&rt, &wanted, "list", "b");
 }

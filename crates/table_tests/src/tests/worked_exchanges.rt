@@ -5,7 +5,7 @@ ghost use Rattle.std.specs.Prelude.{IfSome};
 ghost use Rattle.table_tests.specs.Parts.{IsEmpty, IsOpen, IsOnPrefix};
 
 use super::*;
-use refusals::{Fixed, dump_again, exchange_again};
+use refusals::{Fixed, dump_again, exchange_again, octets_again};
 use rs_dump::{DumpFault, write_table_dump};
 use std::thread::Threads;
 
@@ -135,20 +135,29 @@ fn are_dumped<T: Abort + Threads + Sync>(
     client: usize,
     gets: Gets,
 ) {
-    let (name, spelled) = gets;
-    let wanted = dump_of(alloc, name, spelled)
-        .or_else(|| dump_of(alloc, name, spelled))
-        .expect(rt, "octets");
+    let (name, rows) = gets;
+    let wanted = octets_again(rt, alloc, &[INDEX, name, PEERS, rows]);
+    let (listed, rows, out) = list_dump(rt, alloc, tables, client);
+    out.check(rt, &wanted, "list", name);
+    let (count, out) = table_dump(rt, alloc, tables, client);
+    out.check(rt, &wanted, "table", name);
+    assert_eq!(rt; (listed as usize, count as usize), (rows, rows));
+}
+
+// The dump of the list of a client's rows, how many it says they are, and how many they are.
+fn list_dump(
+    rt: &impl Abort,
+    alloc: Global,
+    tables: &Tables,
+    client: usize,
+) -> (u32, usize, Fixed) {
     assert!(rt; client < tables.count());
     let rows = tables
         .rows(client)
         .or_else(|_| tables.rows(client))
         .expect(rt, "rows");
-    let (listed, out) = dump_again(rt, alloc, tables.plan(), client, &rows);
-    assert_eq!(rt; out.octets(), Some(wanted.as_slice()), "{name}");
-    let (count, out) = table_dump(rt, alloc, tables, client);
-    assert_eq!(rt; out.octets(), Some(wanted.as_slice()), "{name}");
-    assert_eq!(rt; (listed as usize, count as usize), (rows.len(), rows.len()));
+    let (count, out) = dump_again(rt, alloc, tables.plan(), client, &rows);
+    (count, rows.len(), out)
 }
 
 // The dump of a client's table, without a list of its rows, and how many they are.
@@ -162,15 +171,17 @@ fn table_dump<T: Abort + Threads + Sync>(
     let mut out = Fixed::new();
     let mut answer = write_table_dump(rt, alloc, &mut out, tables, client, 0);
     if answer == Err(DumpFault::Memory) {
-        assert_eq!(rt; out.octets(), Some([].as_slice()));
+        out.check(rt, &[], "table", "refused");
         answer = write_table_dump(rt, alloc, &mut out, tables, client, 0);
     }
     (answer.expect(rt, "a dump"), out)
 }
 
-// The octets of the dump for the client of this name with these rows.
-fn dump_of(alloc: Global, name: &str, rows: &str) -> Option<Vec<u8>> {
-    octets(alloc, &[INDEX, name, PEERS, rows]).ok()
+// Each client's rows are dumped as it gets them.
+fn check_dumps<T: Abort + Threads + Sync>(rt: &T, alloc: Global, tables: &Tables, all: &[Gets]) {
+    for (client, gets) in all.iter().enumerate() {
+        are_dumped(rt, alloc, tables, client, *gets);
+    }
 }
 
 #[test]
@@ -180,13 +191,9 @@ fn worked_exchanges_are_merged_and_dumped_where_memory_is_refused(rt: HostRuntim
     let hidden = no_hidden_path(alloc, &plan)
         .or_else(|| no_hidden_path(alloc, &plan))
         .expect(&rt, "tables");
-    for (client, gets) in NO_HIDDEN_PATH.iter().enumerate() {
-        are_dumped(&rt, alloc, &hidden, client, *gets);
-    }
+    check_dumps(&rt, alloc, &hidden, &NO_HIDDEN_PATH);
     let collected = collectors_file(alloc, &plan)
         .or_else(|| collectors_file(alloc, &plan))
         .expect(&rt, "tables");
-    for (client, gets) in COLLECTORS_FILE.iter().enumerate() {
-        are_dumped(&rt, alloc, &collected, client, *gets);
-    }
+    check_dumps(&rt, alloc, &collected, &COLLECTORS_FILE);
 }

@@ -1,9 +1,10 @@
 //! Writers that take little at a call, writers that fail, and the texts of faults.
 
 use super::*;
-use dumps::{PLAIN_DUMP, dump, row};
+use dumps::{PLAIN_DUMP, check_octets, dump, row};
 use rs_dump::{DumpFault, write_table_dump};
 use rs_mrt::{Limits, MemoryWriter};
+use rs_table::Row;
 use std::thread::Threads;
 
 // A writer that takes so many octets at a call.
@@ -37,6 +38,12 @@ fn check_cut(
     assert!(rt; whole.starts_with(written));
 }
 
+// A dump of one row was written whole.
+fn check_whole(rt: &impl Abort, answer: Result<u32, DumpFault>, written: &[u8], whole: &[u8]) {
+    assert_eq!(rt; answer, Ok(1));
+    assert_eq!(rt; written, whole);
+}
+
 // Writes the plain dump to memory within the limits; answers what `write_dump` does, and what the writer has
 // taken then.
 fn plain_dump(rt: &impl Abort, alloc: Global, limits: Limits) -> (Result<u32, DumpFault>, Vec<u8>) {
@@ -51,8 +58,7 @@ fn a_writer_may_take_one_octet_a_call(rt: HostRuntime) {
     let alloc = rt.alloc();
     let whole = octets(alloc, &[PLAIN_DUMP]).expect(&rt, "octets");
     let (answer, written) = plain_dump(&rt, alloc, in_pieces(1));
-    assert_eq!(rt; answer, Ok(1));
-    assert_eq!(rt; written, whole);
+    check_whole(&rt, answer, &written, &whole);
     // 97 writes of one octet: each is refused in turn, and what is out then is all that was written before.
     for calls in 0..97 {
         let (answer, written) = plain_dump(&rt, alloc, failing_after(calls, 1));
@@ -81,8 +87,7 @@ fn a_table_is_dumped_and_may_fail_at_each_octet(rt: HostRuntime) {
     let tables = announced(&rt, alloc, first_peers(2), &[(A, VIA_64501)]);
     let whole = octets(alloc, &[PLAIN_DUMP]).expect(&rt, "octets");
     let (answer, written) = table_dump(&rt, alloc, in_pieces(1), &tables, B);
-    assert_eq!(rt; answer, Ok(1));
-    assert_eq!(rt; written, whole);
+    check_whole(&rt, answer, &written, &whole);
     for calls in 0..97 {
         let (answer, written) = table_dump(&rt, alloc, failing_after(calls, 1), &tables, B);
         check_cut(&rt, calls, answer, &written, &whole);
@@ -100,6 +105,41 @@ fn many_routes(rt: &impl Abort, alloc: Global, count: u32) -> Tables {
     tables
 }
 
+// The octets of the dump of b's table, of so many rows, to memory within the limits.
+fn whole_dump<T: Abort + Threads + Sync>(
+    rt: &T,
+    alloc: Global,
+    limits: Limits,
+    tables: &Tables,
+    count: u32,
+) -> Vec<u8> {
+    let (answer, written) = table_dump(rt, alloc, limits, tables, B);
+    assert_eq!(rt; answer, Ok(count), "{limits:?}");
+    written
+}
+
+// The octets of the dump of the list of b's rows, of which there are so many.
+fn listed_dump(rt: &impl Abort, alloc: Global, tables: &Tables, count: u32) -> Vec<u8> {
+    let rows = tables.rows(B).expect(rt, "rows");
+    let (answer, listed) = dump(rt, alloc, Limits::none(), (tables.plan(), B, 0), &rows);
+    assert_eq!(rt; (answer, rows.len()), (Ok(count), count as usize));
+    listed
+}
+
+// Of a dump of b's table whose writer fails after so many writes, a beginning is out.
+fn check_beginning<T: Abort + Threads + Sync>(
+    rt: &T,
+    alloc: Global,
+    tables: &Tables,
+    calls: u64,
+    whole: &[u8],
+) {
+    let limits = failing_after(calls, usize::MAX);
+    let (answer, written) = table_dump(rt, alloc, limits, tables, B);
+    assert_eq!(rt; answer, Err(DumpFault::Write), "after {calls} writes");
+    assert!(rt; written.len() < whole.len() && whole.starts_with(&written));
+}
+
 // 18,500 rows are dumped in a block of eight parts and one of two, and 2,049 in two parts, which are spelled side
 // by side: with the octets of the same rows in a list. Writes are refused in turn, the last of each dump among them.
 #[test]
@@ -107,27 +147,13 @@ fn many_rows_are_dumped_as_they_are_listed(rt: HostRuntime) {
     let alloc = rt.alloc();
     for (count, first, writes) in [(2048, 0, 2), (2049, 0, 3), (18500, 9, 11)] {
         let tables = many_routes(&rt, alloc, count);
-        let rows = tables.rows(B).expect(&rt, "rows");
-        let (answer, listed) = dump(&rt, alloc, Limits::none(), (tables.plan(), B, 0), &rows);
-        assert_eq!(rt; (answer, rows.len()), (Ok(count), count as usize));
-        let (answer, whole) = table_dump(&rt, alloc, Limits::none(), &tables, B);
-        assert_eq!(rt; answer, Ok(count));
-        assert!(rt; whole == listed);
+        let whole = whole_dump(&rt, alloc, Limits::none(), &tables, count);
+        assert!(rt; whole == listed_dump(&rt, alloc, &tables, count));
         for calls in first..writes {
-            let limits = failing_after(calls, usize::MAX);
-            let (answer, written) = table_dump(&rt, alloc, limits, &tables, B);
-            assert_eq!(rt; answer, Err(DumpFault::Write), "after {calls} writes");
-            assert!(rt; written.len() < whole.len() && whole.starts_with(&written));
+            check_beginning(&rt, alloc, &tables, calls, &whole);
         }
-        let (answer, written) = table_dump(
-            &rt,
-            alloc,
-            failing_after(writes, usize::MAX),
-            &tables,
-            B,
-        );
-        assert_eq!(rt; answer, Ok(count));
-        assert!(rt; written == whole);
+        let limits = failing_after(writes, usize::MAX);
+        assert!(rt; whole_dump(&rt, alloc, limits, &tables, count) == whole);
     }
 }
 
@@ -142,7 +168,29 @@ fn a_full_device_has_the_beginning_of_the_dump(rt: HostRuntime) {
     let (answer, written) = plain_dump(&rt, alloc, small);
     assert_eq!(rt; answer, Err(DumpFault::Write));
     let front = "00000000 000D 0001 00000023 C0000201 0001 62 0002 02 C000020B C000020B";
-    assert_eq!(rt; Ok(written), octets(alloc, &[front]));
+    check_octets(&rt, alloc, written, front);
+}
+
+// After so many writes the writer fails: what the dump of rows answers, and how many octets are out.
+type Outcome = (u64, Result<u32, DumpFault>, usize);
+
+// The dump of rows for b comes out so, and what is out is a beginning of the whole dump.
+fn check_outcome(
+    rt: &impl Abort,
+    alloc: Global,
+    plan: &Exchange,
+    rows: &[Row],
+    (calls, answer, taken): Outcome,
+    whole: &[u8],
+) {
+    let limits = failing_after(calls, usize::MAX);
+    let (given, written) = dump(rt, alloc, limits, (plan, B, 0), rows);
+    assert_eq!(rt;
+        (given, written.len()),
+        (answer, taken),
+        "after {calls} writes"
+    );
+    assert!(rt; whole.starts_with(&written));
 }
 
 // 3,000 rows of 50 octets each make three pieces: each write is refused in turn.
@@ -156,20 +204,13 @@ fn each_write_may_fail(rt: HostRuntime) {
     let (answer, whole) = dump(&rt, alloc, Limits::none(), (&plan, B, 0), &rows);
     assert_eq!(rt; answer, Ok(3000));
     assert_eq!(rt; whole.len(), 47 + 3000 * 50);
-    for (calls, answer, taken) in [
+    for outcome in [
         (0, Err(DumpFault::Write), 0),
         (1, Err(DumpFault::Write), 65547),
         (2, Err(DumpFault::Write), 131097),
         (3, Ok(3000), 150047),
     ] {
-        let limits = failing_after(calls, usize::MAX);
-        let (given, written) = dump(&rt, alloc, limits, (&plan, B, 0), &rows);
-        assert_eq!(rt;
-            (given, written.len()),
-            (answer, taken),
-            "after {calls} writes"
-        );
-        assert!(rt; whole.starts_with(&written));
+        check_outcome(&rt, alloc, &plan, &rows, outcome, &whole);
     }
 }
 
