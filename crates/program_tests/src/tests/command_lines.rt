@@ -4,6 +4,7 @@ use rs_options::{Options, WordsFault};
 use rs_update::Errors;
 use rs_words::read_words;
 use std::alloc::{AllocError, Global};
+use std::process::Abort;
 use std::test::Fail;
 
 // What a command line comes to.
@@ -18,7 +19,7 @@ enum Answer {
 }
 
 // A command line without the program's name, and its answer.
-const LINES: [(&str, Answer); 40] = [
+const LINES: &[(&str, Answer)] = &[
     ("--config c --out d", Answer::Given("c", "d", 0)),
     ("--out d --config c", Answer::Given("c", "d", 0)),
     ("--config=c --out=d/ --time=7", Answer::Given("c", "d/", 7)),
@@ -112,15 +113,42 @@ fn is_answer(read: &Result<Options, WordsFault>, answer: &Answer) -> bool {
     }
 }
 
+// A command line comes to this answer.
+fn check_line<R: AllocGlobal + Abort>(rt: &R, line: &str, answer: &Answer) -> Result<(), Fail> {
+    let words = words(rt.alloc(), line)?;
+    let is_wanted = is_answer(&read_words(rt.alloc(), words), answer);
+    assert!(rt; is_wanted, "route_server {line}");
+    Ok(())
+}
+
 #[test]
 fn command_lines_are_read_or_refused(rt: HostRuntime) -> Result<(), Fail> {
-    let alloc = rt.alloc();
-    for (line, answer) in &LINES {
-        let result = read_words(alloc, words(alloc, line)?);
-        assert!(rt; is_answer(&result, answer), "route_server {line}");
+    for (line, answer) in LINES {
+        check_line(&rt, line, answer)?;
     }
     Ok(())
 }
+
+// The parts of the text of help.
+const HELP: &[&str] = &[
+    "--config <FILE>",
+    "--out <DIR>",
+    "--time <N>",
+    "seconds since 1970, from 0 to 4294967295 [default: 0]",
+    "--ring <N>",
+    "from 1 to 65536 [default: 1024]",
+    "--shards <N>",
+    "from 1 to 16 [default: 1]",
+    "--errors <STANDARD>",
+    "[default: rfc4271]",
+    "--version",
+    "route_server --config exchange.toml --out tables",
+    "0  all dumps and the report are written, or help or the version was asked for",
+    "1  the command line or the configuration is refused",
+    "2  a file, a folder or a device failed",
+    "3  memory or a thread was refused",
+    "4  not all changes of a peer are known to have been applied",
+];
 
 #[test]
 fn help_names_each_option_with_its_range_and_default_and_each_status(
@@ -130,25 +158,7 @@ fn help_names_each_option_with_its_range_and_default_and_each_status(
     let Err(WordsFault::Help(text)) = read_words(alloc, words(alloc, "--help")?) else {
         return Err(Fail::from("help is answered"));
     };
-    for part in [
-        "--config <FILE>",
-        "--out <DIR>",
-        "--time <N>",
-        "seconds since 1970, from 0 to 4294967295 [default: 0]",
-        "--ring <N>",
-        "from 1 to 65536 [default: 1024]",
-        "--shards <N>",
-        "from 1 to 16 [default: 1]",
-        "--errors <STANDARD>",
-        "[default: rfc4271]",
-        "--version",
-        "route_server --config exchange.toml --out tables",
-        "0  all dumps and the report are written, or help or the version was asked for",
-        "1  the command line or the configuration is refused",
-        "2  a file, a folder or a device failed",
-        "3  memory or a thread was refused",
-        "4  not all changes of a peer are known to have been applied",
-    ] {
+    for part in HELP {
         assert!(rt; text.contains(part), "{part}");
     }
     Ok(())

@@ -3,6 +3,7 @@
 use rs_choice::PlanFault;
 use rs_setup::{SetupFault, read_setup};
 use std::alloc::{AllocError, Global};
+use std::process::Abort;
 use std::test::Fail;
 
 /// A configuration with every key. Its one peer refuses routes from a name that no peer has: no test is after that one.
@@ -56,15 +57,30 @@ pub fn changed(alloc: Global, piece: &str, by: &str) -> Result<String, AllocErro
     }
 }
 
+/// A configuration has this answer.
+pub fn check_answer<R: AllocGlobal + Abort>(
+    rt: &R,
+    text: &str,
+    expected: &str,
+) -> Result<(), Fail> {
+    let told = answer(rt.alloc(), text.as_bytes())?;
+    assert_eq!(rt; told.as_str(), expected, "{text}");
+    Ok(())
+}
+
+// Octets and the answer to them as a configuration.
+const OCTETS: &[(&[u8], &str)] = &[
+    (&[0xFF], "no TOML"),
+    (b"# \xC3\n", "no TOML"),
+    (b"# \xC3\xA9\n", "server is missing"),
+    (b"\0", "no TOML"),
+];
+
 #[test]
 fn octets_that_are_no_text_are_no_configuration(rt: HostRuntime) -> Result<(), Fail> {
-    let alloc = rt.alloc();
-    assert_eq!(rt; answer(alloc, &[0xFF])?.as_str(), "no TOML");
-    assert_eq!(rt; answer(alloc, b"# \xC3\n")?.as_str(), "no TOML");
-    assert_eq!(rt;
-        answer(alloc, b"# \xC3\xA9\n")?.as_str(),
-        "server is missing"
-    );
-    assert_eq!(rt; answer(alloc, b"\0")?.as_str(), "no TOML");
+    for (octets, expected) in OCTETS {
+        let told = answer(rt.alloc(), octets)?;
+        assert_eq!(rt; told.as_str(), *expected, "{octets:?}");
+    }
     Ok(())
 }

@@ -1,6 +1,6 @@
 //! The first of several faults of a configuration.
 
-use super::configurations::{EVERY_KEY, LAST, answer, changed};
+use super::configurations::{EVERY_KEY, LAST, changed, check_answer};
 use std::process::Abort;
 use std::test::Fail;
 
@@ -157,23 +157,32 @@ const WHOLE: &[Change] = &[
     ),
 ];
 
+// With a text in place of a piece of that configuration, or behind it where there is no piece, the answer is this.
+fn check_change<R: AllocGlobal + Abort>(
+    rt: &R,
+    piece: Option<&str>,
+    (by, expected): &Change,
+) -> Result<(), Fail> {
+    let text = match piece {
+        Some(piece) => changed(rt.alloc(), piece, by),
+        None => format!(in rt.alloc(); "{EVERY_KEY}{by}"),
+    }?;
+    check_answer(rt, &text, expected)
+}
+
 #[test]
 fn the_first_fault_is_named(rt: HostRuntime) -> Result<(), Fail> {
-    let alloc = rt.alloc();
-    for (by, expected) in IN_PLACE_OF_SERVER {
-        let text = changed(alloc, SERVER, by)?;
-        assert_eq!(rt; answer(alloc, text.as_bytes())?.as_str(), *expected);
+    for change in IN_PLACE_OF_SERVER {
+        check_change(&rt, Some(SERVER), change)?;
     }
-    for (by, expected) in IN_PLACE_OF_PEER {
-        let text = changed(alloc, PEER_KEYS, by)?;
-        assert_eq!(rt; answer(alloc, text.as_bytes())?.as_str(), *expected);
+    for change in IN_PLACE_OF_PEER {
+        check_change(&rt, Some(PEER_KEYS), change)?;
     }
-    for (behind, expected) in BEHIND {
-        let text = format!(in alloc; "{EVERY_KEY}{behind}")?;
-        assert_eq!(rt; answer(alloc, text.as_bytes())?.as_str(), *expected);
+    for change in BEHIND {
+        check_change(&rt, None, change)?;
     }
     for (text, expected) in WHOLE {
-        assert_eq!(rt; answer(alloc, text.as_bytes())?.as_str(), *expected);
+        check_answer(&rt, text, expected)?;
     }
     Ok(())
 }

@@ -1,6 +1,6 @@
 //! Each key of a configuration missing, and with values that it can't have.
 
-use super::configurations::{LAST, answer, changed};
+use super::configurations::{LAST, changed, check_answer};
 use std::process::Abort;
 use std::test::Fail;
 
@@ -172,18 +172,27 @@ const KEYS: &[Key] = &[
     },
 ];
 
+// Without a key the answer is the one of its row.
+fn check_without<R: AllocGlobal + Abort>(rt: &R, key: &Key) -> Result<(), Fail> {
+    let text = changed(rt.alloc(), key.line, "")?;
+    check_answer(rt, &text, key.without)
+}
+
+// A value that a key can't have is named.
+fn check_value<R: AllocGlobal + Abort>(rt: &R, key: &Key, value: &str) -> Result<(), Fail> {
+    let (alloc, name, path) = (rt.alloc(), key.name, key.path);
+    let by = format!(in alloc; "{name} = {value}\n")?;
+    let text = changed(alloc, key.line, by.as_str())?;
+    let not_valid = format!(in alloc; "{path} is not valid")?;
+    check_answer(rt, &text, &not_valid)
+}
+
 #[test]
 fn every_key_missing_or_out_of_its_range_is_named(rt: HostRuntime) -> Result<(), Fail> {
-    let alloc = rt.alloc();
     for key in KEYS {
-        let without = changed(alloc, key.line, "")?;
-        assert_eq!(rt; answer(alloc, without.as_bytes())?.as_str(), key.without);
-        let (name, path) = (key.name, key.path);
-        let not_valid = format!(in alloc; "{path} is not valid")?;
+        check_without(&rt, key)?;
         for value in key.not_valid {
-            let by = format!(in alloc; "{name} = {value}\n")?;
-            let text = changed(alloc, key.line, by.as_str())?;
-            assert_eq!(rt; answer(alloc, text.as_bytes())?, not_valid);
+            check_value(&rt, key, value)?;
         }
     }
     Ok(())

@@ -118,6 +118,16 @@ fn run_with(
     run_over(rt, MANNER, COLLECTED, limits, outlet, report)
 }
 
+// Runs over that file in a manner, with a reader of each peer's file that gives and fails so.
+fn run_in(
+    rt: &(impl AllocGlobal + Abort + Threads + Wait + Sync),
+    manner: Manner,
+    limits: [ReadLimits; CLIENTS],
+) -> Result<Ran, Fail> {
+    let (outlet, report) = (OutletLimits::none(), Limits::none());
+    run_over(rt, manner, COLLECTED, limits, outlet, report)
+}
+
 // Runs over a file of the first peer, with a reader of each peer's file that gives and fails so.
 fn run_over(
     rt: &(impl AllocGlobal + Abort + Threads + Wait + Sync),
@@ -128,15 +138,10 @@ fn run_over(
     report: Limits,
 ) -> Result<Ran, Fail> {
     let alloc = rt.alloc();
+    assert!(rt; 1 <= manner.ring && manner.ring <= 65_536);
+    assert!(rt; 1 <= manner.shards && manner.shards <= 16);
     let setup = read_setup(alloc, EXCHANGE.as_bytes())?;
-    let options = Options {
-        config: String::new(alloc),
-        out: String::new(alloc),
-        time: 0,
-        ring: manner.ring,
-        shards: manner.shards,
-        errors: manner.errors,
-    };
+    assert_eq!(rt; setup.plan.count(), CLIENTS);
     let file = octets(alloc, &[file])?;
     let [first, second, third, fourth] = limits;
     let readers = Vec::from_array(
@@ -148,9 +153,14 @@ fn run_over(
             MemoryReader::new(&[], fourth),
         ],
     )?;
-    assert_eq!(rt; setup.plan.count(), CLIENTS);
-    assert!(rt; 1 <= options.ring && options.ring <= 65_536);
-    assert!(rt; 1 <= options.shards && options.shards <= 16);
+    let options = Options {
+        config: String::new(alloc),
+        out: String::new(alloc),
+        time: 0,
+        ring: manner.ring,
+        shards: manner.shards,
+        errors: manner.errors,
+    };
     let mut outlet = MemoryOutlet::new(alloc, outlet);
     let mut report = MemoryWriter::new(alloc, report);
     let answer = run(
@@ -172,20 +182,37 @@ fn run_over(
 // The first dumps are kept, so many of them, each under its client's name.
 fn check_kept(rt: &(impl AllocGlobal + Abort), kept: &[Kept], count: usize) -> Result<(), Fail> {
     assert_eq!(rt; kept.len(), count);
-    for (dump, (name, expected)) in kept.iter().zip(DUMPS) {
-        assert_eq!(rt; dump.name.as_str(), name);
-        assert_eq!(rt; dump.octets, octets(rt.alloc(), &[expected])?, "of {name}");
+    for (dump, (name, expected)) in kept.iter().zip(&DUMPS) {
+        check_dump(rt, dump, name, expected)?;
     }
+    Ok(())
+}
+
+// A dump is kept under this name, with the octets that are spelled so.
+fn check_dump(
+    rt: &(impl AllocGlobal + Abort),
+    dump: &Kept,
+    name: &str,
+    expected: &str,
+) -> Result<(), Fail> {
+    assert_eq!(rt; dump.name.as_str(), name);
+    let expected = octets(rt.alloc(), &[expected])?;
+    assert_eq!(rt; dump.octets, expected, "of {name}");
+    Ok(())
+}
+
+// A run went well: it kept a dump for each client, and reported. Messages name it by these numbers.
+fn check_whole(rt: &(impl AllocGlobal + Abort), ran: &Ran, numbers: &[usize]) -> Result<(), Fail> {
+    assert_eq!(rt; ran.answer, Ok(()), "{numbers:?}");
+    check_kept(rt, ran.outlet.kept(), CLIENTS)?;
+    assert_eq!(rt; ran.report.octets(), REPORT.as_bytes(), "{numbers:?}");
     Ok(())
 }
 
 #[test]
 fn a_run_keeps_a_dump_for_each_client_and_reports(rt: HostRuntime) -> Result<(), Fail> {
     let ran = run_with(&rt, OutletLimits::none(), Limits::none())?;
-    assert_eq!(rt; ran.answer, Ok(()));
-    check_kept(&rt, ran.outlet.kept(), CLIENTS)?;
-    assert_eq!(rt; ran.report.octets(), REPORT.as_bytes());
-    Ok(())
+    check_whole(&rt, &ran, &[])
 }
 
 #[test]
@@ -197,12 +224,8 @@ fn a_run_is_the_same_whatever_its_rings_and_shards(rt: HostRuntime) -> Result<()
                 shards,
                 ..MANNER
             };
-            let limits = [ReadLimits::none(); CLIENTS];
-            let (outlet, report) = (OutletLimits::none(), Limits::none());
-            let ran = run_over(&rt, manner, COLLECTED, limits, outlet, report)?;
-            assert_eq!(rt; ran.answer, Ok(()), "{ring} {shards}");
-            check_kept(&rt, ran.outlet.kept(), CLIENTS)?;
-            assert_eq!(rt; ran.report.octets(), REPORT.as_bytes());
+            let ran = run_in(&rt, manner, [ReadLimits::none(); CLIENTS])?;
+            check_whole(&rt, &ran, &[ring, shards])?;
         }
     }
     Ok(())
@@ -260,17 +283,8 @@ fn a_run_over_files_in_pieces_is_the_same(rt: HostRuntime) -> Result<(), Fail> {
             piece,
             ..ReadLimits::none()
         };
-        let ran = run_over(
-            &rt,
-            MANNER,
-            COLLECTED,
-            [limits; CLIENTS],
-            OutletLimits::none(),
-            Limits::none(),
-        )?;
-        assert_eq!(rt; ran.answer, Ok(()), "{piece}");
-        check_kept(&rt, ran.outlet.kept(), CLIENTS)?;
-        assert_eq!(rt; ran.report.octets(), REPORT.as_bytes());
+        let ran = run_in(&rt, MANNER, [limits; CLIENTS])?;
+        check_whole(&rt, &ran, &[piece])?;
     }
     Ok(())
 }
@@ -289,8 +303,7 @@ fn check_unread(
     limits: [ReadLimits; CLIENTS],
     peer: usize,
 ) -> Result<(), Fail> {
-    let (outlet, report) = (OutletLimits::none(), Limits::none());
-    let ran = run_over(rt, MANNER, COLLECTED, limits, outlet, report)?;
+    let ran = run_in(rt, MANNER, limits)?;
     assert_eq!(rt; ran.answer, Err(RunFault::Read(peer)));
     assert!(rt; ran.outlet.kept().is_empty());
     assert!(rt; ran.report.octets().is_empty());
@@ -379,11 +392,20 @@ fn whichever_write_of_a_dump_fails_the_run_ends_there(rt: HostRuntime) -> Result
             let ran = run_with(&rt, failing_at(client, call), Limits::none())?;
             check_stopped(&rt, &ran, client)?;
         }
-        let ran = run_with(&rt, failing_at(client, calls), Limits::none())?;
-        assert_eq!(rt; ran.answer, Ok(()), "after {calls} calls");
-        check_kept(&rt, ran.outlet.kept(), CLIENTS)?;
+        check_unfailing(&rt, client, calls)?;
     }
     Ok(())
+}
+
+// A run whose dump of a client is written with so many calls goes well, where only a later one would fail.
+fn check_unfailing(
+    rt: &(impl AllocGlobal + Abort + Threads + Wait + Sync),
+    client: usize,
+    calls: usize,
+) -> Result<(), Fail> {
+    let ran = run_with(rt, failing_at(client, calls), Limits::none())?;
+    assert_eq!(rt; ran.answer, Ok(()), "after {calls} calls");
+    check_kept(rt, ran.outlet.kept(), CLIENTS)
 }
 
 // 204 octets, 7 a call: each of the 30 calls fails in turn.

@@ -128,26 +128,27 @@ const TWO_PEERS: [PeerRow; 2] = [
 
 // Tests that a setup has these peers and files, in this order.
 fn check_peers(rt: &(impl Abort + AllocGlobal), setup: &Setup, rows: &[PeerRow]) {
-    assert_eq!(rt; setup.plan.count(), rows.len());
-    assert_eq!(rt; setup.files.len(), rows.len());
+    let counts = (setup.plan.count(), setup.files.len());
+    assert_eq!(rt; counts, (rows.len(), rows.len()));
     for (number, row) in rows.iter().enumerate() {
         if number < setup.plan.count() {
             check_peer(rt, setup.plan.peer(number), row);
         }
-        assert_eq!(rt;
-            setup.files.get(number).map(|file| file.as_str()),
-            Some(row.file)
-        );
+        check_file(rt, setup, number, row);
     }
+}
+
+// Tests that the file of the peer of this number is the one of a row.
+fn check_file(rt: &impl Abort, setup: &Setup, number: usize, row: &PeerRow) {
+    let file = setup.files.get(number).map(|file| file.as_str());
+    assert_eq!(rt; file, Some(row.file));
 }
 
 // Tests that a peer is the one of a row.
 fn check_peer(rt: &impl Abort, peer: &PeerSpec, row: &PeerRow) {
     assert_eq!(rt; peer.name.as_str(), row.name);
-    assert_eq!(rt; peer.asn, row.asn);
-    assert_eq!(rt; peer.address, row.address);
-    assert_eq!(rt; peer.id, row.id);
-    assert_eq!(rt; peer.preference, row.preference);
+    let numbers = (peer.asn, peer.address, peer.id, peer.preference);
+    assert_eq!(rt; numbers, (row.asn, row.address, row.id, row.preference));
     assert_eq!(rt; peer.refuse_from.len(), row.refuse_from.len());
     for (found, name) in peer.refuse_from.iter().zip(row.refuse_from.iter()) {
         assert_eq!(rt; found.as_str(), *name);
@@ -158,9 +159,8 @@ fn check_peer(rt: &impl Abort, peer: &PeerSpec, row: &PeerRow) {
 fn every_key_is_read(rt: HostRuntime) -> Result<(), Fail> {
     let setup = read_setup(rt.alloc(), EVERY_KEY.as_bytes())?;
     let local = setup.plan.local();
-    assert_eq!(rt; local.asn, 64500);
-    assert_eq!(rt; local.address, 0xC000_0201);
-    assert_eq!(rt; local.id, 0x0A14_1E28);
+    let numbers = (local.asn, local.address, local.id);
+    assert_eq!(rt; numbers, (64500, 0xC000_0201, 0x0A14_1E28));
     assert_eq!(rt; local.subnet, Prefix::new(0xC000_0200, 24));
     check_peers(&rt, &setup, &THREE_PEERS);
     Ok(())
@@ -170,24 +170,24 @@ fn every_key_is_read(rt: HostRuntime) -> Result<(), Fail> {
 fn keys_that_are_left_out_have_defaults(rt: HostRuntime) -> Result<(), Fail> {
     let setup = read_setup(rt.alloc(), REQUIRED_KEYS.as_bytes())?;
     let local = setup.plan.local();
-    assert_eq!(rt; local.asn, 64500);
-    assert_eq!(rt; local.id, 0xC000_0201);
+    assert_eq!(rt; (local.asn, local.id), (64500, 0xC000_0201));
     assert_eq!(rt; local.subnet, None);
     check_peers(&rt, &setup, &TWO_PEERS);
     Ok(())
 }
 
+// The subnet of a configuration in which it is written so.
+fn subnet_of(alloc: Global, text: &str) -> Result<Option<Prefix>, Fail> {
+    let whole = format!(in alloc; "{REQUIRED_KEYS}server.subnet = \"{text}\"")?;
+    let setup = read_setup(alloc, whole.as_bytes())?;
+    Ok(setup.plan.local().subnet)
+}
+
 #[test]
 fn the_host_bits_of_a_subnet_are_cleared(rt: HostRuntime) -> Result<(), Fail> {
-    let alloc = rt.alloc();
     for (text, address, len) in SUBNETS {
-        let whole = format!(in alloc; "{REQUIRED_KEYS}server.subnet = \"{text}\"")?;
-        let setup = read_setup(alloc, whole.as_bytes())?;
-        assert_eq!(rt;
-            setup.plan.local().subnet,
-            Prefix::new(address, len),
-            "of {text}"
-        );
+        let subnet = subnet_of(rt.alloc(), text)?;
+        assert_eq!(rt; subnet, Prefix::new(address, len), "of {text}");
     }
     Ok(())
 }
@@ -205,15 +205,22 @@ fn crowd(alloc: Global, count: usize) -> Result<String, AllocError> {
     Ok(text)
 }
 
+// The fault of the plan of a configuration of so many peers, where there is one.
+fn fault_of_crowd(alloc: Global, count: usize) -> Result<Option<PlanFault>, AllocError> {
+    let text = crowd(alloc, count)?;
+    match read_setup(alloc, text.as_bytes()) {
+        Err(SetupFault::Plan(fault)) => Ok(Some(fault)),
+        _ => Ok(None),
+    }
+}
+
 #[test]
 fn as_many_peers_as_an_exchange_may_have_are_read(rt: HostRuntime) -> Result<(), Fail> {
     let alloc = rt.alloc();
+    let fault = fault_of_crowd(alloc, MAX_PEERS + 1)?;
+    assert_eq!(rt; fault, Some(PlanFault::TooManyPeers));
     let setup = read_setup(alloc, crowd(alloc, MAX_PEERS)?.as_bytes())?;
     assert_eq!(rt; setup.plan.count(), MAX_PEERS);
     assert_eq!(rt; setup.files.last().map(|file| file.as_str()), Some("255"));
-    match read_setup(alloc, crowd(alloc, MAX_PEERS + 1)?.as_bytes()) {
-        Err(SetupFault::Plan(fault)) => assert_eq!(rt; fault, PlanFault::TooManyPeers),
-        _ => assert!(rt; false),
-    }
     Ok(())
 }

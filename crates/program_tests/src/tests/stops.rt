@@ -7,7 +7,7 @@ use rs_choice::PlanFault;
 use rs_ended::{Ended, MEMORY_LINE, line, path_in, status};
 use rs_options::{Options, WordsFault};
 use rs_run::RunFault;
-use rs_setup::{SetupFault, read_setup};
+use rs_setup::{Setup, SetupFault, read_setup};
 use rs_update::Errors;
 use std::alloc::{AllocError, Global};
 use std::process::Abort;
@@ -41,10 +41,14 @@ fn text(alloc: Global, text: &str) -> Result<String, AllocError> {
 fn ends<R: AllocGlobal + Abort>(rt: &R, ended: Ended, code: u8, wanted: &str) -> Result<(), Fail>
     requires { CanTell ended None None }
 {
-    assert_eq!(rt; status(&ended), code, "{wanted}");
     let told = line(rt.alloc(), &ended, None, None)?;
-    assert_eq!(rt; told.as_str(), wanted);
+    check_told(rt, (status(&ended), &told), (code, wanted));
     Ok(())
+}
+
+// A stop is told by this status and this line.
+fn check_told(rt: &impl Abort, told: (u8, &str), wanted: (u8, &str)) {
+    assert_eq!(rt; told, wanted);
 }
 
 // A refused configuration has status 1 and this line.
@@ -175,6 +179,18 @@ fn run_ends<R: AllocGlobal + Abort>(
 ) -> Result<(), Fail> {
     let alloc = rt.alloc();
     let setup = read_setup(alloc, TWO_PEERS.as_bytes())?;
+    let options = options(alloc, out)?;
+    ends_under(rt, fault, &setup, &options, (code, wanted))
+}
+
+// A run of this setup with these options that stopped short has this status and this line.
+fn ends_under<R: AllocGlobal + Abort>(
+    rt: &R,
+    fault: RunFault,
+    setup: &Setup,
+    options: &Options,
+    wanted: (u8, &str),
+) -> Result<(), Fail> {
     if let RunFault::Dump(client) = &fault {
         assert!(rt; *client < setup.plan.count());
     }
@@ -184,11 +200,9 @@ fn run_ends<R: AllocGlobal + Abort>(
     if let RunFault::Read(peer) = &fault {
         assert!(rt; *peer < setup.files.len());
     }
-    let options = options(alloc, out)?;
     let ended = Ended::Run(fault);
-    assert_eq!(rt; status(&ended), code, "{wanted}");
-    let told = line(alloc, &ended, Some(&setup), Some(&options))?;
-    assert_eq!(rt; told.as_str(), wanted);
+    let told = line(rt.alloc(), &ended, Some(setup), Some(options))?;
+    check_told(rt, (status(&ended), &told), wanted);
     Ok(())
 }
 
@@ -254,7 +268,8 @@ fn a_folder_that_ends_in_a_slash_gets_no_second_one(rt: HostRuntime) -> Result<(
         ("", "/a.mrt"),
         ("a/b", "a/b/a.mrt"),
     ] {
-        assert_eq!(rt; path_in(alloc, folder, "a.mrt")?.as_str(), path);
+        let joined = path_in(alloc, folder, "a.mrt")?;
+        assert_eq!(rt; joined.as_str(), path);
     }
     Ok(())
 }
