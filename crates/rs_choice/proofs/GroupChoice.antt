@@ -54,10 +54,6 @@ module _ (S : ℕ → Standing) where
         group below other at_other goes,
   )
 
-  -- the first of all groups has none ahead
-  first_front : (n : ℕ) (groups : List ℕ) → IsGrouping S n groups → (g p : ℕ) → slice_get groups g ≡ Some p → (k : ℕ) → k < n → IsAhead (S k) (S p) → ⊥
-  first_front n groups is g p at = is.front g p at
-
   -- and none that is level with it has a lower MED from the same neighbour AS
   first_least_med : (n : ℕ) (groups : List ℕ) → IsGrouping S n groups → (g p : ℕ) → slice_get groups g ≡ Some p → (k : ℕ) → k < n →
       IsLevel (S k) (S p) × HasLowerMed (S k) (S p) → ⊥

@@ -11,15 +11,6 @@ use Rattle.rs_choice.proofs.ScanLemmas.{not_ahead_of_itself, ahead_then}
 use Rattle.rs_choice.proofs.GroupLists.{level_ahead, level_back, level_then, stands_for_itself, beats_stands, held_stands, single, push_cases, push_old, push_new, set_cases, set_same, set_other, length_set}
 
 module _ (S : ℕ → Standing) where
-  pub no_groups : IsGrouping S 0 []
-  no_groups = record {
-    few = omega arith;
-    within = λ group place at. absurd (cc (at));
-    front = λ group place at k below. absurd (omega arith);
-    all = λ k below. absurd (omega arith);
-    apart = λ i j place other at. absurd (cc (at));
-  }
-
   -- all groups are level with one another
   pub groups_level : (n : ℕ) (groups : List ℕ) → IsGrouping S n groups → (g h p q : ℕ) → slice_get groups g ≡ Some p → slice_get groups h ≡ Some q → IsLevel (S p) (S q)
   groups_level n groups is g h p q at_p at_q =

@@ -16,9 +16,6 @@ level_back a b h = (sym h.0, sym h.1, sym h.2)
 pub level_then : (a b c : Standing) → IsLevel a b → IsLevel b c → IsLevel a c
 level_then a b c h k = (h.0 ∙ k.0, h.1 ∙ k.1, h.2 ∙ k.2)
 
-pub behind : (a b : Standing) → (IsAhead a b → ⊥) → (IsLevel a b → ⊥) → IsAhead b a
-behind a b h k = grind arith
-
 pub level : (a b : Standing) → (IsAhead a b → ⊥) → (IsAhead b a → ⊥) → IsLevel a b
 level a b h k = grind arith
 

@@ -11,7 +11,7 @@ use Rattle.rs_choice.specs.Comparison.{IsAhead, IsLevel, HasLowerMed}
 use Rattle.rs_choice.specs.Grouping.{places_of, AreGroups, IsGrouping, IsJoined, IsLevelWithSome, IsNeighboursGroup, LeadsAll}
 use Rattle.rs_choice.proofs.Eliminations.{equal_level, follows_level}
 use Rattle.rs_choice.proofs.GroupLists.{level_ahead, level_back, level_then, single, push_cases, set_cases}
-use Rattle.rs_choice.proofs.GroupLemmas.{ahead_of_all, ahead_of_none, level_itself, no_groups, alone, left_behind, one_more_group, another_place, same_place, level_with_all}
+use Rattle.rs_choice.proofs.GroupLemmas.{ahead_of_all, ahead_of_none, level_itself, alone, left_behind, one_more_group, another_place, same_place, level_with_all}
 
 pub place_at : (groups : List Group) (i : ℕ) (group : Group) → slice_get groups i ≡ Some group → slice_get (places_of groups) i ≡ Some group.place
 place_at groups i group at = slice_get-map (λ (group : Group). group.place) groups i ∙ ap (option_map (λ (group : Group). group.place)) at
@@ -34,13 +34,6 @@ module _ (S : ℕ → Standing) where
   -- a group of one entrant
   abbrev pub group_of : ℕ → Group
   group_of n = record { place = n; keeps_out = false; neighbour = (S n).neighbour }
-
-  pub none_marked : AreGroups S 0 []
-  none_marked = record {
-    grouping = no_groups S;
-    neighbours = λ i group at. absurd (cc (at));
-    keeps_out = λ i group at. absurd (cc (at));
-  }
 
   -- one that is ahead of all before it begins the groups anew
   pub alone_marked : (n : ℕ) → ((k : ℕ) → k < n → IsAhead (S n) (S k)) → AreGroups S (n + 1) (group_of n ∷ [])
@@ -107,9 +100,6 @@ module _ (S : ℕ → Standing) where
               (λ level lower. absurd (omega (arith, lower.1))))
         ];
       }
-
-  same_at : (groups : List Group) (i : ℕ) (one other : Group) → slice_get groups i ≡ Some one → slice_get groups i ≡ Some other → one ≡ other
-  same_at groups i one other at_one at_other = cc (at_one, at_other)
 
   -- the other groups don't keep out one of this neighbour AS
   others_keep : (n : ℕ) (groups : List Group) → AreGroups S n groups → (g : ℕ) (held : Group) → slice_get groups g ≡ Some held → held.neighbour ≡ (S n).neighbour →
@@ -205,9 +195,6 @@ module _ (S : ℕ → Standing) where
   some_group : (groups : List Group) → 0 < length groups → (group : Group) × (slice_get groups 0 ≡ Some group)
   some_group [] none = absurd (omega (arith, none))
   some_group (group ∷ later) some = (group, refl)
-
-  pub leads_none : LeadsAll S [] None
-  leads_none = refl
 
   pub leads_alone : (n : ℕ) → LeadsAll S (group_of n ∷ []) (Some (S n))
   leads_alone n = (omega arith, λ i group at. rw (single (group_of n) i group at).1 (refl, refl, refl))

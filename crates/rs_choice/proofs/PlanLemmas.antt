@@ -1,8 +1,8 @@
 -- The first fault of a list of tests: of two lists in a row, and of the tests of one peer after another.
-use Rattle.std.proofs.Common.{◌≡◌, ◌∙◌, ap, refl, ℕ, ◌+◌, ◌<◌, arith, Bool, true, false, List, [], ◌∷◌, ◌++◌, length, map, drop, get_or, Some, None}
+use Rattle.std.proofs.Common.{◌≡◌, ◌∙◌, ap, refl, ℕ, ◌+◌, ◌<◌, Bool, true, false, List, [], ◌∷◌, ◌++◌, length, map, drop, get_or, Some, None}
 use Rattle.std.specs.List.{flat_map, enumerate_from, list_all}
 use Rattle.std.proofs.lemmas.List.Folds.{list_all-map}
-use Rattle.std.proofs.lemmas.List.{drop_more, drop_all}
+use Rattle.std.proofs.lemmas.List.{drop_more}
 use Rattle.std.specs.Prelude.{◌==◌, not, string_bytes}
 use Rattle.std.specs.Str.{bytes_eq}
 use Rattle.rs_choice.specs.declared.plan.PeerSpec.{PeerSpec}
@@ -47,11 +47,6 @@ pub first_fault-later : {P : Type 0} (tests : ℕ × P → List Test) (peers : L
     first_fault (tests (number, peer)) ≡ None → first_fault (tests_from tests peers 0) ≡ first_fault (tests_from tests peers (number + 1))
 first_fault-later tests peers number peer within is before here =
     before ∙ ap first_fault (tests_from-step tests peers number peer within is) ∙ first_fault-None (tests (number, peer)) (tests_from tests peers (number + 1)) here
-
--- past the last peer there is none
-pub first_fault-end : {P : Type 0} (tests : ℕ × P → List Test) (peers : List P) (number : ℕ) → length peers ≡ number →
-    first_fault (tests_from tests peers 0) ≡ first_fault (tests_from tests peers number) → first_fault (tests_from tests peers 0) ≡ None
-first_fault-end tests peers number end before = before ∙ rw (drop_all number peers (omega (arith, end))) refl
 
 list_all_alike : {A : Type 0} (p q : A → Bool) (xs : List A) → ((x : A) → p x ≡ q x) → list_all p xs ≡ list_all q xs
 list_all_alike p q [] same = refl

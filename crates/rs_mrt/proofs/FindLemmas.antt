@@ -1,8 +1,8 @@
 -- How the next record is found in a window, or none is.
-use Rattle.std.proofs.Common.{◌≡◌, ◌≢◌, ℕ, ◌+◌, ◌-◌, ◌≤◌, ◌<◌, min, List, [], ◌++◌, length, take, drop, Some, Result, Ok, Err, Bool, true, false, refl, sym, ap, subst, ◌∙◌, append_assoc, arith, length-append}
+use Rattle.std.proofs.Common.{◌≡◌, ℕ, ◌+◌, ◌-◌, ◌≤◌, ◌<◌, min, List, [], ◌++◌, length, take, drop, Some, Result, Ok, Err, Bool, true, refl, sym, ap, subst, ◌∙◌, append_assoc, arith, length-append}
 use Rattle.std.proofs.lemmas.List.{append-nil, take_rest}
 use Rattle.byteorder.specs.Endian.{big_number}
-use Rattle.rs_mrt.specs.declared.fault.MrtFault.TheVariants.{HeaderCutShort, BodyCutShort}
+use Rattle.rs_mrt.specs.declared.fault.MrtFault.TheVariants.{BodyCutShort}
 use Rattle.rs_mrt.specs.declared.fault.SourceFault.{SourceFault}
 use Rattle.rs_mrt.specs.declared.fault.SourceFault.TheVariants.{Mrt, Read}
 use Rattle.rs_mrt.specs.declared.stream.Failed.{Failed}
@@ -12,15 +12,9 @@ use Rattle.rs_mrt.specs.Entry.{front_of}
 use Rattle.rs_mrt.specs.RecordReading.{Inflow}
 use Rattle.rs_mrt.specs.Inflow.{Draws, Fills, Skips, IsEnough, FindsRecord, FindsNone, answer_behind, answer_at, call_at, shown_in, held_behind}
 use Rattle.rs_mrt.proofs.InflowLemmas.{Draws-then, Fills-then}
-use Rattle.rs_mrt.proofs.FrontLemmas.{Fronts, fronts, has_record-cut, length_field-append, rest-header, rest-body}
+use Rattle.rs_mrt.proofs.FrontLemmas.{Fronts, fronts, has_record-cut, length_field-append, rest-body}
 
--- the answers where a header, or a body, is cut short
-pub header-cut : (octets : List ℕ) → (octets ≢ []) → length octets < 12 → Err (Mrt HeaderCutShort) ≡ answer_behind FileEnds octets
-header-cut octets some short = ap answer_at (sym (rest-header octets some short))
-
-pub nothing-left : (octets : List ℕ) → octets ≡ [] → Ok false ≡ answer_behind FileEnds octets
-nothing-left octets none = ap (answer_behind FileEnds) (sym none)
-
+-- the answer where a body is cut short, or reading it failed
 abbrev pub body_answer : ReadEnd → Result Bool SourceFault
 body_answer FileEnds = Err (Mrt BodyCutShort)
 body_answer ReadFails = Err Read
@@ -65,10 +59,6 @@ module _ {R : Type 0} (gives : R → List ℕ → ReadEnd → Type 0) (failures 
       let same : after ++ [] ≡ after = append-nil after in
       none-found old new before after [] fills.piece end failed answer fills.drawn (same ∙ fills.filled)
       (subst (λ (z : List ℕ). length after + 0 < 12 + length_field z) (sym same) (omega arith)) (says ∙ ap (answer_behind end) (sym same))
-
-  pub short-header : (old new : Inflow R) (before after : List ℕ) (end : ReadEnd) (failed : Failed) (answer : Result Bool SourceFault) → Fills gives failures old new before after (call_at end failed)
-      → length after < 12 → answer ≡ answer_behind end after → FindsNone gives failures old new before after answer
-  short-header old new before after end failed answer fills short says = none-behind old new before after end failed answer fills (omega arith) says
 
   pub short-body : (old mid new : Inflow R) (before between after : List ℕ) (end : ReadEnd) (failed : Failed) → Fills gives failures old mid before between (Ok true) → 12 ≤ length between
       → Fills gives failures mid new between after (call_at end failed) → length after < 12 + length_field between → FindsNone gives failures old new before after (body_answer end)

@@ -1,5 +1,5 @@
 -- What a window that holds the front of a record says of the record, and what a reader of records shows.
-use Rattle.std.proofs.Common.{◌≡◌, ◌≢◌, ℕ, ◌+◌, ◌-◌, ◌≤◌, ◌<◌, min, List, [], ◌∷◌, ◌++◌, length, take, drop, map, Option, Some, None, Result, Bool, true, false, refl, sym, ap, subst, ◌∙◌, append_assoc, arith, inl, inr, length-append}
+use Rattle.std.proofs.Common.{◌≡◌, ℕ, ◌+◌, ◌-◌, ◌≤◌, ◌<◌, min, List, [], ◌∷◌, ◌++◌, length, take, drop, map, Option, Some, None, Result, Bool, true, false, refl, sym, ap, subst, ◌∙◌, append_assoc, arith, inl, inr, length-append}
 use Rattle.std.specs.Prelude.{nat_lt, if◌then◌else◌}
 use Rattle.std.specs.Option.{option_map}
 use Rattle.std.proofs.lemmas.Bool.{cases_Bool, lt-ltb, le-ltb, le-leb, and_from, cases_lt}
@@ -130,10 +130,6 @@ fronts window gone n same long room rest =
     ]
 
 -- ---- what the rest of a file says
-
-pub rest-header : (octets : List ℕ) → (octets ≢ []) → length octets < 12 → fault_of_rest octets ≡ Some HeaderCutShort
-rest-header [] some cut = absurd (some refl)
-rest-header (octet ∷ octets) some cut = ap (λ (b : Bool). if b then Some HeaderCutShort else Some BodyCutShort) (lt-ltb (length (octet ∷ octets)) 12 cut)
 
 pub rest-body : (octets : List ℕ) → 12 ≤ length octets → fault_of_rest octets ≡ Some BodyCutShort
 rest-body [] long = absurd (omega arith)

@@ -2,7 +2,7 @@
 use Rattle.std.proofs.Common.{◌≡◌, ◌≢◌, ℕ, zero, suc, ◌+◌, ◌-◌, ◌≤◌, ◌<◌, List, [], ◌∷◌, ◌++◌, length, take, Result, Ok, Err, Bool, true, false, refl, sym, ap, subst, ◌∙◌, append_assoc, arith, inl, inr, length-append}
 use Rattle.std.specs.Prelude.{nat_lt, if◌then◌else◌}
 use Rattle.std.proofs.lemmas.Bool.{cases_Bool, ltb-true, ltb-false, lt-ltb, le-ltb}
-use Rattle.std.proofs.lemmas.List.{take_all, take-append-le, length-take-le, append-nil}
+use Rattle.std.proofs.lemmas.List.{take_all, take-append-le, length-take-le}
 use Rattle.std.proofs.Math.Seq.{take-append-add}
 use Rattle.rs_mrt.specs.declared.stream.Failed.{Failed}
 use Rattle.rs_mrt.specs.Reader.{ReadEnd, FileEnds, ReadFails, ReadGives, SomethingIsGiven}
@@ -19,10 +19,6 @@ same_test n a b c e =
       | inr above ↦ (let le : b ≤ a = ltb-false _ _ above in above ∙ sym (le-ltb (n + a) c (omega arith)))
     ]
 
-same_either_way : (b : Bool) → ReadFails ≡ if b then ReadFails else ReadFails
-same_either_way true = refl
-same_either_way false = refl
-
 module _ {R : Type 0} (gives : R → List ℕ → ReadEnd → Type 0) where
   -- the end of the file may be next
   arrive-end : (inflow : Inflow R) → inflow.came < read_limit → gives inflow.reader [] FileEnds → MayArrive gives inflow [] FileEnds
@@ -30,12 +26,6 @@ module _ {R : Type 0} (gives : R → List ℕ → ReadEnd → Type 0) where
       let most = read_limit - inflow.came in
       let some : nat_lt 0 most ≡ true = lt-ltb 0 most (omega arith) in
       record { all = []; last = FileEnds; given = given; cut = sym (take_all most [] (omega arith)); ends = ap (λ (b : Bool). if b then FileEnds else ReadFails) (sym some) }
-
-  -- a failed read may be next
-  pub arrive-failure : (inflow : Inflow R) → gives inflow.reader [] ReadFails → MayArrive gives inflow [] ReadFails
-  arrive-failure inflow given =
-      let most = read_limit - inflow.came in
-      record { all = []; last = ReadFails; given = given; cut = sym (take_all most [] (omega arith)); ends = same_either_way (nat_lt 0 most) }
 
   -- at the limit a failed read is next
   pub arrive-full : (inflow : Inflow R) → inflow.came ≡ read_limit → SomethingIsGiven (gives inflow.reader) → MayArrive gives inflow [] ReadFails
@@ -88,10 +78,6 @@ Behind-then old mid new p q (Ok false) first second = first q FileEnds second
 Behind-then old mid new p q (Err failed) first second = first q ReadFails second
 
 module _ {R : Type 0} (gives : R → List ℕ → ReadEnd → Type 0) (failures : R → ℕ) where
-  -- nothing came yet
-  pub Draws-start : (inflow : Inflow R) → inflow.came ≤ read_limit → Draws gives failures inflow inflow [] (Ok true)
-  Draws-start inflow within = record { behind = λ later end may. may; came = omega arith; within = within; counts = refl }
-
   -- one piece after another came
   pub Draws-then : (old mid new : Inflow R) (p q : List ℕ) (r : Result Bool Failed) → Draws gives failures old mid p (Ok true) → Draws gives failures mid new q r
       → Draws gives failures old new (p ++ q) r
@@ -120,21 +106,12 @@ module _ {R : Type 0} (gives : R → List ℕ → ReadEnd → Type 0) (failures 
         counts = counts_given n (failures old.reader) (failures new.reader) new.came counts;
       }
 
-  -- a call of it failed
-  pub Draws-failed : (old new : Inflow R) (failed : Failed) → old.came ≤ read_limit → new.came ≡ old.came → failures new.reader ≡ failures old.reader + 1 → gives old.reader [] ReadFails
-      → Draws gives failures old new [] (Err failed)
-  Draws-failed old new failed within came counts given =
-      record { behind = arrive-failure gives old given; came = omega arith; within = omega arith; counts = inl counts }
-
   -- it isn't called at the limit
   pub Draws-full : (inflow : Inflow R) (failed : Failed) → inflow.came ≡ read_limit → SomethingIsGiven (gives inflow.reader) → Draws gives failures inflow inflow [] (Err failed)
   Draws-full inflow failed full some =
       record { behind = arrive-full gives inflow full some; came = omega arith; within = omega arith; counts = inr (refl, full) }
 
   -- ---- a window
-
-  pub Fills-start : (inflow : Inflow R) (window : List ℕ) → inflow.came ≤ read_limit → Fills gives failures inflow inflow window window (Ok true)
-  Fills-start inflow window within = record { piece = []; filled = sym (append-nil window); drawn = Draws-start inflow within }
 
   pub Fills-then : (old mid new : Inflow R) (before between after : List ℕ) (r : Result Bool Failed) → Fills gives failures old mid before between (Ok true)
       → Fills gives failures mid new between after r → Fills gives failures old new before after r
@@ -153,9 +130,6 @@ module _ {R : Type 0} (gives : R → List ℕ → ReadEnd → Type 0) (failures 
     pub drawn : Draws gives failures old new piece (Ok true)
     pub counted : length piece + left ≡ wanted
 
-  pub SoFar-start : (inflow : Inflow R) (wanted : ℕ) → inflow.came ≤ read_limit → SoFar inflow inflow wanted wanted
-  SoFar-start inflow wanted within = record { piece = []; drawn = Draws-start inflow within; counted = omega arith }
-
   pub SoFar-then : (old mid new : Inflow R) (wanted left n : ℕ) → SoFar old mid wanted left → Forgets gives failures mid new left (Ok n) → (n ≢ 0) → SoFar old new wanted (left - n)
   SoFar-then old mid new wanted left zero first second some = absurd (some refl)
   SoFar-then old mid new wanted left (suc n) first second some =
@@ -163,15 +137,6 @@ module _ {R : Type 0} (gives : R → List ℕ → ReadEnd → Type 0) (failures 
         piece = first.piece ++ second.piece;
         drawn = Draws-then old mid new first.piece second.piece (Ok true) first.drawn second.drawn;
         counted = omega (arith, first.counted, second.counted, second.fits, length-append first.piece second.piece);
-      }
-
-  pub SoFar-ended : (old mid new : Inflow R) (wanted left : ℕ) → 0 < left → SoFar old mid wanted left → Forgets gives failures mid new left (Ok 0) → Skips gives failures old new wanted (Ok false)
-  SoFar-ended old mid new wanted left some first second =
-      record {
-        piece = first.piece ++ second.piece;
-        drawn = Draws-then old mid new first.piece second.piece (Ok false) first.drawn second.drawn;
-        most = omega (arith, first.counted, second.counted, length-append first.piece second.piece);
-        enough = omega (arith, first.counted, second.counted, length-append first.piece second.piece);
       }
 
   -- a read failed; which error says it makes no difference

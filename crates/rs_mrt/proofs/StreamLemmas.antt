@@ -18,18 +18,11 @@ Appends-Keeps (Some s) None c x p q = absurd p
 Appends-Keeps (Some s) (Some t) None x p q = absurd q
 Appends-Keeps (Some s) (Some t) (Some u) x p q = q ∙ p
 
-Appends-nothing : (a : Option (List ℕ)) → Appends a a []
-Appends-nothing None = tt
-Appends-nothing (Some s) = sym (append-nil s)
-
 -- a front of the piece was appended, and this is left of it
 pub record Written (before now : Option (List ℕ)) (piece rest : List ℕ) : Type 0 where
   pub front : List ℕ
   pub parts : piece ≡ front ++ rest
   pub appended : Appends before now front
-
-pub Written-start : (now : Option (List ℕ)) (piece : List ℕ) → Written now now piece piece
-Written-start now piece = record { front = []; parts = refl; appended = Appends-nothing now }
 
 pub Written-more : (before now after : Option (List ℕ)) (piece rest : List ℕ) (n : ℕ) → Written before now piece rest → Appends now after (take n rest) → Written before after piece (take (length rest - n) (drop n rest))
 Written-more before now after piece rest n so_far more =
@@ -45,9 +38,6 @@ pub Written-stopped : (before now after : Option (List ℕ)) (piece rest : List 
 Written-stopped before now after piece rest so_far kept =
     let whole = so_far.parts in
     (length so_far.front, rw whole (omega (arith, length-append so_far.front rest)), rw (whole, take_at so_far.front rest (length so_far.front) refl) (Appends-Keeps before now after so_far.front so_far.appended kept))
-
-pub Written-whole : (before now : Option (List ℕ)) (piece rest : List ℕ) → Written before now piece rest → rest ≡ [] → Appends before now piece
-Written-whole before now piece rest so_far none = rw (so_far.parts, none, append-nil so_far.front) so_far.appended
 
 -- a call that takes octets has not failed
 pub took_some : (n : ℕ) (piece : List ℕ) → (n ≡ 0 → ⊥) → failed_calls (Ok n) piece ≡ 0

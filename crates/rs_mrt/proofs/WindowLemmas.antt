@@ -25,12 +25,6 @@ front-settled buffer copied start end order fits same =
     ap (take len) same ∙ ap (λ (k : ℕ). take k (paste buffer 0 (drop start buffer) len)) count
     ∙ take-paste buffer 0 (drop start buffer) len (omega arith) (omega (arith, length-drop start buffer))
 
-pub window-settled : (buffer copied : List ℕ) (start end : ℕ) → start ≤ end → end ≤ length buffer → copied ≡ paste buffer 0 (drop start buffer) (end - start)
-    → take (end - start - 0) (drop 0 copied) ≡ take (end - start) (drop start buffer)
-window-settled buffer copied start end order fits same =
-    let none : end - start - 0 ≡ end - start = omega arith in
-    ap (λ (k : ℕ). take k copied) none ∙ front-settled buffer copied start end order fits same
-
 -- and octets are added behind them
 pub window-extended : (buffer copied added rest : List ℕ) (start end count : ℕ) → start ≤ end → end ≤ length buffer → copied ≡ paste buffer 0 (drop start buffer) (end - start) → count ≤ length added
     → take (end - start + count - 0) (drop 0 (take (end - start) copied ++ (added ++ rest))) ≡ take (end - start) (drop start buffer) ++ take count added

@@ -167,9 +167,6 @@ kept_at items kind sound =
           ]
     ]
 
-at_most : (a b c d : ℕ) → a ≤ b → b ≤ c → c + d ≡ a + d → c ≤ c
-at_most a b c d p q r = omega arith
-
 chain : (a b c : ℕ) → a ≤ b → b ≤ c → a ≤ c
 chain a b c p q = omega arith
 

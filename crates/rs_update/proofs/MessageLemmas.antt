@@ -12,7 +12,7 @@ use Rattle.rs_update.specs.declared.fault.UpdateFault.{UpdateFault}
 use Rattle.rs_update.specs.declared.fault.UpdateFault.TheVariants.{MissingWellKnown, InvalidNetworkField}
 use Rattle.rs_update.specs.Fault.{first_fault, or_else, of_header, of_update}
 use Rattle.rs_update.specs.Gathered.{attributes_of}
-use Rattle.rs_update.specs.Header.{header_fault, header_of, is_marked, has_length, suits_type, type_of, type_field}
+use Rattle.rs_update.specs.Header.{header_fault, is_marked, has_length, suits_type, type_of, type_field}
 use Rattle.rs_update.specs.Message.{MessageContent, UpdateContent, ◌>>=◌, passes, listed_prefixes, announced_attributes, withdrawn_field, section_field, nlri_field, length_tests, contents_fault, update_fault, update_message, update_of, message_fault, message_of, typed_message}
 use Rattle.rs_update.specs.Prefix.{prefixes_of}
 use Rattle.rs_update.specs.Section.{items_of, section_fault}
@@ -20,11 +20,6 @@ use Rattle.rs_update.specs.IpPrefix.{IpPrefix}
 use Rattle.rs_update.specs.PathAttributes.{PathAttributes}
 use Rattle.rs_update.proofs.KindLemmas.{cases_Option}
 use Rattle.rs_update.proofs.PrefixLemmas.{no_prefix, some_prefix}
-
--- behind a header without fault, a message is what its type says
-pub message_of-typed : (octets : List ℕ) (kind : MessageType) → header_of octets ≡ Ok kind → message_of octets ≡ typed_message kind (drop 19 octets)
-unfolding message_of
-message_of-typed octets kind e = rw (e, message_of) refl
 
 -- ---- the first fault
 

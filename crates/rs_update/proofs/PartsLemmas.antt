@@ -1,6 +1,5 @@
 -- Reading parts one after another finds exactly the parts that stand in a field.
-use Rattle.std.proofs.Common.{◌≡◌, ℕ, zero, suc, ◌+◌, ◌<◌, ◌≤◌, List, [], ◌∷◌, ◌++◌, length, Option, Some, None, refl, sym, ap, subst, ◌∙◌, arith}
-use Rattle.std.specs.Prelude.{◌↔◌}
+use Rattle.std.proofs.Common.{◌≡◌, ℕ, zero, suc, ◌+◌, ◌<◌, ◌≤◌, List, [], ◌∷◌, ◌++◌, length, Option, Some, None, refl, sym, ap, ◌∙◌, arith}
 use Rattle.std.proofs.lemmas.List.{get_or-append-add}
 use Rattle.rs_update.specs.Parts.{AreOctets, IsNoPart, IsWholeFront, parts_within, parts_of}
 
@@ -119,9 +118,3 @@ whole-parts_of read Spells shrinks reads octets (part ∷ later) rest are whole 
     let found = ap read parts ∙ reads.only front behind part whole.0.3 in
     let others = whole-parts_of read Spells shrinks reads behind later rest (AreOctets-behind front behind octets parts are) (whole.0.4, whole.1) in
     parts_of-some read shrinks octets part behind found ∙ ap (λ left. (part ∷ left.0, left.1)) others
-
--- both ways
-pub parts_of-iff : {A : Type 0} (read : List ℕ → Option (A × List ℕ)) (Spells : List ℕ → A → Type 0) → Shrinks read → Reads read Spells → (octets : List ℕ) (parts : List A) (rest : List ℕ) → AreOctets octets
-    → (IsWholeFront Spells octets parts rest ↔ (parts_of read octets ≡ (parts, rest)))
-parts_of-iff read Spells shrinks reads octets parts rest are =
-    (whole-parts_of read Spells shrinks reads octets parts rest are, λ e. subst (λ (x : List _ × List ℕ). IsWholeFront Spells octets x.0 x.1) e (parts_of-whole read Spells shrinks reads octets are))

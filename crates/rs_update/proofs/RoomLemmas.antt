@@ -1,5 +1,5 @@
 -- Memory is taken only for an UPDATE without a fault that lists a prefix.
-use Rattle.std.proofs.Common.{◌≡◌, ℕ, ◌+◌, ◌<◌, false, List, [], ◌∷◌, length, Option, Some, None, Result, Ok, Err, refl, ap, ◌∙◌, arith}
+use Rattle.std.proofs.Common.{◌≡◌, ℕ, ◌+◌, ◌<◌, false, List, [], ◌∷◌, length, Option, Some, None, Result, Ok, Err, refl, arith}
 use Rattle.std.specs.Prelude.{is_err}
 use Rattle.std.specs.Option.{option_map}
 use Rattle.std.proofs.lemmas.Bool.{true≢false}
@@ -84,13 +84,3 @@ treating_update_lists body routes none1 none2 =
     let nlri = counted (prefixes_of (nlri_field body)) routes.nlri_count routes.nlri in
     rw (listed_ok (withdrawn_field body) withdrawn.0 withdrawn.1, listed_ok (nlri_field body) nlri.0 nlri.1)
     (treating_lists (first_fault (length_tests body)) (reset_of (strongest_in (section_field body))) withdrawn.0 nlri.0 (standing_attributes (strongest_in (section_field body)) (section_field body) (nlri_field body)) none1 none2 (omega (arith, withdrawn.2, nlri.2, routes.some)))
-
-no_member : (prefixes : List IpPrefix) → length prefixes ≡ 0 → prefixes ≡ []
-no_member [] e = refl
-no_member (prefix ∷ prefixes) e = absurd (omega arith)
-
--- no prefix is listed where the count is 0
-pub none_listed : (field : List ℕ) → option_map length (prefixes_of field) ≡ Some 0 → prefixes_of field ≡ Some []
-none_listed field listed =
-    let is = counted (prefixes_of field) 0 listed in
-    is.1 ∙ ap (λ (prefixes : List IpPrefix). Some prefixes) (no_member is.0 is.2)
