@@ -11,7 +11,7 @@ use Rattle.rs_session.specs.FileChanges.{close_at}
 use Rattle.rs_session.specs.Laws as laws
 use Rattle.rs_session.specs.declared.word.Word.{Word}
 use Rattle.rs_floor.specs.Lane.{NoneClosesBefore, sent_changes}
-use Rattle.rs_floor.specs.Schedule.{after_send, after_receive}
+use Rattle.rs_floor.specs.Schedule.{after_send}
 use Rattle.rs_floor.specs.declared.counts.Counts.{Counts}
 use Rattle.rs_floor.proofs.ListLemmas.{none-take, get-append_seam}
 
@@ -28,11 +28,6 @@ none-before end recorded last = rw last.splits (λ n below. rw (take-append-le n
 
 -- ---- counts
 
-neither : {X : Type 0} (a b : Bool) (x y : X) → b ≡ false → (if a && b then x else y) ≡ y
-neither true true x y e = absurd cc
-neither true false x y e = refl
-neither false b x y e = refl
-
 not_first : {X : Type 0} (a b : Bool) (x y : X) → a ≡ false → (if a && b then x else y) ≡ y
 not_first true b x y e = absurd cc
 not_first false b x y e = refl
@@ -42,28 +37,11 @@ both true true x y e f = refl
 both true false x y e f = absurd cc
 both false b x y e f = absurd cc
 
-one : {X : Type 0} (a : Bool) (x y : X) → a ≡ true → (if a then x else y) ≡ x
-one true x y e = refl
-one false x y e = absurd cc
-
-other : {X : Type 0} (a : Bool) (x y : X) → a ≡ false → (if a then x else y) ≡ y
-other true x y e = absurd cc
-other false x y e = refl
-
-pub send-full : (capacity total : ℕ) (counts : Counts) → capacity ≤ counts.sent - counts.received → after_send capacity total counts ≡ counts
-send-full capacity total counts full = neither (nat_lt counts.sent total) (nat_lt (counts.sent - counts.received) capacity) (record counts { sent = counts.sent + 1 }) counts (le-ltb (counts.sent - counts.received) capacity full)
-
 pub send-none_left : (capacity total : ℕ) (counts : Counts) → total ≤ counts.sent → after_send capacity total counts ≡ counts
 send-none_left capacity total counts all = not_first (nat_lt counts.sent total) (nat_lt (counts.sent - counts.received) capacity) (record counts { sent = counts.sent + 1 }) counts (le-ltb counts.sent total all)
 
 pub send-one : (capacity total : ℕ) (counts : Counts) → counts.sent < total → counts.sent - counts.received < capacity → after_send capacity total counts ≡ record counts { sent = counts.sent + 1 }
 send-one capacity total counts some room = both (nat_lt counts.sent total) (nat_lt (counts.sent - counts.received) capacity) (record counts { sent = counts.sent + 1 }) counts (lt-ltb counts.sent total some) (lt-ltb (counts.sent - counts.received) capacity room)
-
-pub receive-none : (counts : Counts) → counts.sent ≤ counts.received → after_receive counts ≡ counts
-receive-none counts none = other (nat_lt counts.received counts.sent) (record counts { received = counts.received + 1 }) counts (le-ltb counts.received counts.sent none)
-
-pub receive-one : (counts : Counts) → counts.received < counts.sent → after_receive counts ≡ record counts { received = counts.received + 1 }
-receive-one counts some = one (nat_lt counts.received counts.sent) (record counts { received = counts.received + 1 }) counts (lt-ltb counts.received counts.sent some)
 
 -- ---- a send
 
@@ -93,10 +71,3 @@ pub beginning-more : (sent received : List Word) (word : Word) (later : List Wor
 beginning-more sent received word later all =
     let regrouped : (received ++ word ∷ []) ++ later ≡ sent = append_assoc received (word ∷ []) later ∙ all in
     rw (← regrouped) (take-append_seam (received ++ word ∷ []) later)
-
--- before a word that waits nothing closed
-pub open-received : (sent received : List Word) (word : Word) (later : List Word) (to_come : List Change) → NoneClosesBefore (sent_changes sent ++ to_come) → received ++ word ∷ later ≡ sent → list_any is_close (take (length received) (sent_changes sent ++ to_come)) ≡ false
-open-received sent received word later to_come none all =
-    let counted : length (sent_changes sent) ≡ length sent = length-map sent change_of in
-    let whole : length sent ≡ length received + suc (length later) = sym (ap (λ (ws : List Word). length ws) all) ∙ length-append received (word ∷ later) in
-    none (length received) (omega (arith, length-append (sent_changes sent) to_come))

@@ -7,10 +7,10 @@ use Rattle.rs_session.specs.declared.peer.PeerId.{PeerId}
 use Rattle.rs_session.specs.declared.word.Word.{Word}
 use Rattle.rs_floor.specs.Lane.{LaneContent, NoneClosesBefore, fresh_lane, sent_changes, to_come}
 use Rattle.rs_floor.specs.LaneView.{IsLane, lane_view}
-use Rattle.rs_floor.specs.Schedule.{after_send, after_receive}
+use Rattle.rs_floor.specs.Schedule.{after_send}
 use Rattle.rs_floor.specs.declared.counts.Counts.{Counts}
 use Rattle.rs_floor.specs.declared.lane.Lane.TheInside.{Inside}
-use Rattle.rs_floor.proofs.LaneLemmas.{recorded-sent, beginning-more, send-none_left, send-one, receive-one}
+use Rattle.rs_floor.proofs.LaneLemmas.{recorded-sent, beginning-more, send-none_left, send-one}
 
 -- the changes that a lane's file says
 abbrev pub recorded_of : Inside → List Change
@@ -83,9 +83,6 @@ looked-view old new like sent received coming =
 abbrev pub with_send : LaneContent → LaneContent
 with_send lane = record lane { counts = after_send lane.capacity (length lane.recorded) lane.counts }
 
-abbrev pub with_receipt : LaneContent → LaneContent
-with_receipt lane = record lane { counts = after_receive lane.counts }
-
 -- no change is left
 pub unsent-view : (old new : Inside) → LooksLike old new → new.sender.sent ≡ old.sender.sent → new.receiver.received ≡ old.receiver.received → to_come new.session ≡ to_come old.session → to_come old.session ≡ []
     → lane_view new ≡ with_send (lane_view old)
@@ -145,13 +142,3 @@ received-is_lane old new word behind lane like sent waited received counted comi
       last = last-along (recorded_of new) (recorded_of old) recorded lane.last;
       fits = rw recorded lane.fits;
     }
-
-pub received-view : (old new : Inside) (word : Word) (behind : List Word) → LooksLike old new → new.sender.sent ≡ old.sender.sent → old.receiver.received ++ word ∷ behind ≡ old.sender.sent → new.receiver.received ≡ old.receiver.received ++ word ∷ []
-    → to_come new.session ≡ to_come old.session → lane_view new ≡ with_receipt (lane_view old)
-received-view old new word behind like sent waited received coming =
-    let recorded : recorded_of new ≡ recorded_of old = ap (λ (ws : List Word). sent_changes ws ++ to_come new.session) sent ∙ ap (λ (cs : List Change). sent_changes old.sender.sent ++ cs) coming in
-    let seen : LaneContent = lane_view old in
-    let more : length new.receiver.received ≡ length old.receiver.received + 1 = ap (λ (ws : List Word). length ws) received ∙ length-append old.receiver.received (word ∷ []) in
-    let whole : length old.sender.sent ≡ length old.receiver.received + suc (length behind) = sym (ap (λ (ws : List Word). length ws) waited) ∙ length-append old.receiver.received (word ∷ behind) in
-    view-is new (recorded_of old) old.capacity (length old.sender.sent) (length old.receiver.received + 1) recorded like.capacity (ap (λ (ws : List Word). length ws) sent) more
-    ∙ sym (ap (λ (counts : Counts). let made : LaneContent = record seen { counts = counts } in made) (receive-one seen.counts (omega (arith, whole))))

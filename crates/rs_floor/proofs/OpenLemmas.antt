@@ -1,13 +1,12 @@
 -- Rings as they are opened, one after another.
-use Rattle.std.proofs.Common.{◌≡◌, ◌∙◌, sym, ap, refl, ℕ, ◌<◌, suc, zero, arith, List, [], ◌∷◌, ◌++◌, All, length, map, take, Some, append_assoc, append-nil, length-append}
+use Rattle.std.proofs.Common.{◌≡◌, ◌∙◌, sym, ap, refl, ℕ, suc, zero, arith, List, [], ◌∷◌, ◌++◌, All, length, map, take, Some, append_assoc, append-nil, length-append}
 use Rattle.std.specs.Prelude.{slice_get}
 use Rattle.std.proofs.lemmas.List.{map-append}
-use Rattle.std.proofs.lemmas.List.Elements.{All-nil, All-push}
+use Rattle.std.proofs.lemmas.List.Elements.{All-push}
 use Rattle.rs_choice.specs.Plan.{Peer, Plan}
 use Rattle.rs_mrt.specs.Reader.{ReadEnd}
 use Rattle.rs_mrt.specs.RecordReading.{RecordReading, unread}
 use Rattle.rs_ring.specs.Ends.{Receiving, Sending}
-use Rattle.rs_router.specs.Cut.{IsShardCount}
 use Rattle.rs_router.specs.declared.routed.Routed.{Routed}
 use Rattle.rs_session.specs.Laws.{GivesFileOrFails}
 use Rattle.rs_session.specs.declared.word.Word.{Word}
@@ -16,7 +15,7 @@ use Rattle.rs_shard.specs.Laws.{IsOfPlan}
 use Rattle.rs_shard.specs.declared.crew.ShardJob.{ShardJob}
 use Rattle.rs_worker.specs.declared.crew.Job.{Job}
 use Rattle.rs_floor.specs.FloorContent.{id_of}
-use Rattle.rs_floor.specs.Lines.{IsReadyJob, IsLine, CanWork, AreLines, AreRings}
+use Rattle.rs_floor.specs.Lines.{IsReadyJob, IsLine, CanWork, AreLines}
 
 -- two lists made alike stay so with one member more
 map-more : {X Y Z : Type 0} (f : X → Z) (g : Y → Z) (xs : List X) (ys : List Y) (x : X) (y : Y) → map f xs ≡ map g ys → f x ≡ g y → map f (xs ++ x ∷ []) ≡ map g (ys ++ y ∷ [])
@@ -44,17 +43,6 @@ pub record Opening {R : Type 0} (gives : R → List ℕ → ReadEnd → Type 0) 
   pub can : CanWork jobs receivers
 
 module _ {R : Type 0} (gives : R → List ℕ → ReadEnd → Type 0) (plan : Plan) where
-  pub opening-none : (all : List R) → Opening gives plan.peers all all [] []
-  opening-none all = record {
-    done = [];
-    splits = refl;
-    counted = refl;
-    sources = refl;
-    says = All-nil (GivesFileOrFails gives);
-    ids = refl;
-    can = record { rings = refl; ready = All-nil IsReadyJob; unreceived = All-nil (λ (receiver : Receiving Word). receiver.received ≡ []) };
-  }
-
   pub opening-next : (all rest : List R) (jobs : List (Job (RecordReading R))) (receivers : List (Receiving Word)) (peer : Peer) (reader : R) (job : Job (RecordReading R)) (receiver : Receiving Word)
       → Opening gives plan.peers all (reader ∷ rest) jobs receivers → slice_get plan.peers (length jobs) ≡ Some peer → IsLine gives peer reader job receiver → Opening gives plan.peers all rest (jobs ++ job ∷ []) (receivers ++ receiver ∷ [])
   opening-next all rest jobs receivers peer reader job receiver so_far at line = record {
@@ -93,24 +81,12 @@ module _ {R : Type 0} (gives : R → List ℕ → ReadEnd → Type 0) (plan : Pl
         can = so_far.can;
       }
 
-  -- the peer of the next reader is there
-  pub next-peer : (all rest : List R) (jobs : List (Job (RecordReading R))) (receivers : List (Receiving Word)) (reader : R) → Opening gives plan.peers all (reader ∷ rest) jobs receivers → length all ≡ length plan.peers → length jobs < length plan.peers
-  next-peer all rest jobs receivers reader so_far as_many = omega (arith, so_far.counted, ap length so_far.splits, length-append so_far.done (reader ∷ rest), as_many)
-
 -- the rings of some shards were opened
 pub record OpeningRings (plan : Plan) (jobs : List ShardJob) (senders : List (Sending Routed)) : Type 0 where
   pub tables : All (λ job. IsOfPlan plan job.tables) jobs
   pub rings : map (λ job. job.from.ring) jobs ≡ map (λ sender. sender.ring) senders
   pub unsent : All (λ sender. sender.sent ≡ []) senders
   pub ready : All IsReady jobs
-
-pub rings-none : (plan : Plan) → OpeningRings plan [] []
-rings-none plan = record {
-  tables = All-nil (λ (job : ShardJob). IsOfPlan plan job.tables);
-  rings = refl;
-  unsent = All-nil (λ (sender : Sending Routed). sender.sent ≡ []);
-  ready = All-nil IsReady;
-}
 
 pub rings-next : (plan : Plan) (jobs : List ShardJob) (senders : List (Sending Routed)) (job : ShardJob) (sender : Sending Routed) → OpeningRings plan jobs senders
     → IsOfPlan plan job.tables → job.from.ring ≡ sender.ring → sender.sent ≡ [] → IsReady job → OpeningRings plan (jobs ++ job ∷ []) (senders ++ sender ∷ [])
@@ -119,10 +95,4 @@ rings-next plan jobs senders job sender so_far tables ring unsent ready = record
   rings = map-more (λ (j : ShardJob). j.from.ring) (λ (s : Sending Routed). s.ring) jobs senders job sender so_far.rings ring;
   unsent = All-push (λ (s : Sending Routed). s.sent ≡ []) senders sender so_far.unsent unsent;
   ready = All-push IsReady jobs job so_far.ready ready;
-}
-
-pub rings-all : (plan : Plan) (jobs : List ShardJob) (senders : List (Sending Routed)) → OpeningRings plan jobs senders → IsShardCount (length jobs) → AreRings plan jobs senders
-rings-all plan jobs senders so_far counted = record {
-  tables = so_far.tables;
-  can = record { counted = counted; rings = so_far.rings; unsent = so_far.unsent; ready = so_far.ready };
 }

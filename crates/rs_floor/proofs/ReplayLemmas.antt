@@ -1,5 +1,5 @@
 -- The end of a schedule, peer by peer.
-use Rattle.std.proofs.Common.{◌≡◌, ◌∙◌, sym, ap, subst, refl, ℕ, ◌<◌, suc, zero, arith, List, [], ◌∷◌, length, take, drop, map, Option, Some, None, Result, Ok, Err}
+use Rattle.std.proofs.Common.{◌≡◌, ◌∙◌, sym, ap, subst, refl, ℕ, ◌<◌, suc, zero, arith, List, [], ◌∷◌, length, take, map, Option, Some, Result, Ok, Err}
 use Rattle.std.specs.Prelude.{slice_get, IfOk}
 use Rattle.std.specs.List.{zip}
 use Rattle.std.specs.Option.{option_map}
@@ -40,18 +40,6 @@ pub length-recorded : (peers : List Peer) (files : List (List ℕ)) → length f
 length-recorded [] files e = refl
 length-recorded (p ∷ peers) [] e = absurd (omega (arith, e))
 length-recorded (p ∷ peers) (f ∷ files) e = ap suc (length-recorded peers files (omega (arith, e)))
-
-through-nothing : (peer : ℕ) (lane : Option LaneContent) → option_map (lane_through [] peer) lane ≡ lane
-through-nothing peer None = refl
-through-nothing peer (Some lane) = refl
-
-drop-all : {X : Type 0} (xs : List X) → drop (length xs) xs ≡ []
-drop-all [] = refl
-drop-all (x ∷ xs) = drop-all xs
-
--- after the last turn
-pub turns-end : (turns : List Turn) (peer : ℕ) (before after : Option LaneContent) → option_map (lane_through (drop (length turns) turns) peer) after ≡ option_map (lane_through turns peer) before → after ≡ option_map (lane_through turns peer) before
-turns-end turns peer before after e = sym (through-nothing peer after) ∙ sym (ap (λ (ts : List Turn). option_map (lane_through ts peer) after) (drop-all turns)) ∙ e
 
 -- before the first turn nothing was received
 some-at : {X : Type 0} (xs : List X) (at : ℕ) → at < length xs → (x : X) × (slice_get xs at ≡ Some x)

@@ -1,16 +1,13 @@
 -- The lanes of all peers, turn by turn.
-use Rattle.std.proofs.Common.{◌≡◌, ◌≢◌, ◌∙◌, sym, ap, refl, ℕ, ◌+◌, ◌<◌, ◌≤◌, suc, zero, arith, inl, inr, Bool, true, false, List, [], ◌∷◌, length, drop, get_or, Option, Some, None}
-use Rattle.std.proofs.Math.Numerals.{add-one}
+use Rattle.std.proofs.Common.{◌≡◌, ◌≢◌, ◌∙◌, sym, ap, refl, ℕ, suc, zero, arith, inl, inr, Bool, true, false, List, [], ◌∷◌, Option, Some, None}
 use Rattle.std.specs.Prelude.{slice_get, slice_set, if◌then◌else◌, ◌==◌}
 use Rattle.std.specs.Option.{option_map}
-use Rattle.std.proofs.Math.Seq.{drop-cons}
 use Rattle.std.proofs.lemmas.Bool.{ne_eqb}
 use Rattle.std.proofs.lemmas.Bool.Decides.{eqb_tells}
-use Rattle.rs_floor.specs.Lane.{LaneContent, lane_after, lane_through}
-use Rattle.rs_floor.specs.Schedule.{after_send, after_receive}
+use Rattle.rs_floor.specs.Lane.{LaneContent, lane_after}
+use Rattle.rs_floor.specs.Schedule.{after_receive}
 use Rattle.rs_floor.specs.declared.counts.Counts.{Counts}
-use Rattle.rs_floor.specs.declared.turn.Turn.{Turn}
-use Rattle.rs_floor.specs.declared.turn.Turn.TheVariants.{Send, Receive}
+use Rattle.rs_floor.specs.declared.turn.Turn.TheVariants.{Receive}
 
 if_true : {X : Type 0} (b : Bool) (x y : X) → b ≡ true → (if b then x else y) ≡ x
 if_true true x y e = refl
@@ -24,12 +21,6 @@ equal_itself : (n : ℕ) → (n == n) ≡ true
 equal_itself n = elim (eqb_tells n n) [ inl told ↦ told.0 | inr told ↦ absurd (told.1 refl) ]
 
 -- a turn changes only the lane of its own peer
-pub send-own : (peer : ℕ) (lane : LaneContent) → lane_after peer lane (Send peer) ≡ record lane { counts = after_send lane.capacity (length lane.recorded) lane.counts }
-send-own peer lane = ap (λ (counts : Counts). let made : LaneContent = record lane { counts = counts } in made) (if_true (peer == peer) (after_send lane.capacity (length lane.recorded) lane.counts) lane.counts (equal_itself peer))
-
-pub send-other : (peer other : ℕ) (lane : LaneContent) → other ≢ peer → lane_after other lane (Send peer) ≡ lane
-send-other peer other lane apart = ap (λ (counts : Counts). let made : LaneContent = record lane { counts = counts } in made) (if_false (peer == other) (after_send lane.capacity (length lane.recorded) lane.counts) lane.counts (ne_eqb peer other (λ e. apart (sym e))))
-
 pub receive-own : (peer : ℕ) (lane : LaneContent) → lane_after peer lane (Receive peer) ≡ record lane { counts = after_receive lane.counts }
 receive-own peer lane = ap (λ (counts : Counts). let made : LaneContent = record lane { counts = counts } in made) (if_true (peer == peer) (after_receive lane.counts) lane.counts (equal_itself peer))
 
@@ -49,17 +40,3 @@ one-turned f (y ∷ ys) zero x new e is apart zero = let found : y ≡ x = cc in
 one-turned f (y ∷ ys) zero x new e is apart (suc other) = stays (f (suc other)) (slice_get ys other) (λ z. apart (suc other) z (λ h. omega (arith, h)))
 one-turned f (y ∷ ys) (suc at) x new e is apart zero = ap Some (sym (apart zero y (λ h. omega (arith, h))))
 one-turned f (y ∷ ys) (suc at) x new e is apart (suc other) = one-turned (λ n. f (suc n)) ys at x new e is (λ n z h. apart (suc n) z (λ g. h (omega (arith, g)))) other
-
--- a place past the end: all stay
-pub none-turned : {X : Type 0} (f : ℕ → X → X) (xs : List X) (at : ℕ) → length xs ≤ at → ((other : ℕ) (y : X) → other ≢ at → f other y ≡ y)
-    → (other : ℕ) → slice_get xs other ≡ option_map (f other) (slice_get xs other)
-none-turned f [] at h apart other = refl
-none-turned f (y ∷ ys) zero h apart other = absurd (omega arith)
-none-turned f (y ∷ ys) (suc at) h apart zero = ap Some (sym (apart zero y (λ g. omega (arith, g))))
-none-turned f (y ∷ ys) (suc at) h apart (suc other) = none-turned (λ n. f (suc n)) ys at (omega arith) (λ n z h. apart (suc n) z (λ g. h (omega (arith, g)))) other
-
--- one turn more: what is left of the turns makes of the lanes what they would have made before it
-pub turns-step : (turns : List Turn) (at peer : ℕ) (none : Turn) (before after : Option LaneContent) → at < length turns → after ≡ option_map (λ lane. lane_after peer lane (get_or turns at none)) before
-    → option_map (lane_through (drop (at + 1) turns) peer) after ≡ option_map (lane_through (drop at turns) peer) before
-turns-step turns at peer none None after below e = rw e refl
-turns-step turns at peer none (Some lane) after below e = rw (e, add-one, drop-cons turns at none below) refl

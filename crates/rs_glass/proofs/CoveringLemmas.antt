@@ -1,12 +1,12 @@
 -- Prefixes that cover one, by how many of its bits each has.
 use Rattle.std.proofs.Common.{◌≡◌, ◌∙◌, sym, ap, subst, refl, ℕ, ◌+◌, ◌-◌, ◌≤◌, ◌<◌, Bool, true, false, List, cond, inl, inr, arith}
 use Rattle.std.specs.Prelude.{nat_lt, ◌⊎◌}
-use Rattle.std.specs.Cmp.{Equal-is, IsTotalOrder, nat_cmp_total, on_total, then_total, tied_itself}
+use Rattle.std.specs.Cmp.{Equal-is, IsTotalOrder, nat_cmp_total, on_total, then_total}
 use Rattle.std.specs.FinMap.{IsAntisymmetric, nat_cmp-IsAntisymmetric}
-use Rattle.std.specs.Ordering.{is_eq, nat_cmp, ordering_then}
+use Rattle.std.specs.Ordering.{nat_cmp, ordering_then}
 use Rattle.std.specs.declared.cmp.Ordering.{Ordering}
 use Rattle.std.specs.declared.cmp.Ordering.TheVariants.{Less, Equal, Greater}
-use Rattle.std.proofs.lemmas.Bool.{cases_Bool, le-ltb, ltb-false, ltb-true}
+use Rattle.std.proofs.lemmas.Bool.{cases_Bool, ltb-false, ltb-true}
 use Rattle.rs_update.specs.Covering.{covers}
 use Rattle.rs_update.specs.IpPrefix.{IpPrefix}
 use Rattle.rs_update.specs.Prefix.{network_of}
@@ -14,7 +14,6 @@ use Rattle.rs_update.specs.PrefixOrder.{prefix_cmp}
 use Rattle.rs_table.specs.Content.{RibContent}
 use Rattle.rs_table.specs.Left.{same_prefix}
 use Rattle.rs_table.specs.Listing.{is_held}
-use Rattle.rs_glass.specs.Covering.{IsLongestHeld, NoneIsHeld}
 
 then_first : (r s : Ordering) → ordering_then r s ≡ Equal → r ≡ Equal
 then_first Less s e = cc e
@@ -38,9 +37,6 @@ same_prefix-is x y e = prefix_cmp-IsAntisymmetric x y ((Equal-is (prefix_cmp x y
 pub prefix_total : IsTotalOrder prefix_cmp
 prefix_total = then_total (on_total (λ (p : IpPrefix). p.address) nat_cmp_total) (on_total (λ (p : IpPrefix). p.len) nat_cmp_total)
 
-pub same_prefix-itself : (x : IpPrefix) → same_prefix x x ≡ true
-same_prefix-itself x = ap is_eq (tied_itself prefix_total x)
-
 -- a prefix that covers one has so many of its first bits
 covering-is : (wide prefix : IpPrefix) → covers wide prefix ≡ true → (wide.len ≤ prefix.len) × (wide ≡ network_of prefix.address wide.len)
 covering-is wide prefix covering = by_length (nat_lt prefix.len wide.len) refl covering
@@ -49,19 +45,10 @@ covering-is wide prefix covering = by_length (nat_lt prefix.len wide.len) refl c
     by_length true is e = absurd cc
     by_length false is e = (ltb-false prefix.len wide.len is, same_prefix-is wide (network_of prefix.address wide.len) e)
 
--- and that many of its first bits cover it
-front-covers : (prefix : IpPrefix) (len : ℕ) → len ≤ prefix.len → covers (network_of prefix.address len) prefix ≡ true
-front-covers prefix len within =
-    let longer : nat_lt prefix.len len ≡ false = le-ltb prefix.len len within in
-    ap (λ (b : Bool). cond b false (same_prefix (network_of prefix.address len) (network_of prefix.address len))) longer ∙ same_prefix-itself (network_of prefix.address len)
-
 module _ (ribs : List RibContent) (prefix : IpPrefix) where
   -- each prefix that covers it and on which some peer has a route lacks so many of its bits
   abbrev pub Lack : ℕ → Type 0
   Lack dropped = (wide : IpPrefix) → covers wide prefix ≡ true → is_held ribs wide ≡ true → wide.len + dropped ≤ prefix.len
-
-  pub lack-none : Lack 0
-  lack-none wide covering held = omega (arith, (covering-is wide prefix covering).0)
 
   -- one bit more, where no peer has a route on the one that lacks just that many
   pub lack-more : (dropped : ℕ) → Lack dropped → is_held ribs (network_of prefix.address (prefix.len - dropped)) ≡ false → Lack (dropped + 1)
@@ -78,18 +65,3 @@ module _ (ribs : List RibContent) (prefix : IpPrefix) where
         | inl less ↦ inr (ltb-true a b less)
         | inr not_less ↦ inl (omega (arith, ltb-false a b not_less, le))
       ]
-
-  -- the first that has a route is the longest
-  pub longest-found : (dropped : ℕ) → dropped ≤ prefix.len → Lack dropped → is_held ribs (network_of prefix.address (prefix.len - dropped)) ≡ true → IsLongestHeld ribs prefix (network_of prefix.address (prefix.len - dropped))
-  longest-found dropped within lack held = record {
-    covering = front-covers prefix (prefix.len - dropped) (omega arith);
-    held = held;
-    others = λ wide covering is. omega (arith, lack wide covering is, within);
-  }
-
-  -- none has one where each lacks more bits than there are
-  pub none-held : (dropped : ℕ) → prefix.len < dropped → Lack dropped → NoneIsHeld ribs prefix
-  none-held dropped past lack wide covering = elim (cases_Bool (is_held ribs wide)) [
-    | inl held ↦ absurd (omega (arith, lack wide covering held, past))
-    | inr not_held ↦ not_held
-  ]

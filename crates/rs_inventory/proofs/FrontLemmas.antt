@@ -1,37 +1,10 @@
 -- A reader whose first octets were taken gives what it might have given before.
-use Rattle.std.proofs.Common.{◌≡◌, ℕ, zero, suc, ◌<◌, ◌==◌, Bool, true, false, List, [], ◌∷◌, ◌++◌, length, take, drop, min, Result, Ok, Err, refl, sym, ap, subst, ◌∙◌, arith, append-nil, append_assoc, take-append-drop, ne_eqb, ltb, ltb-false}
+use Rattle.std.proofs.Common.{◌≡◌, ℕ, zero, suc, ◌<◌, false, List, [], ◌∷◌, ◌++◌, length, take, drop, min, Result, Ok, Err, refl, sym, ap, subst, ◌∙◌, arith, append_assoc, take-append-drop, ltb, ltb-false}
 use Rattle.rs_mrt.specs.declared.stream.Failed.{Failed}
 use Rattle.rs_mrt.specs.Reader.{ReadEnd, ReadGives}
-use Rattle.rs_inventory.specs.Front.{GivesUnlessEnded, Rewound, RewoundGives, rewound}
+use Rattle.rs_inventory.specs.Front.{Rewound, RewoundGives}
 
 module _ {R : Type 0} (gives : R → List ℕ → ReadEnd → Type 0) where
-  -- a call to the reader took more octets, or found its end
-  pub front-more : (taken piece : List ℕ) (n : ℕ) (ended : Bool) (old new : R) → ended ≡ (n == 0) → 0 < length piece → ReadGives (gives old) (gives new) (Ok n) piece → (octets : List ℕ) (end : ReadEnd)
-      → RewoundGives gives (rewound (record { octets = taken ++ take n piece; ended = ended }) new) octets end
-      → RewoundGives gives (rewound (record { octets = taken; ended = false }) old) octets end
-  front-more taken [] zero ended old new is some read octets end w = absurd (omega (arith, some))
-  front-more taken (x ∷ xs) zero ended old new is some read octets end w =
-      let given : GivesUnlessEnded gives true new w.later end = rw is at w.given in
-      record {
-        later = [];
-        splits = w.splits ∙ ap (λ (l : List ℕ). (taken ++ []) ++ l) given.0 ∙ append-nil (taken ++ []);
-        given = subst (λ (e : ReadEnd). gives old [] e) (sym given.1) read;
-      }
-  front-more taken piece (suc n) ended old new is some read octets end w =
-      let given : gives new w.later end = go ended (is ∙ none n) w.later end w.given in
-      record {
-        later = take (suc n) piece ++ w.later;
-        splits = w.splits ∙ append_assoc taken (take (suc n) piece) w.later;
-        given = read w.later end given;
-      }
-    where
-      none : (n : ℕ) → (suc n == 0) ≡ false
-      none n = ne_eqb (suc n) 0 (λ e. omega (arith, e))
-
-      go : (ended : Bool) → ended ≡ false → (later : List ℕ) (end : ReadEnd) → GivesUnlessEnded gives ended new later end → gives new later end
-      go true e later end given = absurd (cc e)
-      go false e later end given = given
-
   -- the reader is asked once all that was taken was given again
   pub inner-gives : (old new : R) (result : Result ℕ Failed) (piece : List ℕ) → ReadGives (gives old) (gives new) result piece
       → ReadGives (RewoundGives gives (record { held = []; ended = false; inner = old })) (RewoundGives gives (record { held = []; ended = false; inner = new })) result piece
@@ -56,12 +29,6 @@ module _ {R : Type 0} (gives : R → List ℕ → ReadEnd → Type 0) where
         ∙ ap (λ (l : List ℕ). l ++ w.later) (ap (λ (l : List ℕ). l ++ drop (suc n) old.held) same ∙ take-append-drop (suc n) old.held);
     given = w.given;
   }
-
-  -- the end that was found is found again
-  pub ended-gives : (inner : R) (piece : List ℕ)
-      → ReadGives (RewoundGives gives (record { held = []; ended = true; inner = inner })) (RewoundGives gives (record { held = []; ended = true; inner = inner })) (Ok 0) piece
-  ended-gives inner [] = λ later end w. w
-  ended-gives inner (x ∷ xs) = record { later = []; splits = refl; given = (refl, refl) }
 
   inner-of : (w : Rewound R) → w.held ≡ [] → w.ended ≡ false → w ≡ record { held = []; ended = false; inner = w.inner }
   inner-of w held ended = λ i. record { held = held i; ended = ended i; inner = w.inner }

@@ -2,7 +2,7 @@
 use Rattle.std.proofs.Common.{◌≡◌, ◌≤◌, ◌<◌, ◌∙◌, sym, ap, subst, refl, ℕ, ◌+◌, true, cond, List, [], ◌∷◌, ◌++◌, All, length, map, slice_index, Option, Some, None, option_map, min, max, arith, inl, inr, append-nil, length-append, ◌⊎◌, leb, leb-true, leb-false}
 use Rattle.std.specs.List.{count_by}
 use Rattle.std.specs.Option.{option_or}
-use Rattle.std.specs.Cmp.{IsTotalOrder, Equal-is, nat_cmp_total, on_total, then_total}
+use Rattle.std.specs.Cmp.{Equal-is}
 use Rattle.std.specs.FinMap.{nat_cmp-IsAntisymmetric}
 use Rattle.std.specs.Ordering.{nat_cmp, ordering_then}
 use Rattle.std.specs.declared.cmp.Ordering.{Ordering}
@@ -100,9 +100,6 @@ first_found-push ask (y ∷ xs) x =
 
 -- ---- peers
 
-peers_total : IsTotalOrder peer_cmp
-peers_total = then_total (on_total (λ (p : Peer). p.address) nat_cmp_total) (on_total (λ (p : Peer). p.asn) nat_cmp_total)
-
 then_first : (r s : Ordering) → ordering_then r s ≡ Equal → r ≡ Equal
 then_first Less s e = cc e
 then_first Equal s e = refl
@@ -139,14 +136,6 @@ pub next-new : (time : ℕ) (one : News) (now : PeerContent) → TellsMore (peer
     → Some now ≡ known_of (told ++ (time, one) ∷ [])
 next-new time one now tells [] none = ap Some (tells [] refl)
 next-new time one now tells (t ∷ told) none = absurd (cc none)
-
-known-one : (was : PeerContent) (o : Option PeerContent) → Some was ≡ o → (p : PeerContent) → o ≡ Some p → was ≡ p
-known-one was o e p f = cc (e ∙ f)
-
-pub next-known : (was : PeerContent) (time : ℕ) (one : News) (now : PeerContent) → TellsMore was time one now → (told : List Told) → Some was ≡ known_of told
-    → Some now ≡ known_of (told ++ (time, one) ∷ [])
-next-known was time one now tells [] some = absurd (cc some)
-next-known was time one now tells (t ∷ told) some = ap Some (tells (t ∷ told) (known-one was (known_of (t ∷ told)) some (peer_content (t ∷ told)) refl))
 
 -- ---- all
 

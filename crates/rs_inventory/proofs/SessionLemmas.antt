@@ -2,7 +2,7 @@
 use Rattle.std.proofs.Common.{◌≡◌, ap, refl, ℕ, List, [], ◌∷◌, ◌++◌, Option, Some, None}
 use Rattle.std.specs.Option.{option_or}
 use Rattle.rs_inventory.specs.declared.sessions.SessionTimes.{SessionTimes}
-use Rattle.rs_inventory.specs.Sessions.{Event, Up, Down, coming_up, end_by, ended_at, sessions_of, up_before, with_end}
+use Rattle.rs_inventory.specs.Sessions.{Event, Up, Down, coming_up, end_by, ended_at, sessions_of, with_end}
 
 -- the last of the sessions ends
 pub with_end-last : (time : ℕ) (sessions : List SessionTimes) (last : SessionTimes) → with_end time (sessions ++ last ∷ []) ≡ sessions ++ ended_at time last ∷ []
@@ -15,11 +15,6 @@ module _ (time : ℕ) where
   end_by-up [] = refl
   end_by-up (Up t ∷ later) = refl
   end_by-up (Down t ∷ later) = refl
-
-  up_before-up : (events : List Event) → up_before (events ++ Up time ∷ []) ≡ up_before events
-  up_before-up [] = refl
-  up_before-up (Up t ∷ later) = refl
-  up_before-up (Down t ∷ later) = refl
 
   coming_up-up : (events : List Event) → coming_up (events ++ Up time ∷ []) ≡ coming_up events ++ record { up = Some time; down = None } ∷ []
   coming_up-up [] = refl

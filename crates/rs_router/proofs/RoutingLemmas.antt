@@ -1,8 +1,7 @@
 -- The changes of all peers, one change more.
-use Rattle.std.proofs.Common.{◌≡◌, ◌≢◌, ◌∙◌, sym, ap, subst, refl, ℕ, ◌+◌, ◌*◌, ◌<◌, ◌≤◌, ◌^◌, suc, zero, arith, inl, inr, Bool, true, false, cond, nat_lt, List, [], ◌∷◌, ◌++◌, length, map, Some, None}
+use Rattle.std.proofs.Common.{◌≡◌, ◌≢◌, ◌∙◌, sym, ap, subst, refl, ℕ, ◌+◌, ◌*◌, ◌<◌, ◌≤◌, ◌^◌, suc, zero, arith, inl, inr, Bool, true, false, cond, nat_lt, List, [], ◌∷◌, ◌++◌, length, map, Some}
 use Rattle.std.specs.Prelude.{◌==◌, slice_get, slice_set, All, sum_by}
 use Rattle.std.specs.List.{list_all, list_any}
-use Rattle.std.specs.Option.{option_map}
 use Rattle.std.proofs.lemmas.Bool.{cases_Bool, ne_eqb}
 use Rattle.std.proofs.lemmas.Bool.Decides.{Decides-ltb}
 use Rattle.std.proofs.lemmas.List.{append-nil, length-append, length-map, map-append}
@@ -43,17 +42,6 @@ delivered_to_one before peer word prefix at sent new on at_is here is =
     (is ∙ sym (if_true (gets (length before) at (change_of word)) (sent ++ items.Word peer word ∷ []) sent (got at ∙ ap (λ (n : ℕ). n == at) (sym at_is) ∙ equal_itself at)))
     (λ other items_there apart. if_false (gets (length before) other (change_of word)) (items_there ++ items.Word peer word ∷ []) items_there
     (got other ∙ ne_eqb (shard_of prefix (length before)) other (λ e. apart (sym e ∙ sym at_is))))
-
--- all shards get a change that is on no prefix
-pub delivered_to_all : (before after : List (List Routed)) (peer : ℕ) (word : Word) → body_prefix (body_of word.body) ≡ None
-    → after ≡ map (λ sent. sent ++ items.Word peer word ∷ []) before → Delivered peer word before after
-delivered_to_all before after peer word none is shard =
-    ap (λ (lists : List (List Routed)). slice_get lists shard) is ∙ mapped before shard
-  where
-    mapped : (lists : List (List Routed)) (at : ℕ) → slice_get (map (λ sent. sent ++ items.Word peer word ∷ []) lists) at ≡ option_map (with_word (length before) peer word shard) (slice_get lists at)
-    mapped [] at = refl
-    mapped (sent ∷ later) zero = ap Some (sym (if_true (gets (length before) shard (change_of word)) (sent ++ items.Word peer word ∷ []) sent (ap (gets_on (length before) shard) none)))
-    mapped (sent ∷ later) (suc at) = mapped later at
 
 -- ---- one change more of a peer
 

@@ -30,10 +30,6 @@ module _ {S : Type 0} (comes : Comes S) (shows : S → Option MrtRecord) (prefix
     pub are_over : ArePassedOver prefix until over
     pub keeps : KeepsBehindAll comes shows over old new
 
-  -- nothing was passed over
-  pub behind-none : (stage : Stage S) → IsBehind stage stage
-  behind-none stage = record { over = []; are_over = record { beside = refl; in_time = refl }; keeps = λ changes passed m. m }
-
   -- more is passed over behind some
   over-more : (first second : List Change) → ArePassedOver prefix until first → ArePassedOver prefix until second → ArePassedOver prefix until (first ++ second)
   over-more first second are more = record {

@@ -5,7 +5,7 @@ use Rattle.std.specs.declared.alloc.AllocError.{AllocError}
 use Rattle.rs_mrt.specs.Record.{MrtRecord, reading_of, records_of, end_of, octets_of}
 use Rattle.rs_mrt.specs.Source.{Advances, IsLeft, SomethingComes, source_end}
 use Rattle.rs_mrt.specs.declared.fault.SourceFault.{SourceFault}
-use Rattle.rs_session.specs.Change.{Change, change_of, is_close}
+use Rattle.rs_session.specs.Change.{Change, change_of}
 use Rattle.rs_session.specs.Effect.{RecordEffect, PassesOver, Gives, Ends, effect_of}
 use Rattle.rs_session.specs.FileChanges.{changes_in_by, passed_in_by, changes_of, close_at}
 use Rattle.rs_session.specs.Stage.{Comes, Stage, MayRead, May, Keeps, KeepsBehind, IsOver, SaysJust, fresh, to_read, changes_left, passed_in_the_end, held_octets, most_changes, Fewer}
@@ -212,10 +212,6 @@ module _ {S : Type 0} (room : S → ℕ) (shows : S → Option MrtRecord) where
       let held : held_octets new.held (shows new.source) ≡ held_octets old.held (shows old.source) = ap (λ (stage : Stage S). held_octets stage.held (shows stage.source)) given.2 in
       let left : room new.source ≡ room old.source = ap (λ (stage : Stage S). room stage.source) given.2 in
       rw given.1 (omega (arith, less))
-
-  -- the close is given
-  pub fewer-closes : (first between new : Stage S) (word : Word) → most_changes room shows between ≤ most_changes room shows first → most_changes room shows new ≤ most_changes room shows between → is_close (change_of word) ≡ true → Fewer (most_changes room shows first) (most_changes room shows new) (Ok (Some word))
-  fewer-closes first between new word less closed close = rw close (omega (arith, less, closed))
 
 -- just what a file says may come from its records
 pub says_just-file : (errors : Errors) (peer : PeerId) (file : List ℕ) → SaysJust (λ s later end. IsLeft s later end) (λ s. s.shown) (fresh (reading_of None file) peer errors) (changes_in_by errors peer file) (passed_in_by errors peer file)
