@@ -1,32 +1,8 @@
--- Changes that are taken up to a time, with one change more.
-use Rattle.std.proofs.Common.{◌≡◌, ◌∙◌, sym, ap, refl, ℕ, Bool, true, false, not, cond, List, [], ◌∷◌, ◌++◌, append_assoc}
+-- What is taken of changes up to a time is their longest beginning that is in time.
+use Rattle.std.proofs.Common.{◌≡◌, ◌∙◌, sym, ap, refl, ℕ, Bool, true, false, List, [], ◌∷◌, ◌++◌}
 use Rattle.std.specs.Prelude.{Option}
 use Rattle.rs_session.specs.Change.{Change}
-use Rattle.rs_session.specs.Concerning.{is_later}
-use Rattle.rs_explain.specs.Cut.{HasTakenIf, IsCut, IsShort, TakenIsCut}
-use Rattle.rs_explain.proofs.SaidLemmas.{none-append, none-one}
-
-module _ (time : Option ℕ) (change : Change) where
-  pub short_before : (changes beginning : List Change) → IsShort time changes beginning → IsShort time (changes ++ change ∷ []) beginning
-  short_before changes beginning short = record {
-    first = short.first;
-    rest = short.rest ++ change ∷ [];
-    splits = ap (λ (all : List Change). all ++ change ∷ []) short.splits ∙ append_assoc beginning (short.first ∷ short.rest) (change ∷ []);
-    in_time = short.in_time;
-    later = short.later;
-  }
-
-  pub taken_next : (later : Bool) → is_later time change ≡ later → (changes beginning : List Change) → HasTakenIf false time changes beginning →
-      HasTakenIf later time (changes ++ change ∷ []) (cond (not later) (beginning ++ change ∷ []) beginning)
-  taken_next true is changes beginning taken = record {
-    first = change;
-    rest = [];
-    splits = ap (λ (all : List Change). all ++ change ∷ []) (sym taken.0);
-    in_time = taken.1;
-    later = is;
-  }
-  taken_next false is changes beginning taken =
-      (ap (λ (all : List Change). all ++ change ∷ []) taken.0, none-append (is_later time) beginning (change ∷ []) taken.1 (none-one (is_later time) change is))
+use Rattle.rs_explain.specs.Cut.{HasTakenIf, IsCut, TakenIsCut}
 
 append_nothing : (xs : List Change) → xs ≡ xs ++ []
 append_nothing [] = refl
