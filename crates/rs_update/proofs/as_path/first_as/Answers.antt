@@ -3,7 +3,7 @@ use Rattle.rs_update.specs.AsPath.{first_as_of}
 use Rattle.rs_update.specs.PathSegments.{segments_of}
 use Rattle.rs_update.specs.Segments.{segment_split_of}
 use Rattle.rs_update.specs.Shapes.{segment_in}
-use Rattle.rs_update.proofs.PathWalkLemmas.{segments-step, segments-end, first_as-is}
+use Rattle.rs_update.proofs.as_path.PathWalkLemmas.{segments-step, segments-end, first_as-is}
 use Rattle.rs_update.proofs.as_path.first_as.Goals as goal
 
 pub returns-in_err-split_segment : goal.returns-in_err-split_segment

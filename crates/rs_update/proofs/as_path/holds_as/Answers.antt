@@ -3,8 +3,8 @@ use Rattle.rs_update.specs.AsPath.{holds_as_in}
 use Rattle.rs_update.specs.PathAttributes.{PathSegment}
 use Rattle.rs_update.specs.PathSegments.{segments_of}
 use Rattle.rs_update.specs.Segments.{segment_split_of}
-use Rattle.rs_update.proofs.PathWalkLemmas.{segments-step, segments-end}
-use Rattle.rs_update.proofs.SegmentLemmas.{segment_at-takes}
+use Rattle.rs_update.proofs.as_path.PathWalkLemmas.{segments-step, segments-end}
+use Rattle.rs_update.proofs.as_path.SegmentLemmas.{segment_at-takes}
 use Rattle.std.proofs.Common.{List}
 use Rattle.rs_update.proofs.as_path.holds_as.Goals as goal
 

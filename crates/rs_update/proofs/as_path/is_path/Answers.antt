@@ -1,7 +1,7 @@
 use Rattle.std.proofs.Common.{◌∙◌, sym, ap, List, ℕ, rules}
 use Rattle.std.specs.Option.{option_map}
 use Rattle.rs_update.specs.PathAttributes.{PathSegment}
-use Rattle.rs_update.proofs.PathWalkLemmas.{is_path-step, is_path-end}
+use Rattle.rs_update.proofs.as_path.PathWalkLemmas.{is_path-step, is_path-end}
 use Rattle.rs_update.proofs.as_path.is_path.Goals as goal
 
 pub loop-front-preserved : goal.loop-front-preserved

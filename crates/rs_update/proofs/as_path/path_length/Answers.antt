@@ -1,8 +1,8 @@
 use Rattle.std.proofs.Common.{sym, ap, arith}
 use Rattle.rs_update.specs.AsPath.{path_length_of}
 use Rattle.rs_update.specs.Segments.{segment_split_of}
-use Rattle.rs_update.proofs.PathWalkLemmas.{segments-end, hops-step}
-use Rattle.rs_update.proofs.SegmentLemmas.{segment_at-takes}
+use Rattle.rs_update.proofs.as_path.PathWalkLemmas.{segments-end, hops-step}
+use Rattle.rs_update.proofs.as_path.SegmentLemmas.{segment_at-takes}
 use Rattle.rs_update.proofs.as_path.path_length.Goals as goal
 
 pub hops-hops-requires : goal.hops-hops-requires

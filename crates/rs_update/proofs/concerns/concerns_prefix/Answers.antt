@@ -1,8 +1,8 @@
 use Rattle.std.proofs.Common.{◌∙◌, sym, ap, Ok}
 use Rattle.std.proofs.lemmas.List.{take_rest}
 use Rattle.rs_update.specs.declared.header.MessageType.TheVariants.{Update}
-use Rattle.rs_update.proofs.ConcernLemmas.{header_concern, other_concern}
-use Rattle.rs_update.proofs.TreatingLemmas.{message_by-typed}
+use Rattle.rs_update.proofs.message.ConcernLemmas.{header_concern, other_concern}
+use Rattle.rs_update.proofs.treating.TreatingLemmas.{message_by-typed}
 use Rattle.rs_update.proofs.concerns.concerns_prefix.Goals as goal
 
 pub returns-in_default : goal.returns-in_default

@@ -1,7 +1,7 @@
 use Rattle.std.proofs.Common.{◌∙◌, ◌||◌, Bool, ap, sym, not, rules}
 use Rattle.rs_update.specs.Concerns.{field_concerns}
-use Rattle.rs_update.proofs.ConcernLemmas.{concerns_more, concerns_end}
-use Rattle.rs_update.proofs.PrefixLemmas.{prefix_at-shrinks}
+use Rattle.rs_update.proofs.message.ConcernLemmas.{concerns_more, concerns_end}
+use Rattle.rs_update.proofs.fields.PrefixLemmas.{prefix_at-shrinks}
 use Rattle.rs_update.proofs.concerns.field_concerns.Goals as goal
 
 pub returns-then-covers : goal.returns-then-covers

@@ -1,5 +1,5 @@
 use Rattle.std.proofs.Common.{◌∙◌, ◌≡◌, ◌<◌, ap, sym, not, None, length, rules}
-use Rattle.rs_update.proofs.ConcernLemmas.{lacking_closes, not_some}
+use Rattle.rs_update.proofs.message.ConcernLemmas.{lacking_closes, not_some}
 use Rattle.rs_update.proofs.concerns.is_at_fault.Goals as goal
 
 pub returns-then-not-is_empty : goal.returns-then-not-is_empty

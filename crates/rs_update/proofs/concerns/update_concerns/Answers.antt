@@ -1,6 +1,6 @@
 use Rattle.std.proofs.Common.{◌≡◌, ◌∙◌, ◌||◌, Bool, refl, sym, ap}
 use Rattle.rs_update.specs.Concerns.{field_concerns}
-use Rattle.rs_update.proofs.ConcernLemmas.{lengths_concern, parts_of_update}
+use Rattle.rs_update.proofs.message.ConcernLemmas.{lengths_concern, parts_of_update}
 use Rattle.rs_update.proofs.concerns.update_concerns.Goals as goal
 use Rattle.rs_update.proofs.concerns.update_concerns.Goals.{then-closes, else-closes}
 

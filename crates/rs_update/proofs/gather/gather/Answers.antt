@@ -1,7 +1,7 @@
 use Rattle.std.proofs.Common.{◌∙◌, sym, arith}
 use Rattle.rs_update.specs.Gathered.{look}
 use Rattle.rs_update.specs.Section.{items_of}
-use Rattle.rs_update.proofs.WholeLemmas.{not_there, none_there, no_origin, no_path, no_next_hop}
+use Rattle.rs_update.proofs.attributes.WholeLemmas.{not_there, none_there, no_origin, no_path, no_next_hop}
 use Rattle.rs_update.proofs.gather.gather.Goals as goal
 
 pub returns-in_default : goal.returns-in_default

@@ -10,10 +10,10 @@ use Rattle.rs_update.specs.Parts.{AreOctets}
 use Rattle.rs_update.specs.PathAttributes.{PathAttributes}
 use Rattle.rs_update.specs.Section.{Item, items_of}
 use Rattle.rs_update.specs.Spelling.{written}
-use Rattle.rs_update.proofs.ReceivedLemmas.{path_length_fits}
-use Rattle.rs_update.proofs.SoundLemmas.{sound_section, look_sound, origin_value, med_value}
-use Rattle.rs_update.proofs.ViewLemmas.{spelled-says}
-use Rattle.rs_update.proofs.WholeLemmas.{there, found_short}
+use Rattle.rs_update.proofs.section.ReceivedLemmas.{path_length_fits}
+use Rattle.rs_update.proofs.section.SoundLemmas.{sound_section, look_sound, origin_value, med_value}
+use Rattle.rs_update.proofs.attributes.ViewLemmas.{spelled-says}
+use Rattle.rs_update.proofs.attributes.WholeLemmas.{there, found_short}
 use Rattle.rs_update.proofs.gather.whole.Goals as goal
 
 pub origin_of-requires : goal.origin_of-requires

@@ -1,7 +1,7 @@
 use Rattle.std.proofs.Common.{◌∙◌, sym, rules}
 use Rattle.rs_update.specs.Items.{split_of}
-use Rattle.rs_update.proofs.ItemLemmas.{item_at-takes}
-use Rattle.rs_update.proofs.PlaceLemmas.{look-here, look-past, look-end}
+use Rattle.rs_update.proofs.section.ItemLemmas.{item_at-takes}
+use Rattle.rs_update.proofs.attributes.PlaceLemmas.{look-here, look-past, look-end}
 use Rattle.rs_update.proofs.item.find_item.Goals as goal
 
 pub loop-front-init : goal.loop-front-init

@@ -1,5 +1,5 @@
 use Rattle.std.proofs.Common.{sym, arith}
-use Rattle.rs_update.proofs.PlaceLemmas.{item_from-past}
+use Rattle.rs_update.proofs.attributes.PlaceLemmas.{item_from-past}
 use Rattle.rs_update.proofs.item.item_from.Goals as goal
 
 pub returns-then-section-place : goal.returns-then-section-place

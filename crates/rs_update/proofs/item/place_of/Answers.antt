@@ -1,9 +1,9 @@
 use Rattle.std.proofs.Common.{◌∙◌, sym, ap, arith, refl, List, ℕ, [], ◌++◌, append_assoc}
 use Rattle.rs_update.specs.Items.{split_of}
 use Rattle.rs_update.specs.Spelling.{spelled_item}
-use Rattle.rs_update.proofs.ItemLemmas.{item_at-takes}
-use Rattle.rs_update.proofs.PlaceLemmas.{item_from-found, item_from-none, look-past}
-use Rattle.rs_update.proofs.ReceivedLemmas.{item_at-reads, Reads-is}
+use Rattle.rs_update.proofs.section.ItemLemmas.{item_at-takes}
+use Rattle.rs_update.proofs.attributes.PlaceLemmas.{item_from-found, item_from-none, look-past}
+use Rattle.rs_update.proofs.section.ReceivedLemmas.{item_at-reads, Reads-is}
 use Rattle.rs_update.proofs.item.place_of.Goals as goal
 use Rattle.rs_update.proofs.item.place_of.Goals.{in-Some+then-front-kind, in_default}
 

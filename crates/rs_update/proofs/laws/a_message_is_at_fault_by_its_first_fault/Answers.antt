@@ -1,6 +1,6 @@
 use Rattle.std.proofs.Common.{◌∙◌, sym}
 use Rattle.rs_update.specs.Message.{message_of}
-use Rattle.rs_update.proofs.MessageLemmas.{err_of-message, err_of-iff, ok_iff}
+use Rattle.rs_update.proofs.message.MessageLemmas.{err_of-message, err_of-iff, ok_iff}
 use Rattle.rs_update.proofs.laws.a_message_is_at_fault_by_its_first_fault.Goals as goal
 
 pub returns-clause-fault : goal.returns-clause-fault

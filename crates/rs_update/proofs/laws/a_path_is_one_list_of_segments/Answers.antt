@@ -1,6 +1,6 @@
 use Rattle.rs_update.specs.PathSegments.{SpellsSegment, segment_at}
-use Rattle.rs_update.proofs.SegmentLemmas.{segment_shrinks, segment_reads}
-use Rattle.rs_update.proofs.SplitLemmas.{splits_as_read}
+use Rattle.rs_update.proofs.as_path.SegmentLemmas.{segment_shrinks, segment_reads}
+use Rattle.rs_update.proofs.fields.SplitLemmas.{splits_as_read}
 use Rattle.rs_update.proofs.laws.a_path_is_one_list_of_segments.Goals as goal
 
 pub returns : goal.returns

@@ -1,4 +1,4 @@
-use Rattle.rs_update.proofs.FirstFaultLemmas.{section_is_faultless, section_is_at_fault}
+use Rattle.rs_update.proofs.section.FirstFaultLemmas.{section_is_faultless, section_is_at_fault}
 use Rattle.rs_update.proofs.laws.a_section_is_at_fault_by_its_first_attribute_at_fault.Goals as goal
 
 pub returns-clause-none : goal.returns-clause-none

@@ -1,4 +1,4 @@
-use Rattle.rs_update.proofs.TreatingLemmas.{by_rfc_4271, untreated_answered}
+use Rattle.rs_update.proofs.treating.TreatingLemmas.{by_rfc_4271, untreated_answered}
 use Rattle.rs_update.proofs.message.read_message.Goals as goal
 
 pub returns-clause-answer : goal.returns-clause-answer

@@ -1,7 +1,7 @@
 use Rattle.std.proofs.Common.{sym, ap, ◌∙◌, Ok}
 use Rattle.std.proofs.lemmas.List.{take_rest}
 use Rattle.rs_update.specs.declared.header.MessageType.TheVariants.{Update}
-use Rattle.rs_update.proofs.TreatingLemmas.{message_by-typed, routes_answered}
+use Rattle.rs_update.proofs.treating.TreatingLemmas.{message_by-typed, routes_answered}
 use Rattle.rs_update.proofs.message.read_message_by.Goals as goal
 
 pub returns-in-Update-clause-answer : goal.returns-in-Update-clause-answer

@@ -1,6 +1,6 @@
 use Rattle.std.proofs.Common.{◌∙◌, sym, ap, List, ℕ, ◌++◌, ◌∷◌, []}
 use Rattle.rs_update.specs.Numbers.{numbers_at}
-use Rattle.rs_update.proofs.OctetLemmas.{numbers_at-more}
+use Rattle.rs_update.proofs.fields.OctetLemmas.{numbers_at-more}
 use Rattle.rs_update.proofs.number_list.read_numbers.Goals as goal
 
 pub loop-place-init : goal.loop-place-init

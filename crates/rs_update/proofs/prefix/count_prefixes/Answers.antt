@@ -1,6 +1,6 @@
 use Rattle.std.proofs.Common.{sym, ap, ◌∙◌, length, arith}
 use Rattle.std.proofs.lemmas.Bool.{eqb-true, eqb-false}
-use Rattle.rs_update.proofs.PrefixLemmas.{prefix_at-shrinks, prefixes_more, counted_all, counted_none}
+use Rattle.rs_update.proofs.fields.PrefixLemmas.{prefix_at-shrinks, prefixes_more, counted_all, counted_none}
 use Rattle.rs_update.proofs.prefix.count_prefixes.Goals as goal
 
 pub loop-split-smaller : goal.loop-split-smaller

@@ -2,7 +2,7 @@ use Rattle.std.proofs.Common.{◌∷◌, [], ◌++◌, sym, ap, ◌∙◌, appen
 use Rattle.std.proofs.lemmas.List.{append-nil}
 use Rattle.rs_update.specs.Parts.{parts_of}
 use Rattle.rs_update.specs.Prefix.{prefix_at}
-use Rattle.rs_update.proofs.PrefixLemmas.{prefix_at-shrinks, prefixes_more, prefixes_end, listed_all}
+use Rattle.rs_update.proofs.fields.PrefixLemmas.{prefix_at-shrinks, prefixes_more, prefixes_end, listed_all}
 use Rattle.rs_update.proofs.prefix.read_prefixes.Goals as goal
 
 pub loop-split-smaller : goal.loop-split-smaller

@@ -1,9 +1,9 @@
 use Rattle.std.proofs.Common.{◌<◌, ◌∙◌, [], refl, sym, rules}
 use Rattle.rs_update.specs.Items.{item_of, split_of}
 use Rattle.rs_update.specs.Section.{section_fault}
-use Rattle.rs_update.proofs.ConcernLemmas.{no_types, one_type, all_types}
-use Rattle.rs_update.proofs.ItemLemmas.{item_at-takes}
-use Rattle.rs_update.proofs.SectionLemmas.{none_seen, goes_on, ends_at, ends_with}
+use Rattle.rs_update.proofs.message.ConcernLemmas.{no_types, one_type, all_types}
+use Rattle.rs_update.proofs.section.ItemLemmas.{item_at-takes}
+use Rattle.rs_update.proofs.section.SectionLemmas.{none_seen, goes_on, ends_at, ends_with}
 use Rattle.rs_update.proofs.section.find_fault.Goals as goal
 
 pub loop-split-init : goal.loop-split-init

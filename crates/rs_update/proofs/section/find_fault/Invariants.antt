@@ -1,7 +1,7 @@
 use Rattle.std.proofs.Common.{length}
 use Rattle.rs_update.specs.Section.{section_fault}
-use Rattle.rs_update.proofs.ConcernLemmas.{TypesLeft}
-use Rattle.rs_update.proofs.SectionLemmas.{GoesOn}
+use Rattle.rs_update.proofs.message.ConcernLemmas.{TypesLeft}
+use Rattle.rs_update.proofs.section.SectionLemmas.{GoesOn}
 use Rattle.rs_update.proofs.section.find_fault.Given as goal
 
 abbrev pub invariant-loop-split : goal.invariant-loop-split

@@ -7,9 +7,9 @@ use Rattle.rs_update.specs.Gathered.{look}
 use Rattle.rs_update.specs.Items.{item_of}
 use Rattle.rs_update.specs.Parts.{AreOctets}
 use Rattle.rs_update.specs.Section.{Item, items_of}
-use Rattle.rs_update.proofs.FindLemmas.{spelled_from, spelled_from-step, spelled_from-end}
-use Rattle.rs_update.proofs.SoundLemmas.{sound_section}
-use Rattle.rs_update.proofs.WholeLemmas.{there, found_short}
+use Rattle.rs_update.proofs.attributes.FindLemmas.{spelled_from, spelled_from-step, spelled_from-end}
+use Rattle.rs_update.proofs.section.SoundLemmas.{sound_section}
+use Rattle.rs_update.proofs.attributes.WholeLemmas.{there, found_short}
 use Rattle.rs_update.proofs.spelling.spell.Goals as goal
 
 pub push_kept-requires : goal.push_kept-requires

@@ -3,9 +3,9 @@ use Rattle.rs_update.specs.Handling.{is_kept, kept_section}
 use Rattle.rs_update.specs.Items.{item_of, split_of}
 use Rattle.rs_update.specs.Parts.{AreOctets}
 use Rattle.rs_update.specs.Section.{items_of, section_fault}
-use Rattle.rs_update.proofs.ItemLemmas.{item_at-takes}
-use Rattle.rs_update.proofs.SectionLemmas.{none_seen}
-use Rattle.rs_update.proofs.HandlingLemmas.{keeps_on-yes, keeps_on-no, keeps_end, taken_is_spelled, kept_items, kept_faultless, kept_bound}
+use Rattle.rs_update.proofs.section.ItemLemmas.{item_at-takes}
+use Rattle.rs_update.proofs.section.SectionLemmas.{none_seen}
+use Rattle.rs_update.proofs.treating.HandlingLemmas.{keeps_on-yes, keeps_on-no, keeps_end, taken_is_spelled, kept_items, kept_faultless, kept_bound}
 use Rattle.rs_update.proofs.treating.keep_attributes.Goals as goal
 use Rattle.rs_update.proofs.treating.keep_attributes.Goals.{then-is_keep+in_ok-extend_from_slice, else-is_keep}
 

@@ -1,6 +1,6 @@
 use Rattle.std.proofs.Common.{length}
 use Rattle.rs_update.specs.Handling.{kept_section}
-use Rattle.rs_update.proofs.HandlingLemmas.{KeepsSo}
+use Rattle.rs_update.proofs.treating.HandlingLemmas.{KeepsSo}
 use Rattle.rs_update.proofs.treating.keep_attributes.Given as goal
 
 abbrev pub invariant-loop-split : goal.invariant-loop-split

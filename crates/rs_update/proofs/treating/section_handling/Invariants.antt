@@ -1,6 +1,6 @@
 use Rattle.std.proofs.Common.{length}
 use Rattle.rs_update.specs.Handling.{strongest_in}
-use Rattle.rs_update.proofs.HandlingLemmas.{AsksSo}
+use Rattle.rs_update.proofs.treating.HandlingLemmas.{AsksSo}
 use Rattle.rs_update.proofs.treating.section_handling.Given as goal
 
 abbrev pub invariant-loop-split : goal.invariant-loop-split

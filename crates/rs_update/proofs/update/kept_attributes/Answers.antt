@@ -1,5 +1,5 @@
 use Rattle.std.proofs.Common.{◌∙◌, sym, rules}
-use Rattle.rs_update.proofs.HandlingLemmas.{is_kept-keep, nothing_discarded}
+use Rattle.rs_update.proofs.treating.HandlingLemmas.{is_kept-keep, nothing_discarded}
 use Rattle.rs_update.proofs.update.kept_attributes.Goals as goal
 
 pub find_and_gather-requires-clause-faultless : goal.find_and_gather-requires-clause-faultless

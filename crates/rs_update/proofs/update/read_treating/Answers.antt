@@ -6,7 +6,7 @@ use Rattle.rs_update.specs.Handling.{strongest_in}
 use Rattle.rs_update.specs.Message.{withdrawn_field, section_field, nlri_field}
 use Rattle.rs_update.specs.Prefix.{prefixes_of}
 use Rattle.rs_update.specs.Treating.{reset_of}
-use Rattle.rs_update.proofs.RoomLemmas.{HasRoutes, announces_some, treating_update_lists}
+use Rattle.rs_update.proofs.message.RoomLemmas.{HasRoutes, announces_some, treating_update_lists}
 use Rattle.rs_update.proofs.update.read_treating.Goals as goal
 
 pub returns-in_err-standing : goal.returns-in_err-standing

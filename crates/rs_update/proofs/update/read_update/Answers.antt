@@ -6,7 +6,7 @@ use Rattle.std.proofs.lemmas.Result.{err_from_is_err_and}
 use Rattle.rs_update.specs.Message.{announced_attributes, withdrawn_field, section_field, nlri_field}
 use Rattle.rs_update.specs.Prefix.{prefixes_of}
 use Rattle.rs_update.specs.Section.{section_fault}
-use Rattle.rs_update.proofs.RoomLemmas.{HasRoutes, announces_some, update_lists}
+use Rattle.rs_update.proofs.message.RoomLemmas.{HasRoutes, announces_some, update_lists}
 use Rattle.rs_update.proofs.update.read_update.Goals as goal
 
 pub returns-in_err-attributes : goal.returns-in_err-attributes

@@ -1,8 +1,8 @@
 use Rattle.std.proofs.Common.{sym}
 use Rattle.rs_update.specs.Segments.{segment_split_of}
 use Rattle.rs_update.specs.Shapes.{segments_in}
-use Rattle.rs_update.proofs.PathWalkLemmas.{segments-step, segments-end}
-use Rattle.rs_update.proofs.ProgressLemmas.{one_less}
+use Rattle.rs_update.proofs.as_path.PathWalkLemmas.{segments-step, segments-end}
+use Rattle.rs_update.proofs.fields.ProgressLemmas.{one_less}
 use Rattle.rs_update.proofs.as_path.SegmentsIterator.next.Goals as goal
 
 pub returns-in_err-front-clause-steps : goal.returns-in_err-front-clause-steps

@@ -2,8 +2,8 @@ use Rattle.std.proofs.Common.{◌∙◌, ap, arith, List, ℕ, rules}
 use Rattle.rs_update.specs.Gathered.{look}
 use Rattle.rs_update.specs.Items.{item_of}
 use Rattle.rs_update.specs.Section.{items_of}
-use Rattle.rs_update.proofs.ViewLemmas.{med-length}
-use Rattle.rs_update.proofs.WholeLemmas.{there}
+use Rattle.rs_update.proofs.attributes.ViewLemmas.{med-length}
+use Rattle.rs_update.proofs.attributes.WholeLemmas.{there}
 use Rattle.rs_update.proofs.attributes.Attributes.med.Goals as goal
 
 pub med_of-requires : goal.med_of-requires

@@ -2,7 +2,7 @@ use Rattle.std.proofs.Common.{◌∙◌, ap, arith, List, ℕ, length, rules}
 use Rattle.rs_update.specs.AttributesView.{value_of, view_of}
 use Rattle.rs_update.specs.Gathered.{look}
 use Rattle.rs_update.specs.Section.{items_of}
-use Rattle.rs_update.proofs.ViewLemmas.{next_hop-length}
+use Rattle.rs_update.proofs.attributes.ViewLemmas.{next_hop-length}
 use Rattle.rs_update.proofs.attributes.Attributes.next_hop.Goals as goal
 
 pub read_u32-requires : goal.read_u32-requires

@@ -1,9 +1,9 @@
 use Rattle.std.proofs.Common.{◌∙◌, sym, rules}
 use Rattle.rs_update.specs.Items.{split_of}
 use Rattle.rs_update.specs.Shapes.{others_in}
-use Rattle.rs_update.proofs.ItemLemmas.{item_at-takes}
-use Rattle.rs_update.proofs.PlaceLemmas.{passed-step, passed-skip, passed-end}
-use Rattle.rs_update.proofs.ProgressLemmas.{one_less}
+use Rattle.rs_update.proofs.section.ItemLemmas.{item_at-takes}
+use Rattle.rs_update.proofs.attributes.PlaceLemmas.{passed-step, passed-skip, passed-end}
+use Rattle.rs_update.proofs.fields.ProgressLemmas.{one_less}
 use Rattle.rs_update.proofs.attributes.OthersIterator.next.Goals as goal
 
 pub returns-then-is_passed_on-clause-steps : goal.returns-then-is_passed_on-clause-steps

@@ -1,5 +1,5 @@
 use Rattle.std.proofs.Common.{sym}
-use Rattle.rs_update.proofs.SegmentLemmas.{length-numbers_at}
+use Rattle.rs_update.proofs.as_path.SegmentLemmas.{length-numbers_at}
 use Rattle.rs_update.proofs.number_list.Numbers.len.Goals as goal
 
 pub returns : goal.returns

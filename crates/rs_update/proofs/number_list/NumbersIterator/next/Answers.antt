@@ -2,8 +2,8 @@ use Rattle.std.proofs.Common.{◌∙◌, ◌-◌, ap, sym, arith, ℕ, List, ◌
 use Rattle.std.proofs.lemmas.List.{take_all, length-drop}
 use Rattle.rs_update.specs.Numbers.{numbers_at}
 use Rattle.rs_update.specs.Shapes.{numbers_in}
-use Rattle.rs_update.proofs.ProgressLemmas.{one_less}
-use Rattle.rs_update.proofs.SegmentLemmas.{numbers_at-step, numbers_at-none}
+use Rattle.rs_update.proofs.fields.ProgressLemmas.{one_less}
+use Rattle.rs_update.proofs.as_path.SegmentLemmas.{numbers_at-step, numbers_at-none}
 use Rattle.rs_update.proofs.number_list.NumbersIterator.next.Goals as goal
 
 pub returns-then-self-eq0-clause-steps : goal.returns-then-self-eq0-clause-steps

@@ -1,0 +1,81 @@
+-- Attributes by their types: look-ups, and lists that have one of each type at most.
+-- For the lemmas of what is found and written by type.
+use Rattle.std.proofs.Common.{◌≡◌, ℕ, zero, suc, ◌+◌, ◌<◌, ◌≤◌, ◌==◌, ◌⊎◌, true, false, eqb, List, [], ◌∷◌, Option, Some, None, refl, sym, ap, subst, ◌∙◌, arith, inl, inr}
+use Rattle.std.specs.Prelude.{find}
+use Rattle.std.specs.List.{filter_map, range_with_len, list_any, AllByRecursion}
+use Rattle.std.proofs.lemmas.Bool.{cases_Bool, cases_eq, eqb-true, eq-eqb, ne_eqb}
+
+-- nothing, or something
+pub cases_Option : {X : Type 0} (found : Option X) → (found ≡ None) ⊎ ((x : X) × (found ≡ Some x))
+cases_Option None = inl refl
+cases_Option (Some x) = inr (x, refl)
+
+pub some_same : {X : Type 0} (x y : X) → Some x ≡ Some y → x ≡ y
+some_same x y e = cc
+
+-- what holds of each number from one on holds of a range
+pub All-range : (P : ℕ → Type 0) (a n b : ℕ) → a + n ≡ b → ((k : ℕ) → a ≤ k → k < b → P k) → AllByRecursion P (range_with_len a n)
+All-range P a zero b end each = tt
+All-range P a (suc n) b end each = (each a (omega arith) (omega arith), All-range P (a + 1) n b (omega arith) (λ k le lt. each k (omega arith) lt))
+
+-- lists made the same way of each element
+pub filter_map-same : {X Y : Type 0} (f g : X → Option Y) (xs : List X) → AllByRecursion (λ x. f x ≡ g x) xs → filter_map f xs ≡ filter_map g xs
+filter_map-same f g [] each = refl
+filter_map-same f g (x ∷ xs) each = let first = each.0 in let later = filter_map-same f g xs each.1 in rw (first, later) refl
+
+pub filter_map-none : {X Y : Type 0} (f : X → Option Y) (xs : List X) → AllByRecursion (λ x. f x ≡ None) xs → filter_map f xs ≡ []
+filter_map-none f [] each = refl
+filter_map-none f (x ∷ xs) each = let first = each.0 in let later = filter_map-none f xs each.1 in rw first later
+
+-- what is found has the type that is looked for
+pub kind_of_found : {X : Type 0} (kind : X → ℕ) (k : ℕ) (xs : List X) (x : X) → find (λ y. kind y == k) xs ≡ Some x → kind x ≡ k
+kind_of_found kind k [] x e = absurd cc
+kind_of_found kind k (y ∷ ys) x e =
+    elim (cases_Bool (eqb (kind y) k)) [
+      | inl first ↦ let same : Some y ≡ Some x = rw first at e in subst (λ z. kind z ≡ k) (some_same y x same) (eqb-true (kind y) k first)
+      | inr later ↦ kind_of_found kind k ys x (rw later at e)
+    ]
+
+-- a list with at most one element for each type, made by a function of the type
+module _ {X : Type 0} (kind : X → ℕ) (make : ℕ → Option X) (is : (k : ℕ) (x : X) → make k ≡ Some x → kind x ≡ k) where
+  pub find-none : (k : ℕ) (ks : List ℕ) → make k ≡ None → find (λ x. kind x == k) (filter_map make ks) ≡ None
+  find-none k [] none = refl
+  find-none k (j ∷ js) none =
+      elim (cases_Option (make j)) [
+        | inl nothing ↦ rw nothing (find-none k js none)
+        | inr some ↦
+            let differs : eqb (kind some.0) k ≡ false = ne_eqb _ _ (λ same. let e : None ≡ Some some.0 = sym none ∙ ap make (sym same ∙ is j some.0 some.1) ∙ some.1 in absurd cc) in
+            rw (some.1, differs) (find-none k js none)
+      ]
+
+  -- it is found at its type
+  pub find-made : (k : ℕ) (ks : List ℕ) → list_any (λ j. j == k) ks ≡ true → find (λ x. kind x == k) (filter_map make ks) ≡ make k
+  find-made k [] among = absurd cc
+  find-made k (j ∷ js) among =
+      elim (cases_eq j k) [
+        | inl same ↦
+            elim (cases_Option (make k)) [
+              | inl none ↦ find-none k (j ∷ js) none ∙ sym none
+              | inr some ↦
+                  let there : make j ≡ Some some.0 = ap make same ∙ some.1 in
+                  let stands : eqb (kind some.0) k ≡ true = eq-eqb _ _ (is k some.0 some.1) in
+                  rw (there, stands, some.1) refl
+            ]
+        | inr other ↦
+            let later = find-made k js (rw (ne_eqb j k other) at among) in
+            elim (cases_Option (make j)) [
+              | inl nothing ↦ rw nothing later
+              | inr some ↦
+                  let differs : eqb (kind some.0) k ≡ false = ne_eqb _ _ (λ e. other (sym (is j some.0 some.1) ∙ e)) in
+                  rw (some.1, differs) later
+            ]
+      ]
+
+-- a number stands in a range
+pub range-any : (a n k : ℕ) → a ≤ k → k < a + n → list_any (λ j. j == k) (range_with_len a n) ≡ true
+range-any a zero k le lt = absurd (omega arith)
+range-any a (suc n) k le lt =
+    elim (cases_eq a k) [
+      | inl same ↦ rw (eq-eqb a k same) refl
+      | inr other ↦ rw (ne_eqb a k other) (range-any (a + 1) n k (omega arith) (omega arith))
+    ]

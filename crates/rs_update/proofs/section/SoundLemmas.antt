@@ -1,0 +1,163 @@
+-- What holds of the attributes of a section without fault: for `whole` of gather.rt and `spell` of spelling.rt.
+use Rattle.std.proofs.Common.{◌≡◌, ℕ, ◌%◌, ◌<◌, ◌&&◌, Bool, true, false, not, cond, eqb, List, [], ◌∷◌, ◌++◌, length, Option, Some, None, refl, subst, append_assoc, arith, inl, inr}
+use Rattle.std.specs.List.{AllByRecursion}
+use Rattle.std.proofs.lemmas.Bool.{cases_Bool, eqb-true}
+use Rattle.std.proofs.lemmas.List.{append-nil, nil_from_length}
+use Rattle.rs_update.specs.declared.attribute_type.AttributeType.{AttributeType}
+use Rattle.rs_update.specs.declared.attribute_type.AttributeType.TheVariants as types
+use Rattle.rs_update.specs.declared.fault.UpdateFault.{UpdateFault}
+use Rattle.rs_update.specs.declared.fault.UpdateFault.TheVariants.{MalformedAttributeList, UnrecognizedWellKnown, AttributeFlags, AttributeLength, InvalidOrigin, MalformedAsPath}
+use Rattle.rs_update.specs.AttributeType.{type_of, is_unrecognized, is_optional, flags_of, suits}
+use Rattle.rs_update.specs.Fault.{first_fault, or_else}
+use Rattle.rs_update.specs.Gathered.{look}
+use Rattle.rs_update.specs.Parts.{AreOctets}
+use Rattle.rs_update.specs.Section.{Item, items_of, rest_of, tests_of, has_type, first_item_fault, section_fault, suits_length, value_tests, is_origin, is_path}
+use Rattle.rs_update.specs.AttributeType.{is_extended}
+use Rattle.rs_update.proofs.attributes.KindLemmas.{kind_of_found, some_same}
+use Rattle.rs_update.proofs.section.ReceivedLemmas.{IsReceived, section-is_spelled}
+
+-- no fault, and none later
+pub neither : {F : Type 0} (a b : Option F) → or_else a b ≡ None → (a ≡ None) × (b ≡ None)
+neither None b e = (refl, e)
+neither (Some fault) b e = absurd cc
+
+-- a test that finds nothing, and those behind it
+pub passed : {F : Type 0} (test : Bool × F) (later : List (Bool × F)) → first_fault (test ∷ later) ≡ None → (test.0 ≡ false) × (first_fault later ≡ None)
+passed (true, fault) later e = absurd cc
+passed (false, fault) later e = (refl, e)
+
+fault_unless : (b : Bool) (fault : Option UpdateFault) → cond b (Some MalformedAttributeList) fault ≡ None → (b ≡ false) × (fault ≡ None)
+fault_unless true fault e = absurd cc
+fault_unless false fault e = (refl, e)
+
+none_unless : (b : Bool) → cond b None (Some MalformedAttributeList) ≡ None → b ≡ true
+none_unless true e = refl
+none_unless false e = absurd cc
+
+-- what a section without fault has: attributes without fault, and nothing left over
+pub section_without : (section : List ℕ) → section_fault section ≡ None → (first_item_fault [] (items_of section) ≡ None) × (rest_of section ≡ [])
+section_without section e =
+    let both = neither _ _ e in
+    (both.0, nil_from_length (rest_of section) (eqb-true _ _ (none_unless _ both.1)))
+
+-- an attribute among others: its type stood not earlier, and it passes its own tests
+pub item_without : (earlier : List Item) (item : Item) (later : List Item) → first_item_fault earlier (item ∷ later) ≡ None
+    → (has_type item.kind earlier ≡ false) × (first_fault (tests_of (type_of item.kind) item.flags item.value) ≡ None) × (first_item_fault (earlier ++ item ∷ []) later ≡ None)
+unfolding first_item_fault
+item_without earlier item later e =
+    let both = neither _ _ e in
+    let own = fault_unless _ _ both.0 in
+    (own.0, own.1, both.1)
+
+pub later_without : (earlier front : List Item) (item : Item) (later : List Item) → first_item_fault earlier (front ++ item ∷ later) ≡ None → has_type item.kind (earlier ++ front) ≡ false
+later_without earlier [] item later e = rw (append-nil earlier) (item_without earlier item later e).0
+later_without earlier (first ∷ front) item later e =
+    let behind = later_without (earlier ++ first ∷ []) front item later (item_without earlier first (front ++ item ∷ later) e).2 in
+    rw (append_assoc earlier (first ∷ []) front) at behind
+
+-- an attribute that is looked up
+look_without : (earlier items : List Item) (kind : ℕ) (item : Item) → first_item_fault earlier items ≡ None → look kind items ≡ Some item → first_fault (tests_of (type_of item.kind) item.flags item.value) ≡ None
+look_without earlier [] kind item none e = absurd cc
+look_without earlier (first ∷ items) kind item none e =
+    let here = item_without earlier first items none in
+    elim (cases_Bool (eqb first.kind kind)) [
+      | inl same ↦
+          let is : first ≡ item = some_same first item (rw same at e) in
+          subst (λ (i : Item). first_fault (tests_of (type_of i.kind) i.flags i.value) ≡ None) is here.1
+      | inr other ↦ look_without (earlier ++ first ∷ []) items kind item here.2 (rw other at e)
+    ]
+
+look_received : (items : List Item) (kind : ℕ) (item : Item) → AllByRecursion IsReceived items → look kind items ≡ Some item → IsReceived item
+look_received [] kind item each e = absurd cc
+look_received (first ∷ items) kind item each e =
+    elim (cases_Bool (eqb first.kind kind)) [
+      | inl same ↦ let is : first ≡ item = some_same first item (rw same at e) in subst IsReceived is each.0
+      | inr other ↦ look_received items kind item each.1 (rw other at e)
+    ]
+
+-- attributes without fault, as they are received
+pub record AreSound (items : List Item) : Type 0 where
+  pub without : first_item_fault [] items ≡ None
+  pub received : AllByRecursion IsReceived items
+
+pub sound_section : (section : List ℕ) → AreOctets section → section_fault section ≡ None → AreSound (items_of section)
+sound_section section fit none = record { without = (section_without section none).0; received = (section-is_spelled section fit).1 }
+
+-- one of them, by its type
+pub record IsSound (kind : ℕ) (item : Item) : Type 0 where
+  pub has_kind : item.kind ≡ kind
+  pub tests : first_fault (tests_of (type_of kind) item.flags item.value) ≡ None
+  pub received : IsReceived item
+
+pub look_sound : (items : List Item) (kind : ℕ) (item : Item) → AreSound items → look kind items ≡ Some item → IsSound kind item
+look_sound items kind item sound e =
+    let is : item.kind ≡ kind = kind_of_found (λ (i : Item). i.kind) kind items item e in
+    record {
+      has_kind = is;
+      tests = subst (λ (k : ℕ). first_fault (tests_of (type_of k) item.flags item.value) ≡ None) is (look_without [] items kind item sound.without e);
+      received = look_received items kind item sound.received e;
+    }
+
+-- ---- what the tests say of a value
+
+not_not : (b : Bool) → not b ≡ false → b ≡ true
+not_not true e = refl
+not_not false e = absurd cc
+
+both_true : (a b : Bool) → (a && b) ≡ true → (a ≡ true) × (b ≡ true)
+both_true true true e = (refl, refl)
+both_true true false e = absurd cc
+both_true false b e = absurd cc
+
+-- flags and length
+pub tests_passed : (type : AttributeType) (flags : ℕ) (value : List ℕ) → first_fault (tests_of type flags value) ≡ None
+    → ((is_unrecognized type && not (is_optional flags)) ≡ false) × (suits (flags_of type) flags ≡ true) × (suits_length type (length value) ≡ true) × (first_fault (value_tests type value) ≡ None)
+tests_passed type flags value e =
+    let third : List (Bool × UpdateFault) = (not (suits_length type (length value)), AttributeLength) ∷ value_tests type value in
+    let second : List (Bool × UpdateFault) = (not (suits (flags_of type) flags), AttributeFlags) ∷ third in
+    let a = passed (is_unrecognized type && not (is_optional flags), UnrecognizedWellKnown) second e in
+    let b = passed (not (suits (flags_of type) flags), AttributeFlags) third a.1 in
+    let c = passed (not (suits_length type (length value)), AttributeLength) (value_tests type value) b.1 in
+    (a.0, not_not _ b.0, not_not _ c.0, c.1)
+
+pub origin_value : (item : Item) → IsSound 1 item → (length item.value ≡ 1) × (is_origin item.value ≡ true)
+origin_value item sound =
+    let all = tests_passed types.Origin item.flags item.value sound.tests in
+    let code : is_origin item.value ≡ true = not_not _ (passed (not (is_origin item.value), InvalidOrigin) [] all.3).0 in
+    (eqb-true _ _ all.2, code)
+
+pub path_value : (item : Item) → IsSound 2 item → is_path item.value ≡ true
+path_value item sound =
+    let all = tests_passed types.AsPath item.flags item.value sound.tests in
+    not_not _ (passed (not (is_path item.value), MalformedAsPath) [] all.3).0
+
+pub next_hop_value : (item : Item) → IsSound 3 item → length item.value ≡ 4
+next_hop_value item sound = eqb-true _ _ (tests_passed types.NextHop item.flags item.value sound.tests).2
+
+pub med_value : (item : Item) → IsSound 4 item → length item.value ≡ 4
+med_value item sound = eqb-true _ _ (tests_passed types.MultiExitDisc item.flags item.value sound.tests).2
+
+-- the length of a value, by its type alone
+pub look_suits : (section : List ℕ) (kind : ℕ) (item : Item) → section_fault section ≡ None → look kind (items_of section) ≡ Some item → suits_length (type_of kind) (length item.value) ≡ true
+look_suits section kind item faultless e =
+    let items = items_of section in
+    let is : item.kind ≡ kind = kind_of_found (λ (i : Item). i.kind) kind items item e in
+    let tests = look_without [] items kind item (section_without section faultless).0 e in
+    (tests_passed (type_of kind) item.flags item.value (subst (λ (k : ℕ). first_fault (tests_of (type_of k) item.flags item.value) ≡ None) is tests)).2
+
+pub atomic_value : (item : Item) → IsSound 6 item → length item.value ≡ 0
+atomic_value item sound = eqb-true _ _ (tests_passed types.AtomicAggregate item.flags item.value sound.tests).2
+
+pub aggregator_value : (item : Item) → IsSound 7 item → length item.value ≡ 8
+aggregator_value item sound = eqb-true _ _ (tests_passed types.Aggregator item.flags item.value sound.tests).2
+
+pub communities_value : (item : Item) → IsSound 8 item → length item.value % 4 ≡ 0
+communities_value item sound = eqb-true _ _ (both_true _ _ (tests_passed types.Communities item.flags item.value sound.tests).2).1
+
+-- a length that fits its octets fits two octets
+pub received_short : (item : Item) → IsReceived item → length item.value < 65536
+received_short item received =
+    elim (cases_Bool (is_extended item.flags)) [
+      | inl long ↦ let fits = rw long at received.length_fits in omega (arith, fits)
+      | inr short ↦ let fits = rw short at received.length_fits in omega (arith, fits)
+    ]

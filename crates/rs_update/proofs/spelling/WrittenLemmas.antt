@@ -1,0 +1,166 @@
+-- What is written of the attributes of a section without fault is itself without fault: for AgainLemmas.
+use Rattle.std.proofs.Common.{◌≡◌, ℕ, zero, suc, ◌+◌, ◌<◌, ◌&&◌, Bool, true, false, not, cond, eqb, List, [], ◌∷◌, ◌++◌, length, Option, Some, None, refl, sym, ap, subst, ◌∙◌, arith, inl, inr}
+use Rattle.std.specs.List.{filter_map, range_with_len, AllByRecursion}
+use Rattle.std.proofs.lemmas.Bool.{cases_Bool, cases_lt, ne_eqb, lt-ltb, le-ltb}
+use Rattle.rs_update.specs.declared.attribute_type.AttributeType.{AttributeType}
+use Rattle.rs_update.specs.declared.attribute_type.WantedFlags.{WantedFlags}
+use Rattle.rs_update.specs.declared.attribute_type.WantedFlags.TheVariants.{WellKnown, OptionalNonTransitive, OptionalTransitive, Optional, Any}
+use Rattle.rs_update.specs.AttributeType.{type_of, flags_of, suits, is_unrecognized, is_optional, is_transitive, is_partial}
+use Rattle.rs_update.specs.Fault.{first_fault}
+use Rattle.rs_update.specs.Found.{IsPlain, kept_by, kept_of, kept_in}
+use Rattle.rs_update.specs.Gathered.{look}
+use Rattle.rs_update.specs.Section.{Item, FitsItsLength, tests_of, suits_length, value_tests, own_fault_of, has_type, first_item_fault}
+use Rattle.rs_update.specs.Spelling.{written_flags}
+use Rattle.rs_update.proofs.spelling.BoundLemmas.{kept_as-is}
+use Rattle.rs_update.proofs.attributes.FoundLemmas.{known_number}
+use Rattle.rs_update.proofs.attributes.KindLemmas.{cases_Option, some_same}
+use Rattle.rs_update.proofs.section.SoundLemmas.{AreSound, IsSound, look_sound, tests_passed, received_short}
+
+-- ---- flags as they are written
+
+-- flags with Extended Length or without it
+both_ways : (P : ℕ → Type 0) (flags : ℕ) (value : List ℕ) → P flags → P (flags + 0x10) → P (written_flags flags value)
+both_ways P flags value short long =
+    elim (cases_lt 255 (length value)) [
+      | inl above ↦ rw (lt-ltb _ _ above) long
+      | inr below ↦ rw (le-ltb _ _ below) short
+    ]
+
+well_known_suits : (value : List ℕ) → suits WellKnown (written_flags 0x40 value) ≡ true
+well_known_suits value = both_ways (λ flags. suits WellKnown flags ≡ true) 0x40 value refl refl
+
+non_transitive_suits : (value : List ℕ) → suits OptionalNonTransitive (written_flags 0x80 value) ≡ true
+non_transitive_suits value = both_ways (λ flags. suits OptionalNonTransitive flags ≡ true) 0x80 value refl refl
+
+transitive_suits : (partial : Bool) (value : List ℕ) → suits OptionalTransitive (written_flags (cond partial 0xE0 0xC0) value) ≡ true
+transitive_suits true value = both_ways (λ flags. suits OptionalTransitive flags ≡ true) 0xE0 value refl refl
+transitive_suits false value = both_ways (λ flags. suits OptionalTransitive flags ≡ true) 0xC0 value refl refl
+
+-- the Partial bit as it was received
+pub written_partial : (partial : Bool) (value : List ℕ) → is_partial (written_flags (cond partial 0xE0 0xC0) value) ≡ partial
+written_partial true value = both_ways (λ flags. is_partial flags ≡ true) 0xE0 value refl refl
+written_partial false value = both_ways (λ flags. is_partial flags ≡ false) 0xC0 value refl refl
+
+pub passed_on_transitive : (value : List ℕ) → is_transitive (written_flags 0xE0 value) ≡ true
+passed_on_transitive value = both_ways (λ flags. is_transitive flags ≡ true) 0xE0 value refl refl
+
+passed_on_optional : (value : List ℕ) → is_optional (written_flags 0xE0 value) ≡ true
+passed_on_optional value = both_ways (λ flags. is_optional flags ≡ true) 0xE0 value refl refl
+
+-- ---- one attribute
+
+-- the class and the flags of what is kept are those of its type
+pub record SuitsType (type : AttributeType) (flags : ℕ) : Type 0 where
+  pub class : (is_unrecognized type && not (is_optional flags)) ≡ false
+  pub bits : suits (flags_of type) flags ≡ true
+
+-- the flags of what is kept are what they must say
+kept_bits : (wanted : WantedFlags) (item kept : Item) → kept_by wanted item ≡ Some kept → suits wanted kept.flags ≡ true
+kept_bits WellKnown item kept e = let is = some_same _ _ e in subst (λ (k : Item). suits WellKnown k.flags ≡ true) is (well_known_suits item.value)
+kept_bits OptionalNonTransitive item kept e = let is = some_same _ _ e in subst (λ (k : Item). suits OptionalNonTransitive k.flags ≡ true) is (non_transitive_suits item.value)
+kept_bits OptionalTransitive item kept e = let is = some_same _ _ e in subst (λ (k : Item). suits OptionalTransitive k.flags ≡ true) is (transitive_suits (is_partial item.flags) item.value)
+kept_bits Any item kept e = absurd cc
+kept_bits Optional item kept e =
+    elim (cases_Bool (is_transitive item.flags)) [
+      | inl passed ↦ let is = some_same _ _ (rw passed at e) in subst (λ (k : Item). is_optional k.flags ≡ true) is (passed_on_optional item.value)
+      | inr dropped ↦ let none = rw dropped at e in absurd cc
+    ]
+
+kept_suits : (item kept : Item) → kept_of item ≡ Some kept → SuitsType (type_of item.kind) kept.flags
+kept_suits item kept e =
+    let bits : suits (flags_of (type_of item.kind)) kept.flags ≡ true = kept_bits (flags_of (type_of item.kind)) item kept e in
+    record {
+      class =
+          elim (known_number item.kind) [
+            | inl unknown ↦ let optional : is_optional kept.flags ≡ true = rw unknown at bits in rw (unknown, optional) refl
+            | inr row ↦ let known = row.0 in rw known refl
+          ];
+      bits = bits;
+    }
+
+no_fault : (type : AttributeType) (flags : ℕ) (value : List ℕ) → SuitsType type flags → suits_length type (length value) ≡ true → first_fault (value_tests type value) ≡ None → first_fault (tests_of type flags value) ≡ None
+no_fault type flags value suiting size tests =
+    let class = suiting.class in
+    let bits = suiting.bits in
+    rw (class, bits, size) tests
+
+-- what is written of an attribute without fault: its type, a length that can be spelled, and no fault
+pub record IsWritten (kind : ℕ) (kept : Item) : Type 0 where
+  pub has_kind : kept.kind ≡ kind
+  pub fits : FitsItsLength kept
+  pub without : own_fault_of kept ≡ None
+
+kept_fits : (item : Item) (flags : ℕ) → IsPlain flags → length item.value < 65536 → FitsItsLength (record { flags = written_flags flags item.value; kind = item.kind; value = item.value })
+kept_fits item flags plain short =
+    elim (cases_lt 255 (length item.value)) [
+      | inl above ↦ rw (lt-ltb _ _ above, plain.may_be_long) short
+      | inr below ↦ rw (le-ltb _ _ below, plain.is_short) (omega (arith, below))
+    ]
+
+kept_without : (kind : ℕ) (item kept : Item) → IsSound kind item → kept_of item ≡ Some kept → own_fault_of kept ≡ None
+kept_without kind item kept sound e =
+    let is = kept_as-is (type_of item.kind) item kept e in
+    let same_kind : kept.kind ≡ item.kind = ap (λ (k : Item). k.kind) is.is in
+    let same_value : kept.value ≡ item.value = ap (λ (k : Item). k.value) is.is in
+    let all = tests_passed (type_of kind) item.flags item.value sound.tests in
+    let type : type_of item.kind ≡ type_of kind = ap type_of sound.has_kind in
+    let size : suits_length (type_of item.kind) (length item.value) ≡ true = rw type all.2 in
+    let tests : first_fault (value_tests (type_of item.kind) item.value) ≡ None = rw type all.3 in
+    let none : first_fault (tests_of (type_of item.kind) kept.flags item.value) ≡ None = no_fault (type_of item.kind) kept.flags item.value (kept_suits item kept e) size tests in
+    rw (same_kind, same_value) none
+
+-- where what is written of a type comes from
+pub kept_from : (items : List Item) (kind : ℕ) (kept : Item) → kept_in items kind ≡ Some kept → (item : Item) × (look kind items ≡ Some item) × (kept_of item ≡ Some kept)
+kept_from items kind kept e =
+    elim (cases_Option (look kind items)) [
+      | inl none ↦ let nothing = rw none at e in absurd cc
+      | inr some ↦ (some.0, some.1, rw some.1 at e)
+    ]
+
+pub kept_written : (items : List Item) → AreSound items → (kind : ℕ) (kept : Item) → kept_in items kind ≡ Some kept → IsWritten kind kept
+kept_written items sound kind kept e =
+    let from = kept_from items kind kept e in
+    let item = from.0 in
+    let sound_item = look_sound items kind item sound from.1 in
+    let is = kept_as-is (type_of item.kind) item kept from.2 in
+    record {
+      has_kind = ap (λ (k : Item). k.kind) is.is ∙ sound_item.has_kind;
+      fits = subst FitsItsLength (sym is.is) (kept_fits item is.flags is.plain (received_short item sound_item.received));
+      without = kept_without kind item kept sound_item from.2;
+    }
+
+-- ---- all of them
+
+-- a type above all others stands nowhere
+not_among : (kind : ℕ) (items : List Item) → AllByRecursion (λ (item : Item). item.kind < kind) items → has_type kind items ≡ false
+not_among kind [] each = refl
+not_among kind (item ∷ items) each =
+    let differs : eqb item.kind kind ≡ false = ne_eqb _ _ (λ e. omega (arith, each.0, e)) in
+    let later = not_among kind items each.1 in
+    rw (differs, later) refl
+
+one_more : (a : ℕ) (items : List Item) (item : Item) → AllByRecursion (λ (i : Item). i.kind < a) items → item.kind < a + 1 → AllByRecursion (λ (i : Item). i.kind < a + 1) (items ++ item ∷ [])
+one_more a [] item each last = (last, tt)
+one_more a (first ∷ items) item each last = (omega (arith, each.0), one_more a items item each.1 last)
+
+wider : (a : ℕ) (items : List Item) → AllByRecursion (λ (i : Item). i.kind < a) items → AllByRecursion (λ (i : Item). i.kind < a + 1) items
+wider a [] each = tt
+wider a (first ∷ items) each = (omega (arith, each.0), wider a items each.1)
+
+-- attributes made in ascending type, each without fault by its own tests, are without fault
+pub ascending_without : (make : ℕ → Option Item) → ((kind : ℕ) (item : Item) → make kind ≡ Some item → IsWritten kind item)
+    → (a n : ℕ) (earlier : List Item) → AllByRecursion (λ (i : Item). i.kind < a) earlier → first_item_fault earlier (filter_map make (range_with_len a n)) ≡ None
+unfolding first_item_fault
+ascending_without make is a zero earlier below = refl
+ascending_without make is a (suc n) earlier below =
+    elim (cases_Option (make a)) [
+      | inl none ↦ rw none (ascending_without make is (a + 1) n earlier (wider a earlier below))
+      | inr some ↦
+          let item = some.0 in
+          let written = is a item some.1 in
+          let kind = written.has_kind in
+          let first : has_type item.kind earlier ≡ false = rw kind (not_among a earlier below) in
+          let own = written.without in
+          let later = ascending_without make is (a + 1) n (earlier ++ item ∷ []) (one_more a earlier item below (omega (arith, kind))) in
+          rw (some.1, first, own) later
+    ]
