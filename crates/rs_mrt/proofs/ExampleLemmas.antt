@@ -1,4 +1,4 @@
--- The examples are computed.
+-- The examples are computed: for `examples_hold` of laws.rt.
 use Rattle.std.proofs.Common.{◌≡◌, ℕ, zero, suc, List, [], ◌∷◌, lit<, lit≤, refl, ap, take, inl, inr, arith}
 use Rattle.rs_mrt.specs.Record.{MrtRecord, records_of, records_within, rest_of, rest_within, IsRecord}
 use Rattle.rs_mrt.specs.Entry.{entry_of, fields_entry}

@@ -1,11 +1,1 @@
-pub mod FindLemmas
-pub mod WindowLemmas
-pub mod AdvanceLemmas
-pub mod InflowLemmas
-pub mod FrontLemmas
-pub mod ReaderLemmas
-pub mod RecordLemmas
-pub mod StreamLemmas
-pub mod SplitLemmas
-pub mod EntryLemmas
 pub mod ExampleLemmas

@@ -1,4 +1,4 @@
-use Rattle.rs_mrt.proofs.FrontLemmas.{known_shown}
+use Rattle.rs_mrt.proofs.record_reader.FrontLemmas.{known_shown}
 use Rattle.rs_mrt.proofs.laws.known_octets_are_shown.Goals as goal
 
 pub returns : goal.returns

@@ -3,8 +3,8 @@ use Rattle.std.proofs.lemmas.Grind.{common_steps}
 use Rattle.std.proofs.lemmas.Result.{err_from_is_err_and}
 use Rattle.rs_mrt.specs.Reader.{FileEnds, ReadFails}
 use Rattle.rs_mrt.specs.Record.{length_field}
-use Rattle.rs_mrt.proofs.InflowLemmas.{Fills-then}
-use Rattle.rs_mrt.proofs.FindLemmas.{short-body, short-skip, found-front, field-filled, field-read}
+use Rattle.rs_mrt.proofs.record_reader.InflowLemmas.{Fills-then}
+use Rattle.rs_mrt.proofs.record_reader.FindLemmas.{short-body, short-skip, found-front, field-filled, field-read}
 use Rattle.rs_mrt.proofs.record_reader.find_front.Goals as goal
 
 pub returns-in_err-fill-2-clause-finds : goal.returns-in_err-fill-2-clause-finds

@@ -1,6 +1,6 @@
 use Rattle.std.proofs.Common.{arith, rules}
 use Rattle.std.proofs.lemmas.Grind.{common_steps}
-use Rattle.rs_mrt.proofs.StreamLemmas.{Written-more, Written-stopped, Keeps-from_nothing, took_some}
+use Rattle.rs_mrt.proofs.stream.StreamLemmas.{Written-more, Written-stopped, Keeps-from_nothing, took_some}
 use Rattle.rs_mrt.proofs.stream.write_all.Goals as goal
 
 pub returns-in-Ok-eq0-clause-err : goal.returns-in-Ok-eq0-clause-err

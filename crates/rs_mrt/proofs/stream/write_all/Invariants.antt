@@ -1,5 +1,5 @@
 use Rattle.std.proofs.Common.{◌≡◌, length}
-use Rattle.rs_mrt.proofs.StreamLemmas.{Written}
+use Rattle.rs_mrt.proofs.stream.StreamLemmas.{Written}
 use Rattle.rs_mrt.proofs.stream.write_all.Given as goal
 
 abbrev pub invariant-loop-rest : goal.invariant-loop-rest

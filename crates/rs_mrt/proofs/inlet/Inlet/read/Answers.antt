@@ -2,7 +2,7 @@ use Rattle.std.proofs.Common.{◌≡◌, ◌+◌, ◌-◌, ◌<◌, ◌≤◌, �
 use Rattle.std.proofs.lemmas.Grind.{common_steps}
 use Rattle.rs_mrt.specs.RecordReading.{Inflow, read_limit}
 use Rattle.rs_mrt.specs.Inflow.{Draws, gave_some}
-use Rattle.rs_mrt.proofs.InflowLemmas.{Draws-read, Draws-full}
+use Rattle.rs_mrt.proofs.record_reader.InflowLemmas.{Draws-read, Draws-full}
 use Rattle.rs_mrt.proofs.inlet.Inlet.read.Goals as goal
 
 pub returns-then-left-eq0-clause-draws : goal.returns-then-left-eq0-clause-draws

@@ -1,7 +1,7 @@
 use Rattle.std.proofs.Common.{arith, rules}
 use Rattle.std.proofs.lemmas.Grind.{common_steps}
 use Rattle.std.proofs.lemmas.Result.{err_from_is_err_and}
-use Rattle.rs_mrt.proofs.InflowLemmas.{SoFar-then, SoFar-failed}
+use Rattle.rs_mrt.proofs.record_reader.InflowLemmas.{SoFar-then, SoFar-failed}
 use Rattle.rs_mrt.proofs.inlet.Inlet.skip.Goals as goal
 
 pub returns-in_err-forgotten : goal.returns-in_err-forgotten

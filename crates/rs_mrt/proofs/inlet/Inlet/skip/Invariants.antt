@@ -1,4 +1,4 @@
-use Rattle.rs_mrt.proofs.InflowLemmas.{SoFar}
+use Rattle.rs_mrt.proofs.record_reader.InflowLemmas.{SoFar}
 use Rattle.rs_mrt.proofs.inlet.Inlet.skip.Given as goal
 
 abbrev pub invariant-loop-left : goal.invariant-loop-left

@@ -3,7 +3,7 @@ use Rattle.std.proofs.lemmas.List.{take_at}
 use Rattle.std.proofs.Math.Seq.{length_front}
 use Rattle.rs_mrt.specs.Reader.{ReadGives}
 use Rattle.rs_mrt.specs.MemoryReading.{MemoryReading, Comes, amount_within}
-use Rattle.rs_mrt.proofs.ReaderLemmas.{given_by_memory}
+use Rattle.rs_mrt.proofs.stream.ReaderLemmas.{given_by_memory}
 use Rattle.rs_mrt.proofs.memory_reader.MemoryReaderRead.read.Goals as goal
 
 pub returns-clause-gives : goal.returns-clause-gives

@@ -1,6 +1,6 @@
 use Rattle.std.proofs.Common.{Ok, subst, rules}
 use Rattle.rs_mrt.specs.Reader.{ReadGives, MayBeLeft}
-use Rattle.rs_mrt.proofs.ReaderLemmas.{given_by_std}
+use Rattle.rs_mrt.proofs.stream.ReaderLemmas.{given_by_std}
 use Rattle.rs_mrt.proofs.reader.IoReaderRead.read.Goals as goal
 
 pub returns-in-Ok-clause-gives : goal.returns-in-Ok-clause-gives

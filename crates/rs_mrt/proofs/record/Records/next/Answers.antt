@@ -1,7 +1,7 @@
 use Rattle.std.specs.Option.{option_map}
 use Rattle.std.proofs.lemmas.Result.{err_from_is_err_and}
 use Rattle.rs_mrt.specs.Record.{record_of}
-use Rattle.rs_mrt.proofs.RecordLemmas.{taken_some, taken_none, taken_fault}
+use Rattle.rs_mrt.proofs.record.RecordLemmas.{taken_some, taken_none, taken_fault}
 use Rattle.rs_mrt.proofs.record.Records.next.Goals as goal
 
 pub returns-in_err-record-clause-answer : goal.returns-in_err-record-clause-answer

@@ -1,6 +1,6 @@
 use Rattle.std.proofs.Common.{◌≡◌, None, ap, subst, sym, ◌∙◌}
 use Rattle.rs_mrt.specs.Inflow.{GoesOn}
-use Rattle.rs_mrt.proofs.AdvanceLemmas.{goes-advances, goes-room}
+use Rattle.rs_mrt.proofs.record_reader.AdvanceLemmas.{goes-advances, goes-room}
 use Rattle.rs_mrt.proofs.record_reader.RecordReaderSource.advance.Goals as goal
 
 pub returns-clause-records : goal.returns-clause-records

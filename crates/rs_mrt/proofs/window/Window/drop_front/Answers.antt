@@ -1,5 +1,5 @@
 use Rattle.std.proofs.Common.{◌-◌, ◌≤◌, length, drop, ap, ◌∙◌, arith, length-take}
-use Rattle.rs_mrt.proofs.WindowLemmas.{window-drop}
+use Rattle.rs_mrt.proofs.record_reader.WindowLemmas.{window-drop}
 use Rattle.rs_mrt.proofs.window.Window.drop_front.Goals as goal
 
 pub returns : goal.returns

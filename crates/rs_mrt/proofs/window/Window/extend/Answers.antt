@@ -1,7 +1,7 @@
 use Rattle.std.proofs.Common.{◌++◌, take, ap, subst, ◌∙◌, arith, rules}
 use Rattle.std.proofs.lemmas.Grind.{common_steps}
 use Rattle.rs_mrt.specs.Inflow.{Draws}
-use Rattle.rs_mrt.proofs.WindowLemmas.{window-extended, gave-lt}
+use Rattle.rs_mrt.proofs.record_reader.WindowLemmas.{window-extended, gave-lt}
 use Rattle.rs_mrt.proofs.window.Window.extend.Goals as goal
 
 pub returns-clause-fills : goal.returns-clause-fills

@@ -1,4 +1,4 @@
--- What calls of a writer, one after another, append.
+-- What calls of a writer, one after another, append: for `write_all` of stream.rt.
 use Rattle.std.proofs.Common.{◌≡◌, ℕ, zero, suc, ◌-◌, List, [], ◌++◌, length, take, drop, Option, Some, None, Ok, refl, sym, ap, ◌∙◌, append_assoc, arith}
 use Rattle.std.specs.Io.KnownBytes.{Appends, Keeps}
 use Rattle.std.proofs.lemmas.List.{append-nil, length-append, take_at, take_rest, take-append-drop}

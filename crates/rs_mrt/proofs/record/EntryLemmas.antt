@@ -1,4 +1,4 @@
--- The front of a record says what the record says.
+-- The front of a record says what the record says: for `front_of_a_record_says_the_same` of laws.rt.
 use Rattle.std.proofs.Common.{◌≡◌, ℕ, ◌+◌, ◌-◌, ◌≤◌, Bool, true, false, ◌&&◌, not, cond, eqb, ltb, List, length, take, drop, Result, Ok, Err, lit≤, refl, sym, ap, ◌∙◌, arith, inl, inr}
 use Rattle.std.proofs.lemmas.Bool.{cases_lt, lt-ltb, le-ltb, eqb-true}
 use Rattle.std.proofs.lemmas.List.{length-take, drop-take}

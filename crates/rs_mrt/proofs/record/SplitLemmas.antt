@@ -1,4 +1,4 @@
--- A file splits into records and a rest in one way, and the computed split is the one.
+-- A file splits into records and a rest in one way, and the computed split is the one: for `file_splits_in_one_way` of laws.rt.
 use Rattle.std.proofs.Common.{◌≡◌, ℕ, zero, suc, ◌+◌, ◌^◌, ◌<◌, ◌≤◌, true, false, List, [], ◌∷◌, ◌++◌, length, take, drop, lit≤, refl, sym, ap, subst, ◌∙◌, append_assoc, arith, inl, inr}
 use Rattle.std.specs.Prelude.{nat_le}
 use Rattle.std.specs.Int.{w16, w32, from_be_bytes}
@@ -11,7 +11,7 @@ use Rattle.std.proofs.lemmas.Nat.{be_bytes_2, be_bytes_4}
 use Rattle.byteorder.specs.Endian.{big_bytes, big_number}
 use Rattle.byteorder.specs.Numbers.{big_number-reads_back, big_from-lt, big_from-take}
 use Rattle.rs_mrt.specs.Record.{MrtRecord, IsRecord, AreOctets, Splits, record_spelling, length_field, has_record, front_record, after_record, records_of, rest_of}
-use Rattle.rs_mrt.proofs.RecordLemmas.{has_record-long, after_record-shorter, records_of-step, records_of-none, rest_of-step, rest_of-none}
+use Rattle.rs_mrt.proofs.record.RecordLemmas.{has_record-long, after_record-shorter, records_of-step, records_of-none, rest_of-step, rest_of-none}
 
 AreOctets-drop : (n : ℕ) (octets : List ℕ) → AreOctets octets → AreOctets (drop n octets)
 AreOctets-drop n octets h i = rw get_or-drop (h (n + i))

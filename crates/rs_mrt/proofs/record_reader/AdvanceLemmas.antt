@@ -1,4 +1,4 @@
--- What going on to the next record says to those who see a source of records.
+-- What going on to the next record says to those who see a source of records: for `advance` of record_reader.rt.
 use Rattle.std.proofs.Common.{◌≡◌, ℕ, ◌+◌, ◌-◌, ◌≤◌, min, drop, take, List, [], ◌∷◌, ◌++◌, length, Option, Some, None, Result, Ok, Err, Bool, true, false, refl, sym, ap, subst, ◌∙◌, arith, length-append}
 use Rattle.std.proofs.lemmas.List.{length-take}
 use Rattle.rs_mrt.specs.declared.fault.SourceFault.{SourceFault}
@@ -8,8 +8,8 @@ use Rattle.rs_mrt.specs.Entry.{front_len, front_of}
 use Rattle.rs_mrt.specs.Source.{Advances}
 use Rattle.rs_mrt.specs.RecordReading.{MayArrive, MayBeShown, MayCome, RecordReading, ComesUnless, room_left}
 use Rattle.rs_mrt.specs.Inflow.{FindsRecord, FindsNone, GoesOn}
-use Rattle.rs_mrt.proofs.RecordLemmas.{length-after_record, has_record-long}
-use Rattle.rs_mrt.proofs.FrontLemmas.{none_shown, one_shown}
+use Rattle.rs_mrt.proofs.record.RecordLemmas.{length-after_record, has_record-long}
+use Rattle.rs_mrt.proofs.record_reader.FrontLemmas.{none_shown, one_shown}
 
 -- a record that stands at the front takes no more octets than there are
 front_room : (octets : List ℕ) → has_record octets ≡ true → octets_of (Some (front_record octets)) ≤ length octets

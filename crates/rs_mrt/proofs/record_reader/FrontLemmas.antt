@@ -1,4 +1,5 @@
 -- What a window that holds the front of a record says of the record, and what a reader of records shows.
+-- For `known_octets_are_shown` of laws.rt, FindLemmas and AdvanceLemmas.
 use Rattle.std.proofs.Common.{◌≡◌, ℕ, ◌+◌, ◌-◌, ◌≤◌, ◌<◌, min, List, [], ◌∷◌, ◌++◌, length, take, drop, map, Option, Some, None, Result, Bool, true, false, refl, sym, ap, subst, ◌∙◌, append_assoc, arith, inl, inr, length-append}
 use Rattle.std.specs.Prelude.{nat_lt, if◌then◌else◌}
 use Rattle.std.specs.Option.{option_map}
@@ -17,7 +18,7 @@ use Rattle.rs_mrt.specs.Entry.{front_len, front_of}
 use Rattle.rs_mrt.specs.Source.{source_end}
 use Rattle.rs_mrt.specs.RecordReading.{Inflow, MayArrive, MayBeShown, MayCome, fault_behind, read_limit, unread, fault_of}
 use Rattle.rs_mrt.specs.Inflow.{Draws, FindsRecord, FindsNone, answer_behind, answer_at, call_at, shown_in, held_behind}
-use Rattle.rs_mrt.proofs.RecordLemmas.{has_record-long, records_of-step, records_of-none, rest_of-step, rest_of-none}
+use Rattle.rs_mrt.proofs.record.RecordLemmas.{has_record-long, records_of-step, records_of-none, rest_of-step, rest_of-none}
 
 -- ---- octets behind a header change nothing in it
 

@@ -1,4 +1,4 @@
--- How the next record is found in a window, or none is.
+-- How the next record is found in a window, or none is: for `find_front` of record_reader.rt.
 use Rattle.std.proofs.Common.{◌≡◌, ℕ, ◌+◌, ◌-◌, ◌≤◌, ◌<◌, min, List, [], ◌++◌, length, take, drop, Some, Result, Ok, Err, Bool, true, refl, sym, ap, subst, ◌∙◌, append_assoc, arith, length-append}
 use Rattle.std.proofs.lemmas.List.{append-nil, take_rest}
 use Rattle.byteorder.specs.Endian.{big_number}
@@ -11,8 +11,8 @@ use Rattle.rs_mrt.specs.Record.{has_record, front_record, after_record, length_f
 use Rattle.rs_mrt.specs.Entry.{front_of}
 use Rattle.rs_mrt.specs.RecordReading.{Inflow}
 use Rattle.rs_mrt.specs.Inflow.{Draws, Fills, Skips, IsEnough, FindsRecord, FindsNone, answer_behind, answer_at, call_at, shown_in, held_behind}
-use Rattle.rs_mrt.proofs.InflowLemmas.{Draws-then, Fills-then}
-use Rattle.rs_mrt.proofs.FrontLemmas.{Fronts, fronts, has_record-cut, length_field-append, rest-body}
+use Rattle.rs_mrt.proofs.record_reader.InflowLemmas.{Draws-then, Fills-then}
+use Rattle.rs_mrt.proofs.record_reader.FrontLemmas.{Fronts, fronts, has_record-cut, length_field-append, rest-body}
 
 -- the answer where a body is cut short, or reading it failed
 abbrev pub body_answer : ReadEnd → Result Bool SourceFault
