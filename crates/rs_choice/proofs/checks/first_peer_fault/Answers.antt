@@ -3,7 +3,7 @@ use Rattle.std.proofs.Math.ListN.{get_or-map}
 use Rattle.std.proofs.lemmas.List.{take-map, length-map}
 use Rattle.rs_choice.specs.Plan.{Peer, Test, peer_of, peer_tests}
 use Rattle.rs_update.specs.Fault.{first_fault}
-use Rattle.rs_choice.proofs.PlanLemmas.{first_fault-here, first_fault-later}
+use Rattle.rs_choice.proofs.plan.PlanLemmas.{first_fault-here, first_fault-later}
 use Rattle.rs_choice.proofs.checks.first_peer_fault.Goals as goal
 
 pub returns-in-Some : goal.returns-in-Some

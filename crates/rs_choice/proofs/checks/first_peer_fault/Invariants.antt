@@ -1,7 +1,7 @@
 use Rattle.std.proofs.Common.{◌≡◌, ℕ, List, map, take}
 use Rattle.rs_choice.specs.Plan.{Peer, Test, peer_of, peer_tests}
 use Rattle.rs_update.specs.Fault.{first_fault}
-use Rattle.rs_choice.proofs.PlanLemmas.{tests_from}
+use Rattle.rs_choice.proofs.plan.PlanLemmas.{tests_from}
 use Rattle.rs_choice.proofs.checks.first_peer_fault.Given as goal
 
 abbrev pub invariant-loop-number : goal.invariant-loop-number

@@ -8,7 +8,7 @@ use Rattle.rs_choice.specs.Checks.{has_name_among}
 use Rattle.rs_choice.specs.declared.fault.PlanFault.TheVariants.{UnknownName}
 use Rattle.rs_choice.specs.Plan.{Peer, Test, peer_of, name_tests, has_names}
 use Rattle.rs_update.specs.Fault.{first_fault}
-use Rattle.rs_choice.proofs.PlanLemmas.{first_fault-here, first_fault-later, has_names-map}
+use Rattle.rs_choice.proofs.plan.PlanLemmas.{first_fault-here, first_fault-later, has_names-map}
 use Rattle.rs_choice.proofs.checks.first_unknown_name.Goals as goal
 
 pub returns-then-not-has_names : goal.returns-then-not-has_names

@@ -1,7 +1,7 @@
 use Rattle.std.proofs.Common.{◌≡◌, ℕ, List, map}
 use Rattle.rs_choice.specs.Plan.{Peer, Test, peer_of, name_tests}
 use Rattle.rs_update.specs.Fault.{first_fault}
-use Rattle.rs_choice.proofs.PlanLemmas.{tests_from}
+use Rattle.rs_choice.proofs.plan.PlanLemmas.{tests_from}
 use Rattle.rs_choice.proofs.checks.first_unknown_name.Given as goal
 
 abbrev pub invariant-loop-number : goal.invariant-loop-number

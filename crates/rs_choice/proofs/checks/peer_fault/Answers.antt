@@ -2,7 +2,7 @@ use Rattle.std.proofs.Common.{◌≡◌, ◌∙◌, sym, ap, refl, arith, ◌==�
 use Rattle.std.proofs.lemmas.Bool.Decides.{nat_tests}
 use Rattle.rs_choice.specs.Checks.{has_address_among}
 use Rattle.rs_choice.specs.Plan.{is_name}
-use Rattle.rs_choice.proofs.PlanLemmas.{peer_fault-is}
+use Rattle.rs_choice.proofs.plan.PlanLemmas.{peer_fault-is}
 use Rattle.rs_choice.proofs.checks.peer_fault.Goals as goal
 
 pub returns-then-has_name : goal.returns-then-has_name

@@ -1,6 +1,6 @@
 use Rattle.std.proofs.Common.{◌∙◌, ◌++◌, sym, map, rules}
 use Rattle.rs_choice.specs.Plan.{peer_of, whole_tests, peers_tests, names_tests}
-use Rattle.rs_choice.proofs.PlanLemmas.{first_fault-Some, first_fault-None}
+use Rattle.rs_choice.proofs.plan.PlanLemmas.{first_fault-Some, first_fault-None}
 use Rattle.rs_choice.proofs.checks.plan_fault.Goals as goal
 
 pub returns-in-Some-first_peer_fault : goal.returns-in-Some-first_peer_fault

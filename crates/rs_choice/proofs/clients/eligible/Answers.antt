@@ -3,7 +3,7 @@ use Rattle.std.specs.Prelude.{slice_get}
 use Rattle.std.proofs.lemmas.Option.{slice_get_read}
 use Rattle.rs_choice.specs.declared.held_route.HeldRoute.{HeldRoute}
 use Rattle.rs_choice.specs.Candidacy.{is_candidate}
-use Rattle.rs_choice.proofs.ChosenLemmas.{chosen_push, filter_push, filter_skip, length_push, places_push, take_more}
+use Rattle.rs_choice.proofs.clients.ChosenLemmas.{chosen_push, filter_push, filter_skip, length_push, places_push, take_more}
 use Rattle.rs_choice.proofs.clients.eligible.Goals as goal
 use Rattle.rs_choice.proofs.clients.eligible.Goals.{then-is_eligible, else-is_eligible}
 

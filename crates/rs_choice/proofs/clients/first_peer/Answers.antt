@@ -5,7 +5,7 @@ use Rattle.rs_choice.specs.declared.held_route.HeldRoute.{HeldRoute}
 use Rattle.rs_choice.specs.declared.candidate.Placed.{Placed}
 use Rattle.rs_choice.specs.Decision.{member_at}
 use Rattle.rs_choice.specs.Entrants.{chosen_of}
-use Rattle.rs_choice.proofs.ChosenLemmas.{chosen_at, within_at}
+use Rattle.rs_choice.proofs.clients.ChosenLemmas.{chosen_at, within_at}
 use Rattle.rs_choice.proofs.clients.first_peer.Goals as goal
 
 pub returns-in-Some : goal.returns-in-Some

@@ -5,8 +5,8 @@ use Rattle.std.proofs.lemmas.List.Elements.{Contains-append_left, Contains-appen
 use Rattle.std.proofs.lemmas.Option.{get_or_from_slice_get, slice_get_within}
 use Rattle.rs_choice.specs.declared.neighbour_groups.Group.{Group}
 use Rattle.rs_choice.specs.Sharing.{IsFirst, Weighs}
-use Rattle.rs_choice.proofs.ChosenLemmas.{all_push, length_push}
-use Rattle.rs_choice.proofs.ScanLemmas.{when_false}
+use Rattle.rs_choice.proofs.clients.ChosenLemmas.{all_push, length_push}
+use Rattle.rs_choice.proofs.decision.ScanLemmas.{when_false}
 use Rattle.rs_choice.proofs.clients.weighing.Goals as goal
 use Rattle.rs_choice.proofs.clients.weighing.Goals.{then-group, then-group-via-then-group, then-group-via-else-group+then-is_first, else-group+else-is_first}
 

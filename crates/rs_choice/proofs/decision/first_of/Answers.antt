@@ -1,9 +1,9 @@
 use Rattle.std.proofs.Common.{arith, ℕ, length}
 use Rattle.rs_choice.specs.declared.candidate.Standing.{Standing}
 use Rattle.rs_choice.specs.Grouping.{places_of, standing_in, GoesBeforeSome}
-use Rattle.rs_choice.proofs.GroupChoice.{first_changes, first_stays}
-use Rattle.rs_choice.proofs.GroupMarks.{place_at, place_within}
-use Rattle.rs_choice.proofs.ScanLemmas.{when_false}
+use Rattle.rs_choice.proofs.neighbour_groups.GroupChoice.{first_changes, first_stays}
+use Rattle.rs_choice.proofs.neighbour_groups.GroupMarks.{place_at, place_within}
+use Rattle.rs_choice.proofs.decision.ScanLemmas.{when_false}
 use Rattle.rs_choice.proofs.decision.first_of.Goals as goal
 use Rattle.rs_choice.proofs.decision.first_of.Goals.{then-goes_before, else-goes_before}
 

@@ -3,7 +3,7 @@ use Rattle.std.proofs.lemmas.Option.{slice_get_within}
 use Rattle.rs_choice.specs.declared.candidate.Standing.{Standing}
 use Rattle.rs_choice.specs.declared.neighbour_groups.Group.{Group}
 use Rattle.rs_choice.specs.Grouping.{standing_in, IsJoined, IsNeighboursGroup}
-use Rattle.rs_choice.proofs.GroupMarks.{joined_marked, one_more_marked, place_within}
+use Rattle.rs_choice.proofs.neighbour_groups.GroupMarks.{joined_marked, one_more_marked, place_within}
 use Rattle.rs_choice.proofs.decision.join.Goals as goal
 
 pub returns-in_default : goal.returns-in_default

@@ -1,7 +1,7 @@
 use Rattle.std.proofs.Common.{◌∙◌, sym, ap, arith, map}
 use Rattle.std.proofs.lemmas.List.{take_all}
 use Rattle.rs_choice.specs.Checks.{refuses_spec}
-use Rattle.rs_choice.proofs.PolicyLemmas.{refusals_of-map}
+use Rattle.rs_choice.proofs.plan.PolicyLemmas.{refusals_of-map}
 use Rattle.rs_choice.proofs.exchange.refusals.Goals as goal
 
 pub returns : goal.returns

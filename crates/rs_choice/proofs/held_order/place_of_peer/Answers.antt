@@ -2,7 +2,7 @@ use Rattle.std.proofs.Common.{rules}
 use Rattle.std.specs.Prelude.{nat_lt}
 use Rattle.std.proofs.lemmas.List.Sorted.{IsPartitionPoint-from_clause, IsPartitionedBy-ltb}
 use Rattle.rs_choice.specs.declared.held_route.HeldRoute.{HeldRoute}
-use Rattle.rs_choice.proofs.OrderLemmas.{parts_at, rising, tells_above, tells_below}
+use Rattle.rs_choice.proofs.held_route.OrderLemmas.{parts_at, rising, tells_above, tells_below}
 use Rattle.rs_choice.proofs.held_order.place_of_peer.Goals as goal
 
 pub returns-then-is_at-clause-place : goal.returns-then-is_at-clause-place

@@ -1,5 +1,5 @@
 use Rattle.std.proofs.Common.{arith, rules}
-use Rattle.rs_choice.proofs.PathLengthLemmas.{path_length_fits}
+use Rattle.rs_choice.proofs.held_route.PathLengthLemmas.{path_length_fits}
 use Rattle.rs_choice.proofs.held_route.path_length.Goals as goal
 
 pub overflow_cast-result : goal.overflow_cast-result

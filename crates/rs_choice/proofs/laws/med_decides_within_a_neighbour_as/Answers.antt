@@ -1,4 +1,4 @@
-use Rattle.rs_choice.proofs.LawLemmas.{med_decides}
+use Rattle.rs_choice.proofs.decision.LawLemmas.{med_decides}
 use Rattle.rs_choice.proofs.laws.med_decides_within_a_neighbour_as.Goals as goal
 
 pub returns : goal.returns

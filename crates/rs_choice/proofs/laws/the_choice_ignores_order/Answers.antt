@@ -1,4 +1,4 @@
-use Rattle.rs_choice.proofs.LawLemmas.{choice_ignores_order}
+use Rattle.rs_choice.proofs.decision.LawLemmas.{choice_ignores_order}
 use Rattle.rs_choice.proofs.laws.the_choice_ignores_order.Goals as goal
 
 pub returns : goal.returns

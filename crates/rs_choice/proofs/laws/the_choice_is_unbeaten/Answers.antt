@@ -1,4 +1,4 @@
-use Rattle.rs_choice.proofs.LawLemmas.{choice_is_member, choice_is_unbeaten}
+use Rattle.rs_choice.proofs.decision.LawLemmas.{choice_is_member, choice_is_unbeaten}
 use Rattle.rs_choice.proofs.laws.the_choice_is_unbeaten.Goals as goal
 
 pub returns-clause-member : goal.returns-clause-member

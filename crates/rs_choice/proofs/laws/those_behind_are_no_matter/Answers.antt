@@ -1,4 +1,4 @@
-use Rattle.rs_choice.proofs.BehindLemmas.{behind_is_no_matter, others_are_no_matter, outdone_is_no_matter, removed_is_no_matter}
+use Rattle.rs_choice.proofs.decision.BehindLemmas.{behind_is_no_matter, others_are_no_matter, outdone_is_no_matter, removed_is_no_matter}
 use Rattle.rs_choice.proofs.laws.those_behind_are_no_matter.Goals as goal
 
 pub returns-clause-removed : goal.returns-clause-removed

@@ -1,7 +1,7 @@
 use Rattle.std.proofs.Common.{◌∙◌, sym, ap, length}
 use Rattle.std.proofs.lemmas.List.{length-map}
 use Rattle.rs_choice.specs.Entrants.{chosen_of, standing_of_held}
-use Rattle.rs_choice.proofs.ChosenLemmas.{chosen_length}
+use Rattle.rs_choice.proofs.clients.ChosenLemmas.{chosen_length}
 use Rattle.rs_choice.proofs.entrants.ChosenEntrants.count.Goals as goal
 
 pub returns : goal.returns

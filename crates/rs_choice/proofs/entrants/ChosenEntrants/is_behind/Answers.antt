@@ -6,8 +6,8 @@ use Rattle.rs_choice.specs.Comparison.{IsAhead}
 use Rattle.rs_choice.specs.Entrants.{chosen_of, standing_of_held}
 use Rattle.rs_choice.specs.Grouping.{standing_in}
 use Rattle.rs_choice.specs.Held.{held_standing}
-use Rattle.rs_choice.proofs.ChosenLemmas.{chosen_length, within_at}
-use Rattle.rs_choice.proofs.EntrantLemmas.{standing_at}
+use Rattle.rs_choice.proofs.clients.ChosenLemmas.{chosen_length, within_at}
+use Rattle.rs_choice.proofs.held_route.EntrantLemmas.{standing_at}
 use Rattle.rs_choice.proofs.entrants.ChosenEntrants.is_behind.Goals as goal
 
 pub place-requires : goal.place-requires

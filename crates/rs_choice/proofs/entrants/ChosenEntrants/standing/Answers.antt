@@ -5,8 +5,8 @@ use Rattle.std.proofs.lemmas.Option.{get_or_from_slice_get, slice_get_read}
 use Rattle.rs_choice.specs.Entrants.{chosen_of, standing_of_held}
 use Rattle.rs_choice.specs.Grouping.{standing_in}
 use Rattle.rs_choice.specs.Held.{held_standing}
-use Rattle.rs_choice.proofs.ChosenLemmas.{chosen_length, within_at}
-use Rattle.rs_choice.proofs.EntrantLemmas.{standing_at}
+use Rattle.rs_choice.proofs.clients.ChosenLemmas.{chosen_length, within_at}
+use Rattle.rs_choice.proofs.held_route.EntrantLemmas.{standing_at}
 use Rattle.rs_choice.proofs.entrants.ChosenEntrants.standing.Goals as goal
 
 pub place-requires : goal.place-requires

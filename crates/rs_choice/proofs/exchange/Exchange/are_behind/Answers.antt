@@ -6,7 +6,7 @@ use Rattle.rs_choice.specs.declared.held_route.HeldRoute.{HeldRoute}
 use Rattle.rs_choice.specs.Candidacy.{is_candidate}
 use Rattle.rs_choice.specs.Comparison.{Outdoes}
 use Rattle.rs_choice.specs.Held.{held_standing}
-use Rattle.rs_choice.proofs.RecipientLemmas.{none_is_no_some, same_some}
+use Rattle.rs_choice.proofs.clients.RecipientLemmas.{none_is_no_some, same_some}
 use Rattle.rs_choice.proofs.exchange.Exchange.are_behind.Goals as goal
 use Rattle.rs_choice.proofs.exchange.Exchange.are_behind.Goals.{in-None, in-Some, in-None-new, in-Some-new}
 

@@ -3,7 +3,7 @@ use Rattle.std.specs.Option.{option_and_then}
 use Rattle.std.specs.Prelude.{IfSome, slice_get, ◌<◌}
 use Rattle.std.proofs.lemmas.Option.{slice_get_read}
 use Rattle.rs_choice.specs.Recipients.{IsForNamed}
-use Rattle.rs_choice.proofs.RecipientLemmas.{none_is_no_some, same_some}
+use Rattle.rs_choice.proofs.clients.RecipientLemmas.{none_is_no_some, same_some}
 use Rattle.rs_choice.proofs.exchange.Exchange.are_for_named.Goals as goal
 use Rattle.rs_choice.proofs.exchange.Exchange.are_for_named.Goals.{in-None, in-Some, in-None-new, in-Some-new}
 

@@ -7,7 +7,7 @@ use Rattle.rs_choice.specs.Clients.{is_sent_to}
 use Rattle.rs_choice.specs.Decision.{SentRoute}
 use Rattle.rs_choice.specs.Held.{sent_of_held}
 use Rattle.rs_choice.specs.Sharing.{sents_at}
-use Rattle.rs_choice.proofs.ChosenLemmas.{all_push, sents_more, within_at}
+use Rattle.rs_choice.proofs.clients.ChosenLemmas.{all_push, sents_more, within_at}
 use Rattle.rs_choice.proofs.exchange.Exchange.are_permitted.Goals as goal
 
 pub loop-number-preserved : goal.loop-number-preserved

@@ -3,7 +3,7 @@ use Rattle.std.proofs.lemmas.Option.{slice_get_read}
 use Rattle.rs_choice.specs.Comparison.{IsLevel}
 use Rattle.rs_choice.specs.Decision.{standing_of_candidate}
 use Rattle.rs_choice.specs.Scan.{HasLeastMed, GoesFirst, IsLeftByMed}
-use Rattle.rs_choice.proofs.ScanLemmas.{level_has_none_ahead, none_ahead_is_level, best_skips, best_changes, best_stays, when_false}
+use Rattle.rs_choice.proofs.decision.ScanLemmas.{level_has_none_ahead, none_ahead_is_level, best_skips, best_changes, best_stays, when_false}
 use Rattle.rs_choice.proofs.exchange.Exchange.best.Goals as goal
 use Rattle.rs_choice.proofs.exchange.Exchange.best.Goals.{then-is_level_with+then-has_least_med+then-goes_first, else-is_level_with, else-is_level_with-via-then-is_level_with+then-has_least_med+else-goes_first, else-is_level_with-via-then-is_level_with+else-has_least_med, else-is_level_with-via-else-is_level_with}
 

@@ -3,7 +3,7 @@ use Rattle.std.specs.Option.{option_map}
 use Rattle.std.proofs.lemmas.Grind.{common_steps}
 use Rattle.rs_choice.specs.Decision.{standing_of_candidate, member_at}
 use Rattle.rs_choice.specs.Naturality.{member_at-place_of_choice}
-use Rattle.rs_choice.proofs.ChosenLemmas.{place_by_groups}
+use Rattle.rs_choice.proofs.clients.ChosenLemmas.{place_by_groups}
 use Rattle.rs_choice.proofs.exchange.Exchange.choose_by_groups.Goals as goal
 
 pub returns-clause-place : goal.returns-clause-place

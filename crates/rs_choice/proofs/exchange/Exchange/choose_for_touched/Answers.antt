@@ -1,7 +1,7 @@
 use Rattle.std.proofs.Common.{◌<◌, ◌+◌, ◌∙◌, sym, subst, refl, arith, length, set, rules}
 use Rattle.std.proofs.lemmas.List.{get_or_read, length-set}
 use Rattle.rs_choice.specs.RouteChanges.{IsNextTouched}
-use Rattle.rs_choice.proofs.StayLemmas.{found_more, later_stay, further}
+use Rattle.rs_choice.proofs.clients.StayLemmas.{found_more, later_stay, further}
 use Rattle.rs_choice.proofs.exchange.Exchange.choose_for_touched.Goals as goal
 
 pub returns-then-client-count-clause-best : goal.returns-then-client-count-clause-best

@@ -1,7 +1,7 @@
 use Rattle.std.proofs.Common.{◌∙◌, arith, length, map}
 use Rattle.rs_choice.specs.Entrants.{chosen_of, standing_of_held}
 use Rattle.rs_choice.specs.Grouping.{places_of, standing_in}
-use Rattle.rs_choice.proofs.ClientLemmas.{chosen_is, first_within, view_length}
+use Rattle.rs_choice.proofs.clients.ClientLemmas.{chosen_is, first_within, view_length}
 use Rattle.rs_choice.proofs.exchange.Exchange.chosen_peer.Goals as goal
 
 pub group_all-requires : goal.group_all-requires

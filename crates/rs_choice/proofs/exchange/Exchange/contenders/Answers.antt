@@ -9,8 +9,8 @@ use Rattle.rs_choice.specs.Decision.{SentRoute, choice, standing_of}
 use Rattle.rs_choice.specs.Eligibility.{is_eligible}
 use Rattle.rs_choice.specs.Held.{sent_of_held}
 use Rattle.rs_choice.specs.Sharing.{sents_at}
-use Rattle.rs_choice.proofs.ChosenLemmas.{all_push, length_push, places_push, sents_push, take_more}
-use Rattle.rs_choice.proofs.ContenderLemmas.{mem_last, with_one, without_one}
+use Rattle.rs_choice.proofs.clients.ChosenLemmas.{all_push, length_push, places_push, sents_push, take_more}
+use Rattle.rs_choice.proofs.clients.ContenderLemmas.{mem_last, with_one, without_one}
 use Rattle.rs_choice.proofs.exchange.Exchange.contenders.Goals as goal
 use Rattle.rs_choice.proofs.exchange.Exchange.contenders.Goals.{in-Some, in_default}
 

@@ -2,7 +2,7 @@ use Rattle.std.proofs.Common.{◌≤◌, length, map, take}
 use Rattle.rs_choice.specs.Clients.{candidates_among}
 use Rattle.rs_choice.specs.Held.{sent_of_held, AreEligible}
 use Rattle.rs_choice.specs.Sharing.{sents_at, ArePlaces}
-use Rattle.rs_choice.proofs.ContenderLemmas.{ChooseSame, HasLast}
+use Rattle.rs_choice.proofs.clients.ContenderLemmas.{ChooseSame, HasLast}
 use Rattle.rs_choice.proofs.exchange.Exchange.contenders.Given as goal
 
 -- of the first routes, the places of those among which the choice is that among the candidates

@@ -2,7 +2,7 @@ use Rattle.std.proofs.Common.{refl, length}
 use Rattle.std.proofs.lemmas.Option.{slice_get_read}
 use Rattle.rs_choice.specs.Decision.{standing_of_candidate}
 use Rattle.rs_choice.specs.Scan.{Leads}
-use Rattle.rs_choice.proofs.ScanLemmas.{leader_more, leader_stays, when_false}
+use Rattle.rs_choice.proofs.decision.ScanLemmas.{leader_more, leader_stays, when_false}
 use Rattle.rs_choice.proofs.exchange.Exchange.leader.Goals as goal
 use Rattle.rs_choice.proofs.exchange.Exchange.leader.Goals.{then-leads, else-leads}
 

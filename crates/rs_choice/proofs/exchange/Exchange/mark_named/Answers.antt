@@ -1,9 +1,9 @@
 use Rattle.std.proofs.Common.{◌∙◌, sym, ap, inl, inr, List, ℕ, rules}
 use Rattle.rs_update.specs.Community.{has_value}
 use Rattle.rs_choice.specs.declared.plan.Local.{Local}
-use Rattle.rs_choice.proofs.CommunityLemmas.{first_or_later}
-use Rattle.rs_choice.proofs.Eliminations.{true_not_false}
-use Rattle.rs_choice.proofs.RecipientLemmas.{none_of_none}
+use Rattle.rs_choice.proofs.plan.CommunityLemmas.{first_or_later}
+use Rattle.rs_choice.proofs.decision.Eliminations.{true_not_false}
+use Rattle.rs_choice.proofs.clients.RecipientLemmas.{none_of_none}
 use Rattle.rs_choice.proofs.exchange.Exchange.mark_named.Goals as goal
 
 pub loop-value-preserved-then-value-server : goal.loop-value-preserved-then-value-server

@@ -5,7 +5,7 @@ use Rattle.std.proofs.lemmas.Option.{slice_get_read}
 use Rattle.rs_choice.specs.declared.held_route.HeldRoute.{HeldRoute}
 use Rattle.rs_choice.specs.Recipients.{IsMarked}
 use Rattle.rs_choice.specs.RouteChanges.{new_route, IsNoCandidate}
-use Rattle.rs_choice.proofs.RecipientLemmas.{none_is_no_some, of_both_routes, same_some, still}
+use Rattle.rs_choice.proofs.clients.RecipientLemmas.{none_is_no_some, of_both_routes, same_some, still}
 use Rattle.rs_choice.proofs.exchange.Exchange.mark_recipients.Goals as goal
 use Rattle.rs_choice.proofs.exchange.Exchange.mark_recipients.Goals.{in-Some, in_default}
 

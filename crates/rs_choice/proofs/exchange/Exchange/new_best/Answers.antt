@@ -3,7 +3,7 @@ use Rattle.std.specs.Option.{option_and_then}
 use Rattle.std.specs.Prelude.{slice_get, IfSome}
 use Rattle.std.proofs.lemmas.Option.{slice_get_read}
 use Rattle.rs_choice.specs.RouteChanges.{new_route, GoesAhead}
-use Rattle.rs_choice.proofs.NewRouteLemmas.{new_is_best}
+use Rattle.rs_choice.proofs.clients.NewRouteLemmas.{new_is_best}
 use Rattle.rs_choice.proofs.exchange.Exchange.new_best.Goals as goal
 
 both : (a b : Bool) → (a && b) ≡ true → (a ≡ true) × (b ≡ true)

@@ -1,8 +1,8 @@
 use Rattle.std.proofs.Common.{◌≤◌, arith}
 use Rattle.std.specs.Prelude.{slice_index_or}
 use Rattle.rs_choice.specs.RouteChanges.{IsUntouched}
-use Rattle.rs_choice.proofs.RecipientLemmas.{passed_untouched}
-use Rattle.rs_choice.proofs.StayLemmas.{of_all_below}
+use Rattle.rs_choice.proofs.clients.RecipientLemmas.{passed_untouched}
+use Rattle.rs_choice.proofs.clients.StayLemmas.{of_all_below}
 use Rattle.rs_choice.proofs.exchange.Exchange.next_touched.Goals as goal
 
 pub loop-client-init : goal.loop-client-init

@@ -2,7 +2,7 @@ use Rattle.std.proofs.Common.{◌≡◌, ◌∙◌, ap, arith, false, rules}
 use Rattle.rs_choice.specs.Plan.{peer_of}
 use Rattle.rs_choice.specs.Policy.{permits_by_communities}
 use Rattle.rs_choice.specs.declared.plan.Local.{Local}
-use Rattle.rs_choice.proofs.PolicyLemmas.{is_permitted-not-refused}
+use Rattle.rs_choice.proofs.plan.PolicyLemmas.{is_permitted-not-refused}
 use Rattle.rs_choice.proofs.exchange.Exchange.permits.Goals as goal
 use Rattle.rs_choice.proofs.exchange.Exchange.permits.Goals.{then-client-peer, else-client-peer}
 

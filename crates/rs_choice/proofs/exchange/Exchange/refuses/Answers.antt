@@ -1,6 +1,6 @@
 use Rattle.std.proofs.Common.{◌∙◌, ap, arith}
 use Rattle.rs_choice.specs.Refusal.{refusals_of}
-use Rattle.rs_choice.proofs.PolicyLemmas.{length_of_row, answer_of_row}
+use Rattle.rs_choice.proofs.plan.PolicyLemmas.{length_of_row, answer_of_row}
 use Rattle.rs_choice.proofs.exchange.Exchange.refuses.Goals as goal
 
 pub index-requires-2 : goal.index-requires-2

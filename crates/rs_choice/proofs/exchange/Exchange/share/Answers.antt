@@ -5,7 +5,7 @@ use Rattle.rs_choice.specs.Entrants.{chosen_of, standing_of_held}
 use Rattle.rs_choice.specs.Grouping.{places_of, standing_in}
 use Rattle.rs_choice.specs.Held.{sent_of_held, AreEligible}
 use Rattle.rs_choice.specs.Sharing.{sents_at, RestsOn}
-use Rattle.rs_choice.proofs.ClientLemmas.{chosen_is, eligible_all, eligible_sents, first_within, groups_within, rests, view_length, weighing_places}
+use Rattle.rs_choice.proofs.clients.ClientLemmas.{chosen_is, eligible_all, eligible_sents, first_within, groups_within, rests, view_length, weighing_places}
 use Rattle.rs_choice.proofs.exchange.Exchange.share.Goals as goal
 
 pub invariant_of-entrants : goal.invariant_of-entrants

@@ -1,6 +1,6 @@
 use Rattle.std.proofs.Common.{rules, ◌∙◌, sym, arith}
-use Rattle.rs_choice.proofs.ChainLemmas.{passed_all}
-use Rattle.rs_choice.proofs.GroupParts.{found_at, found_nowhere}
+use Rattle.rs_choice.proofs.neighbour_groups.ChainLemmas.{passed_all}
+use Rattle.rs_choice.proofs.neighbour_groups.GroupParts.{found_at, found_nowhere}
 use Rattle.rs_choice.proofs.neighbour_groups.NeighbourGroups.find.Goals as goal
 
 pub returns-then-found-neighbour : goal.returns-then-found-neighbour

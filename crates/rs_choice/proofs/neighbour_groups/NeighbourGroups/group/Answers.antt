@@ -1,5 +1,5 @@
 use Rattle.std.proofs.Common.{arith}
-use Rattle.rs_choice.proofs.GroupParts.{counted, group_at}
+use Rattle.rs_choice.proofs.neighbour_groups.GroupParts.{counted, group_at}
 use Rattle.rs_choice.proofs.neighbour_groups.NeighbourGroups.group.Goals as goal
 
 pub returns : goal.returns

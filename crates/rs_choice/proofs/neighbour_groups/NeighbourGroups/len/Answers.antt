@@ -1,5 +1,5 @@
 use Rattle.std.proofs.Common.{sym}
-use Rattle.rs_choice.proofs.GroupParts.{counted}
+use Rattle.rs_choice.proofs.neighbour_groups.GroupParts.{counted}
 use Rattle.rs_choice.proofs.neighbour_groups.NeighbourGroups.len.Goals as goal
 
 pub returns-clause-value : goal.returns-clause-value

@@ -1,7 +1,7 @@
 use Rattle.std.proofs.Common.{◌∙◌, arith, ◌≡◌, ◌<◌}
 use Rattle.rs_choice.specs.declared.plan.TheConstants.{MAX_PEERS}
-use Rattle.rs_choice.proofs.ChainLemmas.{pushed_full}
-use Rattle.rs_choice.proofs.GroupParts.{counted, pushed}
+use Rattle.rs_choice.proofs.neighbour_groups.ChainLemmas.{pushed_full}
+use Rattle.rs_choice.proofs.neighbour_groups.GroupParts.{counted, pushed}
 use Rattle.rs_choice.proofs.neighbour_groups.NeighbourGroups.push.Goals as goal
 
 pub invariant_of-self : goal.invariant_of-self

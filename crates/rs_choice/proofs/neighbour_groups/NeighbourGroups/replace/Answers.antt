@@ -1,4 +1,4 @@
-use Rattle.rs_choice.proofs.GroupParts.{marked_at}
+use Rattle.rs_choice.proofs.neighbour_groups.GroupParts.{marked_at}
 use Rattle.rs_choice.proofs.neighbour_groups.NeighbourGroups.replace.Goals as goal
 
 pub returns : goal.returns

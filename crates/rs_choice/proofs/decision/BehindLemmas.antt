@@ -1,5 +1,6 @@
 -- A candidate that the first three steps remove is of no matter to the choice, nor is one that another of its neighbour AS outdoes, nor a
 -- route that is no candidate.
+-- For `those_behind_are_no_matter` of laws.rt, ContenderLemmas and StayLemmas.
 use Rattle.std.proofs.Common.{◌≡◌, ◌∙◌, sym, ap, refl, arith, Bool, true, false, cond, not, ◌⊎◌, inl, inr, List, [], ◌∷◌, ◌++◌, subst, Option}
 use Rattle.std.specs.Prelude.{◌==◌, nat_lt, filter, ◌||◌, ◌&&◌}
 use Rattle.std.specs.List.{list_any}
@@ -14,11 +15,11 @@ use Rattle.rs_choice.specs.Decision.{SentRoute, beats, remaining, choice, standi
 use Rattle.rs_update.specs.Spelling.{origin_code}
 use Rattle.rs_choice.specs.Eligibility.{is_eligible}
 use Rattle.rs_choice.specs.Laws.{RemovedIsNoMatter, BehindIsNoMatter, OthersAreNoMatter, OutdoneIsNoMatter}
-use Rattle.rs_choice.proofs.Members.{Mem, mem_of-filter, list_any-none}
-use Rattle.rs_choice.proofs.Eliminations.{Same, Unbeaten, Left, By, same3, is_false, true_not_false, means_lower_med, holds_lower_med}
-use Rattle.rs_choice.proofs.LawLemmas.{any_found, choice_cases, contains-mem, mem-contains}
-use Rattle.rs_choice.proofs.ShareLemmas.{reaching_med, choice_stays}
-use Rattle.rs_choice.proofs.TestLemmas.{both, either, less_number, number_less, number_same, of_both, of_either, same_number}
+use Rattle.rs_choice.proofs.decision.Members.{Mem, mem_of-filter, list_any-none}
+use Rattle.rs_choice.proofs.decision.Eliminations.{Same, Unbeaten, Left, By, same3, is_false, true_not_false, means_lower_med, holds_lower_med}
+use Rattle.rs_choice.proofs.decision.LawLemmas.{any_found, choice_cases, contains-mem, mem-contains}
+use Rattle.rs_choice.proofs.decision.ShareLemmas.{reaching_med, choice_stays}
+use Rattle.rs_choice.proofs.plan.TestLemmas.{both, either, less_number, number_less, number_same, of_both, of_either, same_number}
 
 -- ---- ahead by the first three steps, as a test
 

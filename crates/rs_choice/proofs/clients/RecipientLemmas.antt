@@ -1,4 +1,4 @@
--- Marks of clients, and the clients that a route for named clients alone doesn't reach.
+-- Marks of clients, and the clients that a route for named clients alone doesn't reach: for the functions of exchange.rt that mark clients or pass over them.
 use Rattle.std.proofs.Common.{◌≡◌, ◌∙◌, ◌<◌, sym, subst, refl, length, ℕ, Bool, true, false, ◌&&◌, ◌⊎◌, inl, inr, List, [], Option, Some, None}
 use Rattle.std.specs.Prelude.{slice_index_or, nat_lt}
 use Rattle.rs_update.specs.Community.{has_value}
@@ -8,7 +8,7 @@ use Rattle.rs_choice.specs.declared.route_change.RouteChange.{RouteChange}
 use Rattle.rs_choice.specs.Plan.{Plan}
 use Rattle.rs_choice.specs.Recipients.{AreRecipients, IsMarked, IsPassed}
 use Rattle.rs_choice.specs.RouteChanges.{new_route, AreBehind, AreNoCandidates, IsNoCandidate, IsUntouched, KnowsBest}
-use Rattle.rs_choice.proofs.Eliminations.{true_not_false}
+use Rattle.rs_choice.proofs.decision.Eliminations.{true_not_false}
 
 -- who is passed over is untouched
 pub passed_untouched : (plan : Plan) (held : List HeldRoute) (change : RouteChange) (bests : List ℕ) (marks : List Bool) (known : KnownBest) →

@@ -1,4 +1,5 @@
 -- On which groups a choice rests: while what stands for them stays, it stays.
+-- For ClientLemmas.
 use Rattle.std.proofs.Common.{◌≡◌, ◌∙◌, sym, ap, refl, ℕ, ◌<◌, suc, zero, arith, Bool, true, ◌⊎◌, inl, inr, List, [], ◌∷◌, length, get_or, Option, Some, None}
 use Rattle.std.specs.Prelude.{IsTrue, filter, map, slice_get}
 use Rattle.std.specs.Option.{option_map}
@@ -11,10 +12,10 @@ use Rattle.rs_choice.specs.Decision.{remaining, choice, place_of_choice, member_
 use Rattle.rs_choice.specs.Comparison.{IsAhead, IsLevel, HasLowerMed}
 use Rattle.rs_choice.specs.Grouping.{standing_in, StandsFor, AreGroups, places_of}
 use Rattle.rs_choice.specs.Naturality.{member_at-place_of_choice}
-use Rattle.rs_choice.proofs.Members.{Mem}
-use Rattle.rs_choice.proofs.Eliminations.{Unbeaten, By, equal_level, means_lower_med, holds_lower_med, same3}
-use Rattle.rs_choice.proofs.PlaceLemmas.{mem-slice_get, slice_get-mem}
-use Rattle.rs_choice.proofs.ShareLemmas.{RemovedByKept, reaching_med, choice_stays}
+use Rattle.rs_choice.proofs.decision.Members.{Mem}
+use Rattle.rs_choice.proofs.decision.Eliminations.{Unbeaten, By, equal_level, means_lower_med, holds_lower_med, same3}
+use Rattle.rs_choice.proofs.decision.PlaceLemmas.{mem-slice_get, slice_get-mem}
+use Rattle.rs_choice.proofs.decision.ShareLemmas.{RemovedByKept, reaching_med, choice_stays}
 
 group_of_place : (found : Option Group) (place : ℕ) → option_map (λ (group : Group). group.place) found ≡ Some place →
     (group : Group) × (found ≡ Some group) × (group.place ≡ place)

@@ -1,4 +1,5 @@
 -- The pass by neighbour groups: what each step keeps of the groups, with the neighbour AS of each and whom it keeps out.
+-- For decision.rt and ClientLemmas.
 use Rattle.std.proofs.Common.{◌≡◌, ◌≢◌, ◌∙◌, sym, ap, refl, ℕ, suc, zero, ◌+◌, ◌<◌, arith, false, inl, inr, List, [], ◌∷◌, ◌++◌, length, Some, None, below_more}
 use Rattle.std.specs.Prelude.{slice_get, slice_set, IsTrue}
 use Rattle.std.specs.Option.{option_map}
@@ -9,9 +10,9 @@ use Rattle.rs_choice.specs.declared.candidate.Standing.{Standing}
 use Rattle.rs_choice.specs.declared.neighbour_groups.Group.{Group}
 use Rattle.rs_choice.specs.Comparison.{IsAhead, IsLevel, HasLowerMed}
 use Rattle.rs_choice.specs.Grouping.{places_of, AreGroups, IsGrouping, IsJoined, IsLevelWithSome, IsNeighboursGroup, LeadsAll}
-use Rattle.rs_choice.proofs.Eliminations.{equal_level, follows_level}
-use Rattle.rs_choice.proofs.GroupLists.{level_ahead, level_back, level_then, single, push_cases, set_cases}
-use Rattle.rs_choice.proofs.GroupLemmas.{ahead_of_all, ahead_of_none, level_itself, alone, left_behind, one_more_group, another_place, same_place, level_with_all}
+use Rattle.rs_choice.proofs.decision.Eliminations.{equal_level, follows_level}
+use Rattle.rs_choice.proofs.neighbour_groups.GroupLists.{level_ahead, level_back, level_then, single, push_cases, set_cases}
+use Rattle.rs_choice.proofs.neighbour_groups.GroupLemmas.{ahead_of_all, ahead_of_none, level_itself, alone, left_behind, one_more_group, another_place, same_place, level_with_all}
 
 pub place_at : (groups : List Group) (i : ℕ) (group : Group) → slice_get groups i ≡ Some group → slice_get (places_of groups) i ≡ Some group.place
 place_at groups i group at = slice_get-map (λ (group : Group). group.place) groups i ∙ ap (option_map (λ (group : Group). group.place)) at

@@ -1,4 +1,4 @@
--- The standing of an entrant among chosen routes is what is held of its route.
+-- The standing of an entrant among chosen routes is what is held of its route: for entrants.rt.
 use Rattle.std.proofs.Common.{◌≡◌, ◌∙◌, sym, ap, length, map, Some, subst, ℕ, List}
 use Rattle.std.specs.List.{All}
 use Rattle.std.specs.Option.{option_map}
@@ -13,7 +13,7 @@ use Rattle.rs_choice.specs.Grouping.{standing_in}
 use Rattle.rs_choice.specs.Held.{held_standing, sent_of_held, AreEligible, IsJudged}
 use Rattle.rs_choice.specs.Plan.{Plan}
 use Rattle.rs_choice.specs.Sharing.{ArePlaces}
-use Rattle.rs_choice.proofs.ChosenLemmas.{chosen_at}
+use Rattle.rs_choice.proofs.clients.ChosenLemmas.{chosen_at}
 
 pub standing_at : (plan : Plan) (held : List HeldRoute) (places : List ℕ) → ArePlaces held places → All (IsJudged plan) held → AreEligible plan (map sent_of_held (chosen_of held places)) →
     (k place : ℕ) (one : HeldRoute) → slice_get places k ≡ Some place → place < length held → slice_get held place ≡ Some one →

@@ -1,4 +1,4 @@
--- Clients to which a change of one peer's route is of no matter get what they got.
+-- Clients to which a change of one peer's route is of no matter get what they got: for `next_touched`, `choose_for_touched` and `outdoes_both` of exchange.rt.
 use Rattle.std.proofs.Common.{◌≡◌, ◌≢◌, ◌∙◌, sym, ap, subst, refl, ℕ, ◌+◌, ◌<◌, ◌≤◌, arith, below_more, set, Bool, true, false, cond, not, ◌==◌, ◌⊎◌, inl, inr, List, [], ◌∷◌, ◌++◌, length, map, Option, Some}
 use Rattle.std.specs.Prelude.{filter, nat_lt, IsTrue, slice_get, slice_index_or}
 use Rattle.std.specs.List.{All, Contains}
@@ -18,10 +18,10 @@ use Rattle.rs_choice.specs.Laws.{IsNoMatterTo}
 use Rattle.rs_choice.specs.Naturality.{filter-map}
 use Rattle.rs_choice.specs.Plan.{Plan}
 use Rattle.rs_choice.specs.RouteChanges.{of_others, IsChange, IsOneOf, IsUntouched}
-use Rattle.rs_choice.proofs.BehindLemmas.{others_are_no_matter}
-use Rattle.rs_choice.proofs.ChosenLemmas.{mem_map}
-use Rattle.rs_choice.proofs.LawLemmas.{choice_cases, contains-mem, mem-contains}
-use Rattle.rs_choice.proofs.Members.{Mem, mem-filter, mem_of-filter}
+use Rattle.rs_choice.proofs.decision.BehindLemmas.{others_are_no_matter}
+use Rattle.rs_choice.proofs.clients.ChosenLemmas.{mem_map}
+use Rattle.rs_choice.proofs.decision.LawLemmas.{choice_cases, contains-mem, mem-contains}
+use Rattle.rs_choice.proofs.decision.Members.{Mem, mem-filter, mem_of-filter}
 
 -- ---- lists
 

@@ -1,4 +1,5 @@
 -- The first fault of a list of tests: of two lists in a row, and of the tests of one peer after another.
+-- For checks.rt.
 use Rattle.std.proofs.Common.{◌≡◌, ◌∙◌, ap, refl, ℕ, ◌+◌, ◌<◌, Bool, true, false, List, [], ◌∷◌, ◌++◌, length, map, drop, get_or, Some, None}
 use Rattle.std.specs.List.{flat_map, enumerate_from, list_all}
 use Rattle.std.proofs.lemmas.List.Folds.{list_all-map}

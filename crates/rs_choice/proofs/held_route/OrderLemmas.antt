@@ -1,4 +1,4 @@
--- Routes in ascending order of their peers.
+-- Routes in ascending order of their peers: for `place_of_peer` of held_order.rt.
 use Rattle.std.proofs.Common.{◌≡◌, ◌∙◌, ap, arith, inl, inr, ℕ, ◌<◌, ◌≤◌, true, false, List, length, get_or}
 use Rattle.std.specs.Prelude.{nat_lt}
 use Rattle.std.specs.List.Sorted.{IsNonDecreasingBy, IsPartitionPoint}

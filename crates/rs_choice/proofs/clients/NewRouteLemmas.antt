@@ -1,4 +1,4 @@
--- A new route that is ahead of the one that a client got is what the client gets.
+-- A new route that is ahead of the one that a client got is what the client gets: for `new_best` of exchange.rt.
 use Rattle.std.proofs.Common.{◌≡◌, ◌∙◌, sym, ap, subst, refl, ℕ, ◌<◌, arith, Bool, true, false, not, ◌==◌, ◌⊎◌, inl, inr, List, [], length, map, Option, Some, None}
 use Rattle.std.specs.Prelude.{filter, IsTrue, nat_lt, slice_get}
 use Rattle.std.specs.List.{All, Contains}
@@ -16,12 +16,12 @@ use Rattle.rs_choice.specs.Eligibility.{is_eligible}
 use Rattle.rs_choice.specs.Held.{held_standing, sent_of_held, IsJudged}
 use Rattle.rs_choice.specs.Plan.{Plan}
 use Rattle.rs_choice.specs.RouteChanges.{new_route, of_others, GoesAhead, IsChange, IsFormerBest}
-use Rattle.rs_choice.proofs.ChosenLemmas.{mem_map}
-use Rattle.rs_choice.proofs.Eliminations.{true_not_false, Left}
-use Rattle.rs_choice.proofs.LawLemmas.{choice_cases, contains-mem, mem-contains}
-use Rattle.rs_choice.proofs.Members.{Mem, mem-filter, mem_of-filter}
-use Rattle.rs_choice.proofs.RecipientLemmas.{same_some}
-use Rattle.rs_choice.proofs.StayLemmas.{all_mem, contains_at, mem_of-map}
+use Rattle.rs_choice.proofs.clients.ChosenLemmas.{mem_map}
+use Rattle.rs_choice.proofs.decision.Eliminations.{true_not_false, Left}
+use Rattle.rs_choice.proofs.decision.LawLemmas.{choice_cases, contains-mem, mem-contains}
+use Rattle.rs_choice.proofs.decision.Members.{Mem, mem-filter, mem_of-filter}
+use Rattle.rs_choice.proofs.clients.RecipientLemmas.{same_some}
+use Rattle.rs_choice.proofs.clients.StayLemmas.{all_mem, contains_at, mem_of-map}
 
 three_ways : (a b : ℕ) → (a < b) ⊎ ((a ≡ b) ⊎ (b < a))
 three_ways a b = elim (eqb_tells a b) [

@@ -1,4 +1,4 @@
--- Members of a list, of what a filter keeps of it, and of what a test finds in it.
+-- Members of a list, of what a filter keeps of it, and of what a test finds in it: for the lemmas of choices, clients and plans.
 use Rattle.std.proofs.Common.{◌≡◌, ◌∙◌, sym, ap, refl, Bool, true, false, cond, ◌⊎◌, inl, inr, List, [], ◌∷◌}
 use Rattle.std.specs.Prelude.{filter, ◌||◌}
 use Rattle.std.specs.List.{list_any}

@@ -1,4 +1,4 @@
--- The choice by its place in a list.
+-- The choice by its place in a list: for ScanLemmas, GroupChoice, GroupSettling, LawLemmas and PlanLaws.
 use Rattle.std.proofs.Common.{◌≡◌, ◌∙◌, sym, ap, refl, ℕ, ◌+◌, ◌<◌, ◌≤◌, suc, zero, arith, not, ◌⊎◌, inl, inr, List, [], ◌∷◌, length, get_or, Some, None}
 use Rattle.std.specs.Prelude.{slice_get}
 use Rattle.std.specs.List.{list_any, enumerate_from, AllPairs}
@@ -9,8 +9,8 @@ use Rattle.rs_choice.specs.declared.candidate.Standing.{Standing}
 use Rattle.rs_choice.specs.declared.step.Step.{Step}
 use Rattle.rs_choice.specs.Decision.{beats, decision_steps, unbeaten, remaining, first_member, choice, place_of_choice}
 use Rattle.rs_choice.specs.Comparison.{IsAheadByMed, Precedes}
-use Rattle.rs_choice.proofs.Members.{Mem}
-use Rattle.rs_choice.proofs.Eliminations.{Unbeaten, Left, LeftByMed, By, same_remaining}
+use Rattle.rs_choice.proofs.decision.Members.{Mem}
+use Rattle.rs_choice.proofs.decision.Eliminations.{Unbeaten, Left, LeftByMed, By, same_remaining}
 
 -- the numbered members of a list are those at their numbers
 pub at-enumerate : {M : Type 0} (n : ℕ) (xs : List M) (numbered : ℕ × M) → Mem (enumerate_from n xs) numbered →

@@ -1,4 +1,5 @@
 -- The pass by neighbour groups: what each step keeps of the places that it has seen.
+-- For GroupMarks.
 use Rattle.std.proofs.Common.{◌≡◌, ◌∙◌, sym, refl, ℕ, ◌+◌, ◌<◌, arith, inl, inr, List, [], ◌∷◌, ◌++◌, length, Some, below_more, length-append}
 use Rattle.std.specs.Prelude.{slice_get, slice_set}
 use Rattle.std.proofs.lemmas.Option.{slice_get_within}
@@ -6,9 +7,9 @@ use Rattle.std.proofs.lemmas.Bool.{cases_order}
 use Rattle.rs_choice.specs.declared.candidate.Standing.{Standing}
 use Rattle.rs_choice.specs.Comparison.{IsAhead, IsLevel}
 use Rattle.rs_choice.specs.Grouping.{BeatsInGroup, StandsFor, IsGrouping, IsLevelWithSome}
-use Rattle.rs_choice.proofs.Eliminations.{equal_level, follows_level}
-use Rattle.rs_choice.proofs.ScanLemmas.{not_ahead_of_itself, ahead_then}
-use Rattle.rs_choice.proofs.GroupLists.{level_ahead, level_back, level_then, stands_for_itself, beats_stands, held_stands, single, push_cases, push_old, push_new, set_cases, set_same, set_other, length_set}
+use Rattle.rs_choice.proofs.decision.Eliminations.{equal_level, follows_level}
+use Rattle.rs_choice.proofs.decision.ScanLemmas.{not_ahead_of_itself, ahead_then}
+use Rattle.rs_choice.proofs.neighbour_groups.GroupLists.{level_ahead, level_back, level_then, stands_for_itself, beats_stands, held_stands, single, push_cases, push_old, push_new, set_cases, set_same, set_other, length_set}
 
 module _ (S : ℕ → Standing) where
   -- all groups are level with one another

@@ -1,4 +1,5 @@
 -- Laws of the decision process: some member is left, and who is left is so at each step.
+-- For laws.rt, BehindLemmas, and the lemmas of clients.
 use Rattle.std.proofs.Common.{◌≡◌, ◌∙◌, sym, ap, refl, ℕ, ◌<◌, suc, zero, arith, Bool, true, false, not, ◌⊎◌, inl, inr, List, [], ◌∷◌, ◌++◌, length, get_or, Option, Some, None}
 use Rattle.std.specs.Prelude.{filter, ◌||◌, MatchOption}
 use Rattle.std.specs.List.{list_any, Contains}
@@ -10,10 +11,10 @@ use Rattle.rs_choice.specs.Policy.{is_permitted}
 use Rattle.rs_choice.specs.Comparison.{Precedes, IsAheadByMed}
 use Rattle.rs_choice.specs.Decision.{SentRoute, beats, decision_steps, unbeaten, remaining, choice, standing_of}
 use Rattle.rs_choice.specs.Laws.{SameMembers, ChoiceIsMember, ChoiceIsUnbeaten, ChoiceIgnoresOrder, MedDecidesWithinNeighbour, OpenPolicySharesChoice}
-use Rattle.rs_choice.proofs.Members.{Mem, mem-filter, mem_of-filter, list_any-none, none-list_any}
-use Rattle.rs_choice.proofs.Eliminations.{Same, same_unbeaten, Left, LeftByMed, By, same_remaining, means_lower_med}
-use Rattle.rs_choice.proofs.PlaceLemmas.{first_cases, mem-at}
-use Rattle.rs_choice.proofs.ScanLemmas.{precedes_cases}
+use Rattle.rs_choice.proofs.decision.Members.{Mem, mem-filter, mem_of-filter, list_any-none, none-list_any}
+use Rattle.rs_choice.proofs.decision.Eliminations.{Same, same_unbeaten, Left, LeftByMed, By, same_remaining, means_lower_med}
+use Rattle.rs_choice.proofs.decision.PlaceLemmas.{first_cases, mem-at}
+use Rattle.rs_choice.proofs.decision.ScanLemmas.{precedes_cases}
 
 pub mem-contains : {M : Type 0} (xs : List M) (x : M) → Mem xs x → Contains xs x
 mem-contains xs x h = let found = mem-at xs x h in (found.0, found.1, found.2 x)

@@ -1,4 +1,5 @@
 -- Neighbour groups in two arrays: reading and writing one of them.
+-- For neighbour_groups.rt.
 use Rattle.std.proofs.Common.{◌≡◌, ◌<◌, ◌≤◌, ◌∙◌, ap, refl, sym, arith, ℕ, suc, zero, ◌+◌, false, List, [], ◌∷◌, ◌++◌, length, take, set, get_or, Some, None}
 use Rattle.std.specs.Prelude.{slice_get, slice_index, IfSome}
 use Rattle.std.proofs.Math.Seq.{take-set-lt}

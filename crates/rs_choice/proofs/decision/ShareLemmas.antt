@@ -1,4 +1,4 @@
--- What may go of a set while its choice stays.
+-- What may go of a set while its choice stays: for `the_choice_stays_without_those_of_no_weight` of laws.rt, BehindLemmas and GroupSettling.
 use Rattle.std.proofs.Common.{◌≡◌, ◌∙◌, sym, ap, refl, arith, Bool, true, false, cond, not, inl, inr, List, [], ◌∷◌, Some}
 use Rattle.std.specs.Prelude.{filter}
 use Rattle.std.specs.List.{list_any}
@@ -7,8 +7,8 @@ use Rattle.rs_choice.specs.declared.candidate.Standing.{Standing}
 use Rattle.rs_choice.specs.declared.step.Step.{Step}
 use Rattle.rs_choice.specs.declared.step.Step.TheVariants as steps
 use Rattle.rs_choice.specs.Decision.{beats, decision_steps, unbeaten, remaining, first_member, choice}
-use Rattle.rs_choice.proofs.Members.{Mem, mem-filter, mem_of-filter, list_any-none, none-list_any}
-use Rattle.rs_choice.proofs.Eliminations.{not_true, true_not_false, is_false}
+use Rattle.rs_choice.proofs.decision.Members.{Mem, mem-filter, mem_of-filter, list_any-none, none-list_any}
+use Rattle.rs_choice.proofs.decision.Eliminations.{not_true, true_not_false, is_false}
 
 filter_swap_first : {M : Type 0} (kept p q : M → Bool) (x : M) (xs : List M) (stays passes : Bool) → kept x ≡ stays → (stays ≡ true → q x ≡ passes) →
     filter q (filter kept xs) ≡ filter kept (filter p xs) →

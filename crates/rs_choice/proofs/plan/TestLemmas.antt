@@ -1,4 +1,4 @@
--- Tests, and what they tell.
+-- Tests, and what they tell: for CommunityLemmas and BehindLemmas.
 use Rattle.std.proofs.Common.{◌≡◌, refl, arith, ℕ, ◌<◌, ◌==◌, Bool, true, false, ◌&&◌, ◌||◌, ◌⊎◌, inl, inr}
 use Rattle.std.specs.Prelude.{nat_lt}
 use Rattle.std.proofs.lemmas.Bool.Decides.{nat_tests}

@@ -1,4 +1,4 @@
--- Laws of the faults of a plan.
+-- Laws of the faults of a plan: for `a_plan_is_refused_by_its_first_fault` and `peers_have_addresses_of_their_own` of laws.rt.
 use Rattle.std.proofs.Common.{◌≡◌, sym, ap, refl, ℕ, suc, zero, ◌+◌, ◌<◌, ◌==◌, arith, true, false, inl, inr, List, [], ◌∷◌, ◌++◌, take, Option, Some, None}
 use Rattle.std.specs.Prelude.{slice_get, MatchOption}
 use Rattle.std.specs.List.{flat_map, enumerate_from}
@@ -10,8 +10,8 @@ use Rattle.rs_choice.specs.declared.fault.PlanFault.TheVariants.{RepeatedAddress
 use Rattle.rs_choice.specs.Laws.{FaultIsFirst, PeersHaveOwnAddresses}
 use Rattle.rs_choice.specs.Plan.{Peer, Test, has_address, peer_tests, peers_tests, names_tests, whole_tests, plan_tests, plan_fault}
 use Rattle.rs_update.specs.Fault.{first_fault}
-use Rattle.rs_choice.proofs.Members.{Mem, list_any-none}
-use Rattle.rs_choice.proofs.PlaceLemmas.{enumerate-at}
+use Rattle.rs_choice.proofs.decision.Members.{Mem, list_any-none}
+use Rattle.rs_choice.proofs.decision.PlaceLemmas.{enumerate-at}
 
 later_match : (o : Option PlanFault) (P P' : Type 0) (Q Q' : PlanFault → Type 0) → (P → P') → ((fault : PlanFault) → Q fault → Q' fault) → MatchOption o P Q → MatchOption o P' Q'
 later_match None P P' Q Q' p q h = p h

@@ -1,4 +1,5 @@
 -- Chains of neighbour groups: what an added group makes of them, and what is found by going along one.
+-- For `push` and `find` of neighbour_groups.rt.
 use Rattle.std.proofs.Common.{◌≡◌, ◌∙◌, sym, ap, arith, ℕ, ◌+◌, ◌<◌, ◌≤◌, inl, inr, List, length, set}
 use Rattle.std.specs.Prelude.{slice_index}
 use Rattle.std.proofs.lemmas.Bool.{cases_eq, cases_lt}

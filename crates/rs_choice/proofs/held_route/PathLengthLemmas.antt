@@ -1,4 +1,4 @@
--- A path has no more AS numbers than its written form has octets.
+-- A path has no more AS numbers than its written form has octets: for `path_length` of held_route.rt.
 use Rattle.std.proofs.Common.{◌≡◌, ◌∙◌, ap, refl, ℕ, suc, zero, ◌+◌, ◌*◌, ◌<◌, ◌≤◌, arith, List, [], ◌∷◌, length, length-append, get_or, Option, Some, None}
 use Rattle.std.specs.List.{cons_option, filter_map, flat_map, range_with_len}
 use Rattle.std.proofs.lemmas.List.FromFn.{get_or-range_with_len, length-range_with_len}

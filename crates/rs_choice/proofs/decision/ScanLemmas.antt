@@ -1,4 +1,5 @@
 -- Going over a list of candidates: the leader, and then the best of those that the first four steps leave.
+-- For `leader`, `best` and `choose` of exchange.rt, decision.rt, and `weighing` of clients.rt.
 use Rattle.std.proofs.Common.{◌≡◌, ap, refl, ℕ, ◌+◌, ◌<◌, arith, Bool, false, ◌⊎◌, inl, inr, List, length, Option, Some, None, below_more}
 use Rattle.std.specs.Prelude.{slice_get, IsTrue, ◌↔◌}
 use Rattle.std.specs.Option.{option_map}
@@ -10,9 +11,9 @@ use Rattle.rs_choice.specs.Plan.{Plan}
 use Rattle.rs_choice.specs.Decision.{place_of_choice, standing_of_candidate}
 use Rattle.rs_choice.specs.Comparison.{IsAhead, IsLevel, Precedes}
 use Rattle.rs_choice.specs.Scan.{HasNoneAhead, Leads, IsLeader, IsLeftByMed, GoesFirst, Holds, IsBest}
-use Rattle.rs_choice.proofs.Members.{Mem}
-use Rattle.rs_choice.proofs.Eliminations.{LeftByMed, equal_level, follows_level}
-use Rattle.rs_choice.proofs.PlaceLemmas.{mem-slice_get, slice_get-mem, place_of_choice-Some, place_of_choice-None}
+use Rattle.rs_choice.proofs.decision.Members.{Mem}
+use Rattle.rs_choice.proofs.decision.Eliminations.{LeftByMed, equal_level, follows_level}
+use Rattle.rs_choice.proofs.decision.PlaceLemmas.{mem-slice_get, slice_get-mem, place_of_choice-Some, place_of_choice-None}
 
 pub not_ahead_of_itself : (one : Standing) → IsAhead one one → ⊥
 not_ahead_of_itself one h = grind arith

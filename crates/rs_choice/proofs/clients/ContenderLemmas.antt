@@ -1,4 +1,4 @@
--- A client's candidates, gone over one after another, without those that one before them outdoes.
+-- A client's candidates, gone over one after another, without those that one before them outdoes: for `contenders` of exchange.rt.
 use Rattle.std.proofs.Common.{◌≡◌, ◌∙◌, sym, ap, refl, Bool, true, false, inl, inr, List, [], ◌∷◌, ◌++◌, Option, Some, None, ℕ}
 use Rattle.std.specs.Prelude.{filter}
 use Rattle.std.proofs.lemmas.List.{append_assoc}
@@ -9,9 +9,9 @@ use Rattle.rs_choice.specs.Contenders.{Contends}
 use Rattle.rs_choice.specs.Decision.{SentRoute, choice, standing_of}
 use Rattle.rs_choice.specs.Eligibility.{is_eligible}
 use Rattle.rs_choice.specs.Plan.{Plan}
-use Rattle.rs_choice.proofs.BehindLemmas.{outdone}
-use Rattle.rs_choice.proofs.ChosenLemmas.{filter_push, filter_skip}
-use Rattle.rs_choice.proofs.Members.{Mem}
+use Rattle.rs_choice.proofs.decision.BehindLemmas.{outdone}
+use Rattle.rs_choice.proofs.clients.ChosenLemmas.{filter_push, filter_skip}
+use Rattle.rs_choice.proofs.decision.Members.{Mem}
 
 -- the last of some routes has a standing, where there is one
 abbrev pub HasLast : Plan → List SentRoute → Option Standing → Type 0

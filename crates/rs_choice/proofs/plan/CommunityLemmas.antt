@@ -1,9 +1,9 @@
--- The values of communities, one after another.
+-- The values of communities, one after another: for `mark_named` of exchange.rt.
 use Rattle.std.proofs.Common.{◌≡◌, ◌∙◌, sym, ap, refl, arith, ℕ, ◌<◌, ◌/◌, ◌%◌, ◌*◌, ◌+◌, ◌==◌, Bool, true, false, ◌&&◌, ◌||◌, ◌⊎◌, inl, inr, List, [], ◌∷◌}
 use Rattle.std.specs.Prelude.{nat_lt}
 use Rattle.std.specs.List.{list_any}
 use Rattle.rs_update.specs.Community.{has_value}
-use Rattle.rs_choice.proofs.TestLemmas.{both, either, less_number, same_number}
+use Rattle.rs_choice.proofs.plan.TestLemmas.{both, either, less_number, same_number}
 
 step : (small_high small_low is later : Bool) → (small_high && (small_low && (is || later))) ≡ ((small_high && (small_low && (is || false))) || (small_high && (small_low && later)))
 step false small_low is later = refl

@@ -1,4 +1,4 @@
--- The routes that stand at some places of a list, and the choice among them by neighbour groups.
+-- The routes that stand at some places of a list, and the choice among them by neighbour groups: for exchange.rt, clients.rt and entrants.rt.
 use Rattle.std.proofs.Common.{◌≡◌, ◌∙◌, sym, ap, refl, ℕ, suc, zero, ◌+◌, ◌<◌, arith, Bool, true, false, cond, inl, inr, List, [], ◌∷◌, ◌++◌, length, length-append, map, take, get_or, Option, Some, None}
 use Rattle.std.specs.Prelude.{slice_get, filter}
 use Rattle.std.specs.List.{All}
@@ -18,8 +18,8 @@ use Rattle.rs_choice.specs.Held.{sent_of_held}
 use Rattle.rs_choice.specs.Naturality.{choice-map, member_at-place_of_choice, place_of_choice-map}
 use Rattle.rs_choice.specs.Plan.{Plan}
 use Rattle.rs_choice.specs.Sharing.{sents_at, ArePlaces}
-use Rattle.rs_choice.proofs.GroupChoice.{first_is_choice}
-use Rattle.rs_choice.proofs.Members.{Mem}
+use Rattle.rs_choice.proofs.neighbour_groups.GroupChoice.{first_is_choice}
+use Rattle.rs_choice.proofs.decision.Members.{Mem}
 
 pub all_later : {X : Type 0} (P : X → Type 0) (x : X) (xs : List X) → All P (x ∷ xs) → All P xs
 all_later P x xs all k d within = all (suc k) d (omega (arith, within))

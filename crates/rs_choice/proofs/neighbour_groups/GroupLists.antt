@@ -1,11 +1,11 @@
--- Lists of places as they change, and who stands for whom.
+-- Lists of places as they change, and who stands for whom: for `take_in` of decision.rt, GroupLemmas and GroupMarks.
 use Rattle.std.proofs.Common.{◌≡◌, ◌≢◌, ◌∙◌, sym, ap, refl, ℕ, ◌<◌, suc, zero, arith, ◌⊎◌, inl, inr, List, [], ◌∷◌, ◌++◌, length, Some}
 use Rattle.std.specs.Prelude.{slice_get, slice_set}
 use Rattle.std.proofs.lemmas.Bool.{cases_order}
 use Rattle.rs_choice.specs.declared.candidate.Standing.{Standing}
 use Rattle.rs_choice.specs.Comparison.{IsAhead, IsLevel, Precedes}
 use Rattle.rs_choice.specs.Grouping.{BeatsInGroup, StandsFor}
-use Rattle.rs_choice.proofs.ScanLemmas.{precedes_then, precedes_cases}
+use Rattle.rs_choice.proofs.decision.ScanLemmas.{precedes_then, precedes_cases}
 
 pub level_ahead : (a b c : Standing) → IsLevel a b → IsAhead b c → IsAhead a c
 level_ahead a b c h k = grind arith

@@ -1,4 +1,5 @@
 -- What eliminations leave, by members: two in a row are one by both.
+-- For `mark_named` of exchange.rt, and the lemmas of choices and groups.
 use Rattle.std.proofs.Common.{◌≡◌, ap, refl, arith, Bool, true, false, not, inl, inr, List}
 use Rattle.std.specs.List.{list_any}
 use Rattle.std.proofs.lemmas.Bool.Decides.{nat_tests}
@@ -7,7 +8,7 @@ use Rattle.rs_choice.specs.declared.step.Step.{Step}
 use Rattle.rs_choice.specs.declared.step.Step.TheVariants as steps
 use Rattle.rs_choice.specs.Decision.{beats, decision_steps, unbeaten, remaining}
 use Rattle.rs_choice.specs.Comparison.{FirstOrSecond, IsPreferred, IsAsPreferred, IsShorter, IsPreferredOrShorter, IsAsLong, HasLowerOrigin, IsAhead, IsLevel, HasLowerMed, IsAheadByMed, HasLowerId, HasSameId, HasLowerAddress, Precedes}
-use Rattle.rs_choice.proofs.Members.{Mem, mem-filter, mem_of-filter, list_any-none, none-list_any}
+use Rattle.rs_choice.proofs.decision.Members.{Mem, mem-filter, mem_of-filter, list_any-none, none-list_any}
 
 -- x is in a set, and no member of the set beats it
 pub record Unbeaten {M : Type 0} (Beats : M → M → Type 0) (In : M → Type 0) (x : M) : Type 0 where

@@ -1,4 +1,4 @@
--- What is shared of the decisions of all clients, from the groups of the eligible routes.
+-- What is shared of the decisions of all clients, from the groups of the eligible routes: for `share` and `chosen_peer` of exchange.rt.
 use Rattle.std.proofs.Common.{◌≡◌, ◌∙◌, sym, ap, refl, ℕ, suc, zero, ◌<◌, arith, Bool, true, false, cond, List, [], ◌∷◌, length, map, get_or, Option, Some, None}
 use Rattle.std.specs.Prelude.{slice_get, filter, IfSome, IsTrue}
 use Rattle.std.specs.List.{All, Contains}
@@ -19,10 +19,10 @@ use Rattle.rs_choice.specs.Held.{sent_of_held, AreEligible, IsJudged}
 use Rattle.rs_choice.specs.Naturality.{choice-map, filter-map}
 use Rattle.rs_choice.specs.Plan.{Plan}
 use Rattle.rs_choice.specs.Sharing.{sents_at, ArePlaces, AreWeighing, RestsOn, Weighs}
-use Rattle.rs_choice.proofs.ChosenLemmas.{all_later, chosen_at, chosen_length, mem_chosen, mem_map, place_by_groups, peer_of_choice}
-use Rattle.rs_choice.proofs.GroupMarks.{place_within}
-use Rattle.rs_choice.proofs.LawLemmas.{contains-mem, mem-contains}
-use Rattle.rs_choice.proofs.GroupSettling.{group_at, groups_settle}
+use Rattle.rs_choice.proofs.clients.ChosenLemmas.{all_later, chosen_at, chosen_length, mem_chosen, mem_map, place_by_groups, peer_of_choice}
+use Rattle.rs_choice.proofs.neighbour_groups.GroupMarks.{place_within}
+use Rattle.rs_choice.proofs.decision.LawLemmas.{contains-mem, mem-contains}
+use Rattle.rs_choice.proofs.neighbour_groups.GroupSettling.{group_at, groups_settle}
 
 pub view_length : (plan : Plan) (held : List HeldRoute) (places : List ℕ) → ArePlaces held places →
     length (map (standing_of_held plan) (chosen_of held places)) ≡ length places

@@ -1,4 +1,4 @@
--- The first of the neighbour groups is the choice.
+-- The first of the neighbour groups is the choice: for `first_of` of decision.rt and ChosenLemmas.
 use Rattle.std.proofs.Common.{◌≡◌, ◌∙◌, sym, refl, ℕ, ◌+◌, ◌<◌, ◌≤◌, arith, ◌⊎◌, inl, inr, List, length, Option, Some, None, below_more}
 use Rattle.std.specs.Prelude.{slice_get}
 use Rattle.std.specs.Option.{option_map}
@@ -10,10 +10,10 @@ use Rattle.rs_choice.specs.Comparison.{IsAhead, IsLevel, HasLowerMed, Precedes}
 use Rattle.rs_choice.specs.Decision.{no_standing, place_of_choice}
 use Rattle.rs_choice.specs.Scan.{Holds}
 use Rattle.rs_choice.specs.Grouping.{standing_in, GoesBefore, IsGrouping, GoesBeforeSome, IsFirstOf}
-use Rattle.rs_choice.proofs.Eliminations.{LeftByMed, follows_level}
-use Rattle.rs_choice.proofs.Members.{Mem}
-use Rattle.rs_choice.proofs.PlaceLemmas.{mem-slice_get, slice_get-mem, place_of_choice-Some, place_of_choice-None}
-use Rattle.rs_choice.proofs.ScanLemmas.{precedes_cases, not_both_precede}
+use Rattle.rs_choice.proofs.decision.Eliminations.{LeftByMed, follows_level}
+use Rattle.rs_choice.proofs.decision.Members.{Mem}
+use Rattle.rs_choice.proofs.decision.PlaceLemmas.{mem-slice_get, slice_get-mem, place_of_choice-Some, place_of_choice-None}
+use Rattle.rs_choice.proofs.decision.ScanLemmas.{precedes_cases, not_both_precede}
 
 module _ (S : ℕ → Standing) where
   before_then : (a b c : Placed) → GoesBefore a.standing a.place b.standing b.place → GoesBefore b.standing b.place c.standing c.place → GoesBefore a.standing a.place c.standing c.place

@@ -1,0 +1,8 @@
+-- The pass by neighbour groups: how they are held, what each step keeps of them, and the choice that they give.
+pub mod GroupParts
+pub mod ChainLemmas
+pub mod GroupLists
+pub mod GroupLemmas
+pub mod GroupMarks
+pub mod GroupChoice
+pub mod GroupSettling

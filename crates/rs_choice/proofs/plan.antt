@@ -1,0 +1,6 @@
+-- A plan: its faults and its policy.
+pub mod TestLemmas
+pub mod PlanLemmas
+pub mod PlanLaws
+pub mod PolicyLemmas
+pub mod CommunityLemmas
