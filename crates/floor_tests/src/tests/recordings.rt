@@ -1,30 +1,45 @@
-//! Exchanges and recorded files that the tests share.
+//! Exchanges, recorded files, routes and rings that the tests share.
+
+ghost use Rattle.std.specs.Prelude.{◌≡◌, [], IfSome};
 
 use rs_choice::{Exchange, Local, PeerSpec};
+use rs_ring::{Closing, Receiver, Sender, ring};
+use rs_session::{Body, PeerId, Session, Word};
+use rs_update::{Attributes, Prefix};
 use std::alloc::{AllocError, Global};
 use std::sync::Arc;
 
-// The exchange of AS 64500 at 192.0.2.1 with so many peers: the one of number n is AS 64501 + n at 192.0.2.11 + n.
-pub(super) fn exchange(alloc: Global, count: u32) -> Option<Arc<Exchange>> {
+// The peer of number n is AS 64501 + n at 192.0.2.11 + n.
+fn peer_spec(alloc: Global, number: u32) -> Option<PeerSpec> {
+    Some(PeerSpec {
+        name: format!(in alloc; "peer-{number}").ok()?,
+        asn: asn_of(number),
+        address: address_of(number),
+        id: address_of(number),
+        preference: 100,
+        refuse_from: Vec::new(alloc),
+    })
+}
+
+// So many peers.
+fn peer_specs(alloc: Global, count: u32) -> Option<Vec<PeerSpec>> {
     let mut peers = Vec::new(alloc);
     for number in 0..count {
-        let peer = PeerSpec {
-            name: format!(in alloc; "peer-{number}").ok()?,
-            asn: asn_of(number),
-            address: address_of(number),
-            id: address_of(number),
-            preference: 100,
-            refuse_from: Vec::new(alloc),
-        };
-        peers.push(peer).ok()?;
+        peers.push(peer_spec(alloc, number)?).ok()?;
     }
+    Some(peers)
+}
+
+// The exchange of AS 64500 at 192.0.2.1 with so many peers.
+pub(super) fn exchange(alloc: Global, count: u32) -> Option<Arc<Exchange>> {
     let local = Local {
         asn: 64500,
         address: 0xC000_0201,
         id: 0xC000_0201,
         subnet: None,
     };
-    Arc::new(alloc, Exchange::new(alloc, local, peers).ok()?).ok()
+    let exchange = Exchange::new(alloc, local, peer_specs(alloc, count)?).ok()?;
+    Arc::new(alloc, exchange).ok()
 }
 
 // The AS number of a peer.
@@ -35,6 +50,14 @@ pub(super) fn asn_of(peer: u32) -> u32 {
 // The address of a peer.
 pub(super) fn address_of(peer: u32) -> u32 {
     peer.wrapping_add(0xC000_020B)
+}
+
+// By what a worker knows the records of a peer.
+pub(super) fn id_of(peer: u32) -> PeerId {
+    PeerId {
+        address: address_of(peer),
+        asn: asn_of(peer),
+    }
 }
 
 // What an UPDATE withdraws, its attributes, and what it announces (RFC 4271, section 4.3), as octets.
@@ -53,6 +76,57 @@ pub(super) fn attributes(peer: u32) -> [u8; 20] {
     ]
 }
 
+// Appends parts, one after the other.
+fn add_all(file: &mut Vec<u8>, parts: &[&[u8]]) -> Result<(), AllocError> {
+    for part in parts {
+        file.extend_from_slice(part)?;
+    }
+    Ok(())
+}
+
+// Appends the AS numbers of a peer and of the server, the interface, the family, and the addresses of both (RFC
+// 6396, section 4.4.2, with AS numbers of four octets).
+pub(super) fn add_ends(file: &mut Vec<u8>, peer: u32) -> Result<(), AllocError> {
+    add_all(
+        file,
+        &[
+            &asn_of(peer).to_be_bytes(),
+            &[0, 0, 0xFB, 0xF4, 0, 0, 0, 1],
+            &address_of(peer).to_be_bytes(),
+            &[0xC0, 0, 2, 1],
+        ],
+    )
+}
+
+// Appends an UPDATE of so many octets.
+fn add_message(file: &mut Vec<u8>, octets: usize, update: Update) -> Result<(), AllocError> {
+    let Update {
+        withdrawn,
+        attributes,
+        announced,
+    } = update;
+    add_all(
+        file,
+        &[
+            &[0xFF; 16],
+            &length_of(octets),
+            &[2],
+            &length_of(withdrawn.len()),
+            withdrawn,
+            &length_of(attributes.len()),
+            attributes,
+            announced,
+        ],
+    )
+}
+
+// How many octets an UPDATE has.
+fn octets_of(update: Update) -> usize {
+    [update.withdrawn, update.attributes, update.announced]
+        .iter()
+        .fold(23usize, |sum, part| sum.saturating_add(part.len()))
+}
+
 // Appends the record of an UPDATE of a peer (RFC 6396, section 4.4.3).
 pub(super) fn add_update(
     file: &mut Vec<u8>,
@@ -60,30 +134,14 @@ pub(super) fn add_update(
     time: u32,
     update: Update,
 ) -> Result<(), AllocError> {
-    let Update {
-        withdrawn,
-        attributes,
-        announced,
-    } = update;
-    let message = [withdrawn, attributes, announced]
-        .iter()
-        .fold(23usize, |sum, part| sum.saturating_add(part.len()));
+    let message = octets_of(update);
     let record = u32::try_from(message.saturating_add(20)).unwrap_or(0);
-    file.extend_from_slice(&time.to_be_bytes())?;
-    file.extend_from_slice(&[0, 16, 0, 4])?;
-    file.extend_from_slice(&record.to_be_bytes())?;
-    file.extend_from_slice(&asn_of(peer).to_be_bytes())?;
-    file.extend_from_slice(&[0, 0, 0xFB, 0xF4, 0, 0, 0, 1])?;
-    file.extend_from_slice(&address_of(peer).to_be_bytes())?;
-    file.extend_from_slice(&[0xC0, 0, 2, 1])?;
-    file.extend_from_slice(&[0xFF; 16])?;
-    file.extend_from_slice(&length_of(message))?;
-    file.extend_from_slice(&[2])?;
-    file.extend_from_slice(&length_of(withdrawn.len()))?;
-    file.extend_from_slice(withdrawn)?;
-    file.extend_from_slice(&length_of(attributes.len()))?;
-    file.extend_from_slice(attributes)?;
-    file.extend_from_slice(announced)
+    add_all(
+        file,
+        &[&time.to_be_bytes(), &[0, 16, 0, 4], &record.to_be_bytes()],
+    )?;
+    add_ends(file, peer)?;
+    add_message(file, message, update)
 }
 
 // A length in two octets.
@@ -105,4 +163,38 @@ pub(super) fn add_announcement(
         announced,
     };
     add_update(file, peer, time, update)
+}
+
+// The first change in a file of a peer.
+fn first_word(alloc: Global, peer: u32, file: &[u8]) -> Option<Word> {
+    Session::new(alloc, file, id_of(peer)).next_word().ok()?
+}
+
+// The attributes of a route of a peer, as they are read.
+pub(super) fn route_of(alloc: Global, peer: u32) -> Option<Arc<Attributes>> {
+    let mut file = Vec::new(alloc);
+    add_announcement(&mut file, peer, 100, &[8, 10]).ok()?;
+    match first_word(alloc, peer, &file)?.body {
+        Body::Announce(_, route) => Some(route),
+        _ => None,
+    }
+}
+
+// The prefix of eight bits with this first octet.
+pub(super) fn prefix_at(first: u8) -> Option<Prefix> {
+    Prefix::new(u32::from_be_bytes([first, 0, 0, 0]), 8)
+}
+
+// A ring of this capacity, or none where memory is refused.
+pub(super) fn ring_of<T: Closing>(
+    alloc: Global,
+    capacity: usize,
+) -> Option<(Sender<T>, Receiver<T>)>
+    ensures sender { IfSome result (λ ends. ends.0.sent ≡ []) }
+    ensures receiver { IfSome result (λ ends. ends.1.received ≡ []) }
+{
+    match ring::<T>(alloc, capacity) {
+        Ok(ends) => Some(ends),
+        Err(_) => None,
+    }
 }

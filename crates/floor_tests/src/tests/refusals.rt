@@ -5,7 +5,7 @@ ghost use Rattle.std.specs.Prelude.{◌≡◌};
 
 use super::recordings::exchange;
 use rs_choice::Exchange;
-use rs_floor::{FloorRefused, Gate, Open, PeerEnd, Served, Turn, replay, serve_by};
+use rs_floor::{Floor, FloorRefused, Gate, Open, PeerEnd, Served, Turn, replay, serve_by};
 use rs_mrt::{MemoryReader, ReadLimits};
 use rs_session::Reason;
 use rs_table::Tables;
@@ -72,15 +72,18 @@ const COLLECTORS_FILE: Case = Case {
     ],
 };
 
-// The files of a case.
-fn files(alloc: Global, case: &Case) -> Option<[Vec<u8>; 4]> {
-    let [a, b, c, d] = case.recorded;
-    Some([
-        octets(alloc, &[a]).ok()?,
-        octets(alloc, &[b]).ok()?,
-        octets(alloc, &[c]).ok()?,
-        octets(alloc, &[d]).ok()?,
-    ])
+// The files of what is recorded of four peers.
+fn files(alloc: Global, recorded: [&str; 4]) -> Option<[Vec<u8>; 4]> {
+    let mut files = [
+        Vec::new(alloc),
+        Vec::new(alloc),
+        Vec::new(alloc),
+        Vec::new(alloc),
+    ];
+    for (file, text) in files.iter_mut().zip(recorded) {
+        *file = octets(alloc, &[text]).ok()?;
+    }
+    Some(files)
 }
 
 // Whether a client's rows are those of the case. None where memory is refused.
@@ -178,15 +181,8 @@ fn reader(file: &[u8], octets_before_failure: Option<usize>) -> MemoryReader<'_>
     MemoryReader::new(file, limits)
 }
 
-// What came of a run is its refusal, or what the case says.
-fn check_run(rt: &impl Abort, case: &Case, answer: Result<Served, FloorRefused>) {
-    let served = match answer {
-        Ok(served) => served,
-        Err(refused) => {
-            assert_eq!(rt; refused, FloorRefused::Memory);
-            return;
-        }
-    };
+// Every peer's session ended as the case says.
+fn check_ends(rt: &impl Abort, served: &Served, case: &Case) {
     for (peer, (changes, passed)) in case.counts.iter().enumerate() {
         assert!(rt; peer < served.tables().count());
         let end = PeerEnd {
@@ -196,17 +192,40 @@ fn check_run(rt: &impl Abort, case: &Case, answer: Result<Served, FloorRefused>)
         };
         assert_eq!(rt; served.end(peer), end);
     }
-    check_rows(rt, served.tables(), case);
 }
 
-// Runs a case through rings of this capacity. A thread that is left would come to the gate after the answer.
+// What came of a run is its refusal, or what the case says.
+fn check_run(rt: &impl Abort, case: &Case, answer: Result<Served, FloorRefused>) {
+    match answer {
+        Ok(served) => {
+            check_ends(rt, &served, case);
+            check_rows(rt, served.tables(), case);
+        }
+        Err(refused) => assert_eq!(rt; refused, FloorRefused::Memory),
+    }
+}
+
+// Runs files through rings of this capacity. A thread that is left would come to the gate after the answer.
+fn run_to_the_end<R: Threads + Wait + Sync + Abort>(
+    rt: &R,
+    alloc: Global,
+    plan: &Arc<Exchange>,
+    files: &[Vec<u8>; 4],
+    failures: [Option<usize>; 4],
+    capacity: usize,
+) -> Result<Served, FloorRefused> {
+    let gate = Passes::none();
+    let answer = run(rt, plan, alloc, files, failures, capacity, &gate);
+    assert!(rt; gate.are_complete(), "through {capacity}");
+    answer
+}
+
+// Runs a case through rings of this capacity.
 fn run_case<R: Threads + Wait + Sync + Abort>(rt: &R, alloc: Global, case: &Case, capacity: usize) {
-    let (Some(plan), Some(files)) = (exchange(alloc, 4), files(alloc, case)) else {
+    let (Some(plan), Some(files)) = (exchange(alloc, 4), files(alloc, case.recorded)) else {
         return;
     };
-    let gate = Passes::none();
-    let answer = run(rt, &plan, alloc, &files, [None; 4], capacity, &gate);
-    assert!(rt; gate.are_complete(), "through {capacity}");
+    let answer = run_to_the_end(rt, alloc, &plan, &files, [None; 4], capacity);
     check_run(rt, case, answer);
 }
 
@@ -214,9 +233,8 @@ fn run_case<R: Threads + Wait + Sync + Abort>(rt: &R, alloc: Global, case: &Case
 #[test]
 fn refused_memory_or_a_refused_thread_refuses_a_run(rt: HostRuntime) {
     for case in [NO_PATH_IS_HIDDEN, COLLECTORS_FILE] {
-        for capacity in [1, 64] {
-            run_case(&rt, rt.alloc(), &case, capacity);
-        }
+        run_case(&rt, rt.alloc(), &case, 1);
+        run_case(&rt, rt.alloc(), &case, 64);
     }
 }
 
@@ -232,27 +250,50 @@ fn turns(alloc: Global, case: &Case) -> Result<Vec<Turn>, AllocError> {
     Ok(turns)
 }
 
-// Takes a case's schedule through rings of this capacity: it is refused, or the tables are those of the case.
-fn replay_case(rt: &impl Abort, alloc: Global, case: &Case, capacity: usize) {
-    let (Some(plan), Some(files)) = (exchange(alloc, 4), files(alloc, case)) else {
-        return;
-    };
-    let Ok(turns) = turns(alloc, case) else {
-        return;
-    };
-    let [a, b, c, d] = &files;
+// What comes of a schedule over files.
+fn replay_files(
+    rt: &impl Abort,
+    alloc: Global,
+    plan: &Arc<Exchange>,
+    files: &[Vec<u8>; 4],
+    capacity: usize,
+    turns: &[Turn],
+) -> Result<Floor, FloorRefused> {
+    let [a, b, c, d] = files;
     assert!(rt; plan.count() == 4);
     assert!(rt; a.len() < 1 << 50 && b.len() < 1 << 50 && c.len() < 1 << 50 && d.len() < 1 << 50);
-    match replay(alloc, &plan, &[a, b, c, d], capacity, &turns) {
-        Err(refused) => assert_eq!(rt; refused, FloorRefused::Memory),
-        Ok(floor) => {
-            for (peer, (changes, _)) in case.counts.iter().enumerate() {
-                assert!(rt; peer < floor.tables().count());
-                assert_eq!(rt; floor.sent(peer), *changes);
-                assert_eq!(rt; floor.received(peer), *changes);
-            }
-            check_rows(rt, floor.tables(), case);
-        }
+    replay(alloc, plan, &[a, b, c, d], capacity, turns)
+}
+
+// What comes of a case's schedule, where there is memory to write it.
+fn replay_case(
+    rt: &impl Abort,
+    alloc: Global,
+    case: &Case,
+    capacity: usize,
+) -> Option<Result<Floor, FloorRefused>> {
+    let plan = exchange(alloc, 4)?;
+    let turns = turns(alloc, case).ok()?;
+    let files = files(alloc, case.recorded)?;
+    Some(replay_files(rt, alloc, &plan, &files, capacity, &turns))
+}
+
+// All changes of the case were sent and received, and the tables are those of the case.
+fn check_floor(rt: &impl Abort, floor: &Floor, case: &Case) {
+    for (peer, (changes, _)) in case.counts.iter().enumerate() {
+        assert!(rt; peer < floor.tables().count());
+        let counts = (floor.sent(peer), floor.received(peer));
+        assert_eq!(rt; counts, (*changes, *changes));
+    }
+    check_rows(rt, floor.tables(), case);
+}
+
+// Takes a case's schedule through rings of this capacity: it is refused, or its end is that of the case.
+fn check_schedule(rt: &impl Abort, alloc: Global, case: &Case, capacity: usize) {
+    match replay_case(rt, alloc, case, capacity) {
+        Some(Ok(floor)) => check_floor(rt, &floor, case),
+        Some(Err(refused)) => assert_eq!(rt; refused, FloorRefused::Memory),
+        None => {}
     }
 }
 
@@ -260,10 +301,26 @@ fn replay_case(rt: &impl Abort, alloc: Global, case: &Case, capacity: usize) {
 #[test]
 fn refused_memory_refuses_a_schedule(rt: HostRuntime) {
     for case in [NO_PATH_IS_HIDDEN, COLLECTORS_FILE] {
-        for capacity in [1, 64] {
-            replay_case(&rt, rt.alloc(), &case, capacity);
-        }
+        check_schedule(&rt, rt.alloc(), &case, 1);
+        check_schedule(&rt, rt.alloc(), &case, 64);
     }
+}
+
+// A run of a case of which nothing is refused leaves what the case says, and every client's rows can be seen.
+fn check_served<R: Threads + Wait + Sync + Abort>(
+    rt: &R,
+    alloc: Global,
+    plan: &Arc<Exchange>,
+    case: &Case,
+    capacity: usize,
+) {
+    let files = files(alloc, case.recorded).expect(rt, "memory");
+    let answer = run(rt, plan, alloc, &files, [None; 4], capacity, &Open);
+    let served = answer.expect(rt, "a run");
+    for client in 0..4 {
+        assert_eq!(rt; has_rows(rt, served.tables(), case, client), Some(true));
+    }
+    check_run(rt, case, Ok(served));
 }
 
 // Where nothing is refused, neither is the run nor the schedule.
@@ -272,16 +329,23 @@ fn nothing_is_refused_where_memory_and_threads_are_there(rt: HostRuntime) {
     let alloc = rt.alloc();
     let plan = exchange(alloc, 4).expect(&rt, "an exchange");
     for case in [NO_PATH_IS_HIDDEN, COLLECTORS_FILE] {
-        let files = files(alloc, &case).expect(&rt, "memory");
-        for capacity in [1, 64] {
-            let answer = run(&rt, &plan, alloc, &files, [None; 4], capacity, &Open);
-            let served = answer.expect(&rt, "a run");
-            for client in 0..4 {
-                assert_eq!(rt; has_rows(&rt, served.tables(), &case, client), Some(true));
-            }
-            check_run(&rt, &case, Ok(served));
-        }
+        check_served(&rt, alloc, &plan, &case, 1);
+        check_served(&rt, alloc, &plan, &case, 64);
     }
+}
+
+// Why a run is refused of which a read of the second reader fails after so many octets, and the first read of
+// the last reader.
+fn refusal<R: Threads + Wait + Sync + Abort>(
+    rt: &R,
+    alloc: Global,
+    plan: &Arc<Exchange>,
+    files: &[Vec<u8>; 4],
+    before_failure: usize,
+) -> Option<FloorRefused> {
+    let failures = [None, Some(before_failure), None, Some(0)];
+    let capacity = before_failure % 3 + 1;
+    run_to_the_end(rt, alloc, plan, files, failures, capacity).err()
 }
 
 // Each read of the second reader fails in turn, the one that finds the end too, and the first read of the
@@ -290,25 +354,14 @@ fn nothing_is_refused_where_memory_and_threads_are_there(rt: HostRuntime) {
 fn whichever_read_fails_the_least_such_peer_is_told(rt: HostRuntime) {
     let alloc = rt.alloc();
     let plan = exchange(alloc, 4).expect(&rt, "an exchange");
-    let [file, ..] = files(alloc, &COLLECTORS_FILE).expect(&rt, "memory");
-    assert_eq!(rt; file.len(), 506);
-    let files = [
-        Vec::new(alloc),
-        file,
-        octets(alloc, &[NO_PATH_IS_HIDDEN.recorded[2]]).expect(&rt, "memory"),
-        Vec::new(alloc),
-    ];
+    let [of_collector, ..] = COLLECTORS_FILE.recorded;
+    let [_, _, of_third, _] = NO_PATH_IS_HIDDEN.recorded;
+    let files = files(alloc, ["", of_collector, of_third, ""]).expect(&rt, "memory");
+    assert_eq!(rt; files[1].len(), 506);
     for before_failure in 0..508usize {
-        let failures = [None, Some(before_failure), None, Some(0)];
-        let gate = Passes::none();
-        let capacity = before_failure % 3 + 1;
-        let answer = run(&rt, &plan, alloc, &files, failures, capacity, &gate);
+        let refused = refusal(&rt, alloc, &plan, &files, before_failure);
         let least = if before_failure <= 506 { 1 } else { 3 };
-        assert_eq!(rt;
-            answer.err(),
-            Some(FloorRefused::Read(least)),
-            "after {before_failure} octets"
-        );
-        assert!(rt; gate.are_complete());
+        let wanted = Some(FloorRefused::Read(least));
+        assert_eq!(rt; refused, wanted, "after {before_failure} octets");
     }
 }

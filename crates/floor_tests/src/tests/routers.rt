@@ -1,13 +1,14 @@
 //! The router: what it sends to each shard.
 
-ghost use Rattle.std.specs.Prelude.{◌≡◌, [], All};
+ghost use Rattle.std.specs.Prelude.{◌≡◌, [], All, IfSome};
 
-use super::recordings::{add_announcement, address_of, asn_of};
-use rs_ring::{Closing, Numbered, Receiver, Sender, ring};
+use super::recordings::{prefix_at, ring_of, route_of};
+use rs_ring::{Closing, Numbered, Receiver, Sender};
 use rs_router::{MAX_SHARDS, Routed, route, shard_of};
-use rs_session::{Body, PeerId, Reason, Session, Word};
+use rs_session::{Body, Reason, Word};
 use rs_update::{Attributes, Prefix};
 use std::alloc::Global;
+use std::process::Abort;
 use std::sync::{Arc, Wait};
 use std::test::*;
 use std::thread;
@@ -97,22 +98,6 @@ const SECOND_CUT: [&[(u32, Change)]; 3] = [
     &[(0, Announce(203)), (1, Down), (2, Close(FAULT))],
 ];
 
-// The attributes of some route.
-fn some_route(alloc: Global) -> Option<Arc<Attributes>> {
-    let mut file = Vec::new(alloc);
-    add_announcement(&mut file, 0, 100, &[24, 198, 51, 100]).ok()?;
-    let id = PeerId {
-        address: address_of(0),
-        asn: asn_of(0),
-    };
-    let mut session = Session::new(alloc, &file, id);
-    let word = session.next_word().ok()??;
-    match word.body {
-        Body::Announce(_, route) => Some(route),
-        _ => None,
-    }
-}
-
 // The change as it goes through a ring.
 fn word_of(route: &Arc<Attributes>, time: u32, change: Change) -> Option<Word> {
     let body = match change {
@@ -122,11 +107,6 @@ fn word_of(route: &Arc<Attributes>, time: u32, change: Change) -> Option<Word> {
         Close(reason) => Body::Close(reason),
     };
     Some(Word { time, body })
-}
-
-// The prefix of eight bits with this first octet.
-fn prefix_at(first: u8) -> Option<Prefix> {
-    Prefix::new(u32::from_be_bytes([first, 0, 0, 0]), 8)
 }
 
 // An item of a shard's ring: the number of the peer, and the change with its time. None for the last one.
@@ -149,11 +129,13 @@ fn first_of(prefix: &Prefix) -> u8 {
     first
 }
 
-// The ends of the rings of two peers and three shards that the router doesn't hold.
+// The ends of the rings of two peers and three shards that the router doesn't hold, and how many changes of each
+// peer were sent.
 #[derive(Drop)]
 struct Outside {
     peers: [Sender<Word>; 2],
     shards: [Receiver<Routed>; 3],
+    sent: [usize; 2],
 }
 
 // What was received of each shard, of each peer.
@@ -193,6 +175,24 @@ fn send(sender: &mut Sender<Word>, word: Word) -> bool {
     sender.sent() < Word::LIMIT && sender.try_send(word).is_ok()
 }
 
+// Sends the next of a peer's changes, where there is one and room for it.
+fn send_next(
+    outside: &mut Outside,
+    route: &Arc<Attributes>,
+    peer: usize,
+    changes: &[Change],
+) -> Option<()> {
+    let place = *outside.sent.get(peer)?;
+    let Some(change) = changes.get(place) else {
+        return Some(());
+    };
+    let word = word_of(route, u32::try_from(place).ok()?, *change)?;
+    if send(outside.peers.get_mut(peer)?, word) {
+        *outside.sent.get_mut(peer)? = place.saturating_add(1);
+    }
+    Some(())
+}
+
 // Receives what waits for a shard.
 fn receive_from(outside: &mut Outside, shard: usize, received: &mut Received) -> Option<()> {
     for _ in 0..64 {
@@ -200,6 +200,14 @@ fn receive_from(outside: &mut Outside, shard: usize, received: &mut Received) ->
             return Some(());
         };
         received.take(shard, &item)?;
+    }
+    Some(())
+}
+
+// Receives what waits for each shard.
+fn receive_from_all(outside: &mut Outside, received: &mut Received) -> Option<()> {
+    for shard in 0..3 {
+        receive_from(outside, shard, received)?;
     }
     Some(())
 }
@@ -214,20 +222,10 @@ fn feed(
 ) -> Option<Received> {
     let mut outside = outside;
     let mut received = Received::new(alloc);
-    let mut places = [0usize, 0];
     for _ in rt.forever() {
-        for (peer, changes) in [FIRST.as_slice(), SECOND.as_slice()].iter().enumerate() {
-            let place = places.get_mut(peer)?;
-            if let Some(change) = changes.get(*place) {
-                let word = word_of(route, u32::try_from(*place).ok()?, *change)?;
-                if send(outside.peers.get_mut(peer)?, word) {
-                    *place = place.saturating_add(1);
-                }
-            }
-        }
-        for shard in 0..3 {
-            receive_from(&mut outside, shard, &mut received)?;
-        }
+        send_next(&mut outside, route, 0, &FIRST)?;
+        send_next(&mut outside, route, 1, &SECOND)?;
+        receive_from_all(&mut outside, &mut received)?;
         if received.ended >= 3 {
             return Some(received);
         }
@@ -246,30 +244,39 @@ fn route_all(rt: &impl Wait, from: [Receiver<Word>; 2], to: [Sender<Routed>; 3])
     route(rt, &mut from, &mut to);
 }
 
+// The ends of the rings of two peers.
+fn peer_rings(alloc: Global, capacity: usize) -> Option<([Sender<Word>; 2], [Receiver<Word>; 2])>
+    ensures { IfSome result (λ ends. All (λ receiver. receiver.received ≡ []) ends.1) }
+{
+    let (first, from_first) = ring_of::<Word>(alloc, capacity)?;
+    let (second, from_second) = ring_of::<Word>(alloc, capacity)?;
+    Some(([first, second], [from_first, from_second]))
+}
+
+// The ends of the rings of three shards.
+fn shard_rings(
+    alloc: Global,
+    capacity: usize,
+) -> Option<([Sender<Routed>; 3], [Receiver<Routed>; 3])>
+    ensures { IfSome result (λ ends. All (λ sender. sender.sent ≡ []) ends.0) }
+{
+    let (to_none, none) = ring_of::<Routed>(alloc, capacity)?;
+    let (to_one, one) = ring_of::<Routed>(alloc, capacity)?;
+    let (to_two, two) = ring_of::<Routed>(alloc, capacity)?;
+    Some(([to_none, to_one, to_two], [none, one, two]))
+}
+
 // What the shards get through rings of this capacity, the router being in a thread of its own.
 fn through<R: Threads + Wait + Sync>(rt: &R, alloc: Global, capacity: usize) -> Option<Received> {
-    let attributes = some_route(alloc)?;
+    let attributes = route_of(alloc, 0)?;
     let shared = &attributes;
-    let Ok((first, from_first)) = ring::<Word>(alloc, capacity) else {
-        return None;
-    };
-    let Ok((second, from_second)) = ring::<Word>(alloc, capacity) else {
-        return None;
-    };
-    let Ok((to_none, none)) = ring::<Routed>(alloc, capacity) else {
-        return None;
-    };
-    let Ok((to_one, one)) = ring::<Routed>(alloc, capacity) else {
-        return None;
-    };
-    let Ok((to_two, two)) = ring::<Routed>(alloc, capacity) else {
-        return None;
-    };
-    let from = [from_first, from_second];
-    let to = [to_none, to_one, to_two];
+    let (peers, from) = peer_rings(alloc, capacity)?;
+    let (to, shards) = shard_rings(alloc, capacity)?;
+    let sent = [0usize, 0];
     let outside = Outside {
-        peers: [first, second],
-        shards: [none, one, two],
+        peers,
+        shards,
+        sent,
     };
     let (_routed, received) = thread::join(
         rt,
@@ -281,24 +288,30 @@ fn through<R: Threads + Wait + Sync>(rt: &R, alloc: Global, capacity: usize) -> 
     received
 }
 
+// What a shard received of both peers is its cut of what each of them says.
+fn check_cuts(rt: &impl Abort, cuts: &[Vec<(u32, Change)>; 2], shard: usize, capacity: usize) {
+    assert!(rt; shard < 3);
+    let [first, second] = cuts;
+    assert_eq!(rt;
+        (first.as_slice(), second.as_slice()),
+        (FIRST_CUT[shard], SECOND_CUT[shard]),
+        "{shard}, through {capacity}"
+    );
+}
+
+// Each shard's cuts come through rings of this capacity.
+fn check_through<R: Threads + Wait + Sync + Abort>(rt: &R, alloc: Global, capacity: usize) {
+    let Some(received) = through(rt, alloc, capacity) else {
+        panic!(rt; "out of memory through {capacity}");
+    };
+    for (shard, cuts) in received.cuts.iter().enumerate() {
+        check_cuts(rt, cuts, shard, capacity);
+    }
+}
+
 #[test]
 fn each_shard_gets_the_cut_of_what_each_peer_says(rt: HostRuntime) {
     for capacity in [1, 2, 64] {
-        let Some(received) = through(&rt, rt.alloc(), capacity) else {
-            panic!(rt; "out of memory through {capacity}");
-        };
-        for shard in 0..3 {
-            let [first, second] = &received.cuts[shard];
-            assert_eq!(rt;
-                first.as_slice(),
-                FIRST_CUT[shard],
-                "{shard}, through {capacity}"
-            );
-            assert_eq!(rt;
-                second.as_slice(),
-                SECOND_CUT[shard],
-                "{shard}, through {capacity}"
-            );
-        }
+        check_through(&rt, rt.alloc(), capacity);
     }
 }

@@ -3,15 +3,16 @@
 ghost use Rattle.std.specs.Prelude.{◌≡◌, [], ℕ};
 ghost use Rattle.rs_table.specs.Content.{nothing_held, rib_of};
 
-use super::recordings::{add_announcement, address_of, asn_of, exchange};
-use rs_ring::{Closing, SendRefused, Sender, ring};
+use super::recordings::{exchange, prefix_at, ring_of, route_of};
+use rs_ring::{Closing, SendRefused, Sender};
 use rs_router::Routed;
-use rs_session::{Body, PeerId, Reason, Session, Word};
+use rs_session::{Body, Reason, Word};
 use rs_shard::{ShardEnd, shard_worker};
 use rs_table::Tables;
-use rs_update::{Attributes, Prefix};
+use rs_update::Attributes;
 use rs_worker::{Gate, Open};
 use std::alloc::Global;
+use std::process::Abort;
 use std::sync::atomic::{AtomicU64, Ordering};
 use std::sync::{Arc, Wait};
 use std::test::*;
@@ -80,27 +81,6 @@ impl Gate for Passes {
     }
 }
 
-// The attributes of a route of a peer.
-fn route_of(alloc: Global, peer: u32) -> Option<Arc<Attributes>> {
-    let mut file = Vec::new(alloc);
-    add_announcement(&mut file, peer, 100, &[8, 10]).ok()?;
-    let id = PeerId {
-        address: address_of(peer),
-        asn: asn_of(peer),
-    };
-    let mut session = Session::new(alloc, &file, id);
-    let word = session.next_word().ok()??;
-    match word.body {
-        Body::Announce(_, route) => Some(route),
-        _ => None,
-    }
-}
-
-// The prefix of eight bits with this first octet.
-fn prefix_at(first: u8) -> Option<Prefix> {
-    Prefix::new(u32::from_be_bytes([first, 0, 0, 0]), 8)
-}
-
 // The change as it goes through a ring.
 fn item_of(route: &Arc<Attributes>, time: u32, change: Change) -> Option<Routed> {
     let (peer, body) = match change {
@@ -158,9 +138,7 @@ fn held<R: Threads + Wait + Sync>(
     let route = route_of(alloc, 0)?;
     let shared = &route;
     let tables = Tables::new(alloc, exchange(alloc, 3)?).ok()?;
-    let Ok((sender, from)) = ring::<Routed>(alloc, capacity) else {
-        return None;
-    };
+    let (sender, from) = ring_of::<Routed>(alloc, capacity)?;
     let (sent, end) = thread::join(
         rt,
         move || -> bool { send_all(rt, sender, shared) },
@@ -180,55 +158,72 @@ fn best(tables: &Tables, client: usize, first: u8) -> Option<(usize, u32)> {
     Some((route.peer, route.time))
 }
 
+// Whose routes clients get of all changes.
+fn check_bests(rt: &impl Abort, tables: &Tables, capacity: usize) {
+    for (client, first, route) in [
+        (2, 10, Some((0, 0))),
+        (0, 10, None),
+        (2, 20, None),
+        (2, 30, None),
+        (2, 40, None),
+        (2, 50, Some((1, 9))),
+        (0, 60, None),
+    ] {
+        let found = best(tables, client, first);
+        assert_eq!(rt; found, route, "{first} for {client} through {capacity}");
+    }
+}
+
+// Which peers' sessions all changes close.
+fn check_closed(rt: &impl Abort, tables: &Tables, capacity: usize) {
+    for (peer, closed) in [(0, true), (1, false), (2, true)] {
+        assert_eq!(rt; tables.is_closed(peer), closed, "{peer} through {capacity}");
+    }
+}
+
+// What a shard holds of all changes, which come through a ring of this capacity, each once and in order.
+fn check_held<R: Threads + Wait + Sync + Abort>(rt: &R, alloc: Global, capacity: usize) {
+    let gate = Passes::new();
+    let Some(tables) = held(rt, alloc, capacity, &gate) else {
+        panic!(rt; "out of memory through {capacity}");
+    };
+    check_bests(rt, &tables, capacity);
+    check_closed(rt, &tables, capacity);
+    let passes = (
+        gate.items.load(Ordering::SeqCst),
+        gate.strays.load(Ordering::SeqCst),
+    );
+    assert_eq!(rt; passes, (13, 0));
+}
+
 #[test]
 fn a_shard_holds_what_each_peer_has_left_up_to_its_close(rt: HostRuntime) {
-    for capacity in [1, 64] {
-        let gate = Passes::new();
-        let Some(tables) = held(&rt, rt.alloc(), capacity, &gate) else {
-            panic!(rt; "out of memory through {capacity}");
-        };
-        for (client, first, route) in [
-            (2, 10, Some((0, 0))),
-            (0, 10, None),
-            (2, 20, None),
-            (2, 30, None),
-            (2, 40, None),
-            (2, 50, Some((1, 9))),
-            (0, 60, None),
-        ] {
-            let found = best(&tables, client, first);
-            assert_eq!(rt; found, route, "{first} for {client} through {capacity}");
-        }
-        for (peer, closed) in [(0, true), (1, false), (2, true)] {
-            assert_eq!(rt; tables.is_closed(peer), closed, "{peer} through {capacity}");
-        }
-        assert_eq!(rt; gate.items.load(Ordering::SeqCst), 13);
-        assert_eq!(rt; gate.strays.load(Ordering::SeqCst), 0);
+    check_held(&rt, rt.alloc(), 1);
+    check_held(&rt, rt.alloc(), 64);
+}
+
+// How a shard ends that was sent all changes before it began, where there is memory to send them.
+fn ended(rt: &impl Wait, alloc: Global) -> Option<ShardEnd> {
+    let route = route_of(alloc, 0)?;
+    let tables = Tables::new(alloc, exchange(alloc, 3)?).ok()?;
+    let (sender, from) = ring_of::<Routed>(alloc, 16)?;
+    if !send_all(rt, sender, &route) {
+        return None;
     }
+    Some(shard_worker(rt, 3, tables, from, &Open))
 }
 
 // It holds whichever allocation is refused: then the shard has no tables, or all that it was sent, and in
 // each case it received all items. `tools/refuse_in_tests` refuses each in turn.
 #[test]
 fn refused_memory_ends_the_tables_of_a_shard(rt: HostRuntime) {
-    let alloc = rt.alloc();
-    let (Some(route), Some(plan)) = (route_of(alloc, 0), exchange(alloc, 3)) else {
+    let Some(ShardEnd { tables, from }) = ended(&rt, rt.alloc()) else {
         return;
     };
-    let Ok(tables) = Tables::new(alloc, plan) else {
-        return;
-    };
-    let Ok((sender, from)) = ring::<Routed>(alloc, 16) else {
-        return;
-    };
-    if !send_all(&rt, sender, &route) {
-        return;
-    }
-    let ShardEnd { tables, from } = shard_worker(&rt, 3, tables, from, &Open);
     assert!(rt; from.closed());
     let Some(tables) = tables else {
         return;
     };
-    assert_eq!(rt; best(&tables, 2, 10), Some((0, 0)));
-    assert_eq!(rt; best(&tables, 2, 50), Some((1, 9)));
+    let bests = (best(&tables, 2, 10), best(&tables, 2, 50));
+    assert_eq!(rt; bests, (Some((0, 0)), Some((1, 9))));
 }

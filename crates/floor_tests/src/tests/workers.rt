@@ -2,15 +2,18 @@
 
 ghost use Rattle.std.specs.Prelude.{◌≡◌, ◌≤◌, ◌<◌, ◌^◌, [], IfSome};
 
-use super::recordings::{Update, add_announcement, add_update, address_of, asn_of, attributes};
+use super::recordings::{
+    Update, add_announcement, add_ends, add_update, attributes, id_of, ring_of,
+};
 use rs_mrt::{
     BGP4MP, MESSAGE_AS4, MemoryReader, ReadLimits, RecordReader, Records, Source, write_header,
 };
 use rs_ring::{Numbered, Receiver, RingRefused, ring};
-use rs_session::{Body, PeerId, Reason, Word};
+use rs_session::{Body, Reason, Word};
 use rs_update::Errors;
 use rs_worker::{Gate, Open, Patience, WorkerEnd, worker, worker_by, worker_over};
 use std::alloc::Global;
+use std::process::Abort;
 use std::sync::Wait;
 use std::sync::atomic::{AtomicU64, Ordering};
 use std::test::*;
@@ -39,14 +42,6 @@ fn seen(word: &Word) -> Given {
 
 // A file has fewer octets.
 const MOST_OCTETS: usize = 1 << 50;
-
-// The peer of a number.
-fn peer(number: u32) -> PeerId {
-    PeerId {
-        address: address_of(number),
-        asn: asn_of(number),
-    }
-}
 
 // The prefix 10.0.n.0/24, for a number n below 256, as a field of prefixes spells it.
 fn prefix(number: u8) -> [u8; 4] {
@@ -149,7 +144,7 @@ fn run_by<R: Threads + Wait + Sync, S: Source + Send + Drop, G: Gate>(
         move || -> WorkerEnd
             requires { (out.sent ≡ []) × (S.room source ≤ 2 ^ 50) }
             ensures { IfSome result.finished (λ token. token.ring ≡ out.ring) }
-        { worker_by(rt, alloc, 0, source, peer(0), errors, out, gate) },
+        { worker_by(rt, alloc, 0, source, id_of(0), errors, out, gate) },
         move || -> (Vec<Given>, Receiver<Word>)
             ensures { result.1.ring ≡ from.ring }
         { receive_all(rt, alloc, from) },
@@ -171,7 +166,7 @@ fn run_over<R: Threads + Wait + Sync, S: Source + Send + Drop>(
         move || -> WorkerEnd
             requires { (out.sent ≡ []) × (S.room source ≤ 2 ^ 50) }
             ensures { IfSome result.finished (λ token. token.ring ≡ out.ring) }
-        { worker_over(rt, alloc, 0, source, peer(0), out, &Open) },
+        { worker_over(rt, alloc, 0, source, id_of(0), out, &Open) },
         move || -> (Vec<Given>, Receiver<Word>)
             ensures { result.1.ring ≡ from.ring }
         { receive_all(rt, alloc, from) },
@@ -193,23 +188,42 @@ fn run_pieces<R: Threads + Wait + Sync>(
     )
 }
 
+// What is sent of a file through a ring of this capacity.
+fn run_file<R: Threads + Wait + Sync + Abort, G: Gate>(
+    rt: &R,
+    alloc: Global,
+    capacity: usize,
+    file: &[u8],
+    errors: Errors,
+    gate: &G,
+) -> Result<Sent, RingRefused> {
+    assert!(rt; file.len() < MOST_OCTETS);
+    run_by(rt, alloc, capacity, Records::new(file), errors, gate)
+}
+
+// A worker sends these changes of a file, up to its end, through a ring of this capacity.
+fn check_file<R: Threads + Wait + Sync + Abort>(
+    rt: &R,
+    alloc: Global,
+    capacity: usize,
+    file: &[u8],
+    want: &[Given],
+) -> Result<(), RingRefused> {
+    let sent = run_file(rt, alloc, capacity, file, Errors::Rfc4271, &Open)?;
+    assert_eq!(rt; sent.changes.as_slice(), want, "through {capacity}");
+    assert_eq!(rt;
+        (sent.count, sent.passed, sent.reason, sent.after),
+        (201, 0, Reason::EndOfFile, Some(0))
+    );
+    Ok(())
+}
+
 #[test]
 fn a_worker_sends_what_its_file_says(rt: HostRuntime) -> Result<(), Fail> {
     let file = file_of(rt.alloc(), 0, 200)?;
-    assert!(rt; file.len() < MOST_OCTETS);
     let want = changes_of(rt.alloc(), 200)?;
     for capacity in [1, 3, 64, 1000] {
-        let source = Records::new(&file);
-        let sent = run_by(&rt, rt.alloc(), capacity, source, Errors::Rfc4271, &Open)?;
-        assert_eq!(rt;
-            sent.changes.as_slice(),
-            want.as_slice(),
-            "through {capacity}"
-        );
-        assert_eq!(rt; sent.count, 201);
-        assert_eq!(rt; sent.passed, 0);
-        assert_eq!(rt; sent.reason, Reason::EndOfFile);
-        assert_eq!(rt; sent.after, Some(0));
+        check_file(&rt, rt.alloc(), capacity, &file, &want)?;
     }
     Ok(())
 }
@@ -233,21 +247,16 @@ impl Gate for Counting {
 #[test]
 fn each_change_passes_the_gate_once_and_in_order(rt: HostRuntime) -> Result<(), Fail> {
     let file = file_of(rt.alloc(), 0, 100)?;
-    assert!(rt; file.len() < MOST_OCTETS);
     let gate = Counting {
         passes: AtomicU64::new(0),
         wrong: AtomicU64::new(0),
     };
-    run_by(
-        &rt,
-        rt.alloc(),
-        1,
-        Records::new(&file),
-        Errors::Rfc4271,
-        &gate,
-    )?;
-    assert_eq!(rt; gate.passes.load(Ordering::SeqCst), 101);
-    assert_eq!(rt; gate.wrong.load(Ordering::SeqCst), 0);
+    run_file(&rt, rt.alloc(), 1, &file, Errors::Rfc4271, &gate)?;
+    let counts = (
+        gate.passes.load(Ordering::SeqCst),
+        gate.wrong.load(Ordering::SeqCst),
+    );
+    assert_eq!(rt; counts, (101, 0));
     Ok(())
 }
 
@@ -256,7 +265,9 @@ const READ: Given = Given::Close(0, Reason::Read);
 const FIRST: Given = Given::Announce(100, 0x0A00_0000);
 
 // Of a file of 79 octets: how many octets come at a time, after how many a read fails, and what is sent.
-const FAILURES: &[(usize, Option<usize>, &[Given])] = &[
+type Failure = (usize, Option<usize>, &'static [Given]);
+
+const FAILURES: &[Failure] = &[
     (1, None, &[FIRST, END]),
     (1, Some(79), &[FIRST, READ]),
     (1000, Some(79), &[FIRST, READ]),
@@ -264,68 +275,85 @@ const FAILURES: &[(usize, Option<usize>, &[Given])] = &[
     (1000, Some(0), &[READ]),
 ];
 
+// A worker sends what came of that file before a read failed.
+fn check_failure<R: Threads + Wait + Sync + Abort>(
+    rt: &R,
+    alloc: Global,
+    file: &[u8],
+    failure: Failure,
+) -> Result<(), RingRefused> {
+    let (piece, octets_before_failure, want) = failure;
+    let limits = ReadLimits {
+        octets_before_failure,
+        piece,
+    };
+    let sent = run_pieces(rt, alloc, file, limits)?;
+    assert_eq!(rt;
+        (sent.changes.as_slice(), sent.after),
+        (want, Some(0)),
+        "{octets_before_failure:?} by {piece}"
+    );
+    Ok(())
+}
+
 #[test]
 fn a_worker_sends_what_came_before_a_failed_read(rt: HostRuntime) -> Result<(), Fail> {
     let mut file = Vec::new(rt.alloc());
     add_announcement(&mut file, 0, 100, &prefix(0))?;
     assert_eq!(rt; file.len(), 79);
-    for (piece, octets_before_failure, want) in FAILURES {
-        let limits = ReadLimits {
-            octets_before_failure: *octets_before_failure,
-            piece: *piece,
-        };
-        let sent = run_pieces(&rt, rt.alloc(), &file, limits)?;
-        assert_eq!(rt;
-            sent.changes.as_slice(),
-            *want,
-            "{octets_before_failure:?} by {piece}"
-        );
-        assert_eq!(rt; sent.after, Some(0));
+    for failure in FAILURES {
+        check_failure(&rt, rt.alloc(), &file, *failure)?;
     }
     Ok(())
 }
 
-#[test]
-fn a_worker_passes_over_a_long_record_of_another(rt: HostRuntime) -> Result<(), Fail> {
-    let mut file = Vec::new(rt.alloc());
+// A record of a megabyte, which is another's, and then an announcement.
+fn file_with_long_record(alloc: Global) -> Result<Vec<u8>, Fail> {
+    let mut file = Vec::new(alloc);
     write_header(&mut file, 100, BGP4MP, 1, 1_000_000)?;
     file.resize(1_000_012, 0)?;
     add_announcement(&mut file, 0, 100, &prefix(0))?;
+    Ok(file)
+}
+
+#[test]
+fn a_worker_passes_over_a_long_record_of_another(rt: HostRuntime) -> Result<(), Fail> {
+    let file = file_with_long_record(rt.alloc())?;
     let sent = run_pieces(&rt, rt.alloc(), &file, ReadLimits::none())?;
-    assert_eq!(rt; sent.changes.as_slice(), [FIRST, END].as_slice());
-    assert_eq!(rt; sent.passed, 1);
-    assert_eq!(rt; sent.count, 2);
+    assert_eq!(rt;
+        (sent.changes.as_slice(), sent.passed, sent.count),
+        ([FIRST, END].as_slice(), 1, 2)
+    );
     Ok(())
 }
 
 // Fields and 5,000 octets of ones, more than a message has.
+fn file_with_long_message(alloc: Global) -> Result<Vec<u8>, Fail> {
+    let mut file = Vec::new(alloc);
+    write_header(&mut file, 100, BGP4MP, MESSAGE_AS4, 5_020)?;
+    add_ends(&mut file, 0)?;
+    file.resize(5_032, 255)?;
+    Ok(file)
+}
+
 #[test]
 fn a_worker_closes_at_a_message_that_is_too_long(rt: HostRuntime) -> Result<(), Fail> {
-    let mut file = Vec::new(rt.alloc());
-    write_header(&mut file, 100, BGP4MP, MESSAGE_AS4, 5_020)?;
-    file.extend_from_slice(&asn_of(0).to_be_bytes())?;
-    file.extend_from_slice(&[0, 0, 0xFB, 0xF4, 0, 0, 0, 1])?;
-    file.extend_from_slice(&address_of(0).to_be_bytes())?;
-    file.extend_from_slice(&[0xC0, 0, 2, 1])?;
-    file.resize(5_032, 255)?;
+    let file = file_with_long_message(rt.alloc())?;
     let sent = run_pieces(&rt, rt.alloc(), &file, ReadLimits::none())?;
     let reason = Reason::Bgp {
         code: 1,
         subcode: 2,
     };
     assert_eq!(rt;
-        sent.changes.as_slice(),
-        [Given::Close(100, reason)].as_slice()
+        (sent.changes.as_slice(), sent.reason),
+        ([Given::Close(100, reason)].as_slice(), reason)
     );
-    assert_eq!(rt; sent.reason, reason);
     Ok(())
 }
 
-// An UPDATE whose ORIGIN has a value that isn't one closes by RFC 4271 (section 6.3), and is withdrawn by RFC
-// 7606 (section 7.1).
-#[test]
-fn a_worker_handles_faults_as_it_is_told(rt: HostRuntime) -> Result<(), Fail> {
-    let mut file = Vec::new(rt.alloc());
+// The file of an UPDATE whose ORIGIN has a value that isn't one.
+fn file_with_fault(alloc: Global) -> Result<Vec<u8>, Fail> {
+    let mut file = Vec::new(alloc);
     let mut attributes = attributes(0);
     attributes[3] = 3;
     let update = Update {
@@ -334,21 +362,36 @@ fn a_worker_handles_faults_as_it_is_told(rt: HostRuntime) -> Result<(), Fail> {
         announced: &prefix(0),
     };
     add_update(&mut file, 0, 100, update)?;
-    assert!(rt; file.len() < MOST_OCTETS);
+    Ok(file)
+}
+
+// A worker that handles faults so sends these changes of a file.
+fn check_errors<R: Threads + Wait + Sync + Abort>(
+    rt: &R,
+    alloc: Global,
+    file: &[u8],
+    errors: Errors,
+    want: &[Given],
+) -> Result<(), RingRefused> {
+    let sent = run_file(rt, alloc, 1, file, errors, &Open)?;
+    assert_eq!(rt; sent.changes.as_slice(), want, "{errors:?}");
+    Ok(())
+}
+
+// An UPDATE whose ORIGIN has a value that isn't one closes by RFC 4271 (section 6.3), and is withdrawn by RFC
+// 7606 (section 7.1).
+#[test]
+fn a_worker_handles_faults_as_it_is_told(rt: HostRuntime) -> Result<(), Fail> {
+    let alloc = rt.alloc();
+    let file = file_with_fault(alloc)?;
     let reason = Reason::Bgp {
         code: 3,
         subcode: 6,
     };
-    for (errors, want) in [
-        (Errors::Rfc4271, [Given::Close(100, reason)].as_slice()),
-        (
-            Errors::Rfc7606,
-            [Given::Withdraw(100, 0x0A00_0000), END].as_slice(),
-        ),
-    ] {
-        let sent = run_by(&rt, rt.alloc(), 1, Records::new(&file), errors, &Open)?;
-        assert_eq!(rt; sent.changes.as_slice(), want, "{errors:?}");
-    }
+    let closed = [Given::Close(100, reason)];
+    check_errors(&rt, alloc, &file, Errors::Rfc4271, &closed)?;
+    let withdrawn = [Given::Withdraw(100, 0x0A00_0000), END];
+    check_errors(&rt, alloc, &file, Errors::Rfc7606, &withdrawn)?;
     Ok(())
 }
 
@@ -367,30 +410,39 @@ const SAID: [Given; 3] = [
     END,
 ];
 
-// It holds whichever allocation is refused: then no ring is made, or the worker sends a beginning of what its
-// file says, and a close that says so. `tools/refuse_in_tests` refuses each in turn.
-#[test]
-fn refused_memory_ends_the_changes_of_a_worker(rt: HostRuntime) {
-    let Ok((out, from)) = ring::<Word>(rt.alloc(), 8) else {
-        return;
-    };
-    let end = worker(&rt, rt.alloc(), 0, RECORDED, peer(0), out, &Open);
+// The change of a number: the close, which says why it came, where the ring is closed by it, and else what the file
+// says next.
+fn change_at(given: usize, is_close: bool, reason: Reason) -> Option<Given> {
+    if is_close {
+        return Some(Given::Close(0, reason));
+    }
+    SAID.get(given).copied()
+}
+
+// Receives and checks all changes of a worker that ended so. Answers how many there were.
+fn check_all_received(rt: &impl Abort, from: Receiver<Word>, reason: Reason) -> usize {
     let mut from = from;
     let mut given: usize = 0;
     for _ in 0..8 {
         let Some(Numbered { item, .. }) = from.try_receive() else {
             break;
         };
-        let change = seen(&item);
-        if from.closed() {
-            let close = Given::Close(0, end.reason);
-            assert_eq!(rt; change, close);
-        } else {
-            assert_eq!(rt; Some(&change), SAID.get(given));
-        }
+        assert_eq!(rt; Some(seen(&item)), change_at(given, from.closed(), reason));
         given = given.wrapping_add(1);
     }
     assert!(rt; from.closed());
+    given
+}
+
+// It holds whichever allocation is refused: then no ring is made, or the worker sends a beginning of what its
+// file says, and a close that says so. `tools/refuse_in_tests` refuses each in turn.
+#[test]
+fn refused_memory_ends_the_changes_of_a_worker(rt: HostRuntime) {
+    let Some((out, from)) = ring_of::<Word>(rt.alloc(), 8) else {
+        return;
+    };
+    let end = worker(&rt, rt.alloc(), 0, RECORDED, id_of(0), out, &Open);
+    let given = check_all_received(&rt, from, end.reason);
     assert_eq!(rt; usize::try_from(end.changes).ok(), Some(given));
     match end.reason {
         Reason::Memory => assert!(rt; given <= SAID.len()),
