@@ -98,18 +98,22 @@ fn server(subnet: bool) -> Local {
     }
 }
 
-fn peer(alloc: Global, row: &Row) -> Result<PeerSpec, AllocError> {
-    let mut refuse_from = Vec::new(alloc);
-    for name in row.refuse_from {
-        refuse_from.push(String::from_str(alloc, name)?)?;
+fn names(alloc: Global, texts: &[&str]) -> Result<Vec<String>, AllocError> {
+    let mut names = Vec::new(alloc);
+    for text in texts {
+        names.push(String::from_str(alloc, text)?)?;
     }
+    Ok(names)
+}
+
+fn peer(alloc: Global, row: &Row) -> Result<PeerSpec, AllocError> {
     Ok(PeerSpec {
         name: String::from_str(alloc, row.name)?,
         asn: row.asn,
         address: row.address,
         id: row.id,
         preference: 100,
-        refuse_from,
+        refuse_from: names(alloc, row.refuse_from)?,
     })
 }
 

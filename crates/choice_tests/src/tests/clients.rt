@@ -6,6 +6,22 @@ use super::*;
 // A route by its peer's number, and its attributes, spelled.
 type Sent = (usize, &'static [&'static str]);
 
+// The time at which each route came.
+const TIME: u32 = 1_700_000_000;
+
+// A route as it is held.
+fn hold(
+    rt: &impl Abort,
+    alloc: Global,
+    exchange: &Exchange,
+    sent: &Sent,
+) -> Result<HeldRoute, Fail> {
+    let (peer, texts) = *sent;
+    assert!(rt; peer < exchange.count());
+    let attributes = Arc::new(alloc, attributes(alloc, texts)?)?;
+    Ok(exchange.hold(peer, TIME, attributes))
+}
+
 // The routes as they are held.
 fn hold_all(
     rt: &impl Abort,
@@ -13,13 +29,11 @@ fn hold_all(
     exchange: &Exchange,
     sent: &[Sent],
 ) -> Result<Vec<HeldRoute>, Fail> {
-    let mut held = Vec::new(alloc);
-    for (peer, texts) in sent {
-        let attributes = Arc::new(alloc, attributes(alloc, texts)?)?;
-        assert!(rt; *peer < exchange.count());
-        held.push(exchange.hold(*peer, 1_700_000_000, attributes))?;
+    let mut all = Vec::new(alloc);
+    for sent in sent {
+        all.push(hold(rt, alloc, exchange, sent)?)?;
     }
-    Ok(held)
+    Ok(all)
 }
 
 // What an exchange of these peers gives of these routes, and why.
@@ -233,14 +247,24 @@ const WORKED: &[Worked] = &[
     },
 ];
 
+// For each client the number of the peer whose route it gets.
+fn bests_of(rt: &impl Abort, alloc: Global, worked: &Worked) -> Result<Vec<u8>, Fail> {
+    let exchange = exchange(alloc, true, worked.rows)?;
+    let held = hold_all(rt, alloc, &exchange, worked.sent)?;
+    bests(rt, alloc, &exchange, &held)
+}
+
+// Each client gets what was worked out.
+fn check_bests(rt: &impl Abort, alloc: Global, worked: &Worked) -> Result<(), Fail> {
+    let bests = bests_of(rt, alloc, worked)?;
+    assert_eq!(rt; bests.as_slice(), worked.bests, "{}", worked.what);
+    Ok(())
+}
+
 #[test]
 fn each_client_gets_its_own_best(rt: HostRuntime) -> Result<(), Fail> {
-    let alloc = rt.alloc();
     for worked in WORKED {
-        let exchange = exchange(alloc, true, worked.rows)?;
-        let held = hold_all(&rt, alloc, &exchange, worked.sent)?;
-        let bests = bests(&rt, alloc, &exchange, &held)?;
-        assert_eq!(rt; bests.as_slice(), worked.bests, "{}", worked.what);
+        check_bests(&rt, rt.alloc(), worked)?;
     }
     Ok(())
 }
@@ -290,17 +314,22 @@ const HELD: &[(&[&str], Candidacy)] = &[
     ),
 ];
 
+// A route of a is held with its sender, its time, and what decisions ask of it.
+fn check_held(rt: &impl Abort, held: &HeldRoute, candidacy: Candidacy) {
+    let is_candidate = candidacy != Candidacy::Ineligible;
+    let is_held = held.candidacy.is_eligible();
+    assert_eq!(rt;
+        (held.peer, held.time, held.candidacy, is_held),
+        (0, TIME, candidacy, is_candidate)
+    );
+}
+
 #[test]
 fn who_may_get_a_route_is_held_with_it(rt: HostRuntime) -> Result<(), Fail> {
-    let alloc = rt.alloc();
-    let exchange = exchange(alloc, true, FOUR)?;
+    let exchange = exchange(rt.alloc(), true, FOUR)?;
     for (texts, candidacy) in HELD {
-        let attributes = Arc::new(alloc, attributes(alloc, texts)?)?;
-        let held = exchange.hold(0, 1_700_000_000, attributes);
-        assert_eq!(rt; (held.peer, held.time), (0, 1_700_000_000));
-        assert_eq!(rt; held.candidacy, *candidacy);
-        let is_candidate = *candidacy != Candidacy::Ineligible;
-        assert_eq!(rt; held.candidacy.is_eligible(), is_candidate);
+        let held = hold(&rt, rt.alloc(), &exchange, &(0, texts))?;
+        check_held(&rt, &held, *candidacy);
     }
     Ok(())
 }
@@ -324,23 +353,34 @@ const KEYS: &[(&[&str], u16, u32, u32)] = &[
     ),
 ];
 
+// The path length, neighbour AS and MED of a route of a.
+fn key(rt: &impl Abort, exchange: &Exchange, held: &HeldRoute) -> (u16, u32, u32) {
+    assert!(rt; exchange.count() > 0);
+    let standing = exchange.standing(&Candidate {
+        peer: 0,
+        attributes: &held.attributes,
+    });
+    (held.path_length, standing.neighbour, standing.med)
+}
+
 #[test]
 fn what_the_steps_compare_is_found_of_a_route(rt: HostRuntime) -> Result<(), Fail> {
-    let alloc = rt.alloc();
-    let exchange = exchange(alloc, true, FOUR)?;
+    let exchange = exchange(rt.alloc(), true, FOUR)?;
     for (texts, path_length, neighbour, med) in KEYS {
-        let attributes = Arc::new(alloc, attributes(alloc, texts)?)?;
-        let held = exchange.hold(0, 1_700_000_000, attributes);
-        let standing = exchange.standing(&Candidate {
-            peer: 0,
-            attributes: &held.attributes,
-        });
+        let held = hold(&rt, rt.alloc(), &exchange, &(0, texts))?;
         assert_eq!(rt;
-            (held.path_length, standing.neighbour, standing.med),
+            key(&rt, &exchange, &held),
             (*path_length, *neighbour, *med)
         );
     }
     Ok(())
+}
+
+// Whether each of some routes is for all.
+fn are_open(alloc: Global, held: &[HeldRoute]) -> Result<Vec<bool>, AllocError> {
+    held.iter()
+        .map(|held| held.candidacy.is_open())
+        .collect(alloc)
 }
 
 #[test]
@@ -348,10 +388,7 @@ fn a_client_that_refuses_a_peer_restricts_its_routes(rt: HostRuntime) -> Result<
     let alloc = rt.alloc();
     let exchange = exchange(alloc, true, REFUSING)?;
     let held = hold_all(&rt, alloc, &exchange, &[OF_A, OF_B, OF_C])?;
-    let unrestricted: Vec<bool> = held
-        .iter()
-        .map(|held| held.candidacy.is_open())
-        .collect(alloc)?;
+    let unrestricted = are_open(alloc, &held)?;
     assert_eq!(rt; unrestricted.as_slice(), [false, true, true].as_slice());
     Ok(())
 }

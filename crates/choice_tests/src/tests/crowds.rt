@@ -66,22 +66,38 @@ fn one_of(random: &mut Random, texts: &[&'static str]) -> &'static str {
     texts.get(place % texts.len().max(1)).copied().unwrap_or("")
 }
 
-// Routes with few different paths, origins and MEDs.
+// A route with one of few paths, origins and MEDs.
+fn some_route(alloc: Global, random: &mut Random) -> Result<Attributes, Fail> {
+    let texts = [
+        one_of(random, ORIGINS),
+        one_of(random, PATHS),
+        NEXT_HOP_A,
+        one_of(random, MEDS),
+    ];
+    attributes(alloc, &texts)
+}
+
+// Some such routes.
 fn routes(alloc: Global, random: &mut Random) -> Result<Vec<Attributes>, Fail> {
     let mut routes = Vec::new(alloc);
     for _ in 0..40 {
-        let texts = [
-            one_of(random, ORIGINS),
-            one_of(random, PATHS),
-            NEXT_HOP_A,
-            one_of(random, MEDS),
-        ];
-        routes.push(attributes(alloc, &texts)?)?;
+        routes.push(some_route(alloc, random)?)?;
     }
     Ok(routes)
 }
 
-// Some candidates, each a route of a peer of the crowd.
+// A candidate: a route of a peer of the crowd.
+fn some_candidate<'a>(
+    random: &mut Random,
+    routes: &'a [Attributes],
+) -> Result<Candidate<'a>, Fail> {
+    let peer = random.below(256) as usize;
+    let route = random.below(40) as usize;
+    let attributes = routes.get(route).ok_or("there are 40 routes")?;
+    Ok(Candidate { peer, attributes })
+}
+
+// So many candidates.
 fn some_candidates<'a>(
     alloc: Global,
     random: &mut Random,
@@ -90,12 +106,29 @@ fn some_candidates<'a>(
 ) -> Result<Vec<Candidate<'a>>, Fail> {
     let mut candidates = Vec::new(alloc);
     for _ in 0..count {
-        let peer = random.below(256) as usize;
-        let route = random.below(40) as usize;
-        let attributes = routes.get(route).ok_or("there are 40 routes")?;
-        candidates.push(Candidate { peer, attributes })?;
+        candidates.push(some_candidate(random, routes)?)?;
     }
     Ok(candidates)
+}
+
+// Both bodies choose alike among some candidates, and none only where there is none.
+fn check_round(
+    rt: &impl Abort,
+    alloc: Global,
+    exchange: &Exchange,
+    random: &mut Random,
+    routes: &[Attributes],
+    round: u32,
+) -> Result<(), Fail> {
+    let count = if round % 3 == 0 {
+        256
+    } else {
+        random.below(20)
+    };
+    let candidates = some_candidates(alloc, random, routes, count)?;
+    let place = choice(rt, exchange, &candidates);
+    assert_eq!(rt; place.is_some(), count != 0, "in round {round}");
+    Ok(())
 }
 
 #[test]
@@ -105,14 +138,7 @@ fn both_bodies_choose_alike(rt: HostRuntime) -> Result<(), Fail> {
     let exchange = Exchange::new(alloc, server(false), crowd(alloc, &mut random)?)?;
     let routes = routes(alloc, &mut random)?;
     for round in 0..300u32 {
-        let count = if round % 3 == 0 {
-            256
-        } else {
-            random.below(20)
-        };
-        let candidates = some_candidates(alloc, &mut random, &routes, count)?;
-        let place = choice(&rt, &exchange, &candidates);
-        assert_eq!(rt; place.is_some(), count != 0, "in round {round}");
+        check_round(&rt, alloc, &exchange, &mut random, &routes, round)?;
     }
     Ok(())
 }
@@ -130,17 +156,29 @@ fn some_names(alloc: Global, count: u32, random: &mut Random) -> Result<Vec<Stri
     Ok(names)
 }
 
+// A peer of so many, which refuses some of them.
+fn refusing_member(
+    alloc: Global,
+    number: u32,
+    count: u32,
+    random: &mut Random,
+) -> Result<PeerSpec, Fail>
+    requires { 0 < count }
+{
+    let refuse_from = some_names(alloc, count, random)?;
+    Ok(PeerSpec {
+        refuse_from,
+        ..crowd_member(alloc, number, random)?
+    })
+}
+
 // An exchange of so many peers, some of which refuse some others.
 fn refusing_crowd(alloc: Global, count: u32, random: &mut Random) -> Result<Exchange, Fail>
     requires { 0 < count }
 {
     let mut peers = Vec::new(alloc);
     for number in 0..count {
-        let refuse_from = some_names(alloc, count, random)?;
-        peers.push(PeerSpec {
-            refuse_from,
-            ..crowd_member(alloc, number, random)?
-        })?;
+        peers.push(refusing_member(alloc, number, count, random)?)?;
     }
     Ok(Exchange::new(alloc, server(false), peers)?)
 }
@@ -168,6 +206,18 @@ const CROWD_COMMUNITIES: &[&str] = &[
     "C00808 FBF4FBF7 0000FBF4",
 ];
 
+// A route of a crowd.
+fn crowd_route(alloc: Global, random: &mut Random) -> Result<Arc<Attributes>, Fail> {
+    let texts = [
+        IGP,
+        one_of(random, CROWD_PATHS),
+        NEXT_HOP_A,
+        one_of(random, MEDS),
+        one_of(random, CROWD_COMMUNITIES),
+    ];
+    Ok(Arc::new(alloc, attributes(alloc, &texts)?)?)
+}
+
 // Routes of some of the peers of a crowd, as they are held.
 fn some_held(
     rt: &impl Abort,
@@ -177,20 +227,40 @@ fn some_held(
 ) -> Result<Vec<HeldRoute>, Fail> {
     let mut held = Vec::new(alloc);
     for peer in 0..exchange.count() {
-        let texts = [
-            IGP,
-            one_of(random, CROWD_PATHS),
-            NEXT_HOP_A,
-            one_of(random, MEDS),
-            one_of(random, CROWD_COMMUNITIES),
-        ];
-        let attributes = Arc::new(alloc, attributes(alloc, &texts)?)?;
+        let attributes = crowd_route(alloc, random)?;
         if random.below(4) != 0 {
             assert!(rt; peer < exchange.count());
             held.push(exchange.hold(peer, 0, attributes))?;
         }
     }
     Ok(held)
+}
+
+// Whether a client may get a route.
+fn may_get(rt: &impl Abort, exchange: &Exchange, held: &HeldRoute, client: usize) -> bool {
+    let peer = usize::from(held.peer);
+    is_eligible(rt, exchange, peer, &held.attributes)
+        && is_permitted(rt, exchange, client, peer, &held.attributes)
+}
+
+// The routes that a client may get.
+fn candidates_for<'a>(
+    rt: &impl Abort,
+    alloc: Global,
+    exchange: &Exchange,
+    held: &'a [HeldRoute],
+    client: usize,
+) -> Result<Vec<Candidate<'a>>, AllocError> {
+    let mut candidates = Vec::new(alloc);
+    for route in held {
+        if may_get(rt, exchange, route, client) {
+            candidates.push(Candidate {
+                peer: usize::from(route.peer),
+                attributes: &route.attributes,
+            })?;
+        }
+    }
+    Ok(candidates)
 }
 
 // The number of the peer whose route is the choice among those that a client may get, or its own number where
@@ -202,18 +272,7 @@ fn best_of_one(
     held: &[HeldRoute],
     client: usize,
 ) -> Result<usize, Fail> {
-    let mut candidates = Vec::new(alloc);
-    for route in held {
-        let peer = usize::from(route.peer);
-        if is_eligible(rt, exchange, peer, &route.attributes)
-            && is_permitted(rt, exchange, client, peer, &route.attributes)
-        {
-            candidates.push(Candidate {
-                peer,
-                attributes: &route.attributes,
-            })?;
-        }
-    }
+    let candidates = candidates_for(rt, alloc, exchange, held, client)?;
     let Some(place) = choice(rt, exchange, &candidates) else {
         return Ok(client);
     };
@@ -221,23 +280,45 @@ fn best_of_one(
     Ok(chosen.peer)
 }
 
+// Each client gets its own choice of these routes.
+fn check_choices(
+    rt: &impl Abort,
+    alloc: Global,
+    exchange: &Exchange,
+    held: &[HeldRoute],
+    bests: &[u8],
+    round: u32,
+) -> Result<(), Fail> {
+    for (client, best) in bests.iter().enumerate() {
+        let want = best_of_one(rt, alloc, exchange, held, client)?;
+        assert_eq!(rt;
+            usize::from(*best),
+            want,
+            "client {client} in round {round}"
+        );
+    }
+    Ok(())
+}
+
+// Each client of a crowd gets its own choice.
+fn check_crowd(
+    rt: &impl Abort,
+    alloc: Global,
+    random: &mut Random,
+    round: u32,
+) -> Result<(), Fail> {
+    let count = 1 + random.below(40);
+    let exchange = refusing_crowd(alloc, count, random)?;
+    let held = some_held(rt, alloc, &exchange, random)?;
+    let bests = bests(rt, alloc, &exchange, &held)?;
+    check_choices(rt, alloc, &exchange, &held, &bests, round)
+}
+
 #[test]
 fn all_clients_get_their_own_choice(rt: HostRuntime) -> Result<(), Fail> {
-    let alloc = rt.alloc();
     let mut random = Random { state: 11 };
     for round in 0..60u32 {
-        let count = 1 + random.below(40);
-        let exchange = refusing_crowd(alloc, count, &mut random)?;
-        let held = some_held(&rt, alloc, &exchange, &mut random)?;
-        let bests = bests(&rt, alloc, &exchange, &held)?;
-        for (client, best) in bests.iter().enumerate() {
-            let want = best_of_one(&rt, alloc, &exchange, &held, client)?;
-            assert_eq!(rt;
-                usize::from(*best),
-                want,
-                "client {client} in round {round}"
-            );
-        }
+        check_crowd(&rt, rt.alloc(), &mut random, round)?;
     }
     Ok(())
 }

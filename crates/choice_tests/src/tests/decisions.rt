@@ -14,6 +14,22 @@ fn all_attributes(alloc: Global, sent: &[Sent]) -> Result<Vec<Attributes>, Fail>
     Ok(all)
 }
 
+// Candidates of these attributes, each of its peer.
+fn candidates<'a>(
+    alloc: Global,
+    sent: &[Sent],
+    all: &'a [Attributes],
+) -> Result<Vec<Candidate<'a>>, Fail> {
+    let mut candidates = Vec::new(alloc);
+    for ((peer, _), attributes) in sent.iter().zip(all) {
+        candidates.push(Candidate {
+            peer: *peer,
+            attributes,
+        })?;
+    }
+    Ok(candidates)
+}
+
 // The place of the choice among candidates.
 fn chosen(
     rt: &impl Abort,
@@ -21,15 +37,22 @@ fn chosen(
     exchange: &Exchange,
     sent: &[Sent],
 ) -> Result<Option<usize>, Fail> {
-    let routes = all_attributes(alloc, sent)?;
-    let mut candidates = Vec::new(alloc);
-    for ((peer, _), attributes) in sent.iter().zip(&routes) {
-        candidates.push(Candidate {
-            peer: *peer,
-            attributes,
-        })?;
-    }
+    let all = all_attributes(alloc, sent)?;
+    let candidates = candidates(alloc, sent, &all)?;
     Ok(choice(rt, exchange, &candidates))
+}
+
+// The choice among candidates has this place, or there is none.
+fn check_chosen(
+    rt: &impl Abort,
+    alloc: Global,
+    exchange: &Exchange,
+    sent: &[Sent],
+    want: Option<usize>,
+    what: &str,
+) -> Result<(), Fail> {
+    assert_eq!(rt; chosen(rt, alloc, exchange, sent)?, want, "{what}");
+    Ok(())
 }
 
 const MED_0: &str = "800404 00000000";
@@ -48,16 +71,15 @@ const OF_B: Sent = (1, &[IGP, PATH_64501_65010, NEXT_HOP_A, MED_5]);
 const OF_C: Sent = (2, &[IGP, PATH_64502_65010, NEXT_HOP_A]);
 
 // No member is ahead of all others by pairs: b of a by MED, c of b and a of c by identifier.
-const ORDERS: &[(&[Sent], Option<usize>)] = &[
-    (&[OF_A, OF_B, OF_C], Some(2)),
-    (&[OF_A, OF_C, OF_B], Some(1)),
-    (&[OF_B, OF_A, OF_C], Some(2)),
-    (&[OF_B, OF_C, OF_A], Some(1)),
-    (&[OF_C, OF_A, OF_B], Some(0)),
-    (&[OF_C, OF_B, OF_A], Some(0)),
-    // b has withdrawn.
-    (&[OF_A, OF_C], Some(0)),
-    (&[], None),
+const ORDERS: &[(&[Sent], Option<usize>, &str)] = &[
+    (&[OF_A, OF_B, OF_C], Some(2), "a, b, c"),
+    (&[OF_A, OF_C, OF_B], Some(1), "a, c, b"),
+    (&[OF_B, OF_A, OF_C], Some(2), "b, a, c"),
+    (&[OF_B, OF_C, OF_A], Some(1), "b, c, a"),
+    (&[OF_C, OF_A, OF_B], Some(0), "c, a, b"),
+    (&[OF_C, OF_B, OF_A], Some(0), "c, b, a"),
+    (&[OF_A, OF_C], Some(0), "b has withdrawn"),
+    (&[], None, "none"),
 ];
 
 #[test]
@@ -76,8 +98,8 @@ fn med_is_not_transitive(rt: HostRuntime) -> Result<(), Fail> {
         },
     ];
     let exchange = exchange(rt.alloc(), true, &rows)?;
-    for (sent, want) in ORDERS {
-        assert_eq!(rt; chosen(&rt, rt.alloc(), &exchange, sent)?, *want);
+    for (sent, want, what) in ORDERS {
+        check_chosen(&rt, rt.alloc(), &exchange, sent, *want, what)?;
     }
     Ok(())
 }
@@ -152,10 +174,21 @@ const STEPS: &[(&[Sent], Option<usize>, &str)] = &[
 fn each_step_decides(rt: HostRuntime) -> Result<(), Fail> {
     let exchange = exchange(rt.alloc(), true, &[A, Row { asn: 64501, ..B }])?;
     for (sent, want, what) in STEPS {
-        assert_eq!(rt; chosen(&rt, rt.alloc(), &exchange, sent)?, *want, "{what}");
+        check_chosen(&rt, rt.alloc(), &exchange, sent, *want, what)?;
     }
     Ok(())
 }
+
+// Of candidates from a and b, both of one identifier.
+const TIES: &[(&[Sent], Option<usize>, &str)] = &[
+    (&[PLAIN_OF_A, PLAIN_OF_B], Some(0), "a, b"),
+    (&[PLAIN_OF_B, PLAIN_OF_A], Some(1), "b, a"),
+    (
+        &[PLAIN_OF_B, PLAIN_OF_A, PLAIN_OF_A],
+        Some(1),
+        "the least place of a's",
+    ),
+];
 
 #[test]
 fn the_last_tie_goes_to_the_lower_address(rt: HostRuntime) -> Result<(), Fail> {
@@ -171,42 +204,24 @@ fn the_last_tie_goes_to_the_lower_address(rt: HostRuntime) -> Result<(), Fail> {
         },
     ];
     let exchange = exchange(rt.alloc(), true, &rows)?;
-    assert_eq!(rt;
-        chosen(&rt, rt.alloc(), &exchange, &[PLAIN_OF_A, PLAIN_OF_B])?,
-        Some(0)
-    );
-    assert_eq!(rt;
-        chosen(&rt, rt.alloc(), &exchange, &[PLAIN_OF_B, PLAIN_OF_A])?,
-        Some(1)
-    );
-    assert_eq!(rt;
-        chosen(
-            &rt,
-            rt.alloc(),
-            &exchange,
-            &[PLAIN_OF_B, PLAIN_OF_A, PLAIN_OF_A]
-        )?,
-        Some(1),
-        "the least place of a's"
-    );
+    for (sent, want, what) in TIES {
+        check_chosen(&rt, rt.alloc(), &exchange, sent, *want, what)?;
+    }
     Ok(())
+}
+
+// An exchange of a and b, of which b is preferred.
+fn preferring_b(alloc: Global) -> Result<Exchange, Fail> {
+    let mut peers = peers(alloc, &[A, B])?;
+    if let Some(b) = peers.get_mut(1) {
+        b.preference = 101;
+    }
+    Ok(Exchange::new(alloc, server(true), peers)?)
 }
 
 #[test]
 fn preference_goes_before_path_length(rt: HostRuntime) -> Result<(), Fail> {
-    let alloc = rt.alloc();
-    let preferred = PeerSpec {
-        preference: 101,
-        ..peer(alloc, &B)?
-    };
-    let exchange = Exchange::new(
-        alloc,
-        server(true),
-        vec![in alloc; peer(alloc, &A)?, preferred]?,
-    )?;
-    assert_eq!(rt;
-        chosen(&rt, rt.alloc(), &exchange, &[PLAIN_OF_A, LENGTH_4_OF_B])?,
-        Some(1)
-    );
-    Ok(())
+    let exchange = preferring_b(rt.alloc())?;
+    let sent = [PLAIN_OF_A, LENGTH_4_OF_B];
+    check_chosen(&rt, rt.alloc(), &exchange, &sent, Some(1), "b is preferred")
 }

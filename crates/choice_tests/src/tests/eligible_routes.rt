@@ -9,7 +9,9 @@ const NEXT_HOP_OF_SERVER: &str = "400304 C0000201";
 const NEXT_HOP_ELSEWHERE: &str = "400304 C6336401";
 
 // The AS_PATH and NEXT_HOP of a route of a, and whether it is eligible with the subnet, and without.
-const ROUTES: &[(&str, &str, bool, bool, &str)] = &[
+type Sent = (&'static str, &'static str, bool, bool, &'static str);
+
+const ROUTES: &[Sent] = &[
     (
         PATH_64501,
         NEXT_HOP_A,
@@ -54,26 +56,48 @@ const ROUTES: &[(&str, &str, bool, bool, &str)] = &[
     ),
 ];
 
-#[test]
-fn routes_are_eligible_by_path_and_next_hop(rt: HostRuntime) -> Result<(), Fail> {
-    let alloc = rt.alloc();
-    let inside = exchange(alloc, true, &[A, B])?;
-    let anywhere = exchange(alloc, false, &[A, B])?;
-    for (path, next_hop, with_subnet, without, what) in ROUTES {
-        let sent = attributes(alloc, &[IGP, path, next_hop])?;
-        assert_eq!(rt; is_eligible(&rt, &inside, 0, &sent), *with_subnet, "{what}");
-        assert_eq!(rt;
-            is_eligible(&rt, &anywhere, 0, &sent),
-            *without,
-            "{what}, no subnet"
-        );
-    }
+// A route of a is eligible as it is to be in an exchange with the subnet, and in one without.
+fn check_route(
+    rt: &impl Abort,
+    alloc: Global,
+    inside: &Exchange,
+    anywhere: &Exchange,
+    route: &Sent,
+) -> Result<(), Fail> {
+    let (path, next_hop, with_subnet, without, what) = *route;
+    let sent = attributes(alloc, &[IGP, path, next_hop])?;
+    let found = (
+        is_eligible(rt, inside, 0, &sent),
+        is_eligible(rt, anywhere, 0, &sent),
+    );
+    assert_eq!(rt; found, (with_subnet, without), "{what}");
     Ok(())
 }
 
 #[test]
+fn routes_are_eligible_by_path_and_next_hop(rt: HostRuntime) -> Result<(), Fail> {
+    let inside = exchange(rt.alloc(), true, &[A, B])?;
+    let anywhere = exchange(rt.alloc(), false, &[A, B])?;
+    for route in ROUTES {
+        check_route(&rt, rt.alloc(), &inside, &anywhere, route)?;
+    }
+    Ok(())
+}
+
+// Whether a route with this next hop is eligible, of a peer.
+fn is_eligible_by(
+    rt: &impl Abort,
+    alloc: Global,
+    exchange: &Exchange,
+    peer: usize,
+    next_hop: &str,
+) -> Result<bool, Fail> {
+    let sent = attributes(alloc, &[IGP, PATH_64501, next_hop])?;
+    Ok(is_eligible(rt, exchange, peer, &sent))
+}
+
+#[test]
 fn a_sender_may_stand_outside_the_subnet(rt: HostRuntime) -> Result<(), Fail> {
-    let alloc = rt.alloc();
     let rows = [
         Row {
             address: ELSEWHERE,
@@ -84,14 +108,19 @@ fn a_sender_may_stand_outside_the_subnet(rt: HostRuntime) -> Result<(), Fail> {
             ..B
         },
     ];
-    let exchange = exchange(alloc, true, &rows)?;
-    let own = attributes(alloc, &[IGP, PATH_64501, NEXT_HOP_ELSEWHERE])?;
-    assert!(rt; is_eligible(&rt, &exchange, 0, &own));
-    assert!(rt; !is_eligible(&rt, &exchange, 1, &own));
-    let of_server = attributes(alloc, &[IGP, PATH_64501, NEXT_HOP_OF_SERVER])?;
-    assert!(rt;
-        !is_eligible(&rt, &exchange, 1, &of_server),
-        "the server's and the sender's"
-    );
+    let exchange = exchange(rt.alloc(), true, &rows)?;
+    for (peer, next_hop, wanted, what) in [
+        (0, NEXT_HOP_ELSEWHERE, true, "the sender's"),
+        (1, NEXT_HOP_ELSEWHERE, false, "another's"),
+        (
+            1,
+            NEXT_HOP_OF_SERVER,
+            false,
+            "the server's and the sender's",
+        ),
+    ] {
+        let found = is_eligible_by(&rt, rt.alloc(), &exchange, peer, next_hop)?;
+        assert_eq!(rt; found, wanted, "{what}");
+    }
     Ok(())
 }

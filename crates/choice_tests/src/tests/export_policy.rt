@@ -18,65 +18,91 @@ const COMMUNITIES: &[(&str, bool, bool)] = &[
     ("C00808 0000FBF4 FBF4FBF7", false, true),
 ];
 
+// Whether a client may get a route of a peer with these communities.
+fn is_exported(
+    rt: &impl Abort,
+    alloc: Global,
+    exchange: &Exchange,
+    client: usize,
+    peer: usize,
+    communities: &str,
+) -> Result<bool, Fail> {
+    let sent = attributes(alloc, &[IGP, PATH_64501, NEXT_HOP_A, communities])?;
+    Ok(is_permitted(rt, exchange, client, peer, &sent))
+}
+
+// Whether a, which sends it, b and c may get a route of a with these communities.
+fn are_exported(
+    rt: &impl Abort,
+    alloc: Global,
+    exchange: &Exchange,
+    communities: &str,
+) -> Result<(bool, bool, bool), Fail> {
+    Ok((
+        is_exported(rt, alloc, exchange, 0, 0, communities)?,
+        is_exported(rt, alloc, exchange, 1, 0, communities)?,
+        is_exported(rt, alloc, exchange, 2, 0, communities)?,
+    ))
+}
+
 #[test]
 fn communities_refuse_and_permit(rt: HostRuntime) -> Result<(), Fail> {
-    let alloc = rt.alloc();
-    let exchange = exchange(alloc, true, &[A, B, C])?;
+    let exchange = exchange(rt.alloc(), true, &[A, B, C])?;
     for (communities, to_b, to_c) in COMMUNITIES {
-        let sent = attributes(alloc, &[IGP, PATH_64501, NEXT_HOP_A, communities])?;
-        assert_eq!(rt;
-            is_permitted(&rt, &exchange, 1, 0, &sent),
-            *to_b,
-            "{communities} to b"
-        );
-        assert_eq!(rt;
-            is_permitted(&rt, &exchange, 2, 0, &sent),
-            *to_c,
-            "{communities} to c"
-        );
-        assert!(rt; !is_permitted(&rt, &exchange, 0, 0, &sent), "its own route");
+        let found = are_exported(&rt, rt.alloc(), &exchange, communities)?;
+        assert_eq!(rt; found, (false, *to_b, *to_c), "{communities}");
     }
     Ok(())
 }
 
 #[test]
 fn no_community_names_a_large_as_number(rt: HostRuntime) -> Result<(), Fail> {
-    let alloc = rt.alloc();
-    let exchange = exchange(alloc, true, &[A, Row { asn: 70000, ..B }])?;
+    let exchange = exchange(rt.alloc(), true, &[A, Row { asn: 70000, ..B }])?;
     // (64500, 70000 - 65536), alone and with (0, 64500).
-    let permitted = attributes(alloc, &[IGP, PATH_64501, NEXT_HOP_A, "C00804 FBF41170"])?;
-    assert!(rt; is_permitted(&rt, &exchange, 1, 0, &permitted));
-    let refused = attributes(
-        alloc,
-        &[IGP, PATH_64501, NEXT_HOP_A, "C00808 0000FBF4 FBF41170"],
-    )?;
-    assert!(rt; !is_permitted(&rt, &exchange, 1, 0, &refused));
+    for (communities, wanted) in [
+        ("C00804 FBF41170", true),
+        ("C00808 0000FBF4 FBF41170", false),
+    ] {
+        let found = is_exported(&rt, rt.alloc(), &exchange, 1, 0, communities)?;
+        assert_eq!(rt; found, wanted, "{communities}");
+    }
     Ok(())
 }
 
 #[test]
 fn a_client_refuses_peers_by_name(rt: HostRuntime) -> Result<(), Fail> {
-    let alloc = rt.alloc();
     let picky = Row {
         refuse_from: &["b", "c", "c"],
         ..B
     };
-    let exchange = exchange(alloc, true, &[A, picky, C])?;
-    // (64500, 64502)
-    let sent = attributes(alloc, &[IGP, PATH_64501, NEXT_HOP_A, "C00804 FBF4FBF6"])?;
-    assert!(rt;
-        !is_permitted(&rt, &exchange, 1, 2, &sent),
-        "b refuses all of c"
-    );
-    assert!(rt;
-        is_permitted(&rt, &exchange, 1, 0, &sent),
-        "b refuses nothing of a"
-    );
-    assert!(rt;
-        is_permitted(&rt, &exchange, 2, 1, &sent),
-        "c refuses nothing of b"
-    );
+    let exchange = exchange(rt.alloc(), true, &[A, picky, C])?;
+    for (client, peer, wanted, what) in [
+        (1, 2, false, "b refuses all of c"),
+        (1, 0, true, "b refuses nothing of a"),
+        (2, 1, true, "c refuses nothing of b"),
+    ] {
+        // (64500, 64502)
+        let found = is_exported(&rt, rt.alloc(), &exchange, client, peer, "C00804 FBF4FBF6")?;
+        assert_eq!(rt; found, wanted, "{what}");
+    }
     Ok(())
+}
+
+// The routes that policy permits to a client.
+fn permitted<'a>(
+    rt: &impl Abort,
+    alloc: Global,
+    exchange: &Exchange,
+    client: usize,
+    routes: &[Candidate<'a>],
+) -> Result<Vec<Candidate<'a>>, AllocError> {
+    let mut permitted = Vec::new(alloc);
+    for route in routes {
+        if is_permitted(rt, exchange, client, route.peer, route.attributes) {
+            permitted.push(*route)?;
+        }
+    }
+    Ok(permitted)
 }
 
 // The number of the peer whose route a client gets, of the routes that policy permits to it.
@@ -87,14 +113,23 @@ fn sender_for(
     client: usize,
     routes: &[Candidate],
 ) -> Result<Option<usize>, Fail> {
-    let mut permitted = Vec::new(alloc);
-    for route in routes {
-        if is_permitted(rt, exchange, client, route.peer, route.attributes) {
-            permitted.push(*route)?;
-        }
-    }
+    let permitted = permitted(rt, alloc, exchange, client, routes)?;
     let place = choice(rt, exchange, &permitted).ok_or("there is a candidate")?;
     Ok(permitted.get(place).map(|chosen| chosen.peer))
+}
+
+// Each client gets the route of the other of a and c, of which a's isn't for b.
+fn check_senders(
+    rt: &impl Abort,
+    alloc: Global,
+    exchange: &Exchange,
+    routes: &[Candidate],
+) -> Result<(), Fail> {
+    for (client, want) in [(0, 2), (1, 2), (2, 0), (3, 0)] {
+        let found = sender_for(rt, alloc, exchange, client, routes)?;
+        assert_eq!(rt; found, Some(want), "at client {client}");
+    }
+    Ok(())
 }
 
 #[test]
@@ -113,12 +148,5 @@ fn no_path_is_hidden_by_policy(rt: HostRuntime) -> Result<(), Fail> {
             attributes: &of_c,
         },
     ];
-    for (client, want) in [(0, 2), (1, 2), (2, 0), (3, 0)] {
-        assert_eq!(rt;
-            sender_for(&rt, alloc, &exchange, client, &routes)?,
-            Some(want),
-            "at client {client}"
-        );
-    }
-    Ok(())
+    check_senders(&rt, alloc, &exchange, &routes)
 }

@@ -6,17 +6,32 @@ use super::*;
 fn an_exchange_shows_its_plan(rt: HostRuntime) -> Result<(), Fail> {
     let exchange = exchange(rt.alloc(), true, &[A, B, C, D])?;
     assert_eq!(rt; exchange.count(), 4);
-    assert_eq!(rt; exchange.local().asn, 64500);
-    assert_eq!(rt; exchange.local().subnet, Prefix::new(0xC000_0200, 24));
+    let local = exchange.local();
     let third = exchange.peer(2);
-    assert_eq!(rt; third.name.as_str(), "c");
-    assert_eq!(rt; third.address, C.address);
+    assert_eq!(rt;
+        (local.asn, local.subnet),
+        (64500, Prefix::new(0xC000_0200, 24))
+    );
+    assert_eq!(rt; (third.name.as_str(), third.address), ("c", C.address));
     Ok(())
 }
 
 // The fault of a plan.
 fn fault_of(alloc: Global, local: Local, rows: &[Row]) -> Result<Option<PlanFault>, AllocError> {
     Ok(Exchange::new(alloc, local, peers(alloc, rows)?).err())
+}
+
+// A plan has this fault, or none.
+fn check_plan(
+    rt: &impl Abort,
+    alloc: Global,
+    local: Local,
+    rows: &[Row],
+    want: Option<PlanFault>,
+    what: &str,
+) -> Result<(), AllocError> {
+    assert_eq!(rt; fault_of(alloc, local, rows)?, want, "{what}");
+    Ok(())
 }
 
 const NAME_OF_64: &str = "0123456789-ABCDEFGHIJKLMNOPQRSTUVWXYZ_abcdefghijklmnopqrstuvwxyz";
@@ -125,30 +140,37 @@ const PLANS: &[(&[Row], Option<PlanFault>, &str)] = &[
 #[test]
 fn a_plan_has_the_fault_that_comes_first(rt: HostRuntime) -> Result<(), Fail> {
     for (rows, want, what) in PLANS {
-        assert_eq!(rt; fault_of(rt.alloc(), server(true), rows)?, *want, "{what}");
+        check_plan(&rt, rt.alloc(), server(true), rows, *want, what)?;
     }
     Ok(())
 }
 
+// The server's AS number, the peers, and the fault of such a plan.
+const WHOLE_PLANS: &[(u32, &[Row], PlanFault, &str)] = &[
+    (
+        0,
+        &[Row { name: "", ..A }],
+        PlanFault::ZeroAs(None),
+        "no AS number, before a peer's fault",
+    ),
+    (
+        0,
+        &[A; 257],
+        PlanFault::TooManyPeers,
+        "257 peers, before no AS number",
+    ),
+    (64500, &[A; 256], PlanFault::RepeatedName(1), "256 peers"),
+];
+
 #[test]
 fn faults_of_the_whole_plan_come_first(rt: HostRuntime) -> Result<(), Fail> {
-    let alloc = rt.alloc();
-    let no_as = Local {
-        asn: 0,
-        ..server(true)
-    };
-    assert_eq!(rt;
-        fault_of(alloc, no_as, &[Row { name: "", ..A }])?,
-        Some(PlanFault::ZeroAs(None))
-    );
-    assert_eq!(rt;
-        fault_of(alloc, no_as, &[A; 257])?,
-        Some(PlanFault::TooManyPeers)
-    );
-    assert_eq!(rt;
-        fault_of(alloc, server(true), &[A; 256])?,
-        Some(PlanFault::RepeatedName(1))
-    );
+    for (asn, rows, fault, what) in WHOLE_PLANS {
+        let local = Local {
+            asn: *asn,
+            ..server(true)
+        };
+        check_plan(&rt, rt.alloc(), local, rows, Some(*fault), what)?;
+    }
     Ok(())
 }
 
@@ -190,12 +212,23 @@ const FAULTS: &[(PlanFault, u8, Option<usize>, &str)] = &[
     (PlanFault::Memory, 8, None, "out of memory"),
 ];
 
+// A fault has this number, names this peer or none, and says this.
+fn check_fault(
+    rt: &impl Abort,
+    alloc: Global,
+    fault: PlanFault,
+    wanted: (u8, Option<usize>, &str),
+) -> Result<(), Fail> {
+    let text = format!(in alloc; "{fault}")?;
+    let found = (fault.number(), fault.peer(), text.as_str());
+    assert_eq!(rt; found, wanted);
+    Ok(())
+}
+
 #[test]
 fn faults_are_numbered(rt: HostRuntime) -> Result<(), Fail> {
     for (fault, number, peer, text) in FAULTS {
-        assert_eq!(rt; fault.number(), *number, "{text}");
-        assert_eq!(rt; fault.peer(), *peer, "{text}");
-        assert_eq!(rt; format!(in rt.alloc(); "{fault}")?.as_str(), *text);
+        check_fault(&rt, rt.alloc(), *fault, (*number, *peer, text))?;
     }
     Ok(())
 }
