@@ -8,7 +8,7 @@ use rs_choice::Exchange;
 use rs_floor::{Floor, FloorRefused, Gate, Open, PeerEnd, Served, Turn, replay, serve_by};
 use rs_mrt::{MemoryReader, ReadLimits};
 use rs_session::Reason;
-use rs_table::Tables;
+use rs_table::{Row, Tables};
 use rs_update::Errors;
 use spelled_in_hex::octets;
 use std::alloc::{AllocError, Global};
@@ -28,41 +28,44 @@ struct Case {
     rows: [&'static [(u32, usize)]; 4],
 }
 
-// The best route on 203.0.113.0/24 isn't for the second peer, by its communities: it gets the other one.
+// What is recorded of the first peer: 203.0.113.0/24, which isn't for the second one, by its communities.
+const RESTRICTED: &str =
+    "00000064001000040000004A0000FBF50000FBF400000001C000020BC0000201FFFFFFFFFFFFFFFFFFFFFFFF
+    FFFFFFFF0036020000001B4001010040020602010000FBF5400304C000020BC008040000FBF618CB0071";
+
+// What is recorded of the third peer: a longer path to it.
+const LONGER: &str =
+    "0000006400100004000000470000FBF70000FBF400000001C000020DC0000201FFFFFFFFFFFFFFFFFFFFFFFF
+    FFFFFFFF003302000000184001010040020A02020000FBF70000FDF2400304C000020D18CB0071";
+
+// The best route on 203.0.113.0/24 isn't for the second peer: it gets the other one.
 const NO_PATH_IS_HIDDEN: Case = Case {
-    recorded: [
-        "00000064001000040000004A0000FBF50000FBF400000001C000020BC0000201FFFFFFFFFFFFFFFFFFFFFFFF
-        FFFFFFFF0036020000001B4001010040020602010000FBF5400304C000020BC008040000FBF618CB0071",
-        "",
-        "0000006400100004000000470000FBF70000FBF400000001C000020DC0000201FFFFFFFFFFFFFFFFFFFFFFFF
-        FFFFFFFF003302000000184001010040020A02020000FBF70000FDF2400304C000020D18CB0071",
-        "",
-    ],
+    recorded: [RESTRICTED, "", LONGER, ""],
     counts: [(2, 0), (1, 0), (2, 0), (1, 0)],
     rows: [&[(203, 2)], &[(203, 2)], &[(203, 0)], &[(203, 0)]],
 };
 
-// A file of the first peer with records of others, of other families and of other forms between its own.
+// What a collector recorded, 506 octets: records of others, of other families and of other forms between those of the
+// first peer.
+const COLLECTED: &str =
+    "0000006400100004000000430000FBF50000FBF400000001C000020BC0000201FFFFFFFFFFFFFFFFFFFFFFFF
+    FFFFFFFF002F02000000144001010040020602010000FBF5400304C000020B18CB0071
+    0000006400100004000000430000FBF60000FBF400000001C000020CC0000201FFFFFFFFFFFFFFFFFFFFFFFF
+    FFFFFFFF002F02000000144001010040020602010000FBF6400304C000020C18CB0071
+    00000064001000040000005B0000FBF50000FBF4000000020000000000000000000000000000000000000000
+    000000000000000000000000FFFFFFFFFFFFFFFFFFFFFFFFFFFFFFFF002F0200000014400101004002060201
+    0000FBF5400304C000020B18CB0071
+    00000064001000010000003FFBF5FBF400000001C000020BC0000201FFFFFFFFFFFFFFFFFFFFFFFFFFFFFFFF
+    002F02000000144001010040020602010000FBF5400304C000020B18CB0071
+    0000006400100005000000180000FBF70000FBF400000001C000020DC000020100060001
+    0000006400100004000000270000FBF80000FBF400000001C000020EC0000201FFFFFFFFFFFFFFFFFFFFFFFF
+    FFFFFFFF001304
+    000000650011000400000047000000000000FBF50000FBF400000001C000020BC0000201FFFFFFFFFFFFFFFF
+    FFFFFFFFFFFFFFFF002F02000000144001010040020602010000FBF5400304C000020B18C63364";
+
+// The file of the first peer is a collector's.
 const COLLECTORS_FILE: Case = Case {
-    recorded: [
-        "0000006400100004000000430000FBF50000FBF400000001C000020BC0000201FFFFFFFFFFFFFFFFFFFFFFFF
-        FFFFFFFF002F02000000144001010040020602010000FBF5400304C000020B18CB0071
-        0000006400100004000000430000FBF60000FBF400000001C000020CC0000201FFFFFFFFFFFFFFFFFFFFFFFF
-        FFFFFFFF002F02000000144001010040020602010000FBF6400304C000020C18CB0071
-        00000064001000040000005B0000FBF50000FBF4000000020000000000000000000000000000000000000000
-        000000000000000000000000FFFFFFFFFFFFFFFFFFFFFFFFFFFFFFFF002F0200000014400101004002060201
-        0000FBF5400304C000020B18CB0071
-        00000064001000010000003FFBF5FBF400000001C000020BC0000201FFFFFFFFFFFFFFFFFFFFFFFFFFFFFFFF
-        002F02000000144001010040020602010000FBF5400304C000020B18CB0071
-        0000006400100005000000180000FBF70000FBF400000001C000020DC000020100060001
-        0000006400100004000000270000FBF80000FBF400000001C000020EC0000201FFFFFFFFFFFFFFFFFFFFFFFF
-        FFFFFFFF001304
-        000000650011000400000047000000000000FBF50000FBF400000001C000020BC0000201FFFFFFFFFFFFFFFF
-        FFFFFFFFFFFFFFFF002F02000000144001010040020602010000FBF5400304C000020B18C63364",
-        "",
-        "",
-        "",
-    ],
+    recorded: [COLLECTED, "", "", ""],
     counts: [(3, 5), (1, 0), (1, 0), (1, 0)],
     rows: [
         &[],
@@ -71,6 +74,8 @@ const COLLECTORS_FILE: Case = Case {
         &[(198, 0), (203, 0)],
     ],
 };
+
+const CASES: &[Case] = &[NO_PATH_IS_HIDDEN, COLLECTORS_FILE];
 
 // The files of what is recorded of four peers.
 fn files(alloc: Global, recorded: [&str; 4]) -> Option<[Vec<u8>; 4]> {
@@ -86,15 +91,19 @@ fn files(alloc: Global, recorded: [&str; 4]) -> Option<[Vec<u8>; 4]> {
     Some(files)
 }
 
+// Whether rows are these, in order.
+fn are_rows(rows: &[Row], wanted: &[(u32, usize)]) -> bool {
+    rows.len() == wanted.len()
+        && rows.iter().zip(wanted).all(|(row, (octet, peer))| {
+            row.prefix.address() >> 24 == *octet && row.route.peer == *peer
+        })
+}
+
 // Whether a client's rows are those of the case. None where memory is refused.
 fn has_rows(rt: &impl Abort, tables: &Tables, case: &Case, client: usize) -> Option<bool> {
     assert!(rt; client < tables.count());
     let rows = tables.rows(client).ok()?;
-    let wanted = case.rows.get(client)?;
-    let same = rows.iter().zip(wanted.iter()).all(|(row, (octet, peer))| {
-        row.prefix.address() >> 24 == *octet && row.route.peer == *peer
-    });
-    Some(rows.len() == wanted.len() && same)
+    Some(are_rows(&rows, case.rows.get(client)?))
 }
 
 // Every client's rows are those of the case, where there is memory to see them.
@@ -220,21 +229,24 @@ fn run_to_the_end<R: Threads + Wait + Sync + Abort>(
     answer
 }
 
-// Runs a case through rings of this capacity.
-fn run_case<R: Threads + Wait + Sync + Abort>(rt: &R, alloc: Global, case: &Case, capacity: usize) {
-    let (Some(plan), Some(files)) = (exchange(alloc, 4), files(alloc, case.recorded)) else {
-        return;
-    };
-    let answer = run_to_the_end(rt, alloc, &plan, &files, [None; 4], capacity);
-    check_run(rt, case, answer);
+// What comes of a run of a case through rings of this capacity.
+fn run_case<R: Threads + Wait + Sync + Abort>(
+    rt: &R,
+    alloc: Global,
+    case: &Case,
+    capacity: usize,
+) -> Result<Served, FloorRefused> {
+    let plan = exchange(alloc, 4).ok_or(FloorRefused::Memory)?;
+    let files = files(alloc, case.recorded).ok_or(FloorRefused::Memory)?;
+    run_to_the_end(rt, alloc, &plan, &files, [None; 4], capacity)
 }
 
 // It holds whichever allocation or thread is refused. `tools/refuse_in_tests` refuses each in turn.
 #[test]
 fn refused_memory_or_a_refused_thread_refuses_a_run(rt: HostRuntime) {
-    for case in [NO_PATH_IS_HIDDEN, COLLECTORS_FILE] {
-        run_case(&rt, rt.alloc(), &case, 1);
-        run_case(&rt, rt.alloc(), &case, 64);
+    for case in CASES {
+        check_run(&rt, case, run_case(&rt, rt.alloc(), case, 1));
+        check_run(&rt, case, run_case(&rt, rt.alloc(), case, 64));
     }
 }
 
@@ -265,17 +277,17 @@ fn replay_files(
     replay(alloc, plan, &[a, b, c, d], capacity, turns)
 }
 
-// What comes of a case's schedule, where there is memory to write it.
+// What comes of a case's schedule through rings of this capacity.
 fn replay_case(
     rt: &impl Abort,
     alloc: Global,
     case: &Case,
     capacity: usize,
-) -> Option<Result<Floor, FloorRefused>> {
-    let plan = exchange(alloc, 4)?;
-    let turns = turns(alloc, case).ok()?;
-    let files = files(alloc, case.recorded)?;
-    Some(replay_files(rt, alloc, &plan, &files, capacity, &turns))
+) -> Result<Floor, FloorRefused> {
+    let plan = exchange(alloc, 4).ok_or(FloorRefused::Memory)?;
+    let turns = turns(alloc, case)?;
+    let files = files(alloc, case.recorded).ok_or(FloorRefused::Memory)?;
+    replay_files(rt, alloc, &plan, &files, capacity, &turns)
 }
 
 // All changes of the case were sent and received, and the tables are those of the case.
@@ -288,21 +300,20 @@ fn check_floor(rt: &impl Abort, floor: &Floor, case: &Case) {
     check_rows(rt, floor.tables(), case);
 }
 
-// Takes a case's schedule through rings of this capacity: it is refused, or its end is that of the case.
-fn check_schedule(rt: &impl Abort, alloc: Global, case: &Case, capacity: usize) {
-    match replay_case(rt, alloc, case, capacity) {
-        Some(Ok(floor)) => check_floor(rt, &floor, case),
-        Some(Err(refused)) => assert_eq!(rt; refused, FloorRefused::Memory),
-        None => {}
+// A case's schedule is refused, or its end is that of the case.
+fn check_schedule(rt: &impl Abort, case: &Case, answer: Result<Floor, FloorRefused>) {
+    match answer {
+        Ok(floor) => check_floor(rt, &floor, case),
+        Err(refused) => assert_eq!(rt; refused, FloorRefused::Memory),
     }
 }
 
 // It holds whichever allocation is refused. `tools/refuse_in_tests` refuses each in turn.
 #[test]
 fn refused_memory_refuses_a_schedule(rt: HostRuntime) {
-    for case in [NO_PATH_IS_HIDDEN, COLLECTORS_FILE] {
-        check_schedule(&rt, rt.alloc(), &case, 1);
-        check_schedule(&rt, rt.alloc(), &case, 64);
+    for case in CASES {
+        check_schedule(&rt, case, replay_case(&rt, rt.alloc(), case, 1));
+        check_schedule(&rt, case, replay_case(&rt, rt.alloc(), case, 64));
     }
 }
 
@@ -328,24 +339,34 @@ fn check_served<R: Threads + Wait + Sync + Abort>(
 fn nothing_is_refused_where_memory_and_threads_are_there(rt: HostRuntime) {
     let alloc = rt.alloc();
     let plan = exchange(alloc, 4).expect(&rt, "an exchange");
-    for case in [NO_PATH_IS_HIDDEN, COLLECTORS_FILE] {
-        check_served(&rt, alloc, &plan, &case, 1);
-        check_served(&rt, alloc, &plan, &case, 64);
+    for case in CASES {
+        check_served(&rt, alloc, &plan, case, 1);
+        check_served(&rt, alloc, &plan, case, 64);
     }
 }
 
-// Why a run is refused of which a read of the second reader fails after so many octets, and the first read of
-// the last reader.
-fn refusal<R: Threads + Wait + Sync + Abort>(
+// The files of four peers, of which the second is the collector's.
+fn files_to_fail(rt: &impl Abort, alloc: Global) -> [Vec<u8>; 4] {
+    let files = files(alloc, ["", COLLECTED, LONGER, ""]).expect(rt, "memory");
+    assert_eq!(rt; files[1].len(), 506);
+    files
+}
+
+// A run of which a read of the second reader fails after so many octets, and the first read of the last reader, is
+// refused for the least such peer.
+fn check_failed_read<R: Threads + Wait + Sync + Abort>(
     rt: &R,
     alloc: Global,
     plan: &Arc<Exchange>,
     files: &[Vec<u8>; 4],
     before_failure: usize,
-) -> Option<FloorRefused> {
+) {
     let failures = [None, Some(before_failure), None, Some(0)];
     let capacity = before_failure % 3 + 1;
-    run_to_the_end(rt, alloc, plan, files, failures, capacity).err()
+    let answer = run_to_the_end(rt, alloc, plan, files, failures, capacity);
+    let least = if before_failure <= 506 { 1 } else { 3 };
+    let wanted = Some(FloorRefused::Read(least));
+    assert_eq!(rt; answer.err(), wanted, "after {before_failure} octets");
 }
 
 // Each read of the second reader fails in turn, the one that finds the end too, and the first read of the
@@ -354,14 +375,8 @@ fn refusal<R: Threads + Wait + Sync + Abort>(
 fn whichever_read_fails_the_least_such_peer_is_told(rt: HostRuntime) {
     let alloc = rt.alloc();
     let plan = exchange(alloc, 4).expect(&rt, "an exchange");
-    let [of_collector, ..] = COLLECTORS_FILE.recorded;
-    let [_, _, of_third, _] = NO_PATH_IS_HIDDEN.recorded;
-    let files = files(alloc, ["", of_collector, of_third, ""]).expect(&rt, "memory");
-    assert_eq!(rt; files[1].len(), 506);
+    let files = files_to_fail(&rt, alloc);
     for before_failure in 0..508usize {
-        let refused = refusal(&rt, alloc, &plan, &files, before_failure);
-        let least = if before_failure <= 506 { 1 } else { 3 };
-        let wanted = Some(FloorRefused::Read(least));
-        assert_eq!(rt; refused, wanted, "after {before_failure} octets");
+        check_failed_read(&rt, alloc, &plan, &files, before_failure);
     }
 }

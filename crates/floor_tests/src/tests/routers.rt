@@ -73,29 +73,35 @@ const FIRST: [Change; 8] = [
 
 const SECOND: [Change; 3] = [Announce(203), Down, Close(FAULT)];
 
+// A shard's cuts of what each of the two says.
+type Cuts = (&'static [(u32, Change)], &'static [(u32, Change)]);
+
 // What each of three shards gets of them: 198 and 0 are in shard 0, 1 in shard 1, 203 in shard 2. A change
 // has its place as its time.
-const FIRST_CUT: [&[(u32, Change)]; 3] = [
-    &[
-        (0, Announce(198)),
-        (3, Withdraw(198)),
-        (4, Down),
-        (5, Announce(0)),
-        (7, Close(Reason::EndOfFile)),
-    ],
-    &[
-        (2, Announce(1)),
-        (4, Down),
-        (6, Withdraw(1)),
-        (7, Close(Reason::EndOfFile)),
-    ],
-    &[(1, Announce(203)), (4, Down), (7, Close(Reason::EndOfFile))],
-];
-
-const SECOND_CUT: [&[(u32, Change)]; 3] = [
-    &[(1, Down), (2, Close(FAULT))],
-    &[(1, Down), (2, Close(FAULT))],
-    &[(0, Announce(203)), (1, Down), (2, Close(FAULT))],
+const CUTS: &[Cuts] = &[
+    (
+        &[
+            (0, Announce(198)),
+            (3, Withdraw(198)),
+            (4, Down),
+            (5, Announce(0)),
+            (7, Close(Reason::EndOfFile)),
+        ],
+        &[(1, Down), (2, Close(FAULT))],
+    ),
+    (
+        &[
+            (2, Announce(1)),
+            (4, Down),
+            (6, Withdraw(1)),
+            (7, Close(Reason::EndOfFile)),
+        ],
+        &[(1, Down), (2, Close(FAULT))],
+    ),
+    (
+        &[(1, Announce(203)), (4, Down), (7, Close(Reason::EndOfFile))],
+        &[(0, Announce(203)), (1, Down), (2, Close(FAULT))],
+    ),
 ];
 
 // The change as it goes through a ring.
@@ -289,13 +295,12 @@ fn through<R: Threads + Wait + Sync>(rt: &R, alloc: Global, capacity: usize) -> 
 }
 
 // What a shard received of both peers is its cut of what each of them says.
-fn check_cuts(rt: &impl Abort, cuts: &[Vec<(u32, Change)>; 2], shard: usize, capacity: usize) {
-    assert!(rt; shard < 3);
-    let [first, second] = cuts;
+fn check_cuts(rt: &impl Abort, received: &[Vec<(u32, Change)>; 2], cuts: Cuts, capacity: usize) {
+    let [first, second] = received;
     assert_eq!(rt;
         (first.as_slice(), second.as_slice()),
-        (FIRST_CUT[shard], SECOND_CUT[shard]),
-        "{shard}, through {capacity}"
+        cuts,
+        "through {capacity}"
     );
 }
 
@@ -304,8 +309,8 @@ fn check_through<R: Threads + Wait + Sync + Abort>(rt: &R, alloc: Global, capaci
     let Some(received) = through(rt, alloc, capacity) else {
         panic!(rt; "out of memory through {capacity}");
     };
-    for (shard, cuts) in received.cuts.iter().enumerate() {
-        check_cuts(rt, cuts, shard, capacity);
+    for (received, cuts) in received.cuts.iter().zip(CUTS) {
+        check_cuts(rt, received, *cuts, capacity);
     }
 }
 

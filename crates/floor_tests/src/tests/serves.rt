@@ -134,7 +134,26 @@ fn many(alloc: Global, peer: u32, count: u32) -> Result<Vec<u8>, AllocError> {
     Ok(file)
 }
 
-// The rows of the second of two peers, once a ring of one change has carried the 4,999 announcements of the first.
+// The first of two peers sent 4,999 announcements and its close. The second sent its close alone, and has a row of
+// each announcement.
+fn check_carried(rt: &impl Abort, alloc: Global, served: &Served, shards: usize) {
+    let whole = PeerEnd {
+        changes: 5_000,
+        passed: 0,
+        reason: Reason::EndOfFile,
+    };
+    assert_eq!(rt;
+        (end(rt, served, 0), end(rt, served, 1).changes),
+        (whole, 1)
+    );
+    let counts = (
+        count_rows(rt, alloc, served, 0),
+        count_rows(rt, alloc, served, 1),
+    );
+    assert_eq!(rt; counts, (0, 4_999), "with {shards} shards");
+}
+
+// The rows of the second of two peers, once a ring of one change has carried the announcements of the first.
 fn carried<R: Threads + Wait + Sync + Abort>(
     rt: &R,
     alloc: Global,
@@ -142,18 +161,9 @@ fn carried<R: Threads + Wait + Sync + Abort>(
     a: &[u8],
     shards: usize,
 ) -> Vec<Shown> {
-    let whole = PeerEnd {
-        changes: 5_000,
-        passed: 0,
-        reason: Reason::EndOfFile,
-    };
     let served = run(rt, alloc, plan, &[a, &[]], 1, shards, &Open).expect(rt, "a run");
-    let ends = (end(rt, &served, 0), end(rt, &served, 1).changes);
-    assert_eq!(rt; ends, (whole, 1));
-    let rows = shown(alloc, &served, 1).expect(rt, "rows");
-    let counts = (count_rows(rt, alloc, &served, 0), rows.len());
-    assert_eq!(rt; counts, (0, 4_999), "with {shards} shards");
-    rows
+    check_carried(rt, alloc, &served, shards);
+    shown(alloc, &served, 1).expect(rt, "rows")
 }
 
 #[test]
@@ -350,7 +360,7 @@ fn a_shard_that_is_held_holds_the_worker(rt: HostRuntime) {
     assert!(rt; !gate.too_far.load(Ordering::SeqCst));
 }
 
-// The file of one announcement of a peer, by its number, of which two peers of a number below 200 have none alike.
+// The file of a peer that announces one prefix, which no other peer does.
 fn file_of_one(alloc: Global, peer: u32) -> Result<Vec<u8>, AllocError> {
     let mut file = Vec::new(alloc);
     let number = u8::try_from(peer % 256).unwrap_or(0);
@@ -464,59 +474,66 @@ fn a_thousand_runs_leave_the_same_tables(rt: HostRuntime) {
     }
 }
 
-// Why a run of two empty files with these numbers is refused.
-fn refusal<R: Threads + Wait + Sync + Abort>(
+// A run of two empty files with these numbers is refused for this, or not.
+fn check_numbers<R: Threads + Wait + Sync + Abort>(
     rt: &R,
     alloc: Global,
     plan: &Arc<Exchange>,
-    capacity: usize,
-    shards: usize,
-) -> Option<FloorRefused> {
-    run(rt, alloc, plan, &[&[], &[]], capacity, shards, &Open).err()
+    (capacity, shards): (usize, usize),
+    wanted: Option<FloorRefused>,
+) {
+    let answer = run(rt, alloc, plan, &[&[], &[]], capacity, shards, &Open);
+    assert_eq!(rt; answer.err(), wanted, "{capacity} {shards}");
 }
 
 #[test]
 fn numbers_out_of_range_are_refused(rt: HostRuntime) {
     let alloc = rt.alloc();
     let plan = exchange(alloc, 2).expect(&rt, "an exchange");
-    for (capacity, shards, wanted) in [
-        (0, 0, Some(FloorRefused::Capacity)),
-        (65_537, 1, Some(FloorRefused::Capacity)),
-        (1, 0, Some(FloorRefused::Shards)),
-        (1, 17, Some(FloorRefused::Shards)),
-        (65_536, 16, None),
+    for (numbers, wanted) in [
+        ((0, 0), Some(FloorRefused::Capacity)),
+        ((65_537, 1), Some(FloorRefused::Capacity)),
+        ((1, 0), Some(FloorRefused::Shards)),
+        ((1, 17), Some(FloorRefused::Shards)),
+        ((65_536, 16), None),
     ] {
-        let refused = refusal(&rt, alloc, &plan, capacity, shards);
-        assert_eq!(rt; refused, wanted, "{capacity} {shards}");
+        check_numbers(&rt, alloc, &plan, numbers, wanted);
     }
+}
+
+// What is left of a run over files at hand, of which the second is empty.
+fn served_at_hand<R: Threads + Wait + Sync + Abort>(rt: &R, alloc: Global, a: &[u8]) -> Served {
+    let plan = exchange(alloc, 2).expect(rt, "an exchange");
+    assert!(rt; plan.count() == 2 && a.len() < 1 << 50);
+    serve(rt, alloc, &plan, &[a, &[]], 2, &Open).expect(rt, "a run")
 }
 
 #[test]
 fn files_at_hand_are_served_through_one_shard(rt: HostRuntime) {
     let alloc = rt.alloc();
-    let plan = exchange(alloc, 2).expect(&rt, "an exchange");
     let a = many(alloc, 0, 2).expect(&rt, "memory");
-    assert!(rt; plan.count() == 2 && a.len() < 1 << 50);
-    let served = serve(&rt, alloc, &plan, &[&a, &[]], 2, &Open).expect(&rt, "a run");
+    let served = served_at_hand(&rt, alloc, &a);
     assert_eq!(rt; count_rows(&rt, alloc, &served, 1), 2);
 }
 
-// Why a run is refused of which the read of each peer's reader of a file fails after so many octets, where a number
-// is given.
-fn refusal_after<R: Threads + Wait + Sync + Abort>(
+// A run of which the read of each peer's reader of a file fails after so many octets, where a number is given, is
+// refused for this, or not.
+fn check_failed_reads<R: Threads + Wait + Sync + Abort>(
     rt: &R,
     alloc: Global,
     plan: &Arc<Exchange>,
     file: &[u8],
     before_failure: [Option<usize>; 3],
-) -> Option<FloorRefused> {
+    wanted: Option<FloorRefused>,
+) {
     let readers: Vec<MemoryReader<'_>> = before_failure
         .iter()
         .map(|octets| failing_reader(file, *octets))
         .collect(alloc)
         .expect(rt, "memory");
     assert!(rt; readers.len() == plan.count());
-    serve_readers(rt, alloc, plan, readers, 4, &Open).err()
+    let answer = serve_readers(rt, alloc, plan, readers, 4, &Open);
+    assert_eq!(rt; answer.err(), wanted);
 }
 
 #[test]
@@ -530,8 +547,7 @@ fn a_failed_read_is_told_of_the_least_peer(rt: HostRuntime) {
         ([Some(79), None, None], Some(FloorRefused::Read(0))),
         ([None, Some(78), Some(0)], Some(FloorRefused::Read(1))),
     ] {
-        let refused = refusal_after(&rt, alloc, &plan, &file, before_failure);
-        assert_eq!(rt; refused, wanted);
+        check_failed_reads(&rt, alloc, &plan, &file, before_failure, wanted);
     }
 }
 
@@ -565,8 +581,26 @@ fn lost(alloc: Global, peer: u32, comes_back: bool) -> Result<Vec<u8>, AllocErro
     Ok(file)
 }
 
-// After a run in which the first of two peers sends this file, it sent so many changes, and the second has so many
-// rows, each of a route that the first announced at 102.
+// The first of two peers sent so many changes, and the second has so many rows, each of a route that the first
+// announced at 102.
+fn check_left(
+    rt: &impl Abort,
+    alloc: Global,
+    served: &Served,
+    shards: usize,
+    wanted: (u64, usize),
+) {
+    let shown = shown(alloc, served, 1).expect(rt, "rows");
+    let found = (end(rt, served, 0).changes, shown.len());
+    assert_eq!(rt; found, wanted, "with {shards} shards");
+    assert!(rt;
+        shown
+            .iter()
+            .all(|(_, peer, time)| *peer == 0 && *time == 102)
+    );
+}
+
+// After a run in which the first of two peers sends this file, so much is left.
 fn check_lost<R: Threads + Wait + Sync + Abort>(
     rt: &R,
     alloc: Global,
@@ -576,14 +610,7 @@ fn check_lost<R: Threads + Wait + Sync + Abort>(
 ) {
     let plan = exchange(alloc, 2).expect(rt, "an exchange");
     let served = run(rt, alloc, &plan, &[a, &[]], 4, shards, &Open).expect(rt, "a run");
-    let shown = shown(alloc, &served, 1).expect(rt, "rows");
-    let found = (end(rt, &served, 0).changes, shown.len());
-    assert_eq!(rt; found, wanted, "with {shards} shards");
-    assert!(rt;
-        shown
-            .iter()
-            .all(|(_, peer, time)| *peer == 0 && *time == 102)
-    );
+    check_left(rt, alloc, &served, shards, wanted);
 }
 
 #[test]

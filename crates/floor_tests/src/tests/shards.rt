@@ -1,6 +1,6 @@
 //! Shards on threads: the tables that they hold.
 
-ghost use Rattle.std.specs.Prelude.{◌≡◌, [], ℕ};
+ghost use Rattle.std.specs.Prelude.{◌≡◌, [], ℕ, IfSome};
 ghost use Rattle.rs_table.specs.Content.{nothing_held, rib_of};
 
 use super::recordings::{exchange, prefix_at, ring_of, route_of};
@@ -128,6 +128,13 @@ fn send_all(rt: &impl Wait, sender: Sender<Routed>, route: &Arc<Attributes>) -> 
     send(rt, &mut sender, Routed::Last)
 }
 
+// The tables of three peers before any change.
+fn no_routes(alloc: Global) -> Option<Tables>
+    ensures { IfSome result (λ tables. (peer : ℕ) → rib_of tables peer ≡ nothing_held) }
+{
+    Tables::new(alloc, exchange(alloc, 3)?).ok()
+}
+
 // What the shard of number 3 holds of all changes, which come through a ring of this capacity from another thread.
 fn held<R: Threads + Wait + Sync>(
     rt: &R,
@@ -137,7 +144,7 @@ fn held<R: Threads + Wait + Sync>(
 ) -> Option<Tables> {
     let route = route_of(alloc, 0)?;
     let shared = &route;
-    let tables = Tables::new(alloc, exchange(alloc, 3)?).ok()?;
+    let tables = no_routes(alloc)?;
     let (sender, from) = ring_of::<Routed>(alloc, capacity)?;
     let (sent, end) = thread::join(
         rt,
@@ -181,7 +188,16 @@ fn check_closed(rt: &impl Abort, tables: &Tables, capacity: usize) {
     }
 }
 
-// What a shard holds of all changes, which come through a ring of this capacity, each once and in order.
+// All items passed, each once and in order.
+fn check_passes(rt: &impl Abort, gate: &Passes) {
+    let passes = (
+        gate.items.load(Ordering::SeqCst),
+        gate.strays.load(Ordering::SeqCst),
+    );
+    assert_eq!(rt; passes, (13, 0));
+}
+
+// A shard holds what it is to of all changes, which come through a ring of this capacity, each once and in order.
 fn check_held<R: Threads + Wait + Sync + Abort>(rt: &R, alloc: Global, capacity: usize) {
     let gate = Passes::new();
     let Some(tables) = held(rt, alloc, capacity, &gate) else {
@@ -189,11 +205,7 @@ fn check_held<R: Threads + Wait + Sync + Abort>(rt: &R, alloc: Global, capacity:
     };
     check_bests(rt, &tables, capacity);
     check_closed(rt, &tables, capacity);
-    let passes = (
-        gate.items.load(Ordering::SeqCst),
-        gate.strays.load(Ordering::SeqCst),
-    );
-    assert_eq!(rt; passes, (13, 0));
+    check_passes(rt, &gate);
 }
 
 #[test]
@@ -205,7 +217,7 @@ fn a_shard_holds_what_each_peer_has_left_up_to_its_close(rt: HostRuntime) {
 // How a shard ends that was sent all changes before it began, where there is memory to send them.
 fn ended(rt: &impl Wait, alloc: Global) -> Option<ShardEnd> {
     let route = route_of(alloc, 0)?;
-    let tables = Tables::new(alloc, exchange(alloc, 3)?).ok()?;
+    let tables = no_routes(alloc)?;
     let (sender, from) = ring_of::<Routed>(alloc, 16)?;
     if !send_all(rt, sender, &route) {
         return None;

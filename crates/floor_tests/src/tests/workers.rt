@@ -13,6 +13,7 @@ use rs_session::{Body, Reason, Word};
 use rs_update::Errors;
 use rs_worker::{Gate, Open, Patience, WorkerEnd, worker, worker_by, worker_over};
 use std::alloc::Global;
+use std::fmt::Debug;
 use std::process::Abort;
 use std::sync::Wait;
 use std::sync::atomic::{AtomicU64, Ordering};
@@ -201,6 +202,20 @@ fn run_file<R: Threads + Wait + Sync + Abort, G: Gate>(
     run_by(rt, alloc, capacity, Records::new(file), errors, gate)
 }
 
+// A worker sent these changes, of which none waits once the token shows all.
+fn check_changes<W: Debug>(rt: &impl Abort, sent: &Sent, want: &[Given], what: &W) {
+    assert_eq!(rt;
+        (sent.changes.as_slice(), sent.after),
+        (want, Some(0)),
+        "{what:?}"
+    );
+}
+
+// A worker told that it sent so many changes, passed over so many records, and why it ended.
+fn check_told(rt: &impl Abort, sent: &Sent, told: (u64, u64, Reason)) {
+    assert_eq!(rt; (sent.count, sent.passed, sent.reason), told);
+}
+
 // A worker sends these changes of a file, up to its end, through a ring of this capacity.
 fn check_file<R: Threads + Wait + Sync + Abort>(
     rt: &R,
@@ -210,11 +225,8 @@ fn check_file<R: Threads + Wait + Sync + Abort>(
     want: &[Given],
 ) -> Result<(), RingRefused> {
     let sent = run_file(rt, alloc, capacity, file, Errors::Rfc4271, &Open)?;
-    assert_eq!(rt; sent.changes.as_slice(), want, "through {capacity}");
-    assert_eq!(rt;
-        (sent.count, sent.passed, sent.reason, sent.after),
-        (201, 0, Reason::EndOfFile, Some(0))
-    );
+    check_changes(rt, &sent, want, &capacity);
+    check_told(rt, &sent, (201, 0, Reason::EndOfFile));
     Ok(())
 }
 
@@ -288,11 +300,7 @@ fn check_failure<R: Threads + Wait + Sync + Abort>(
         piece,
     };
     let sent = run_pieces(rt, alloc, file, limits)?;
-    assert_eq!(rt;
-        (sent.changes.as_slice(), sent.after),
-        (want, Some(0)),
-        "{octets_before_failure:?} by {piece}"
-    );
+    check_changes(rt, &sent, want, &(octets_before_failure, piece));
     Ok(())
 }
 
@@ -320,10 +328,8 @@ fn file_with_long_record(alloc: Global) -> Result<Vec<u8>, Fail> {
 fn a_worker_passes_over_a_long_record_of_another(rt: HostRuntime) -> Result<(), Fail> {
     let file = file_with_long_record(rt.alloc())?;
     let sent = run_pieces(&rt, rt.alloc(), &file, ReadLimits::none())?;
-    assert_eq!(rt;
-        (sent.changes.as_slice(), sent.passed, sent.count),
-        ([FIRST, END].as_slice(), 1, 2)
-    );
+    check_changes(&rt, &sent, &[FIRST, END], &"a long record");
+    check_told(&rt, &sent, (2, 1, Reason::EndOfFile));
     Ok(())
 }
 
@@ -344,10 +350,9 @@ fn a_worker_closes_at_a_message_that_is_too_long(rt: HostRuntime) -> Result<(), 
         code: 1,
         subcode: 2,
     };
-    assert_eq!(rt;
-        (sent.changes.as_slice(), sent.reason),
-        ([Given::Close(100, reason)].as_slice(), reason)
-    );
+    let closed = [Given::Close(100, reason)];
+    check_changes(&rt, &sent, &closed, &"a long message");
+    check_told(&rt, &sent, (1, 0, reason));
     Ok(())
 }
 
@@ -374,7 +379,7 @@ fn check_errors<R: Threads + Wait + Sync + Abort>(
     want: &[Given],
 ) -> Result<(), RingRefused> {
     let sent = run_file(rt, alloc, 1, file, errors, &Open)?;
-    assert_eq!(rt; sent.changes.as_slice(), want, "{errors:?}");
+    check_changes(rt, &sent, want, &errors);
     Ok(())
 }
 
