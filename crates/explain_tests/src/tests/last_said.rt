@@ -44,6 +44,11 @@ fn ended(time: u32, by: EndedBy) -> LastSaid {
     LastSaid::Ended(100, Ending { time, by })
 }
 
+// Changes say this last of 203.0.113.0/24.
+fn check_last(rt: &impl Abort, alloc: Global, changes: &[(u32, Said)], wanted: LastSaid) {
+    assert_eq!(rt; last_said(rt, alloc, changes), wanted);
+}
+
 #[test]
 fn a_prefix_that_only_others_are_announced_beside_was_never_announced(rt: HostRuntime) {
     let alloc = rt.alloc();
@@ -53,8 +58,8 @@ fn a_prefix_that_only_others_are_announced_beside_was_never_announced(rt: HostRu
         (92, Said::Lost),
         (0, Said::Closed(Reason::Mrt(1))),
     ];
-    assert_eq!(rt; last_said(&rt, alloc, &[]), LastSaid::NeverAnnounced);
-    assert_eq!(rt; last_said(&rt, alloc, &changes), LastSaid::NeverAnnounced);
+    check_last(&rt, alloc, &[], LastSaid::NeverAnnounced);
+    check_last(&rt, alloc, &changes, LastSaid::NeverAnnounced);
 }
 
 #[test]
@@ -87,7 +92,7 @@ fn what_took_a_route_away_first_is_named_with_its_time(rt: HostRuntime) {
     ] {
         let [first, second] = later;
         let changes = [(90, Said::Announced), (100, Said::Announced), first, second];
-        assert_eq!(rt; last_said(&rt, alloc, &changes), last);
+        check_last(&rt, alloc, &changes, last);
     }
 }
 
@@ -99,23 +104,33 @@ fn a_session_that_comes_back_announces_again(rt: HostRuntime) {
         (101, Said::Lost),
         (102, Said::Announced),
     ];
-    assert_eq!(rt; last_said(&rt, alloc, &changes), LastSaid::Announced(102));
+    check_last(&rt, alloc, &changes, LastSaid::Announced(102));
+}
+
+// The times of changes.
+const TIMES: [u32; 5] = [100, 101, 102, 101, 0];
+
+// Whether the loss of a session at a time is taken, which is the next change.
+fn takes(rt: &impl Abort, alloc: Global, cut: &mut Until, time: u32) -> bool {
+    cut.takes(&word(alloc, (time, Said::Lost)).expect(rt, "a change"))
+}
+
+// Of changes at these times, those are taken that come up to a time, and before any later one.
+fn check_taken(rt: &impl Abort, alloc: Global, until: Option<u32>, taken: [bool; 5]) {
+    let mut cut = Until::new(until);
+    for (time, taken) in TIMES.iter().zip(taken.iter()) {
+        assert_eq!(rt; takes(rt, alloc, &mut cut, *time), *taken, "{time}");
+    }
 }
 
 #[test]
 fn changes_are_taken_up_to_a_time_and_none_after_a_later_one(rt: HostRuntime) {
-    let alloc = rt.alloc();
-    let times = [100, 101, 102, 101, 0];
     for (until, taken) in [
         (None, [true, true, true, true, true]),
         (Some(99), [false, false, false, false, false]),
         (Some(101), [true, true, false, false, false]),
         (Some(102), [true, true, true, true, true]),
     ] {
-        let mut cut = Until::new(until);
-        for (time, taken) in times.iter().zip(taken.iter()) {
-            let change = word(alloc, (*time, Said::Lost)).expect(&rt, "a change");
-            assert_eq!(rt; cut.takes(&change), *taken, "{time}");
-        }
+        check_taken(&rt, rt.alloc(), until, taken);
     }
 }

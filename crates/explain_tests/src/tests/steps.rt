@@ -27,26 +27,31 @@ fn announced(
 ) -> Tables {
     let mut tables = tables(alloc, rows).expect(rt, "tables");
     for (peer, route) in [(A, of_a), (C, of_c), (D, of_d)] {
-        announce(
-            rt,
-            &mut tables,
-            (peer, 100),
-            documentation(),
-            attributes(alloc, route),
-        );
+        announce(rt, alloc, &mut tables, peer, route);
     }
     tables
 }
 
-// The step at which the route of a peer loses with b, and to whom.
-fn loses(rt: &impl Abort, alloc: Global, tables: &Tables, peer: usize) -> Option<(Step, usize)> {
-    match explained(rt, alloc, tables, B, peer) {
+// The loser, the step and the rival where b is told that a route lost.
+fn removal_of(explanation: &Explanation) -> Option<(usize, Step, usize)> {
+    match explanation {
         Explanation::Lost(removal) => {
-            assert_eq!(rt; removal.loser.peer, peer);
-            Some((removal.step, removal.rival.peer))
+            Some((removal.loser.peer, removal.step, removal.rival.peer))
         }
         _ => None,
     }
+}
+
+// The route of a peer loses with b at this step, to this rival, or it doesn't lose.
+fn check_lost(
+    rt: &impl Abort,
+    alloc: Global,
+    tables: &Tables,
+    peer: usize,
+    wanted: Option<(Step, usize)>,
+) {
+    let found = removal_of(&explained(rt, alloc, tables, B, peer));
+    assert_eq!(rt; found, wanted.map(|(step, rival)| (peer, step, rival)));
 }
 
 // What b is told of the routes of a and c.
@@ -59,8 +64,8 @@ fn are_told(
     of_c: Option<(Step, usize)>,
 ) {
     let tables = announced(rt, alloc, rows, routes.0, routes.1, routes.2);
-    assert_eq!(rt; loses(rt, alloc, &tables, A), of_a);
-    assert_eq!(rt; loses(rt, alloc, &tables, C), of_c);
+    check_lost(rt, alloc, &tables, A, of_a);
+    check_lost(rt, alloc, &tables, C, of_c);
 }
 
 #[test]
@@ -109,21 +114,24 @@ fn values_of_both_are_told(rt: HostRuntime) {
         assert!(rt; false, "a loses");
         return;
     };
-    assert_eq!(rt; removal.loser.standing.path_length, 2);
-    assert_eq!(rt; removal.rival.standing.path_length, 1);
-    assert_eq!(rt; removal.rival.peer, C);
+    let lengths = (
+        removal.loser.standing.path_length,
+        removal.rival.standing.path_length,
+    );
+    assert_eq!(rt; (lengths, removal.rival.peer), ((2, 1), C));
+}
+
+// The route of a peer is what b gets, and beat those of these others.
+fn check_best(rt: &impl Abort, alloc: Global, tables: &Tables, peer: usize, others: &[usize]) {
+    let best = Explanation::Best(others.to_vec(alloc).expect(rt, "memory"));
+    check_explained(rt, alloc, tables, (B, peer), best, "it is best");
 }
 
 #[test]
 fn the_best_one_is_told_with_all_that_it_beat(rt: HostRuntime) {
     let alloc = rt.alloc();
     let tables = announced(&rt, alloc, &FOUR, LONG, SHORT, SHORT);
-    let Explanation::Best(beaten) = explained(&rt, alloc, &tables, B, C) else {
-        assert!(rt; false, "c is best");
-        return;
-    };
-    let others: &[usize] = &[A, D];
-    assert_eq!(rt; beaten.as_slice(), others);
+    check_best(&rt, alloc, &tables, C, &[A, D]);
 }
 
 // MED is compared within one neighbour AS: d removes c there, though a, of another neighbour AS, is what b gets.
@@ -132,12 +140,7 @@ fn a_route_may_lose_by_med_to_one_that_is_not_the_best(rt: HostRuntime) {
     let alloc = rt.alloc();
     let of_d = "40010100 4002060201 0000FBF7 400304C000020B";
     let tables = announced(&rt, alloc, &FOUR, SHORT, BY_64503_MED_10, of_d);
-    let others: &[usize] = &[C, D];
-    let Explanation::Best(beaten) = explained(&rt, alloc, &tables, B, A) else {
-        assert!(rt; false, "a is best");
-        return;
-    };
-    assert_eq!(rt; beaten.as_slice(), others);
-    assert_eq!(rt; loses(&rt, alloc, &tables, C), Some((Step::Med, D)));
-    assert_eq!(rt; loses(&rt, alloc, &tables, D), Some((Step::Identifier, A)));
+    check_best(&rt, alloc, &tables, A, &[C, D]);
+    check_lost(&rt, alloc, &tables, C, Some((Step::Med, D)));
+    check_lost(&rt, alloc, &tables, D, Some((Step::Identifier, A)));
 }
