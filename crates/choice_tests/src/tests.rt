@@ -17,6 +17,7 @@ mod plans;
 use rs_choice::{Candidacy, Candidate, Exchange, HeldRoute, Local, MAX_PEERS, PeerSpec, PlanFault};
 use rs_update::{Attributes, Prefix};
 use std::alloc::{AllocError, Global};
+use std::fmt::Debug;
 use std::process::Abort;
 use std::sync::Arc;
 use std::test::Fail;
@@ -133,6 +134,11 @@ fn exchange(alloc: Global, subnet: bool, rows: &[Row]) -> Result<Exchange, Fail>
 // The attributes of a route.
 fn attributes(alloc: Global, texts: &[&str]) -> Result<Attributes, Fail> {
     Ok(spelled_in_hex::attributes(alloc, texts).ok_or("no attributes of a route")?)
+}
+
+// What was found is what was wanted. It stands alone, since an assertion takes long to prove where routes are held.
+fn check<T: Debug + PartialEq, W: Debug>(rt: &impl Abort, found: &T, wanted: &T, what: &W) {
+    assert_eq!(rt; found, wanted, "{what:?}");
 }
 
 // Whether all candidates are of peers of the exchange.

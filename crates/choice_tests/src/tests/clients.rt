@@ -36,9 +36,29 @@ fn hold_all(
     Ok(all)
 }
 
+// Peers by a word, so that a table of many exchanges doesn't repeat them.
+#[derive(Clone, Copy)]
+enum Peers {
+    Four,
+    TwoOfOneAs,
+    ThreeOfOneAs,
+    Refusing,
+}
+
+impl Peers {
+    fn rows(self) -> &'static [Row] {
+        match self {
+            Peers::Four => FOUR,
+            Peers::TwoOfOneAs => TWO_OF_ONE_AS,
+            Peers::ThreeOfOneAs => THREE_OF_ONE_AS,
+            Peers::Refusing => REFUSING,
+        }
+    }
+}
+
 // What an exchange of these peers gives of these routes, and why.
 struct Worked {
-    rows: &'static [Row],
+    peers: Peers,
     sent: &'static [Sent],
     bests: &'static [u8],
     what: &'static str,
@@ -133,67 +153,67 @@ const OTHER_AS_OF_D: Sent = (3, &[IGP, PATH_64502_65010, NEXT_HOP_A]);
 
 const WORKED: &[Worked] = &[
     Worked {
-        rows: FOUR,
+        peers: Peers::Four,
         sent: &[OF_A, OF_B, OF_C],
         bests: &[1, 0, 0, 0],
         what: "one choice for all, and the second for its sender",
     },
     Worked {
-        rows: FOUR,
+        peers: Peers::Four,
         sent: &[OF_C],
         bests: &[2, 2, 2, 2],
         what: "the sender of the one route gets none",
     },
     Worked {
-        rows: FOUR,
+        peers: Peers::Four,
         sent: &[],
         bests: &[0, 1, 2, 3],
         what: "no route",
     },
     Worked {
-        rows: FOUR,
+        peers: Peers::Four,
         sent: &[(0, &[IGP, PATH_64500, NEXT_HOP_A]), OF_B],
         bests: &[1, 1, 1, 1],
         what: "the server's AS in a's path, which is shorter",
     },
     Worked {
-        rows: FOUR,
+        peers: Peers::Four,
         sent: &[(0, &[IGP, PATH_64500, NEXT_HOP_A])],
         bests: &[0, 1, 2, 3],
         what: "no eligible route",
     },
     Worked {
-        rows: FOUR,
+        peers: Peers::Four,
         sent: &[(0, &[IGP, PATH_64501_65010, NEXT_HOP_A, NOT_TO_B]), OF_C],
         bests: &[2, 2, 0, 0],
         what: "a's isn't for b",
     },
     Worked {
-        rows: FOUR,
+        peers: Peers::Four,
         sent: &[(0, &[IGP, PATH_64501_65010, NEXT_HOP_A, TO_NONE]), OF_C],
         bests: &[2, 2, 2, 2],
         what: "a's is for none, and hides c's from none",
     },
     Worked {
-        rows: FOUR,
+        peers: Peers::Four,
         sent: &[(0, &[IGP, PATH_64501_65010, NEXT_HOP_A, TO_B_ALONE]), OF_C],
         bests: &[2, 0, 2, 2],
         what: "a's is for b alone",
     },
     Worked {
-        rows: REFUSING,
+        peers: Peers::Refusing,
         sent: &[OF_A, OF_C],
         bests: &[2, 2, 0, 0],
         what: "b refuses a",
     },
     Worked {
-        rows: REFUSING,
+        peers: Peers::Refusing,
         sent: &[OF_A],
         bests: &[0, 1, 0, 0],
         what: "b refuses the one route",
     },
     Worked {
-        rows: FOUR,
+        peers: Peers::Four,
         sent: &[
             OF_A,
             (1, &[IGP, PATH_64502_65010, NEXT_HOP_A, NOT_TO_D]),
@@ -203,13 +223,13 @@ const WORKED: &[Worked] = &[
         what: "b's isn't for d, to which it is nothing",
     },
     Worked {
-        rows: TWO_OF_ONE_AS,
+        peers: Peers::TwoOfOneAs,
         sent: &[MED_10_OF_A, MED_5_OF_B, OTHER_AS_OF_C],
         bests: &[2, 0, 1, 2],
         what: "at b a's comes back, which b's keeps out by its MED, and c's doesn't win",
     },
     Worked {
-        rows: TWO_OF_ONE_AS,
+        peers: Peers::TwoOfOneAs,
         sent: &[
             MED_10_OF_A,
             (1, &[IGP, PATH_64501_65010, NEXT_HOP_A, MED_5, NOT_TO_D]),
@@ -219,13 +239,13 @@ const WORKED: &[Worked] = &[
         what: "so it does at d, to which b's is refused",
     },
     Worked {
-        rows: THREE_OF_ONE_AS,
+        peers: Peers::ThreeOfOneAs,
         sent: &[MED_10_OF_A, MED_5_OF_B, MED_5_OF_C, OTHER_AS_OF_D],
         bests: &[3, 3, 3, 2],
         what: "either of two of the least MED keeps a's out without the other",
     },
     Worked {
-        rows: THREE_OF_ONE_AS,
+        peers: Peers::ThreeOfOneAs,
         sent: &[
             MED_10_OF_A,
             MED_5_OF_B,
@@ -236,7 +256,7 @@ const WORKED: &[Worked] = &[
         what: "at b a's comes back, where c's is refused too",
     },
     Worked {
-        rows: TWO_OF_ONE_AS,
+        peers: Peers::TwoOfOneAs,
         sent: &[
             (0, &[IGP, PATH_64501_65010, NEXT_HOP_A, MED_5]),
             MED_5_OF_B,
@@ -249,7 +269,7 @@ const WORKED: &[Worked] = &[
 
 // For each client the number of the peer whose route it gets.
 fn bests_of(rt: &impl Abort, alloc: Global, worked: &Worked) -> Result<Vec<u8>, Fail> {
-    let exchange = exchange(alloc, true, worked.rows)?;
+    let exchange = exchange(alloc, true, worked.peers.rows())?;
     let held = hold_all(rt, alloc, &exchange, worked.sent)?;
     bests(rt, alloc, &exchange, &held)
 }
@@ -257,7 +277,7 @@ fn bests_of(rt: &impl Abort, alloc: Global, worked: &Worked) -> Result<Vec<u8>, 
 // Each client gets what was worked out.
 fn check_bests(rt: &impl Abort, alloc: Global, worked: &Worked) -> Result<(), Fail> {
     let bests = bests_of(rt, alloc, worked)?;
-    assert_eq!(rt; bests.as_slice(), worked.bests, "{}", worked.what);
+    check(rt, &bests.as_slice(), &worked.bests, &worked.what);
     Ok(())
 }
 
@@ -353,14 +373,15 @@ const KEYS: &[(&[&str], u16, u32, u32)] = &[
     ),
 ];
 
-// The path length, neighbour AS and MED of a route of a.
-fn key(rt: &impl Abort, exchange: &Exchange, held: &HeldRoute) -> (u16, u32, u32) {
+// A route of a has this path length, neighbour AS and MED.
+fn check_key(rt: &impl Abort, exchange: &Exchange, held: &HeldRoute, wanted: (u16, u32, u32)) {
     assert!(rt; exchange.count() > 0);
     let standing = exchange.standing(&Candidate {
         peer: 0,
         attributes: &held.attributes,
     });
-    (held.path_length, standing.neighbour, standing.med)
+    let found = (held.path_length, standing.neighbour, standing.med);
+    check(rt, &found, &wanted, &"path length, neighbour AS, MED");
 }
 
 #[test]
@@ -368,19 +389,24 @@ fn what_the_steps_compare_is_found_of_a_route(rt: HostRuntime) -> Result<(), Fai
     let exchange = exchange(rt.alloc(), true, FOUR)?;
     for (texts, path_length, neighbour, med) in KEYS {
         let held = hold(&rt, rt.alloc(), &exchange, &(0, texts))?;
-        assert_eq!(rt;
-            key(&rt, &exchange, &held),
-            (*path_length, *neighbour, *med)
-        );
+        check_key(&rt, &exchange, &held, (*path_length, *neighbour, *med));
     }
     Ok(())
 }
 
-// Whether each of some routes is for all.
-fn are_open(alloc: Global, held: &[HeldRoute]) -> Result<Vec<bool>, AllocError> {
-    held.iter()
+// Each of some routes is for all, or not.
+fn check_open(
+    rt: &impl Abort,
+    alloc: Global,
+    held: &[HeldRoute],
+    wanted: &[bool],
+) -> Result<(), AllocError> {
+    let are_open: Vec<bool> = held
+        .iter()
         .map(|held| held.candidacy.is_open())
-        .collect(alloc)
+        .collect(alloc)?;
+    assert_eq!(rt; are_open.as_slice(), wanted);
+    Ok(())
 }
 
 #[test]
@@ -388,7 +414,6 @@ fn a_client_that_refuses_a_peer_restricts_its_routes(rt: HostRuntime) -> Result<
     let alloc = rt.alloc();
     let exchange = exchange(alloc, true, REFUSING)?;
     let held = hold_all(&rt, alloc, &exchange, &[OF_A, OF_B, OF_C])?;
-    let unrestricted = are_open(alloc, &held)?;
-    assert_eq!(rt; unrestricted.as_slice(), [false, true, true].as_slice());
+    check_open(&rt, alloc, &held, &[false, true, true])?;
     Ok(())
 }

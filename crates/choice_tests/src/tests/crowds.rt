@@ -127,7 +127,7 @@ fn check_round(
     };
     let candidates = some_candidates(alloc, random, routes, count)?;
     let place = choice(rt, exchange, &candidates);
-    assert_eq!(rt; place.is_some(), count != 0, "in round {round}");
+    check(rt, &place.is_some(), &(count != 0), &("round", round));
     Ok(())
 }
 
@@ -291,10 +291,11 @@ fn check_choices(
 ) -> Result<(), Fail> {
     for (client, best) in bests.iter().enumerate() {
         let want = best_of_one(rt, alloc, exchange, held, client)?;
-        assert_eq!(rt;
-            usize::from(*best),
-            want,
-            "client {client} in round {round}"
+        check(
+            rt,
+            &usize::from(*best),
+            &want,
+            &("client", client, "round", round),
         );
     }
     Ok(())

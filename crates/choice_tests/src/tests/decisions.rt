@@ -51,7 +51,7 @@ fn check_chosen(
     want: Option<usize>,
     what: &str,
 ) -> Result<(), Fail> {
-    assert_eq!(rt; chosen(rt, alloc, exchange, sent)?, want, "{what}");
+    check(rt, &chosen(rt, alloc, exchange, sent)?, &want, &what);
     Ok(())
 }
 

@@ -70,7 +70,7 @@ fn check_route(
         is_eligible(rt, inside, 0, &sent),
         is_eligible(rt, anywhere, 0, &sent),
     );
-    assert_eq!(rt; found, (with_subnet, without), "{what}");
+    check(rt, &found, &(with_subnet, without), &what);
     Ok(())
 }
 
@@ -84,20 +84,24 @@ fn routes_are_eligible_by_path_and_next_hop(rt: HostRuntime) -> Result<(), Fail>
     Ok(())
 }
 
-// Whether a route with this next hop is eligible, of a peer.
-fn is_eligible_by(
+// A route with this next hop is eligible of a peer, or not.
+fn check_next_hop(
     rt: &impl Abort,
     alloc: Global,
     exchange: &Exchange,
-    peer: usize,
-    next_hop: &str,
-) -> Result<bool, Fail> {
+    (peer, next_hop): (usize, &str),
+    wanted: bool,
+    what: &str,
+) -> Result<(), Fail> {
     let sent = attributes(alloc, &[IGP, PATH_64501, next_hop])?;
-    Ok(is_eligible(rt, exchange, peer, &sent))
+    let found = is_eligible(rt, exchange, peer, &sent);
+    check(rt, &found, &wanted, &what);
+    Ok(())
 }
 
 #[test]
 fn a_sender_may_stand_outside_the_subnet(rt: HostRuntime) -> Result<(), Fail> {
+    let alloc = rt.alloc();
     let rows = [
         Row {
             address: ELSEWHERE,
@@ -108,19 +112,19 @@ fn a_sender_may_stand_outside_the_subnet(rt: HostRuntime) -> Result<(), Fail> {
             ..B
         },
     ];
-    let exchange = exchange(rt.alloc(), true, &rows)?;
-    for (peer, next_hop, wanted, what) in [
-        (0, NEXT_HOP_ELSEWHERE, true, "the sender's"),
-        (1, NEXT_HOP_ELSEWHERE, false, "another's"),
-        (
-            1,
-            NEXT_HOP_OF_SERVER,
-            false,
-            "the server's and the sender's",
-        ),
-    ] {
-        let found = is_eligible_by(&rt, rt.alloc(), &exchange, peer, next_hop)?;
-        assert_eq!(rt; found, wanted, "{what}");
-    }
+    let exchange = exchange(alloc, true, &rows)?;
+    let own = (0, NEXT_HOP_ELSEWHERE);
+    check_next_hop(&rt, alloc, &exchange, own, true, "the sender's")?;
+    let of_another = (1, NEXT_HOP_ELSEWHERE);
+    check_next_hop(&rt, alloc, &exchange, of_another, false, "another's")?;
+    let of_both = (1, NEXT_HOP_OF_SERVER);
+    check_next_hop(
+        &rt,
+        alloc,
+        &exchange,
+        of_both,
+        false,
+        "the server's and its own",
+    )?;
     Ok(())
 }

@@ -23,8 +23,7 @@ fn is_exported(
     rt: &impl Abort,
     alloc: Global,
     exchange: &Exchange,
-    client: usize,
-    peer: usize,
+    (client, peer): (usize, usize),
     communities: &str,
 ) -> Result<bool, Fail> {
     let sent = attributes(alloc, &[IGP, PATH_64501, NEXT_HOP_A, communities])?;
@@ -39,9 +38,9 @@ fn are_exported(
     communities: &str,
 ) -> Result<(bool, bool, bool), Fail> {
     Ok((
-        is_exported(rt, alloc, exchange, 0, 0, communities)?,
-        is_exported(rt, alloc, exchange, 1, 0, communities)?,
-        is_exported(rt, alloc, exchange, 2, 0, communities)?,
+        is_exported(rt, alloc, exchange, (0, 0), communities)?,
+        is_exported(rt, alloc, exchange, (1, 0), communities)?,
+        is_exported(rt, alloc, exchange, (2, 0), communities)?,
     ))
 }
 
@@ -50,41 +49,39 @@ fn communities_refuse_and_permit(rt: HostRuntime) -> Result<(), Fail> {
     let exchange = exchange(rt.alloc(), true, &[A, B, C])?;
     for (communities, to_b, to_c) in COMMUNITIES {
         let found = are_exported(&rt, rt.alloc(), &exchange, communities)?;
-        assert_eq!(rt; found, (false, *to_b, *to_c), "{communities}");
+        check(&rt, &found, &(false, *to_b, *to_c), communities);
     }
     Ok(())
 }
 
 #[test]
 fn no_community_names_a_large_as_number(rt: HostRuntime) -> Result<(), Fail> {
-    let exchange = exchange(rt.alloc(), true, &[A, Row { asn: 70000, ..B }])?;
+    let alloc = rt.alloc();
+    let exchange = exchange(alloc, true, &[A, Row { asn: 70000, ..B }])?;
     // (64500, 70000 - 65536), alone and with (0, 64500).
-    for (communities, wanted) in [
-        ("C00804 FBF41170", true),
-        ("C00808 0000FBF4 FBF41170", false),
-    ] {
-        let found = is_exported(&rt, rt.alloc(), &exchange, 1, 0, communities)?;
-        assert_eq!(rt; found, wanted, "{communities}");
-    }
+    let permitted = is_exported(&rt, alloc, &exchange, (1, 0), "C00804 FBF41170")?;
+    check(&rt, &permitted, &true, &"alone");
+    let refused = is_exported(&rt, alloc, &exchange, (1, 0), "C00808 0000FBF4 FBF41170")?;
+    check(&rt, &refused, &false, &"with (0, 64500)");
     Ok(())
 }
 
 #[test]
 fn a_client_refuses_peers_by_name(rt: HostRuntime) -> Result<(), Fail> {
+    let alloc = rt.alloc();
     let picky = Row {
         refuse_from: &["b", "c", "c"],
         ..B
     };
-    let exchange = exchange(rt.alloc(), true, &[A, picky, C])?;
-    for (client, peer, wanted, what) in [
-        (1, 2, false, "b refuses all of c"),
-        (1, 0, true, "b refuses nothing of a"),
-        (2, 1, true, "c refuses nothing of b"),
-    ] {
-        // (64500, 64502)
-        let found = is_exported(&rt, rt.alloc(), &exchange, client, peer, "C00804 FBF4FBF6")?;
-        assert_eq!(rt; found, wanted, "{what}");
-    }
+    let exchange = exchange(alloc, true, &[A, picky, C])?;
+    // (64500, 64502)
+    let communities = "C00804 FBF4FBF6";
+    let of_c = is_exported(&rt, alloc, &exchange, (1, 2), communities)?;
+    check(&rt, &of_c, &false, &"b refuses all of c");
+    let of_a = is_exported(&rt, alloc, &exchange, (1, 0), communities)?;
+    check(&rt, &of_a, &true, &"b refuses nothing of a");
+    let of_b = is_exported(&rt, alloc, &exchange, (2, 1), communities)?;
+    check(&rt, &of_b, &true, &"c refuses nothing of b");
     Ok(())
 }
 
@@ -127,7 +124,7 @@ fn check_senders(
 ) -> Result<(), Fail> {
     for (client, want) in [(0, 2), (1, 2), (2, 0), (3, 0)] {
         let found = sender_for(rt, alloc, exchange, client, routes)?;
-        assert_eq!(rt; found, Some(want), "at client {client}");
+        check(rt, &found, &Some(want), &("client", client));
     }
     Ok(())
 }

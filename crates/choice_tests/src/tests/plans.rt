@@ -8,11 +8,14 @@ fn an_exchange_shows_its_plan(rt: HostRuntime) -> Result<(), Fail> {
     assert_eq!(rt; exchange.count(), 4);
     let local = exchange.local();
     let third = exchange.peer(2);
-    assert_eq!(rt;
-        (local.asn, local.subnet),
-        (64500, Prefix::new(0xC000_0200, 24))
+    let of_server = (64500, Prefix::new(0xC000_0200, 24));
+    check(&rt, &(local.asn, local.subnet), &of_server, &"the server");
+    check(
+        &rt,
+        &(third.name.as_str(), third.address),
+        &("c", C.address),
+        &"c",
     );
-    assert_eq!(rt; (third.name.as_str(), third.address), ("c", C.address));
     Ok(())
 }
 
@@ -30,7 +33,7 @@ fn check_plan(
     want: Option<PlanFault>,
     what: &str,
 ) -> Result<(), AllocError> {
-    assert_eq!(rt; fault_of(alloc, local, rows)?, want, "{what}");
+    check(rt, &fault_of(alloc, local, rows)?, &want, &what);
     Ok(())
 }
 
@@ -145,32 +148,34 @@ fn a_plan_has_the_fault_that_comes_first(rt: HostRuntime) -> Result<(), Fail> {
     Ok(())
 }
 
-// The server's AS number, the peers, and the fault of such a plan.
-const WHOLE_PLANS: &[(u32, &[Row], PlanFault, &str)] = &[
-    (
-        0,
-        &[Row { name: "", ..A }],
-        PlanFault::ZeroAs(None),
-        "no AS number, before a peer's fault",
-    ),
-    (
-        0,
-        &[A; 257],
-        PlanFault::TooManyPeers,
-        "257 peers, before no AS number",
-    ),
-    (64500, &[A; 256], PlanFault::RepeatedName(1), "256 peers"),
-];
+// The server without an AS number.
+fn no_as() -> Local {
+    Local {
+        asn: 0,
+        ..server(true)
+    }
+}
+
+// The plan of so many peers, all alike, has this fault.
+fn check_many(
+    rt: &impl Abort,
+    alloc: Global,
+    local: Local,
+    count: usize,
+    want: PlanFault,
+) -> Result<(), AllocError> {
+    let rows = vec![in alloc; A; count]?;
+    check_plan(rt, alloc, local, &rows, Some(want), "many peers")
+}
 
 #[test]
 fn faults_of_the_whole_plan_come_first(rt: HostRuntime) -> Result<(), Fail> {
-    for (asn, rows, fault, what) in WHOLE_PLANS {
-        let local = Local {
-            asn: *asn,
-            ..server(true)
-        };
-        check_plan(&rt, rt.alloc(), local, rows, Some(*fault), what)?;
-    }
+    let alloc = rt.alloc();
+    let nameless = [Row { name: "", ..A }];
+    let fault = Some(PlanFault::ZeroAs(None));
+    check_plan(&rt, alloc, no_as(), &nameless, fault, "no AS number")?;
+    check_many(&rt, alloc, no_as(), 257, PlanFault::TooManyPeers)?;
+    check_many(&rt, alloc, server(true), 256, PlanFault::RepeatedName(1))?;
     Ok(())
 }
 
@@ -221,7 +226,7 @@ fn check_fault(
 ) -> Result<(), Fail> {
     let text = format!(in alloc; "{fault}")?;
     let found = (fault.number(), fault.peer(), text.as_str());
-    assert_eq!(rt; found, wanted);
+    check(rt, &found, &wanted, &fault);
     Ok(())
 }
 
