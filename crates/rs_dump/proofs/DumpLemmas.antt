@@ -2,7 +2,7 @@
 use Rattle.std.proofs.Common.{◌≡◌, ℕ, suc, ◌+◌, ◌∙◌, List, [], ◌∷◌, ◌++◌, All, length, map, take, drop, get_or, ◌<◌, ◌≤◌, ◌-◌, min, length-take, length-take-le, length-drop, refl, ap, sym, subst, append_assoc, arith}
 use Rattle.std.specs.List.{flat_map, enumerate_from, drop-map}
 use Rattle.std.proofs.lemmas.Grind.{flat_map-append}
-use Rattle.std.proofs.lemmas.List.{append-nil, length-map, map-append, take_more, take-append-drop, take-take, drop-take, take_min, take-map, drop_at}
+use Rattle.std.proofs.lemmas.List.{append-nil, length-map, map-append, take_more, take-append-drop, take-take, drop-take, take_min, take-map, drop_at, take_at}
 use Rattle.std.proofs.lemmas.List.Elements.{All-take, All-drop}
 use Rattle.rs_mrt.specs.Record.{record_spelling}
 use Rattle.rs_choice.specs.Plan.{Plan}
@@ -97,6 +97,12 @@ All-part P rows start count all =
     let Q : List TableRow → Type 0 = λ part. All P part in
     subst Q (ap (λ part. take count part) (drop-map row_of start rows) ∙ take-map row_of count (drop start rows))
     (All-take P count (drop start (map row_of rows)) (All-drop P start (map row_of rows) all))
+
+-- what holds of all rows holds of the first ones
+pub All-before : (P : TableRow → Type 0) (rows later : List TableRow) → All P (rows ++ later) → All P rows
+All-before P rows later all =
+    let Q : List TableRow → Type 0 = λ part. All P part in
+    subst Q (take_at rows later (length rows) refl) (All-take P (length rows) (rows ++ later) all)
 
 -- what holds of all rows holds of the later ones
 pub All-behind : (P : TableRow → Type 0) (rows later : List TableRow) → All P (rows ++ later) → All P later

@@ -1,7 +1,8 @@
 //! Rows that are spelled side by side: a part of them on each thread. They are written in their order.
 //!
-//! Our choice: where memory or a thread is refused for a part, its rows are spelled later, one after another in
-//! the dump's own buffer, so that a dump that is begun needs no memory.
+//! Our choice: where memory is refused for a part, its rows are spelled when they are written, one after another
+//! in the dump's own buffer, so that a dump that is begun needs no memory. Where a thread is refused, the calling
+//! thread spells its part.
 
 ghost use Rattle.std.specs.Prelude.{◌≡◌, ◌+◌, ◌<◌, ◌≤◌, ◌/◌, ◌%◌, ◌++◌, min, All, length, map, IfOk, OnOk, OnErr};
 ghost use Rattle.std.specs.Prelude.{vec_len, vec_capacity};

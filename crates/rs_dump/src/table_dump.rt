@@ -12,18 +12,16 @@ use crate::fault::DumpFault;
 use crate::side_by_side::add_side_by_side;
 use crate::under_way::begin_dump;
 use rs_mrt::{Write, write_all};
-use rs_table::{ClientRows, Row, Tables, table_is_computed};
+use rs_table::{BLOCK_LEN, ClientRows, Tables, table_is_computed};
 use std::alloc::Global;
 use std::thread::Threads;
 
 // How many rows a dump can number: a Sequence Number has four octets (RFC 6396, section 4.3.2).
 const MAX_ROWS: usize = 4294967295;
 
-// How many rows are gathered before they are spelled: this bounds the memory that is taken for octets of rows.
-const BLOCK_LEN: usize = 16384;
-
 /// Writes the dump of a client's table to `out` as `write_dump` does with the rows of that table, and answers
-/// their number. Many rows are spelled side by side on threads, at most 16,384 at a time.
+/// their number. Many rows are looked up and spelled side by side on threads, at most 16,384 at a time, which bounds the
+/// memory that is taken for their octets.
 ///
 /// `TooManyRows` comes exactly where the table has more than 4,294,967,295 rows, and is tested first.
 /// `TooManyRows` and `Memory` leave `out` as it was; after `Write` a beginning of the dump is out.
@@ -49,38 +47,19 @@ pub fn write_table_dump<T: Threads + Sync, W: Write>(
         (dumped tables.now.plan client (table_of tables.now client) time) }
     ensures failed_failures { IsErrOf result DumpFault.Write → W.failures out.new ≡ W.failures out.old + 1 }
 {
-    let Some(mut rows) = numbered_rows(tables, client) else {
+    let Some(rows) = numbered_rows(tables, client) else {
         return Err(DumpFault::TooManyRows);
     };
+    let mut blocks = rows.in_blocks(alloc)?;
     let mut buffer = begin_dump(alloc, tables.plan(), client, time)?;
     let mut block = Vec::with_capacity(alloc, BLOCK_LEN)?;
     let mut count: u32 = 0;
-    while gather(&mut rows, &mut block) {
+    while blocks.next_block(rt, &mut block) {
         add_side_by_side(rt, alloc, out, &mut buffer, time, count, &block)?;
         count += block.len() as u32;
     }
     write_all(out, &buffer)?;
     Ok(count)
-}
-
-// Gathers the next rows in place of those that were there, as many as a block has; answers whether there were any.
-fn gather<'a>(rows: &mut ClientRows<'a>, block: &mut Vec<Row<'a>>) -> bool
-    requires { BLOCK_LEN ≤ vec_capacity block.old }
-    ensures gathered { rows.old ≡ map row_of block.new.items ++ rows.new }
-    ensures some { IsTrue result → 0 < length block.new.items }
-    ensures none { IsFalse result → rows.old ≡ [] }
-    ensures capacity { BLOCK_LEN ≤ vec_capacity block.new }
-{
-    block.clear();
-    while block.len() < BLOCK_LEN {
-        let Some(row) = rows.next() else {
-            break;
-        };
-        let Ok(()) = block.push(row) else {
-            unreachable!();
-        };
-    }
-    !block.is_empty()
 }
 
 // The rows of a client's table, where a dump can number them all.

@@ -1,3 +1,4 @@
+pub mod BlockLemmas
 pub mod CellsLemmas
 pub mod ChangeLemmas
 pub mod CloseLemmas
