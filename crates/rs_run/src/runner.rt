@@ -30,7 +30,7 @@ use rs_setup::Setup;
 use rs_table::Tables;
 use std::alloc::Global;
 use std::sync::{Arc, Wait};
-use std::thread::Threads;
+use std::thread::{Threads, spawn};
 
 // How many octets the report has at most for each peer: the line of its session, and that of its table.
 const LINES_LEN: usize = 256;
@@ -110,10 +110,20 @@ pub fn run<T: Threads + Wait + Sync, O: Outlet, W: Write, R: Read + Send + Drop>
 {
     let served = serve_files(rt, alloc, &setup.plan, readers, options)?;
     let text = keep_dumps(rt, alloc, &setup.plan, &served, options.time, outlet)?;
+    let_go(rt, served);
     match write_all(report, text.as_bytes()) {
         Ok(()) => Ok(()),
         Err(_) => Err(RunFault::Report),
     }
+}
+
+// Lets tables go on a thread that nobody waits for, since this takes a second where they are big, and the caller
+// may be about to end. Where no thread can be made they are let go at once.
+fn let_go<T: Threads>(rt: &T, served: Served) {
+    let free = move || -> () {
+        let _served = served;
+    };
+    let _thread = spawn(rt, free);
 }
 
 // Reads the sessions of all peers, on threads.
