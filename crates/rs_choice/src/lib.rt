@@ -5,10 +5,14 @@
 //! for each client, after that client's export policy).
 //!
 //! Reading order: `plan` (the server and its peers), `fault` and `checks` (which plans are refused),
-//! `exchange` (a plan that is not), `eligibility`, `policy`, `candidate`, `step`, `decision` (the pass that
-//! decides), `entrants`, `candidacy`, `held_route`, `held_order` and `clients` (the decisions of all
+//! `exchange` (a plan that is not), `eligibility`, `policy`, `candidate`, `step`, `entrants` and
+//! `neighbour_groups` (what takes part in a decision, and who stands for each neighbour AS), `decision` (the
+//! pass that decides), `candidacy`, `held_route`, `held_order`, `places` and `clients` (the decisions of all
 //! clients), `recipients` and `route_change` (which of them a change may touch), `new_route` (who gets the
 //! new one), `scan` (the same decision for lists of any length), `laws`.
+//!
+//! The program decides by `choose_for_all` and `choose_after`; tests alone call `choose` and
+//! `choose_by_groups`.
 #![tactic(auto)]
 
 mod candidacy;

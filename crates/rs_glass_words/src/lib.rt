@@ -1,7 +1,7 @@
 //! The words of the command line of `looking_glass`: which question they ask.
 //!
 //! Reading order: `query` (the questions), `values` (what texts of values stand for), `command` (the
-//! program's command as `clap` knows it), `read_words`.
+//! program's command as `clap` knows it), `words` (how the words are read).
 #![tactic(auto)]
 
 mod command;

@@ -1,7 +1,8 @@
 //! A run over recorded files: reads the sessions of all peers at once, keeps a dump of each client's table,
 //! and writes the report.
 //!
-//! Reading order: `runner` (the run), `outlet` (where dumps go), `report` (the report's lines), `memory_outlet`.
+//! Reading order: `runner` (the run), `run_fault` (why it stops short), `outlet` (where dumps go), `report`
+//! (the report's lines), `memory_outlet`.
 //!
 //! Supported standards: RFC 4271, RFC 7947, RFC 6396.
 #![tactic(auto)]

@@ -4,10 +4,11 @@
 //! To read in this order: `prefix` (an address prefix, and the fields that list them), `fault` (what can be
 //! wrong, by code and subcode), `attribute_type`, `flags` and `item` (one path attribute, and what its flags
 //! must say), `number_list`, `as_path` and `values` (values of attributes), `section` (the first fault of a
-//! section of attributes), `attributes` (what a route keeps of them), `gather` (how that is read), `handling`
-//! and `treating` (what RFC 7606 does in place of a fault), `header`, `update` and `message` (a message by
-//! its type, and its first fault), `concerns` (whether a message may concern a prefix), `spelling` (attributes
-//! as they are written), `laws` (what holds of the definitions that the contracts cite).
+//! section of attributes), `found` and `readers` (where they stand, and their values where none is at fault),
+//! `attributes` (what a route keeps of them), `gather` (how that is read), `errors`, `handling` and `treating`
+//! (what RFC 7606 does in place of a fault), `header`, `update` and `message` (a message by its type, and its
+//! first fault), `concerns` (whether a message may concern a prefix), `spelling` (attributes as they are
+//! written), `laws` (what holds of the definitions that the contracts cite).
 #![tactic(auto)]
 
 mod as_path;
