@@ -1,4 +1,5 @@
--- The routes that stand at some places of a list, and the choice among them by neighbour groups: for exchange.rt, clients.rt and entrants.rt.
+-- The routes that stand at some places of a list, and the choice among them by neighbour groups.
+-- For clients.rt, `choose_by_groups` of decision.rt, and entrants.rt.
 use Rattle.std.proofs.Common.{◌≡◌, ◌∙◌, sym, ap, refl, ℕ, suc, zero, ◌+◌, ◌<◌, arith, Bool, true, false, cond, inl, inr, List, [], ◌∷◌, ◌++◌, length, length-append, map, take, get_or, Option, Some, None}
 use Rattle.std.specs.Prelude.{slice_get, filter}
 use Rattle.std.specs.List.{All}

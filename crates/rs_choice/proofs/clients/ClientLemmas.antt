@@ -1,4 +1,4 @@
--- What is shared of the decisions of all clients, from the groups of the eligible routes: for `share` and `chosen_peer` of exchange.rt.
+-- What is shared of the decisions of all clients, from the groups of the eligible routes: for `share` and `chosen_peer` of clients.rt.
 use Rattle.std.proofs.Common.{◌≡◌, ◌∙◌, sym, ap, refl, ℕ, suc, zero, ◌<◌, arith, Bool, true, false, cond, List, [], ◌∷◌, length, map, get_or, Option, Some, None}
 use Rattle.std.specs.Prelude.{slice_get, filter, IfSome, IsTrue}
 use Rattle.std.specs.List.{All, Contains}

@@ -1,4 +1,4 @@
--- A client's candidates, gone over one after another, without those that one before them outdoes: for `contenders` of exchange.rt.
+-- A client's candidates, gone over one after another, without those that one before them outdoes: for `contenders` of clients.rt.
 use Rattle.std.proofs.Common.{◌≡◌, ◌∙◌, sym, ap, refl, Bool, true, false, inl, inr, List, [], ◌∷◌, ◌++◌, Option, Some, None, ℕ}
 use Rattle.std.specs.Prelude.{filter}
 use Rattle.std.proofs.lemmas.List.{append_assoc}

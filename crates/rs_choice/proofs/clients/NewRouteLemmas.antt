@@ -1,4 +1,4 @@
--- A new route that is ahead of the one that a client got is what the client gets: for `new_best` of exchange.rt.
+-- A new route that is ahead of the one that a client got is what the client gets: for `new_best` of new_route.rt.
 use Rattle.std.proofs.Common.{◌≡◌, ◌∙◌, sym, ap, subst, refl, ℕ, ◌<◌, arith, Bool, true, false, not, ◌==◌, ◌⊎◌, inl, inr, List, [], length, map, Option, Some, None}
 use Rattle.std.specs.Prelude.{filter, IsTrue, nat_lt, slice_get}
 use Rattle.std.specs.List.{All, Contains}

@@ -1,4 +1,4 @@
--- Marks of clients, and the clients that a route for named clients alone doesn't reach: for the functions of exchange.rt that mark clients or pass over them.
+-- Marks of clients, and the clients that a route for named clients alone doesn't reach: for recipients.rt and route_change.rt.
 use Rattle.std.proofs.Common.{◌≡◌, ◌∙◌, ◌<◌, sym, subst, refl, length, ℕ, Bool, true, false, ◌&&◌, ◌⊎◌, inl, inr, List, [], Option, Some, None}
 use Rattle.std.specs.Prelude.{slice_index_or, nat_lt}
 use Rattle.rs_update.specs.Community.{has_value}

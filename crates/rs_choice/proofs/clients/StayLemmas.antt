@@ -1,4 +1,5 @@
--- Clients to which a change of one peer's route is of no matter get what they got: for `next_touched`, `choose_for_touched` and `outdoes_both` of exchange.rt.
+-- Clients to which a change of one peer's route is of no matter get what they got.
+-- For `next_touched`, `choose_for_touched` and `outdoes_both` of route_change.rt.
 use Rattle.std.proofs.Common.{◌≡◌, ◌≢◌, ◌∙◌, sym, ap, subst, refl, ℕ, ◌+◌, ◌<◌, ◌≤◌, arith, below_more, set, Bool, true, false, cond, not, ◌==◌, ◌⊎◌, inl, inr, List, [], ◌∷◌, ◌++◌, length, map, Option, Some}
 use Rattle.std.specs.Prelude.{filter, nat_lt, IsTrue, slice_get, slice_index_or}
 use Rattle.std.specs.List.{All, Contains}

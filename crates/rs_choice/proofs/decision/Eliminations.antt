@@ -1,5 +1,5 @@
 -- What eliminations leave, by members: two in a row are one by both.
--- For `mark_named` of exchange.rt, and the lemmas of choices and groups.
+-- For `mark_named` of recipients.rt, and the lemmas of choices and groups.
 use Rattle.std.proofs.Common.{◌≡◌, ap, refl, arith, Bool, true, false, not, inl, inr, List}
 use Rattle.std.specs.List.{list_any}
 use Rattle.std.proofs.lemmas.Bool.Decides.{nat_tests}

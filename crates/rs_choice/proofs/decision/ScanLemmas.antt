@@ -1,5 +1,5 @@
 -- Going over a list of candidates: the leader, and then the best of those that the first four steps leave.
--- For `leader`, `best` and `choose` of exchange.rt, decision.rt, and `weighing` of clients.rt.
+-- For `leader`, `best` and `choose` of scan.rt, decision.rt, and `weighing` of clients.rt.
 use Rattle.std.proofs.Common.{◌≡◌, ap, refl, ℕ, ◌+◌, ◌<◌, arith, Bool, false, ◌⊎◌, inl, inr, List, length, Option, Some, None, below_more}
 use Rattle.std.specs.Prelude.{slice_get, IsTrue, ◌↔◌}
 use Rattle.std.specs.Option.{option_map}

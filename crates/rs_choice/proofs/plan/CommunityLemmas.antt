@@ -1,4 +1,4 @@
--- The values of communities, one after another: for `mark_named` of exchange.rt.
+-- The values of communities, one after another: for `mark_named` of recipients.rt.
 use Rattle.std.proofs.Common.{◌≡◌, ◌∙◌, sym, ap, refl, arith, ℕ, ◌<◌, ◌/◌, ◌%◌, ◌*◌, ◌+◌, ◌==◌, Bool, true, false, ◌&&◌, ◌||◌, ◌⊎◌, inl, inr, List, [], ◌∷◌}
 use Rattle.std.specs.Prelude.{nat_lt}
 use Rattle.std.specs.List.{list_any}

@@ -1,5 +1,5 @@
 -- Refusals by name, as an exchange keeps them, the policy at two known peers, and routes whose communities refuse nothing.
--- For `refusals`, `refuses`, `permits` and `permits_other` of exchange.rt.
+-- For `refusals` and `refuses` of exchange.rt, and `permits` and `permits_other` of policy.rt.
 use Rattle.std.proofs.Common.{◌≡◌, ◌∙◌, sym, ap, arith, ℕ, ◌<◌, ◌/◌, ◌*◌, ◌+◌, ◌==◌, Bool, true, false, not, ◌&&◌, ◌||◌, ◌≢◌, List, [], ◌∷◌, length, map, get_or, Option, None, Some, refl}
 use Rattle.std.specs.Prelude.{slice_get, string_bytes, nat_lt, if◌then◌else◌}
 use Rattle.std.specs.List.{list_any}
