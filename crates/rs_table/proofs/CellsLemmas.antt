@@ -81,17 +81,6 @@ module _ (m n : BTreeMap IpPrefix CellContent) (prefix : IpPrefix) where
         | inr there ↦ rw there refl
       ]
 
--- a prefix without a cell stays so where f makes nothing of nothing
-pub updated-none : (m : Entries) (prefix : IpPrefix) (f : List SentRoute → List SentRoute) → f [] ≡ [] → cell_at m prefix ≡ None →
-    (q : IpPrefix) → routes_at m q ≡ cond (same_prefix q prefix) (f (routes_at m q)) (routes_at m q)
-updated-none m prefix f nothing none q =
-    elim (cases_Bool (same_prefix q prefix)) [
-      | inl here ↦
-          let empty : routes_at m q ≡ [] = ap routes_of (ap (cell_at m) (same_prefix-true q prefix here) ∙ none) in
-          rw here (empty ∙ sym nothing ∙ ap f (sym empty))
-      | inr there ↦ rw there refl
-    ]
-
 -- a cell is written and then removed
 pub removed_after : (m l n : BTreeMap IpPrefix CellContent) (prefix : IpPrefix) (w : CellContent) → Updates prefix_cmp m l prefix (Some w) → Updates prefix_cmp l n prefix None →
     (q : IpPrefix) → cell_at n.entries q ≡ cond (same_prefix q prefix) None (cell_at m.entries q)

@@ -1,5 +1,5 @@
 -- Members that ascend by peer: where one of a peer comes, and what stays true of all.
-use Rattle.std.proofs.Common.{◌≡◌, ℕ, ◌+◌, ◌<◌, ◌≤◌, true, false, cond, not, ◌==◌, List, [], ◌∷◌, length, map, get_or, set, refl, ap, arith, inl, inr, ◌⊎◌, ◌∙◌, All, sym}
+use Rattle.std.proofs.Common.{◌≡◌, ℕ, ◌+◌, ◌<◌, ◌≤◌, true, false, cond, not, ◌==◌, List, [], ◌∷◌, length, map, get_or, set, refl, ap, arith, inl, inr, ◌∙◌, All, sym}
 use Rattle.std.specs.List.{AllByRecursion, insert}
 use Rattle.std.specs.Prelude.{nat_lt}
 use Rattle.std.proofs.lemmas.List.Edits.{length-insert}
@@ -33,18 +33,6 @@ module _ {M : Type 0} (peer_of : M → ℕ) where
           | inr apart ↦ rw (more, apart) (omega arith)
         ]
       ]
-
-  -- nothing goes where the length stays
-  pub without_none : (members : List M) (peer : ℕ) → length members ≤ length (without_one peer_of members peer) → without_one peer_of members peer ≡ members
-  without_none members peer long = elim (longer members) [ inl short ↦ absurd (omega (arith, short, long)) | inr same ↦ same ]
-    where
-      longer : (members : List M) → (length (without_one peer_of members peer) < length members) ⊎ (without_one peer_of members peer ≡ members)
-      longer [] = inr refl
-      longer (one ∷ later) =
-          elim (cases_Bool (peer_of one == peer)) [
-            | inl here ↦ rw here (inl (elim (longer later) [ inl short ↦ omega (arith, short) | inr same ↦ rw same (omega arith) ]))
-            | inr there ↦ rw there (elim (longer later) [ inl short ↦ inl (omega (arith, short)) | inr same ↦ inr (ap (λ rest. one ∷ rest) same) ])
-          ]
 
   -- ---- places
 

@@ -1,6 +1,5 @@
 -- What a list becomes where one of a peer is put into its place.
-use Rattle.std.proofs.Common.{◌≡◌, ℕ, ◌+◌, ◌<◌, Bool, false, cond, ◌==◌, List, length, get_or, set, refl, sym, ap, ◌∙◌, arith, Result, Ok, Err, inl, inr}
-use Rattle.std.proofs.lemmas.Bool.Decides.{eqb_tells}
+use Rattle.std.proofs.Common.{◌≡◌, ℕ, ◌+◌, ◌<◌, cond, List, length, get_or, set, refl, sym, ap, ◌∙◌, arith, Result, Ok, Err}
 use Rattle.std.specs.List.{insert}
 use Rattle.std.specs.Prelude.{IsOk, is_ok}
 use Rattle.rs_table.specs.ByPeer.{place_of, with_one}
@@ -28,6 +27,3 @@ module _ {M : Type 0} (peer_of : M → ℕ) (members : List M) (one : M) (place 
 pub when_ok : {V E X : Type 0} (r : Result V E) (x y : X) → IsOk r → cond (is_ok r) x y ≡ x
 when_ok (Ok v) x y ok = refl
 when_ok (Err e) x y ok = absurd (cc ok)
-
-pub not_empty : (n : ℕ) (b : Bool) → b ≡ (n == 0) → b ≡ false → 0 < n
-not_empty n b is no_b = elim (eqb_tells n 0) [ inl same ↦ absurd (cc (same.0, is, no_b)) | inr apart ↦ omega (arith, apart.1) ]
