@@ -11,11 +11,6 @@ pub OnErr-always : {T E A : Type 0} (result : Result T E) → A → OnErr result
 OnErr-always (Ok x) held = tt
 OnErr-always (Err e) held = held
 
--- of an error this follows
-pub OnErr-then : {T E A B : Type 0} (result : Result T E) → (A → B) → OnErr result A → OnErr result B
-OnErr-then (Ok x) follows held = tt
-OnErr-then (Err e) follows held = follows held
-
 -- octets that are known grow twice
 Appends-append : (old mid new : Option (List ℕ)) (first second : List ℕ) → Appends old mid first → Appends mid new second → Appends old new (first ++ second)
 Appends-append None mid new first second before after = tt
@@ -23,15 +18,6 @@ Appends-append (Some xs) None new first second before after = absurd before
 Appends-append (Some xs) (Some ys) None first second before after = absurd after
 Appends-append (Some xs) (Some ys) (Some zs) first second before after =
     after ∙ ap (λ octets. octets ++ second) before ∙ append_assoc xs first second
-
--- they stay
-Appends-nil : (known : Option (List ℕ)) → Appends known known []
-Appends-nil None = tt
-Appends-nil (Some xs) = sym (append-nil xs)
-
--- nothing is sent yet
-pub IsUnderWay-start : (known : Option (List ℕ)) (waiting : List ℕ) → IsUnderWay known known waiting waiting
-IsUnderWay-start known waiting = record { sent = []; taken = Appends-nil known; follows = refl }
 
 -- more waits
 pub IsUnderWay-more : (old now : Option (List ℕ)) (waiting more whole : List ℕ) → IsUnderWay old now waiting whole → IsUnderWay old now (waiting ++ more) (whole ++ more)
