@@ -1,5 +1,5 @@
 -- Tables of one route each, on prefixes of different lengths, are parts.
-use Rattle.std.proofs.Common.{◌≡◌, ◌≢◌, ℕ, zero, suc, ◌<◌, Bool, true, false, List, [], ◌∷◌, ◌++◌, length, None, AllPairs, ◌⊎◌, refl, sym, ap, subst, ◌∙◌, arith, inl, inr}
+use Rattle.std.proofs.Common.{◌≡◌, ◌≢◌, ℕ, zero, suc, true, false, [], ◌∷◌, None, AllPairs, ◌⊎◌, refl, sym, ap, ◌∙◌, arith, inl, inr}
 use Rattle.std.specs.FinMap as fin
 use Rattle.std.proofs.lemmas.Bool.{cases_Bool}
 use Rattle.std.proofs.lemmas.Bool.Decides.{eqb_tells}
@@ -64,14 +64,6 @@ of-length plan prefix tables on = record {
   unclosed = on.is_open.unclosed;
   held = λ q held. ap (λ (p : IpPrefix). p.len) (on.held q held);
 }
-
--- a peer that said no close is open, and the others are as they were
-pub still-open : (old new : TablesContent) (peer : ℕ) → ((p : ℕ) → (rib_of old p).closed ≡ false) → (rib_of new peer).closed ≡ false →
-    ((other : ℕ) → other ≢ peer → rib_of new other ≡ rib_of old other) → (p : ℕ) → (rib_of new p).closed ≡ false
-still-open old new peer before unclosed others p = elim (eqb_tells p peer) [
-  | inl same ↦ ap (λ n. (rib_of new n).closed) same.1 ∙ unclosed
-  | inr apart ↦ ap (λ (rib : RibContent). rib.closed) (others p apart.1) ∙ before p
-]
 
 pub nothing-closed : (plan : Plan) (tables : TablesContent) → IsEmpty plan tables → (p : ℕ) → (rib_of tables p).closed ≡ false
 nothing-closed plan tables empty p = ap (λ (rib : RibContent). rib.closed) (empty.nothing p)
