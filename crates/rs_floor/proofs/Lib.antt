@@ -1,15 +1,1 @@
 mod ListLemmas
-mod SessionLemmas
-mod LaneLemmas
-mod LaneStates
-mod StepLemmas
-mod HeldLemmas
-mod ReplayLemmas
-mod OpeningLemmas
-mod OpenLemmas
-mod ServedLemmas
-mod AllServedLemmas
-mod RunLemmas
-mod SettleLemmas
-mod FileLemmas
-mod AtHandLemmas

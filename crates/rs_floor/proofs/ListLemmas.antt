@@ -1,4 +1,4 @@
--- Places of a list as it changes, and tests of its beginnings.
+-- Places of a list as it changes, and tests of its beginnings: for the lemmas of lanes, of schedules and of runs.
 use Rattle.std.proofs.Common.{◌≡◌, ◌≢◌, ap, refl, ℕ, ◌<◌, suc, zero, arith, Bool, true, false, List, [], ◌∷◌, ◌++◌, length, take, Some}
 use Rattle.std.specs.Prelude.{slice_get, slice_set, ◌||◌}
 use Rattle.std.specs.List.{list_any}

@@ -8,7 +8,7 @@ use Rattle.rs_session.specs.declared.word.Word.{Word}
 use Rattle.rs_shard.specs.Crew as of_shards
 use Rattle.rs_shard.specs.Crew.{AllHold}
 use Rattle.rs_worker.specs.Crew.{charged}
-use Rattle.rs_floor.proofs.RunLemmas.{counted-by, has-run, take-front}
+use Rattle.rs_floor.proofs.serving.RunLemmas.{counted-by, has-run, take-front}
 use Rattle.rs_floor.proofs.crew.join_all.Goals as goal
 
 pub join_workers-requires-clause-rings : goal.join_workers-requires-clause-rings

@@ -6,7 +6,7 @@ use Rattle.rs_session.specs.declared.word.Word.{Word}
 use Rattle.rs_shard.specs.Crew as of_shards
 use Rattle.rs_shard.specs.declared.crew.ShardJob.{ShardJob}
 use Rattle.rs_worker.specs.Crew.{charge_of, charged}
-use Rattle.rs_floor.proofs.RunLemmas.{all-charged, counted-by, prefix-shorter, rings-of}
+use Rattle.rs_floor.proofs.serving.RunLemmas.{all-charged, counted-by, prefix-shorter, rings-of}
 use Rattle.rs_floor.proofs.crew.run.Goals as goal
 
 pub give_up-requires-clause-shards : goal.give_up-requires-clause-shards

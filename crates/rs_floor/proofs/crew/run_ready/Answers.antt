@@ -1,6 +1,6 @@
 -- What is known of a crew that can start.
 use Rattle.std.proofs.Common.{arith}
-use Rattle.rs_floor.proofs.RunLemmas.{none-left}
+use Rattle.rs_floor.proofs.serving.RunLemmas.{none-left}
 use Rattle.rs_floor.proofs.crew.run_ready.Goals as goal
 
 pub run-requires-clause-no_handles : goal.run-requires-clause-no_handles

@@ -1,5 +1,5 @@
 -- Peer by peer.
-use Rattle.rs_floor.proofs.ReplayLemmas.{drained}
+use Rattle.rs_floor.proofs.schedule.ReplayLemmas.{drained}
 use Rattle.rs_floor.proofs.laws.drained_schedules_agree.Goals as goal
 
 pub returns : goal.returns

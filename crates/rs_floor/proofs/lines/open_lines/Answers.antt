@@ -3,8 +3,8 @@ use Rattle.std.proofs.Common.{◌≡◌, ◌∙◌, sym, ap, ℕ, [], ◌∷◌,
 use Rattle.std.specs.Prelude.{slice_get}
 use Rattle.std.specs.Vec.Iter.{into_iter_items}
 use Rattle.rs_choice.specs.Plan.{peer_of}
-use Rattle.rs_floor.proofs.OpenLemmas.{opening-next, opening-all}
-use Rattle.rs_floor.proofs.RunLemmas.{none-left}
+use Rattle.rs_floor.proofs.serving.OpenLemmas.{opening-next, opening-all}
+use Rattle.rs_floor.proofs.serving.RunLemmas.{none-left}
 use Rattle.rs_floor.proofs.lines.open_lines.Goals as goal
 
 pub loop-reader-preserved : goal.loop-reader-preserved

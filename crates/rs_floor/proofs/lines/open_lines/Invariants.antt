@@ -1,7 +1,7 @@
 -- The rings of the readers that were taken are open.
 use Rattle.std.proofs.Common.{◌≡◌, length}
 use Rattle.std.specs.Vec.Iter.{into_iter_items, into_iter_len}
-use Rattle.rs_floor.proofs.OpenLemmas.{Opening}
+use Rattle.rs_floor.proofs.serving.OpenLemmas.{Opening}
 use Rattle.rs_floor.proofs.lines.open_lines.Given as goal
 
 abbrev pub invariant-loop-reader : goal.invariant-loop-reader

@@ -2,7 +2,7 @@
 use Rattle.std.proofs.Common.{[], ◌∷◌, length-append, map, arith, rules}
 use Rattle.std.proofs.lemmas.List.{length-map}
 use Rattle.rs_choice.specs.Plan.{peer_of}
-use Rattle.rs_floor.proofs.OpeningLemmas.{one-more, all-opened}
+use Rattle.rs_floor.proofs.schedule.OpeningLemmas.{one-more, all-opened}
 use Rattle.rs_floor.proofs.opening.open_lanes.Goals as goal
 
 pub new-requires-clause-file : goal.new-requires-clause-file

@@ -1,6 +1,6 @@
 -- One ring more.
 use Rattle.std.proofs.Common.{[], ◌∷◌, length-append, arith}
-use Rattle.rs_floor.proofs.OpenLemmas.{rings-next}
+use Rattle.rs_floor.proofs.serving.OpenLemmas.{rings-next}
 use Rattle.rs_floor.proofs.rings.open_rings.Goals as goal
 
 pub loop-shard-preserved : goal.loop-shard-preserved

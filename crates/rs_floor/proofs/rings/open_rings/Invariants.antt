@@ -1,6 +1,6 @@
 -- As many rings are open as were counted.
 use Rattle.std.proofs.Common.{◌≡◌, length}
-use Rattle.rs_floor.proofs.OpenLemmas.{OpeningRings}
+use Rattle.rs_floor.proofs.serving.OpenLemmas.{OpeningRings}
 use Rattle.rs_floor.proofs.rings.open_rings.Given as goal
 
 abbrev pub invariant-loop-shard : goal.invariant-loop-shard

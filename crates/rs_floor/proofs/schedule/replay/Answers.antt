@@ -6,7 +6,7 @@ use Rattle.rs_choice.specs.Plan.{Peer, Plan}
 use Rattle.rs_floor.specs.FloorContent.{FloorContent, IsReplayed, id_of, recorded_by}
 use Rattle.rs_floor.specs.Lane.{LaneContent, fresh_lane}
 use Rattle.rs_floor.specs.Steps.{HoldReceived}
-use Rattle.rs_floor.proofs.ReplayLemmas.{held-fresh, replayed}
+use Rattle.rs_floor.proofs.schedule.ReplayLemmas.{held-fresh, replayed}
 use Rattle.rs_floor.proofs.schedule.replay.Goals as goal
 
 pub run_turns-requires-clause-held : goal.run_turns-requires-clause-held

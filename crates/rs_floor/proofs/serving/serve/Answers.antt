@@ -4,8 +4,8 @@ use Rattle.std.proofs.Common.{◌≡◌, ◌∙◌, ap, subst, ℕ, List, Bor, l
 use Rattle.rs_mrt.specs.Device.{Device}
 use Rattle.rs_session.specs.FileChanges.{default_standard}
 use Rattle.rs_floor.specs.Served.{IsServed, IsServedBy}
-use Rattle.rs_floor.proofs.AtHandLemmas.{at_hand, served-at-hand}
-use Rattle.rs_floor.proofs.RunLemmas.{ok-so}
+use Rattle.rs_floor.proofs.serving.AtHandLemmas.{at_hand, served-at-hand}
+use Rattle.rs_floor.proofs.serving.RunLemmas.{ok-so}
 use Rattle.rs_floor.proofs.serving.serve.Goals as goal
 
 pub returns-clause-served : goal.returns-clause-served

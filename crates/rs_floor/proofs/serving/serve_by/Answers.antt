@@ -2,7 +2,7 @@
 use Rattle.std.proofs.Common.{inl, inr, rules}
 use Rattle.rs_floor.specs.Run.{IsAnswer}
 use Rattle.rs_floor.specs.Served.{IsServedBy}
-use Rattle.rs_floor.proofs.RunLemmas.{can-merge, not-limits, ok-so, run-fails, run-names, run-served}
+use Rattle.rs_floor.proofs.serving.RunLemmas.{can-merge, not-limits, ok-so, run-fails, run-names, run-served}
 use Rattle.rs_floor.proofs.serving.serve_by.Goals as goal
 
 pub settle-requires : goal.settle-requires

@@ -8,7 +8,7 @@ use Rattle.rs_worker.specs.Worked.{is_memory}
 use Rattle.rs_worker.specs.declared.crew.Joined.{Joined}
 use Rattle.rs_floor.specs.Outcome.{IsVerdict}
 use Rattle.rs_floor.specs.Run.{end_of}
-use Rattle.rs_floor.proofs.SettleLemmas.{all-well, merged-counted, refusal-of}
+use Rattle.rs_floor.proofs.serving.SettleLemmas.{all-well, merged-counted, refusal-of}
 use Rattle.rs_floor.proofs.serving.settle.Goals as goal
 
 pub merge-requires-clause-parts : goal.merge-requires-clause-parts

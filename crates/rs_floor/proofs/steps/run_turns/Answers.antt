@@ -1,7 +1,7 @@
 -- The end of the lanes, lane by lane.
 use Rattle.std.proofs.Common.{◌≡◌, arith, map}
 use Rattle.rs_floor.specs.Steps.{IsEnd}
-use Rattle.rs_floor.proofs.ReplayLemmas.{ended, if-ok}
+use Rattle.rs_floor.proofs.schedule.ReplayLemmas.{ended, if-ok}
 use Rattle.rs_floor.proofs.steps.run_turns.Goals as goal
 
 pub returns-clause-end : goal.returns-clause-end

@@ -2,7 +2,7 @@
 use Rattle.std.proofs.Common.{◌≡◌, ap, length, arith}
 use Rattle.rs_choice.specs.Plan.{Plan}
 use Rattle.rs_floor.specs.FloorContent.{id_of}
-use Rattle.rs_floor.proofs.RunLemmas.{counted-by}
+use Rattle.rs_floor.proofs.serving.RunLemmas.{counted-by}
 use Rattle.rs_floor.proofs.crew.Crew.new.Goals as goal
 
 pub returns-clause-few : goal.returns-clause-few

@@ -3,9 +3,9 @@ use Rattle.std.proofs.Common.{arith, refl}
 use Rattle.rs_mrt.specs.Record.{records_of, end_of}
 use Rattle.rs_mrt.specs.Source.{source_end}
 use Rattle.rs_session.specs.FileChanges.{changes_in, passed_in, default_standard}
-use Rattle.rs_floor.proofs.LaneLemmas.{none-before}
-use Rattle.rs_floor.proofs.LaneStates.{fresh-is_lane, fresh-view}
-use Rattle.rs_floor.proofs.SessionLemmas.{to_come-says}
+use Rattle.rs_floor.proofs.lane.LaneLemmas.{none-before}
+use Rattle.rs_floor.proofs.lane.LaneStates.{fresh-is_lane, fresh-view}
+use Rattle.rs_floor.proofs.lane.SessionLemmas.{to_come-says}
 use Rattle.rs_floor.proofs.lane.Lane.new.Goals as goal
 
 pub invariant_of-result : goal.invariant_of-result

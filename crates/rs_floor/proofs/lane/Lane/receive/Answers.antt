@@ -6,8 +6,8 @@ use Rattle.rs_session.specs.Change.{change_of}
 use Rattle.rs_session.specs.declared.word.Word.{Word}
 use Rattle.rs_floor.specs.Lane.{LaneContent, to_come}
 use Rattle.rs_floor.specs.declared.lane.Lane.TheInside.{Inside}
-use Rattle.rs_floor.proofs.LaneLemmas.{recorded-waiting}
-use Rattle.rs_floor.proofs.LaneStates.{front, received-is_lane}
+use Rattle.rs_floor.proofs.lane.LaneLemmas.{recorded-waiting}
+use Rattle.rs_floor.proofs.lane.LaneStates.{front, received-is_lane}
 use Rattle.rs_floor.proofs.lane.Lane.receive.Goals as goal
 
 pub invariant_of-self-2 : goal.invariant_of-self-2

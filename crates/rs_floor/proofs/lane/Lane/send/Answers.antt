@@ -9,9 +9,9 @@ use Rattle.rs_session.specs.declared.word.Word.{Word}
 use Rattle.rs_floor.specs.Lane.{LaneContent, to_come}
 use Rattle.rs_floor.specs.LaneView.{lane_view}
 use Rattle.rs_floor.specs.declared.lane.Lane.TheInside.{Inside}
-use Rattle.rs_floor.proofs.LaneLemmas.{open-sent}
-use Rattle.rs_floor.proofs.LaneStates.{looked-is_lane, unsent-view, sent-is_lane, sent-view, some-left, with_send}
-use Rattle.rs_floor.proofs.SessionLemmas.{to_come-given, to_come-kept, to_come-none}
+use Rattle.rs_floor.proofs.lane.LaneLemmas.{open-sent}
+use Rattle.rs_floor.proofs.lane.LaneStates.{looked-is_lane, unsent-view, sent-is_lane, sent-view, some-left, with_send}
+use Rattle.rs_floor.proofs.lane.SessionLemmas.{to_come-given, to_come-kept, to_come-none}
 use Rattle.rs_floor.proofs.lane.Lane.send.Goals as goal
 
 pub invariant_of-self-in_err-word : goal.invariant_of-self-in_err-word

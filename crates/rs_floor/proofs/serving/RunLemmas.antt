@@ -1,4 +1,4 @@
--- A run, from the start of its threads to their join.
+-- A run, from the start of its threads to their join: for crew.rt, `open_lines` of lines.rt, and `serve_by` and `serve` of serving.rt.
 use mathlib.Core.List.{IsPrefix, map-map}
 use Rattle.std.proofs.Common.{◌≡◌, ◌∙◌, sym, ap, subst, refl, ℕ, ◌<◌, ◌≤◌, ◌⊎◌, inl, inr, zero, suc, arith, take, Result, Ok, Err, Bool, true, List, [], ◌∷◌, ◌++◌, length, map, get_or, append-nil, length-append}
 use Rattle.std.specs.Prelude.{IfErr, IfOk}
@@ -31,7 +31,7 @@ use Rattle.rs_floor.specs.Run.{HasRun, CanMerge, IsAnswer, IsFirstRead, IsRefusa
 use Rattle.rs_floor.specs.Served.{ServedContent, IsServedBy}
 use Rattle.rs_floor.specs.declared.fault.FloorRefused.{FloorRefused}
 use Rattle.rs_floor.specs.declared.fault.FloorRefused.TheVariants.{Capacity, Read, Shards, Unsettled}
-use Rattle.rs_floor.proofs.AllServedLemmas.{all-at, all-served, fails-first, within-peers}
+use Rattle.rs_floor.proofs.serving.AllServedLemmas.{all-at, all-served, fails-first, within-peers}
 use Rattle.rs_floor.proofs.ListLemmas.{get-within}
 
 pub none-left : {X : Type 0} (xs : List X) → length xs ≡ 0 → xs ≡ []

@@ -1,4 +1,4 @@
--- The session of a recorded file: what is still to come, change by change.
+-- The session of a recorded file, what is still to come of it, change by change: for `new` and `send` of lane.rt.
 use Rattle.std.proofs.Common.{◌≡◌, ℕ, List, [], ◌∷◌, Option, Some, None, Ok, refl, sym, ap, ◌∙◌}
 use Rattle.rs_mrt.specs.Record.{MrtRecord, Reading}
 use Rattle.rs_mrt.specs.Source.{IsLeft, source_end}

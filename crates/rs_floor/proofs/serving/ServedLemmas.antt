@@ -1,4 +1,4 @@
--- What files say of each peer whose worker settled well.
+-- What files say of each peer whose worker settled well: for `serve_by` and `serve` of serving.rt, by AllServedLemmas and AtHandLemmas.
 use Rattle.std.proofs.Common.{◌≡◌, ◌∙◌, sym, ap, subst, refl, ℕ, ◌<◌, suc, zero, arith, inl, inr, true, false, List, [], ◌∷◌, ◌++◌, length, map, Option, Some, None}
 use Rattle.std.specs.Prelude.{slice_get}
 use Rattle.std.specs.List.{zip}

@@ -1,4 +1,4 @@
--- A run of which all is well serves what the files say that the readers may give.
+-- A run of which all is well serves what the files say that the readers may give: for `serve_by` of serving.rt by RunLemmas, and AtHandLemmas.
 use Rattle.std.proofs.Common.{◌≡◌, ◌∙◌, sym, ap, subst, refl, ℕ, ◌<◌, suc, zero, arith, Bool, true, false, List, [], ◌∷◌, All, length, map, take, Some}
 use Rattle.std.specs.Prelude.{slice_get}
 use Rattle.std.specs.List.{zip}
@@ -30,7 +30,7 @@ use Rattle.rs_floor.specs.Run.{HasRun, IsAnswer, IsFirstRead, IsWell, end_of}
 use Rattle.rs_floor.specs.Served.{ServedContent, IsEndOf, IsServedBy, said_by}
 use Rattle.rs_floor.specs.declared.ended.PeerEnd.{PeerEnd}
 use Rattle.rs_floor.proofs.ListLemmas.{same-places, get-within}
-use Rattle.rs_floor.proofs.ServedLemmas.{JoinedOver, choose, made-at, zip-at, zip-counted, says-file, end-of-file, may-fail}
+use Rattle.rs_floor.proofs.serving.ServedLemmas.{JoinedOver, choose, made-at, zip-at, zip-counted, says-file, end-of-file, may-fail}
 
 pub some-at : {X : Type 0} (xs : List X) (at : ℕ) → at < length xs → (x : X) × (slice_get xs at ≡ Some x)
 some-at [] at h = absurd (omega arith)

@@ -1,4 +1,4 @@
--- The end of a schedule, peer by peer.
+-- The end of a schedule, peer by peer: for `run_turns` of steps.rt, `replay` of schedule.rt, and `drained_schedules_agree` of laws.rt.
 use Rattle.std.proofs.Common.{◌≡◌, ◌∙◌, sym, ap, subst, refl, ℕ, ◌<◌, suc, zero, arith, List, [], ◌∷◌, length, take, map, Option, Some, Result, Ok, Err}
 use Rattle.std.specs.Prelude.{slice_get, IfOk}
 use Rattle.std.specs.List.{zip}

@@ -1,4 +1,4 @@
--- Lanes as they are opened, one after another.
+-- Lanes as they are opened, one after another: for `open_lanes` of opening.rt.
 use Rattle.std.proofs.Common.{◌≡◌, ◌∙◌, sym, ap, ℕ, ◌+◌, ◌<◌, ◌≤◌, arith, List, [], ◌∷◌, ◌++◌, Bor, length, map, get_or, Some}
 use Rattle.std.specs.Prelude.{slice_get}
 use Rattle.std.proofs.Math.ListN.{get_or-map}

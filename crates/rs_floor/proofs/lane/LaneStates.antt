@@ -1,4 +1,4 @@
--- A lane by its fields: what each step of it keeps.
+-- A lane by its fields, and what each step of it keeps: for `new`, `send` and `receive` of lane.rt.
 use Rattle.std.proofs.Common.{◌≡◌, ◌∙◌, sym, ap, refl, subst, ℕ, ◌+◌, ◌-◌, ◌<◌, ◌≤◌, ◌^◌, suc, arith, List, [], ◌∷◌, ◌++◌, length, length-append}
 use Rattle.std.proofs.lemmas.List.{length-map, take-append-le}
 use Rattle.rs_session.specs.Change.{Change, change_of}
@@ -10,7 +10,7 @@ use Rattle.rs_floor.specs.LaneView.{IsLane, lane_view}
 use Rattle.rs_floor.specs.Schedule.{after_send}
 use Rattle.rs_floor.specs.declared.counts.Counts.{Counts}
 use Rattle.rs_floor.specs.declared.lane.Lane.TheInside.{Inside}
-use Rattle.rs_floor.proofs.LaneLemmas.{recorded-sent, beginning-more, send-none_left, send-one}
+use Rattle.rs_floor.proofs.lane.LaneLemmas.{recorded-sent, beginning-more, send-none_left, send-one}
 
 -- the changes that a lane's file says
 abbrev pub recorded_of : Inside → List Change

@@ -1,4 +1,4 @@
--- What tables hold beside the lanes.
+-- What tables hold beside the lanes: for `receive` of steps.rt.
 use Rattle.std.proofs.Common.{◌≡◌, ◌≢◌, ◌∙◌, sym, ap, ℕ, ◌+◌, suc, zero, inl, inr, false, List, [], ◌∷◌, ◌++◌, take, Some, Result, Ok, Err}
 use Rattle.std.proofs.Math.Numerals.{add-one}
 use Rattle.std.specs.Prelude.{slice_get, slice_set, OnOk}

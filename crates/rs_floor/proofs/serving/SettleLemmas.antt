@@ -1,4 +1,4 @@
--- The answer to a run of which all threads were joined.
+-- The answer to a run of which all threads were joined: for `settle` of serving.rt.
 use Rattle.std.proofs.Common.{◌≡◌, ◌∙◌, sym, ap, subst, refl, arith, ℕ, zero, Bool, true, false, not, List, [], ◌∷◌, All, length, map, Result, Ok, Err}
 use Rattle.std.specs.Prelude.{◌||◌, IfErr}
 use Rattle.std.specs.Result.{IsErrAnd}

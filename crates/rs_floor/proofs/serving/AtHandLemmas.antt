@@ -1,4 +1,4 @@
--- Readers of files that are at hand.
+-- Readers of files that are at hand: for `serve` of serving.rt.
 use Rattle.std.proofs.Common.{◌≡◌, ◌∙◌, sym, ap, subst, ℕ, ◌<◌, arith, inl, inr, List, ◌++◌, length, map, drop, append_assoc, Some}
 use Rattle.std.specs.Prelude.{slice_get}
 use Rattle.std.specs.List.{zip}
@@ -14,10 +14,10 @@ use Rattle.rs_floor.specs.FloorContent.{id_of}
 use Rattle.rs_floor.specs.Laws.{tables_of}
 use Rattle.rs_floor.specs.Served.{ServedContent, IsEndOf, IsServed, IsServedBy, said_by}
 use Rattle.rs_floor.specs.declared.ended.PeerEnd.{PeerEnd}
-use Rattle.rs_floor.proofs.AllServedLemmas.{some-at}
-use Rattle.rs_floor.proofs.FileLemmas.{front-says}
+use Rattle.rs_floor.proofs.serving.AllServedLemmas.{some-at}
+use Rattle.rs_floor.proofs.serving.FileLemmas.{front-says}
 use Rattle.rs_floor.proofs.ListLemmas.{same-places, get-within}
-use Rattle.rs_floor.proofs.ServedLemmas.{made-at, zip-at, zip-counted}
+use Rattle.rs_floor.proofs.serving.ServedLemmas.{made-at, zip-at, zip-counted}
 
 -- a reader gives the octets that it has at hand, or a beginning of them before a failed read
 abbrev pub at_hand : {R : Type 0} → (R → List ℕ) → R → List ℕ → ReadEnd → Type 0

@@ -1,4 +1,4 @@
--- Rings as they are opened, one after another.
+-- Rings as they are opened, one after another: for `open_lines` of lines.rt, and `open_rings` of rings.rt.
 use Rattle.std.proofs.Common.{◌≡◌, ◌∙◌, sym, ap, refl, ℕ, suc, zero, arith, List, [], ◌∷◌, ◌++◌, All, length, map, take, Some, append_assoc, append-nil, length-append}
 use Rattle.std.specs.Prelude.{slice_get}
 use Rattle.std.proofs.lemmas.List.{map-append}

@@ -1,4 +1,4 @@
--- One peer's changes on their way through its ring.
+-- One peer's changes on their way through its ring: for `new`, `send` and `receive` of lane.rt, and LaneStates.
 use Rattle.std.proofs.Common.{◌≡◌, ◌∙◌, sym, ap, refl, ℕ, ◌+◌, ◌-◌, ◌<◌, ◌≤◌, suc, arith, Bool, true, false, List, [], ◌∷◌, ◌++◌, length, take, Option, Some, append_assoc, length-append}
 use Rattle.std.specs.Prelude.{slice_get, ◌&&◌, ◌||◌, nat_lt, if◌then◌else◌}
 use Rattle.std.specs.List.{list_any}
