@@ -1,4 +1,4 @@
--- The examples are computed.
+-- The examples are computed: for `examples_hold` of laws.rt.
 use Rattle.std.proofs.Common.{[], ◌∷◌, refl, sym, ◌∙◌}
 use Rattle.rs_choice.specs.Decision.{choice, remaining, unbeaten}
 use Rattle.rs_table.specs.Examples.{ten, ended, LeftExamples, TableExamples}

@@ -1,4 +1,4 @@
--- Tables that hold different prefixes, made one.
+-- Tables that hold different prefixes, made one: for `joined_with` of tables.rt, `merge` of merge.rt, and the lemmas of table_tests.
 use Rattle.std.proofs.Common.{◌≡◌, ℕ, zero, suc, ◌+◌, ◌<◌, ◌≤◌, Bool, false, List, [], ◌∷◌, length, map, get_or, Option, Some, None, AllPairs, slice_get, refl, sym, ap, subst, ◌∙◌, arith, inl, inr}
 use Rattle.std.specs.List.{AllByRecursion}
 use Rattle.std.specs.List.Sorted.{IsStrictlySortedBy}
@@ -21,10 +21,10 @@ use Rattle.rs_table.specs.Listing.{is_held}
 use Rattle.rs_table.specs.Merge.{AreParts, IsJoined, IsMerged, IsOfPart}
 use Rattle.rs_choice.specs.Decision.{SentRoute}
 use Rattle.rs_table.specs.TablesView.{ribs_from}
-use Rattle.rs_table.proofs.CellsLemmas.{absent, cell-IsCell, get-routes_from, rib-at, rib-past}
-use Rattle.rs_table.proofs.CloseLemmas.{Below, none_below}
+use Rattle.rs_table.proofs.cells.CellsLemmas.{absent, cell-IsCell, get-routes_from, rib-at, rib-past}
+use Rattle.rs_table.proofs.cells.CloseLemmas.{Below, none_below}
 use Rattle.rs_table.proofs.PrefixLemmas.{same_prefix-true, same_prefix-itself}
-use Rattle.rs_table.proofs.TablesLemmas.{tables, rib-closed}
+use Rattle.rs_table.proofs.tables.TablesLemmas.{tables, rib-closed}
 
 -- ---- which prefixes are held
 

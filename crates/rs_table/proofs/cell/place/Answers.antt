@@ -1,4 +1,4 @@
-use Rattle.rs_table.proofs.PlaceLemmas.{ascends, place_parts}
+use Rattle.rs_table.proofs.cell.PlaceLemmas.{ascends, place_parts}
 use Rattle.rs_table.proofs.cell.place.Goals as goal
 
 pub returns-clause-place : goal.returns-clause-place

@@ -4,8 +4,8 @@ use Rattle.std.proofs.lemmas.Option.{slice_get_read}
 use Rattle.rs_choice.specs.RouteChanges.{IsAt}
 use Rattle.rs_choice.specs.declared.held_route.HeldRoute.{HeldRoute}
 use Rattle.rs_table.specs.ByPeer.{place_of, with_one}
-use Rattle.rs_table.proofs.ChangeLemmas.{at_from, at_gives, with_at}
-use Rattle.rs_table.proofs.PutLemmas.{put-set, put-insert, length-put, when_ok, IsApart}
+use Rattle.rs_table.proofs.cell.ChangeLemmas.{at_from, at_gives, with_at}
+use Rattle.rs_table.proofs.cell.PutLemmas.{put-set, put-insert, length-put, when_ok, IsApart}
 use Rattle.rs_table.proofs.cell.put.Goals as goal
 use Rattle.rs_table.proofs.cell.put.Goals.{then-is_at, else-is_at+in-Err-1, else-is_at+in-Ok-1}
 

@@ -6,7 +6,7 @@ use Rattle.std.proofs.lemmas.Option.{slice_get_read}
 use Rattle.rs_choice.specs.RouteChanges.{IsAt}
 use Rattle.rs_choice.specs.declared.held_route.HeldRoute.{HeldRoute}
 use Rattle.rs_table.specs.ByPeer.{place_of}
-use Rattle.rs_table.proofs.ChangeLemmas.{at_gives, without-none, without-remove}
+use Rattle.rs_table.proofs.cell.ChangeLemmas.{at_gives, without-none, without-remove}
 use Rattle.rs_table.proofs.cell.take_out.Goals as goal
 use Rattle.rs_table.proofs.cell.take_out.Goals.{then-is_at, else-is_at}
 

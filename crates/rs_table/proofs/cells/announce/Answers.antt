@@ -7,7 +7,7 @@ use Rattle.rs_table.specs.ByPeer.{with_route}
 use Rattle.rs_table.specs.Cell.{CellContent}
 use Rattle.rs_choice.specs.Held.{sent_of_held}
 use Rattle.rs_table.specs.Cells.{AreCells, cell_at, routes_of}
-use Rattle.rs_table.proofs.CellsLemmas.{cell-IsCell, AreCells-set, AreCells-insert, at-update, updated}
+use Rattle.rs_table.proofs.cells.CellsLemmas.{cell-IsCell, AreCells-set, AreCells-insert, at-update, updated}
 use Rattle.rs_table.proofs.cells.announce.Goals as goal
 
 pub announce-requires-clause-cell : goal.announce-requires-clause-cell

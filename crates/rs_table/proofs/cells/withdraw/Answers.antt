@@ -5,7 +5,7 @@ use Rattle.std.specs.Option.{is_some}
 use Rattle.rs_update.specs.PrefixOrder.{prefix_cmp}
 use Rattle.rs_table.specs.ByPeer.{without_route}
 use Rattle.rs_table.specs.Cells.{AreCells, cell_at, routes_of}
-use Rattle.rs_table.proofs.CellsLemmas.{cell-IsCell, AreCells-set, AreCells-removed, at-update, updated, removed_after}
+use Rattle.rs_table.proofs.cells.CellsLemmas.{cell-IsCell, AreCells-set, AreCells-removed, at-update, updated, removed_after}
 use Rattle.rs_table.proofs.cells.withdraw.Goals as goal
 
 pub withdraw-requires : goal.withdraw-requires

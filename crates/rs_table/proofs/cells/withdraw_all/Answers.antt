@@ -1,7 +1,7 @@
 use Rattle.std.proofs.Common.{rules, subst, sym, ap, ◌∷◌}
 use Rattle.rs_table.specs.Cell.{IsCell}
 use Rattle.rs_table.specs.Cells.{AreCells}
-use Rattle.rs_table.proofs.CloseLemmas.{left-AreCells, left-routes, folds_same, member-IsCell, front-AreCells}
+use Rattle.rs_table.proofs.cells.CloseLemmas.{left-AreCells, left-routes, folds_same, member-IsCell, front-AreCells}
 use Rattle.rs_table.proofs.cells.withdraw_all.Goals as goal
 
 pub retain-requires : goal.retain-requires

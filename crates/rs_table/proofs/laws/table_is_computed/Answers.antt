@@ -1,6 +1,6 @@
 use Rattle.std.proofs.Common.{subst, sym}
 use Rattle.rs_table.specs.Table.{IsTable, table_of}
-use Rattle.rs_table.proofs.TableLemmas.{table_of-IsTable, same_tables}
+use Rattle.rs_table.proofs.listing.TableLemmas.{table_of-IsTable, same_tables}
 use Rattle.rs_table.proofs.laws.table_is_computed.Goals as goal
 
 pub returns : goal.returns

@@ -1,7 +1,7 @@
 use Rattle.std.proofs.Common.{ap, sym, ◌∙◌}
 use Rattle.rs_table.specs.ClientRowsView.{stored_row}
 use Rattle.rs_table.specs.RowBlocksView.{entry_of, row_found}
-use Rattle.rs_table.proofs.BlockLemmas.{found-all}
+use Rattle.rs_table.proofs.row_blocks.BlockLemmas.{found-all}
 use Rattle.rs_table.proofs.row_blocks.find_rows.Goals as goal
 
 pub returns-clause-found : goal.returns-clause-found

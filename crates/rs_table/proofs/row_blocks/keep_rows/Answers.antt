@@ -6,7 +6,7 @@ use Rattle.std.proofs.lemmas.List.{take_more}
 use Rattle.rs_table.specs.declared.route.Row.{Row}
 use Rattle.rs_table.specs.RouteView.{row_of}
 use Rattle.rs_table.specs.RowBlocksView.{row_found}
-use Rattle.rs_table.proofs.BlockLemmas.{kept-row, kept-none}
+use Rattle.rs_table.proofs.row_blocks.BlockLemmas.{kept-row, kept-none}
 use Rattle.rs_table.proofs.row_blocks.keep_rows.Goals.{in-Some+in-Ok, in_default}
 use Rattle.rs_table.proofs.row_blocks.keep_rows.Goals as goal
 

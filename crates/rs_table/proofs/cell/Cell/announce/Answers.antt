@@ -3,9 +3,9 @@ use Rattle.rs_table.specs.ByPeer.{with_route}
 use Rattle.rs_table.specs.Cell.{IsCell}
 use Rattle.rs_choice.specs.Held.{sent_of_held}
 use Rattle.rs_table.specs.CellView.{cell_view}
-use Rattle.rs_table.proofs.ChangeLemmas.{put-change, put-known}
-use Rattle.rs_table.proofs.HeldLemmas.{few-held, held-with, routes-with}
-use Rattle.rs_table.proofs.MemberLemmas.{with-some}
+use Rattle.rs_table.proofs.cell.ChangeLemmas.{put-change, put-known}
+use Rattle.rs_table.proofs.cell.HeldLemmas.{few-held, held-with, routes-with}
+use Rattle.rs_table.proofs.cell.MemberLemmas.{with-some}
 use Rattle.rs_table.proofs.cell.Cell.announce.Goals as goal
 
 pub put-change-requires-clause-room : goal.put-change-requires-clause-room

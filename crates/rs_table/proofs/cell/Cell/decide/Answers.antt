@@ -1,6 +1,6 @@
 use Rattle.std.proofs.Common.{◌∙◌, ap, subst, sym, arith, rules}
 use Rattle.rs_table.specs.Cell.{AreHeld}
-use Rattle.rs_table.proofs.HeldLemmas.{few-held}
+use Rattle.rs_table.proofs.cell.HeldLemmas.{few-held}
 use Rattle.rs_table.proofs.cell.Cell.decide.Goals as goal
 
 pub choose_for_all-requires-clause-bound : goal.choose_for_all-requires-clause-bound

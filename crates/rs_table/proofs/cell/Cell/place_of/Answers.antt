@@ -7,7 +7,7 @@ use Rattle.rs_table.specs.ByPeer.{place_of, route_at}
 use Rattle.rs_table.specs.Cell.{kept_at, routes_in}
 use Rattle.rs_choice.specs.Held.{sent_of_held}
 use Rattle.rs_table.specs.Table.{sent_by}
-use Rattle.rs_table.proofs.PlaceLemmas.{route_nowhere, route_there}
+use Rattle.rs_table.proofs.cell.PlaceLemmas.{route_nowhere, route_there}
 use Rattle.rs_table.proofs.cell.Cell.place_of.Goals as goal
 
 pub returns-else-is_at : goal.returns-else-is_at

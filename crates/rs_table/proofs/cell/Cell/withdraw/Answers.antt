@@ -4,8 +4,8 @@ use Rattle.rs_table.specs.ByPeer.{without_route}
 use Rattle.rs_table.specs.Cell.{IsCell}
 use Rattle.rs_choice.specs.Held.{sent_of_held}
 use Rattle.rs_table.specs.CellView.{cell_view}
-use Rattle.rs_table.proofs.ChangeLemmas.{take-change, take-known}
-use Rattle.rs_table.proofs.HeldLemmas.{held-without, routes-without}
+use Rattle.rs_table.proofs.cell.ChangeLemmas.{take-change, take-known}
+use Rattle.rs_table.proofs.cell.HeldLemmas.{held-without, routes-without}
 use Rattle.rs_table.proofs.cell.Cell.withdraw.Goals as goal
 
 pub take_out-change-requires : goal.take_out-change-requires

@@ -1,5 +1,5 @@
 use Rattle.std.proofs.Common.{length, ap, arith, rules}
-use Rattle.rs_table.proofs.ListingLemmas.{length-stored_rows}
+use Rattle.rs_table.proofs.listing.ListingLemmas.{length-stored_rows}
 use Rattle.rs_table.proofs.client_rows.ClientRowsIterator.size_hint.Goals as goal
 
 pub returns-clause-upper : goal.returns-clause-upper

@@ -5,7 +5,7 @@ use Rattle.rs_table.specs.declared.row_blocks.CellRow.{CellRow}
 use Rattle.rs_table.specs.ClientRowsView.{stored_rows}
 use Rattle.rs_table.specs.RouteView.{row_of}
 use Rattle.rs_table.specs.RowBlocksView.{entry_of, row_found}
-use Rattle.rs_table.proofs.BlockLemmas.{no-rows, nothing-left, stored-taken}
+use Rattle.rs_table.proofs.row_blocks.BlockLemmas.{no-rows, nothing-left, stored-taken}
 use Rattle.rs_table.proofs.row_blocks.RowBlocks.next_block.Goals as goal
 
 pub returns-then-not-is_empty-clause-gathered : goal.returns-then-not-is_empty-clause-gathered

@@ -5,8 +5,8 @@ use Rattle.rs_table.specs.Content.{rib_of}
 use Rattle.rs_table.specs.Left.{Routes, after, BecomeBy, IsNewAnnouncement}
 use Rattle.rs_table.specs.Listing.{IsFirstAnnouncement}
 use Rattle.rs_table.proofs.LeftLemmas.{left_more}
-use Rattle.rs_table.proofs.CellsLemmas.{length-ribs}
-use Rattle.rs_table.proofs.TablesLemmas.{rib-of, rib-closed, rib-other, first-new, first-held, applied-routes}
+use Rattle.rs_table.proofs.cells.CellsLemmas.{length-ribs}
+use Rattle.rs_table.proofs.tables.TablesLemmas.{rib-of, rib-closed, rib-other, first-new, first-held, applied-routes}
 use Rattle.rs_table.proofs.tables.Tables.apply.Goals as goal
 
 become : (before others : Routes) (change : Change) → others ≡ after before change → BecomeBy before change others

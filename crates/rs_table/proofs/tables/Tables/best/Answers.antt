@@ -3,7 +3,7 @@ use Rattle.std.specs.Option.{option_map, option_copied}
 use Rattle.rs_table.specs.Cells.{cell_at}
 use Rattle.rs_table.specs.RouteView.{sent_route_of}
 use Rattle.rs_table.specs.Table.{best_of}
-use Rattle.rs_table.proofs.TablesLemmas.{best-none, best-some}
+use Rattle.rs_table.proofs.tables.TablesLemmas.{best-none, best-some}
 use Rattle.rs_table.proofs.tables.Tables.best.Goals as goal
 
 pub returns-in_err-get : goal.returns-in_err-get

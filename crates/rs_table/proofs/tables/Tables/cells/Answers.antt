@@ -1,7 +1,7 @@
 use Rattle.std.proofs.Common.{ap, sym, ◌∙◌}
 use Rattle.rs_table.specs.Listing.{is_held}
 use Rattle.rs_table.specs.Table.{best_of}
-use Rattle.rs_table.proofs.TablesLemmas.{best-some, none_held}
+use Rattle.rs_table.proofs.tables.TablesLemmas.{best-some, none_held}
 use Rattle.rs_table.proofs.tables.Tables.cells.Goals as goal
 
 pub returns-clause-bests : goal.returns-clause-bests

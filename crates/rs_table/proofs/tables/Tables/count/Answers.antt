@@ -1,5 +1,5 @@
 use Rattle.std.proofs.Common.{length, sym, ap, ◌∙◌}
-use Rattle.rs_table.proofs.CellsLemmas.{length-ribs}
+use Rattle.rs_table.proofs.cells.CellsLemmas.{length-ribs}
 use Rattle.rs_table.proofs.tables.Tables.count.Goals as goal
 
 pub returns-clause-ribs : goal.returns-clause-ribs

@@ -1,6 +1,6 @@
 use Rattle.std.proofs.Common.{◌≡◌, false, get_or, rules, sym, ap, ◌∙◌}
 use Rattle.rs_table.specs.Content.{rib_of}
-use Rattle.rs_table.proofs.TablesLemmas.{rib-closed}
+use Rattle.rs_table.proofs.tables.TablesLemmas.{rib-closed}
 use Rattle.rs_table.proofs.tables.Tables.is_closed.Goals as goal
 
 pub returns-in-Some : goal.returns-in-Some

@@ -3,7 +3,7 @@ use Rattle.rs_table.specs.Content.{TablesContent}
 use Rattle.rs_table.specs.Merge.{IsJoined}
 use Rattle.rs_table.specs.Cells.{AreCells}
 use Rattle.rs_table.proofs.MergeLemmas.{AreCells-joined, joined-IsJoined}
-use Rattle.rs_table.proofs.TablesLemmas.{tables}
+use Rattle.rs_table.proofs.tables.TablesLemmas.{tables}
 use Rattle.rs_table.proofs.tables.Tables.joined_with.Goals as goal
 
 pub invariant_of-result : goal.invariant_of-result

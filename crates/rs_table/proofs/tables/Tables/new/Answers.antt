@@ -1,6 +1,6 @@
 use Rattle.std.proofs.Common.{◌∙◌, rules}
-use Rattle.rs_table.proofs.CellsLemmas.{length-ribs}
-use Rattle.rs_table.proofs.TablesLemmas.{empty-ribs}
+use Rattle.rs_table.proofs.cells.CellsLemmas.{length-ribs}
+use Rattle.rs_table.proofs.tables.TablesLemmas.{empty-ribs}
 use Rattle.rs_table.proofs.tables.Tables.new.Goals as goal
 
 pub returns-clause-empty : goal.returns-clause-empty

@@ -4,7 +4,7 @@ use Rattle.rs_table.specs.ByPeer.{route_at}
 use Rattle.rs_table.specs.Cells.{cell_at, routes_of}
 use Rattle.rs_table.specs.RouteView.{sent_route_of}
 use Rattle.rs_table.specs.Table.{sent_by, route_from}
-use Rattle.rs_table.proofs.TablesLemmas.{route-from}
+use Rattle.rs_table.proofs.tables.TablesLemmas.{route-from}
 use Rattle.rs_table.proofs.tables.Tables.route.Goals as goal
 
 pub returns-in_err-get : goal.returns-in_err-get

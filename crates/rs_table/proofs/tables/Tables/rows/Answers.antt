@@ -2,7 +2,7 @@ use Rattle.std.proofs.Common.{◌≡◌, ◌++◌, ◌<◌, All, length, map, sy
 use Rattle.std.proofs.lemmas.List.{append-nil}
 use Rattle.rs_table.specs.RouteView.{row_of}
 use Rattle.rs_table.specs.Table.{TableRow, IsTable}
-use Rattle.rs_table.proofs.ListingLemmas.{rows-one_more}
+use Rattle.rs_table.proofs.listing.ListingLemmas.{rows-one_more}
 use Rattle.rs_table.proofs.tables.Tables.rows.Goals as goal
 
 pub loop-row-init : goal.loop-row-init

@@ -1,4 +1,4 @@
--- The cells of all prefixes, and the peers' routes in them.
+-- The cells of all prefixes, and the peers' routes in them: for `announce` and `withdraw` of cells.rt, tables.rt, `iter_rows` of listing.rt, and MergeLemmas.
 use Rattle.std.proofs.Common.{◌≡◌, ℕ, zero, suc, ◌+◌, ◌<◌, ◌≤◌, Bool, true, false, cond, List, [], ◌∷◌, length, map, get_or, Option, Some, None, refl, sym, ap, subst, ◌∙◌, arith, inl, inr}
 use Rattle.std.specs.List.{filter_map, cons_option, enumerate_from, list_any}
 use Rattle.std.specs.Map.{remove_entry, set_value}
@@ -24,7 +24,7 @@ use Rattle.rs_table.specs.Cell.{CellContent, IsCell}
 use Rattle.rs_table.specs.Cells.{Entries, AreCells, cell_at, routes_at, routes_of, routes_from}
 use Rattle.rs_table.specs.TablesView.{ribs_from}
 use Rattle.rs_table.proofs.PrefixLemmas.{prefix_total, same_prefix-true, find-entries}
-use Rattle.rs_table.proofs.RowLemmas.{route_at-before}
+use Rattle.rs_table.proofs.cell.RowLemmas.{route_at-before}
 
 -- ---- the cells of a plan stay so
 

@@ -1,4 +1,4 @@
--- What a cell keeps for a client is the choice among the candidates of the client.
+-- What a cell keeps for a client is the choice among the candidates of the client: for `best` and `cells` of tables.rt, by TablesLemmas.
 use Rattle.std.proofs.Common.{◌≡◌, ℕ, ◌+◌, ◌≤◌, Bool, true, false, not, ◌&&◌, ◌==◌, List, [], ◌∷◌, length, filter, Option, Some, None, refl, sym, ap, ◌∙◌, arith, inl, inr}
 use Rattle.std.specs.List.{AllByRecursion}
 use Rattle.std.specs.Option.{option_map, option_and_then}
@@ -15,8 +15,8 @@ use Rattle.rs_table.specs.Table.{sent_by}
 use Rattle.rs_table.specs.ByPeer.{IsRow, route_at}
 use Rattle.rs_table.specs.Cell.{CellContent, IsCell, routes_in, stored_best, route_unless_own}
 use Rattle.rs_choice.specs.Clients.{best_peer_for, candidates_among, chosen_for, eligible_among, is_sent_to, peer_or_own}
-use Rattle.rs_table.proofs.SelectionLemmas.{all_places, filter_keeps, filter_none}
-use Rattle.rs_table.proofs.TableLemmas.{choice-nil}
+use Rattle.rs_table.proofs.listing.SelectionLemmas.{all_places, filter_keeps, filter_none}
+use Rattle.rs_table.proofs.listing.TableLemmas.{choice-nil}
 
 abbrev left_of : SentRoute → RouteLeft
 left_of route = record { time = route.time; attributes = route.attributes }

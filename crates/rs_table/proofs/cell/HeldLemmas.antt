@@ -1,4 +1,4 @@
--- The routes that a cell holds, with one more and with one less.
+-- The routes that a cell holds, with one more and with one less: for `announce`, `withdraw`, `decide` and `decide_after` of cell.rt, and ChangeLemmas.
 use Rattle.std.proofs.Common.{◌≡◌, ℕ, ◌≤◌, List, length, map, not, ◌==◌, All, ap, sym, subst, arith, ◌∙◌}
 use Rattle.std.proofs.lemmas.List.{length-map}
 use Rattle.std.proofs.lemmas.List.Elements.{All-filter}
@@ -7,8 +7,8 @@ use Rattle.rs_choice.specs.Plan.{Plan}
 use Rattle.rs_choice.specs.declared.held_route.HeldRoute.{HeldRoute}
 use Rattle.rs_table.specs.ByPeer.{IsRow, with_one, with_route, without_one, without_route}
 use Rattle.rs_table.specs.Cell.{AreHeld}
-use Rattle.rs_table.proofs.MemberLemmas.{map-with, map-without, All-with}
-use Rattle.rs_table.proofs.RowLemmas.{IsRow-with, IsRow-without, length-row}
+use Rattle.rs_table.proofs.cell.MemberLemmas.{map-with, map-without, All-with}
+use Rattle.rs_table.proofs.cell.RowLemmas.{IsRow-with, IsRow-without, length-row}
 
 -- the routes that are held after a change are those before, changed
 pub routes-with : (before held : List HeldRoute) (one : HeldRoute) → held ≡ with_one (λ one. one.peer) before one → map sent_of_held held ≡ with_route (map sent_of_held before) (sent_of_held one)

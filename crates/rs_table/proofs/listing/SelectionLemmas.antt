@@ -1,4 +1,4 @@
--- Members of lists that are filtered, and the peer of the route that a client gets.
+-- Members of lists that are filtered, and the peer of the route that a client gets: for `iter_rows` of listing.rt by KnownLemmas, and StoredLemmas.
 use Rattle.std.proofs.Common.{◌≡◌, ℕ, ◌+◌, ◌<◌, Bool, true, false, cond, List, [], ◌∷◌, length, filter, Option, Some, None, All, refl, arith}
 use Rattle.std.specs.List.{cons_option, enumerate_from, filter_map, AllByRecursion}
 use Rattle.std.specs.Option.{option_map}

@@ -1,4 +1,4 @@
--- The routes on one prefix, in ascending order of their peers.
+-- The routes on one prefix, in ascending order of their peers: for HeldLemmas, ChangeLemmas, PlaceLemmas, CellsLemmas and TablesLemmas.
 use Rattle.std.proofs.Common.{◌≡◌, ℕ, ◌+◌, ◌<◌, ◌≤◌, Bool, true, false, cond, not, List, [], ◌∷◌, length, Some, None, refl, ap, ◌∙◌, arith, inl, inr}
 use Rattle.std.specs.Prelude.{◌==◌, nat_lt}
 use Rattle.std.proofs.lemmas.Bool.{cases_Bool}

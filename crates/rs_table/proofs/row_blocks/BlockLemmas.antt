@@ -1,4 +1,4 @@
--- The rows of a block, found cell by cell: what `RowBlocks::next_block` and its helpers rest on.
+-- The rows of a block, found cell by cell: for `next_block`, `find_rows` and `keep_rows` of row_blocks.rt.
 use Rattle.std.proofs.Common.{◌≡◌, ℕ, suc, ◌<◌, List, [], ◌∷◌, ◌++◌, length, map, None, Some, refl, ap, sym, ◌∙◌, arith}
 use Rattle.std.specs.Prelude.{slice_index_or}
 use Rattle.std.specs.List.{filter_map, cons_option}

@@ -1,9 +1,9 @@
--- What a list becomes where one of a peer is put into its place.
+-- What a list becomes where one of a peer is put into its place: for `put` of cell.rt.
 use Rattle.std.proofs.Common.{◌≡◌, ℕ, ◌+◌, ◌<◌, cond, List, length, get_or, set, refl, sym, ap, ◌∙◌, arith, Result, Ok, Err}
 use Rattle.std.specs.List.{insert}
 use Rattle.std.specs.Prelude.{IsOk, is_ok}
 use Rattle.rs_table.specs.ByPeer.{place_of, with_one}
-use Rattle.rs_table.proofs.MemberLemmas.{with-set, with-insert, length-with}
+use Rattle.rs_table.proofs.cell.MemberLemmas.{with-set, with-insert, length-with}
 
 module _ {M : Type 0} (peer_of : M → ℕ) (members : List M) (one : M) (place : ℕ) (is : place ≡ place_of peer_of members (peer_of one)) where
   pub put-set : place < length members → peer_of (get_or members place one) ≡ peer_of one → set members place one ≡ with_one peer_of members one

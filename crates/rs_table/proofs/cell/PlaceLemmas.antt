@@ -1,4 +1,4 @@
--- Where the route of a peer stands among routes that ascend by peer, and what is found there.
+-- Where the route of a peer stands among routes that ascend by peer, and what is found there: for `place_of` and `place` of cell.rt.
 use Rattle.std.proofs.Common.{◌≡◌, ℕ, ◌+◌, ◌<◌, ◌≤◌, suc, zero, List, [], ◌∷◌, length, map, get_or, Some, None, refl, ap, ◌∙◌, arith, inl, inr}
 use Rattle.std.specs.Prelude.{nat_lt, slice_get}
 use Rattle.std.specs.List.Sorted.{IsPartitionPoint}
@@ -10,8 +10,8 @@ use Rattle.rs_choice.specs.RouteChanges.{IsAt}
 use Rattle.rs_choice.specs.declared.held_route.HeldRoute.{HeldRoute}
 use Rattle.rs_table.specs.ByPeer.{place_of, route_at, IsAscending}
 use Rattle.rs_table.specs.Left.{RouteLeft}
-use Rattle.rs_table.proofs.ChangeLemmas.{from_peer, is_below, is_not_below, IsHeldRow}
-use Rattle.rs_table.proofs.RowLemmas.{not_below, route_at-before}
+use Rattle.rs_table.proofs.cell.ChangeLemmas.{from_peer, is_below, is_not_below, IsHeldRow}
+use Rattle.rs_table.proofs.cell.RowLemmas.{not_below, route_at-before}
 
 abbrev peer_of : HeldRoute → ℕ
 peer_of one = one.peer

@@ -1,4 +1,4 @@
--- What is left of all cells where a peer's routes go.
+-- What is left of all cells where a peer's routes go: for `withdraw_all` of cells.rt, and MergeLemmas.
 use Rattle.std.proofs.Common.{◌≡◌, ℕ, Bool, true, false, cond, [], ◌∷◌, ◌++◌, map, None, refl, sym, ap, subst, ◌∙◌, inl, inr}
 use Rattle.std.specs.List.{AllByRecursion, FoldsTo}
 use Rattle.std.specs.List.Sorted.{IsStrictlySortedBy}

@@ -1,4 +1,4 @@
--- A client's table: it is the one that is computed.
+-- A client's table, which is the one that is computed: for `table_is_computed` of laws.rt, `iter_rows` of listing.rt, StoredLemmas and TablesLemmas.
 use Rattle.std.proofs.Common.{◌≡◌, ℕ, Bool, true, false, T, ◌&&◌, List, [], ◌∷◌, ◌++◌, ◌+◌, map, Option, Some, None, refl, sym, ap, subst, ◌∙◌, inl, inr}
 use Rattle.std.specs.List.{filter_map, cons_option, list_any, flat_map, enumerate_from, AllByRecursion}
 use Rattle.std.specs.List.Sorted.{IsStrictlySortedBy}

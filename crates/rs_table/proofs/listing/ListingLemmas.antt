@@ -1,4 +1,4 @@
--- The rows of a table that is listed, so far and to come.
+-- The rows of a table that is listed, so far and to come: for listing.rt, and `size_hint` of client_rows.rt.
 use Rattle.std.proofs.Common.{◌≡◌, ◌≤◌, ℕ, suc, All, List, [], ◌∷◌, ◌++◌, length, map, Option, Some, None, refl, ap, ◌∙◌, arith}
 use Rattle.std.specs.List.{filter_map, cons_option}
 use Rattle.std.specs.Option.{option_map}
@@ -12,7 +12,7 @@ use Rattle.rs_table.specs.Content.{TablesContent}
 use Rattle.rs_table.specs.RouteView.{row_of}
 use Rattle.rs_table.specs.Table.{TableRow, best_of}
 use Rattle.rs_choice.specs.Decision.{SentRoute}
-use Rattle.rs_table.proofs.TableLemmas.{row_on}
+use Rattle.rs_table.proofs.listing.TableLemmas.{row_on}
 
 module _ (client : ℕ) where
   -- a cell before others has the row of what the client gets there

@@ -1,4 +1,4 @@
--- A change of one peer's route among routes that ascend by peer.
+-- A change of one peer's route among routes that ascend by peer: for `announce`, `withdraw`, `put` and `take_out` of cell.rt, and PlaceLemmas.
 use Rattle.std.proofs.Common.{◌≡◌, ◌≢◌, ℕ, ◌+◌, ◌<◌, ◌≤◌, suc, zero, true, false, cond, not, ◌==◌, List, [], ◌∷◌, length, map, get_or, Option, Some, None, refl, sym, ap, subst, arith, inl, inr, ◌∙◌}
 use Rattle.std.specs.List.{AllByRecursion, Contains, remove}
 use Rattle.std.specs.Prelude.{nat_lt, slice_get, IfSome}
@@ -14,8 +14,8 @@ use Rattle.rs_choice.specs.declared.held_route.HeldRoute.{HeldRoute}
 use Rattle.rs_choice.specs.declared.route_change.RouteChange.{RouteChange}
 use Rattle.rs_table.specs.ByPeer.{place_of, with_one, without_one, IsPut, IsRow, IsTaken}
 use Rattle.rs_table.specs.Cell.{IsCell, CellContent}
-use Rattle.rs_table.proofs.HeldLemmas.{held-with}
-use Rattle.rs_table.proofs.RowLemmas.{not_below}
+use Rattle.rs_table.proofs.cell.HeldLemmas.{held-with}
+use Rattle.rs_table.proofs.cell.RowLemmas.{not_below}
 
 abbrev peer_of : HeldRoute → ℕ
 peer_of one = one.peer

@@ -1,4 +1,4 @@
--- The tables by cells: what each peer has, and what each client gets.
+-- The tables by cells, what each peer has, and what each client gets: for tables.rt, and MergeLemmas.
 use Rattle.std.proofs.Common.{◌≡◌, ◌≢◌, ℕ, ◌+◌, ◌<◌, Bool, true, false, cond, ◌||◌, ◌==◌, List, [], ◌∷◌, length, get_or, Option, Some, None, refl, sym, ap, subst, ◌∙◌, arith, inl, inr}
 use Rattle.std.specs.List.{list_any}
 use Rattle.std.specs.FinMap as fin
@@ -23,10 +23,10 @@ use Rattle.rs_table.specs.Cells.{Entries, AreCells, cell_at, routes_at, routes_o
 use Rattle.rs_table.specs.TablesView.{ribs_from}
 use Rattle.rs_table.proofs.PrefixLemmas.{prefix_total, prefix_cmp-IsAntisymmetric}
 use Rattle.rs_table.proofs.LeftLemmas.{get-after}
-use Rattle.rs_table.proofs.RowLemmas.{route_at-with, route_at-without}
-use Rattle.rs_table.proofs.CellsLemmas.{get-routes_from, rib-at, rib-past, routes_on-cells, cell-IsCell}
-use Rattle.rs_table.proofs.StoredLemmas.{stored}
-use Rattle.rs_table.proofs.TableLemmas.{choice-nil}
+use Rattle.rs_table.proofs.cell.RowLemmas.{route_at-with, route_at-without}
+use Rattle.rs_table.proofs.cells.CellsLemmas.{get-routes_from, rib-at, rib-past, routes_on-cells, cell-IsCell}
+use Rattle.rs_table.proofs.tables.StoredLemmas.{stored}
+use Rattle.rs_table.proofs.listing.TableLemmas.{choice-nil}
 
 -- ---- the tables of cells
 

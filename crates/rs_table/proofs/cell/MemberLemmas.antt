@@ -1,4 +1,4 @@
--- Members that ascend by peer: where one of a peer comes, and what stays true of all.
+-- Members that ascend by peer, where one of a peer comes, and what stays true of all: for `announce` of cell.rt, HeldLemmas and PutLemmas.
 use Rattle.std.proofs.Common.{◌≡◌, ℕ, ◌+◌, ◌<◌, ◌≤◌, true, false, cond, not, ◌==◌, List, [], ◌∷◌, length, map, get_or, set, refl, ap, arith, inl, inr, ◌∙◌, All, sym}
 use Rattle.std.specs.List.{AllByRecursion, insert}
 use Rattle.std.specs.Prelude.{nat_lt}

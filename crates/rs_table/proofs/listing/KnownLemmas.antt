@@ -1,4 +1,4 @@
--- Each row of a table names a peer of the plan.
+-- Each row of a table names a peer of the plan: for `iter_rows` of listing.rt.
 use Rattle.std.proofs.Common.{◌≡◌, ℕ, ◌<◌, List, [], ◌∷◌, Option, Some, None, length, All, refl}
 use Rattle.std.specs.List.{filter_map, cons_option, AllByRecursion}
 use Rattle.std.specs.Option.{option_map}
@@ -7,8 +7,8 @@ use Rattle.rs_update.specs.IpPrefix.{IpPrefix}
 use Rattle.rs_table.specs.Content.{TablesContent}
 use Rattle.rs_table.specs.Table.{TableRow, best_of}
 use Rattle.rs_choice.specs.Decision.{SentRoute}
-use Rattle.rs_table.proofs.SelectionLemmas.{best-known}
-use Rattle.rs_table.proofs.TableLemmas.{row_on}
+use Rattle.rs_table.proofs.listing.SelectionLemmas.{best-known}
+use Rattle.rs_table.proofs.listing.TableLemmas.{row_on}
 
 module _ (tables : TablesContent) (client : ℕ) where
   abbrev AreKnown : List TableRow → Type 0

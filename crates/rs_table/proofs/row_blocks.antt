@@ -1,0 +1,2 @@
+-- The rows of a client's table, block by block.
+pub mod BlockLemmas
