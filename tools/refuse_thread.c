@@ -1,5 +1,6 @@
 /* Refuses one thread of a program: the one whose number, from 1, is in REFUSE_THREAD. Preloaded by `refuse_in_tests` and `refuse_in_a_run`.
-   Where it was refused, the file named by REFUSED_FILE is made. A process that ends by itself while one of its threads still runs says so
+   Where it was refused, the file named by REFUSED_FILE is made. A process that ends by itself waits for its threads: nobody else waits for
+   the one that frees tables. Where one of them still runs after ten seconds, as one does that waits for what never comes, the process says so
    and ends with status 99. */
 #define _GNU_SOURCE
 #include <dlfcn.h>
@@ -56,6 +57,8 @@ int pthread_create(pthread_t *thread, const pthread_attr_t *attributes, start ru
 
 __attribute__((destructor)) static void tell(void) {
     static const char text[] = "a thread is left\n";
+    for (int waited = 0; waited < 10000 && __sync_add_and_fetch(&running, 0); waited++)
+        usleep(1000);
     if (__sync_add_and_fetch(&running, 0)) {
         if (write(2, text, sizeof text - 1)) {}
         _exit(99);
