@@ -48,6 +48,8 @@ const LINES_LEN: usize = 256;
 /// the dumps of the clients before that one are kept. `Report` comes where a write of the report failed; all
 /// dumps are kept, and a beginning of the report is out. `Memory` comes where memory was refused; a beginning
 /// of the dumps is kept, and nothing of the report is out.
+///
+/// Once all dumps are kept a thread frees the tables, which may outlast the call; all others end before it.
 pub fn run<T: Threads + Wait + Sync, O: Outlet, W: Write, R: Read + Send + Drop>(
     rt: &T,
     alloc: Global,
@@ -110,16 +112,16 @@ pub fn run<T: Threads + Wait + Sync, O: Outlet, W: Write, R: Read + Send + Drop>
 {
     let served = serve_files(rt, alloc, &setup.plan, readers, options)?;
     let text = keep_dumps(rt, alloc, &setup.plan, &served, options.time, outlet)?;
-    let_go(rt, served);
+    free_apart(rt, served);
     match write_all(report, text.as_bytes()) {
         Ok(()) => Ok(()),
         Err(_) => Err(RunFault::Report),
     }
 }
 
-// Lets tables go on a thread that nobody waits for, since this takes a second where they are big, and the caller
-// may be about to end. Where no thread can be made they are let go at once.
-fn let_go<T: Threads>(rt: &T, served: Served) {
+// Frees tables on a thread that nobody waits for, since this takes a second where they are big, and the caller
+// may be about to end. Where no thread can be made they are freed at once.
+fn free_apart<T: Threads>(rt: &T, served: Served) {
     let free = move || -> () {
         let _served = served;
     };
