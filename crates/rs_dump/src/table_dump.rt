@@ -20,8 +20,8 @@ use std::thread::Threads;
 const MAX_ROWS: usize = 4294967295;
 
 /// Writes the dump of a client's table to `out` as `write_dump` does with the rows of that table, and answers
-/// their number. Many rows are looked up and spelled side by side on threads, at most 16,384 at a time, which bounds the
-/// memory that is taken for their octets.
+/// their number. Many rows are looked up and spelled side by side on threads, at most 16,384 at a time, which
+/// bounds the memory that is taken for their octets.
 ///
 /// `TooManyRows` comes exactly where the table has more than 4,294,967,295 rows, and is tested first.
 /// `TooManyRows` and `Memory` leave `out` as it was; after `Write` a beginning of the dump is out.

@@ -4,9 +4,9 @@
 //! for each client, its export policy before its decision).
 //!
 //! Reading order: `tables` (what each peer has left, and what a client gets on a prefix), `route` (what is
-//! answered), `client_rows`, `listing` and `row_blocks` (a client's whole table), `why` (and why not), `merge` (parts made
-//! one), `laws` (of the definitions). Below them `cells` (of all prefixes) and `cell` (of one; who gets which
-//! route on it is decided in `rs_choice`).
+//! answered), `client_rows`, `listing` and `row_blocks` (a client's whole table), `why` (and why not), `merge`
+//! (parts made one), `laws` (of the definitions). Below them `cells` (of all prefixes) and `cell` (of one; who
+//! gets which route on it is decided in `rs_choice`).
 #![tactic(auto)]
 
 mod cell;

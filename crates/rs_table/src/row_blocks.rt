@@ -6,7 +6,7 @@ ghost use Rattle.std.specs.List.{filter_map};
 ghost use Rattle.std.specs.Option.{option_map};
 ghost use Rattle.rs_table.specs.ClientRowsView.{stored_row, stored_rows};
 ghost use Rattle.rs_table.specs.RouteView.{row_of};
-ghost use Rattle.rs_table.specs.RowBlocksView.{entry_of, row_found};
+ghost use Rattle.rs_table.specs.RowBlocksView.{cell_of, row_found};
 
 use crate::cell::Cell;
 use crate::client_rows::ClientRows;
@@ -20,12 +20,12 @@ use std::thread::{Threads, for_each_mut};
 /// The most rows that a block has.
 pub const BLOCK_LEN: usize = 16384;
 
-// How many cells one thread looks at, where there are so many.
+// For how many prefixes of a block a thread looks up what the client gets there, or fewer.
 const PART_LEN: usize = 2048;
 
 // The cell of a prefix, and the place of the client's route in it, once that is found.
 #[derive(Clone, Copy)]
-struct CellRow<'a> {
+struct PrefixCell<'a> {
     prefix: Prefix,
     cell: &'a Cell,
     place: Option<usize>,
@@ -38,7 +38,7 @@ pub struct RowBlocks<'a> {
     // The cells of the prefixes to come.
     cells: Iter<'a, Prefix, Cell>,
     // Those of the block that is being made.
-    taken: Vec<CellRow<'a>>,
+    taken: Vec<PrefixCell<'a>>,
 }
 
 impl<'a> Model for RowBlocks<'a> {
@@ -60,7 +60,7 @@ impl<'a> Model for RowBlocks<'a> {
 impl<'a> ClientRows<'a> {
     /// The same rows, in blocks.
     ///
-    /// Fails where memory is refused. No block takes memory afterwards.
+    /// Fails where memory is refused. No block takes memory afterwards but what the system takes for its threads.
     pub fn in_blocks(self, alloc: Global) -> Result<RowBlocks<'a>, AllocError>
         ensures { IfOk result (λ blocks. blocks ≡ self.entry) }
     {
@@ -74,19 +74,20 @@ impl<'a> ClientRows<'a> {
 }
 
 impl<'a> RowBlocks<'a> {
-    /// Puts the next rows into `block` in place of those that were there: at most `BLOCK_LEN`, and at least one
-    /// where one is left. Answers whether there are any. They are looked up on several threads where there are
-    /// more than a few thousand, and where no thread can be made on the calling one.
+    /// Puts the next rows into `block`, which needs room for `BLOCK_LEN`, in place of those that were there: at
+    /// most so many, and at least one where one is left. Answers whether there are any. What the client gets on
+    /// more than 2,048 prefixes is looked up on several threads; where one can't be made, on the calling thread.
     pub fn next_block<T: Threads + Sync>(&mut self, rt: &T, block: &mut Vec<Row<'a>>) -> bool
         requires { BLOCK_LEN ≤ vec_capacity block.old }
         ensures gathered { self.old ≡ map row_of block.new.items ++ self.new }
+        ensures most { length block.new.items ≤ BLOCK_LEN }
         ensures some { IsTrue result → 0 < length block.new.items }
         ensures none { IsFalse result → self.old ≡ [] }
         ensures capacity { BLOCK_LEN ≤ vec_capacity block.new }
     {
         while take_cells(&mut self.cells, &mut self.taken) {
             find_rows(rt, self.client, &mut self.taken);
-            keep_rows(&self.taken, block);
+            fill_block(&self.taken, block);
             if !block.is_empty() {
                 return true;
             }
@@ -96,10 +97,10 @@ impl<'a> RowBlocks<'a> {
     }
 }
 
-// Takes the cells of the next block in place of those that were there; answers whether there were any.
-fn take_cells<'a>(cells: &mut Iter<'a, Prefix, Cell>, taken: &mut Vec<CellRow<'a>>) -> bool
+// Takes the cells of the next prefixes in place of those that were there; answers whether there were any.
+fn take_cells<'a>(cells: &mut Iter<'a, Prefix, Cell>, taken: &mut Vec<PrefixCell<'a>>) -> bool
     requires { BLOCK_LEN ≤ vec_capacity taken.old }
-    ensures taken { cells.old ≡ map entry_of taken.new.items ++ cells.new }
+    ensures taken { cells.old ≡ map cell_of taken.new.items ++ cells.new }
     ensures most { length taken.new.items ≤ BLOCK_LEN }
     ensures some { IsTrue result → 0 < length taken.new.items }
     ensures none { IsFalse result → cells.old ≡ [] }
@@ -110,7 +111,7 @@ fn take_cells<'a>(cells: &mut Iter<'a, Prefix, Cell>, taken: &mut Vec<CellRow<'a
         let Some(entry) = cells.next() else {
             break;
         };
-        let Ok(()) = taken.push(CellRow {
+        let Ok(()) = taken.push(PrefixCell {
             prefix: *entry.0,
             cell: entry.1,
             place: None,
@@ -121,35 +122,37 @@ fn take_cells<'a>(cells: &mut Iter<'a, Prefix, Cell>, taken: &mut Vec<CellRow<'a
     !taken.is_empty()
 }
 
-// Finds the client's row in each cell, on several threads.
-fn find_rows<T: Threads + Sync>(rt: &T, client: usize, cells: &mut [CellRow<'_>])
-    ensures found { filter_map row_found cells.new ≡ stored_rows client (map entry_of cells.old) }
-    ensures count { length cells.new ≡ length cells.old }
+// Finds the client's row on each prefix, on several threads.
+fn find_rows<T: Threads + Sync>(rt: &T, client: usize, taken: &mut [PrefixCell<'_>])
+    requires some { 0 < length taken.old }
+    ensures found { filter_map row_found taken.new ≡ stored_rows client (map cell_of taken.old) }
+    ensures count { length taken.new ≡ length taken.old }
 {
-    let find = |_number: usize, cell: &mut CellRow<'_>|
-        ensures { row_found cell.exit.now ≡ stored_row client (entry_of cell.entry.now) }
-    { find_row(cell, client) };
-    let threads = cells.len() / PART_LEN + 1;
-    for_each_mut(rt, cells, threads, &find);
+    let find = |_number: usize, one: &mut PrefixCell<'_>|
+        ensures { row_found one.exit.now ≡ stored_row client (cell_of one.entry.now) }
+    { find_row(one, client) };
+    let threads = taken.len().div_ceil(PART_LEN);
+    for_each_mut(rt, taken, threads, &find);
 }
 
-// Finds the client's row in a cell.
-fn find_row(cell: &mut CellRow<'_>, client: usize)
-    ensures { row_found cell.new ≡ stored_row client (entry_of cell.old) }
+// Finds the client's row on a prefix.
+fn find_row(one: &mut PrefixCell<'_>, client: usize)
+    ensures { row_found one.new ≡ stored_row client (cell_of one.old) }
 {
-    cell.place = cell.cell.best_place(client);
+    one.place = one.cell.best_place(client);
 }
 
 // Puts the rows that were found into a block, in place of those that were there.
-fn keep_rows<'a>(cells: &[CellRow<'a>], block: &mut Vec<Row<'a>>)
-    requires room { length cells.now ≤ BLOCK_LEN }
+fn fill_block<'a>(taken: &[PrefixCell<'a>], block: &mut Vec<Row<'a>>)
+    requires room { length taken.now ≤ BLOCK_LEN }
     requires capacity { BLOCK_LEN ≤ vec_capacity block.old }
-    ensures rows { map row_of block.new.items ≡ filter_map row_found cells.now }
+    ensures rows { map row_of block.new.items ≡ filter_map row_found taken.now }
+    ensures most { length block.new.items ≤ BLOCK_LEN }
     ensures capacity { BLOCK_LEN ≤ vec_capacity block.new }
 {
     block.clear();
-    for cell in cells {
-        if let Some(row) = cell.row() {
+    for one in taken {
+        if let Some(row) = one.row() {
             let Ok(()) = block.push(row) else {
                 unreachable!();
             };
@@ -157,7 +160,7 @@ fn keep_rows<'a>(cells: &[CellRow<'a>], block: &mut Vec<Row<'a>>)
     }
 }
 
-impl<'a> CellRow<'a> {
+impl<'a> PrefixCell<'a> {
     // The row that was found.
     fn row(&self) -> Option<Row<'a>>
         ensures { option_map row_of result ≡ row_found self.now }

@@ -140,6 +140,12 @@ fn check_beginning<T: Abort + Threads + Sync>(
     assert!(rt; written.len() < whole.len() && whole.starts_with(&written));
 }
 
+// The dump of a's table has no row: all routes are its own.
+fn check_no_rows<T: Abort + Threads + Sync>(rt: &T, alloc: Global, tables: &Tables) {
+    let (answer, _) = table_dump(rt, alloc, Limits::none(), tables, A);
+    assert_eq!(rt; answer, Ok(0));
+}
+
 // 18,500 rows are dumped in a block of eight parts and one of two, and 2,049 in two parts, which are spelled side
 // by side: with the octets of the same rows in a list. Writes are refused in turn, the last of each dump among them.
 #[test]
@@ -147,6 +153,7 @@ fn many_rows_are_dumped_as_they_are_listed(rt: HostRuntime) {
     let alloc = rt.alloc();
     for (count, first, writes) in [(2048, 0, 2), (2049, 0, 3), (18500, 9, 11)] {
         let tables = many_routes(&rt, alloc, count);
+        check_no_rows(&rt, alloc, &tables);
         let whole = whole_dump(&rt, alloc, Limits::none(), &tables, count);
         assert!(rt; whole == listed_dump(&rt, alloc, &tables, count));
         for calls in first..writes {
