@@ -22,9 +22,8 @@ use copied::Copied;
 use files::{octets_of, open_files, read_file};
 use folder_outlet::FolderOutlet;
 use notes::print_notes;
-use rs_ended::{
-    Ended, FAILED, MEMORY_LINE, NOT_UTF_8, OUT_OF_MEMORY, OUTPUT_LINE, line, on_one_line, status,
-};
+use rs_ended::{Ended, FAILED, MEMORY_LINE, NOT_UTF_8, OUT_OF_MEMORY, OUTPUT_LINE, line, status};
+use rs_lines::on_one_line;
 use rs_mrt::IoWriter;
 use rs_options::{Options, WordsFault};
 use rs_progress::{Cleared, Progress};

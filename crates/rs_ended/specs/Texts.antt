@@ -1,78 +1,28 @@
 -- The line that says why the program stops short (docs/MANUAL.md, "Texts").
-use Rattle.std.specs.Prelude.{◌<◌, ◌==◌, ◌+◌, ◌/◌, ◌%◌, ℕ, ⊤, List, [], ◌++◌, Option, None, Some, codes, encode_utf8}
-use Rattle.std.specs.Prelude.{if◌then◌else◌, length, nat_lt, option_map, slice_get, string_bytes, unwrap_or}
+use Rattle.std.specs.Prelude.{◌<◌, ℕ, ⊤, List, [], ◌++◌, Option, Some, codes, length, option_map, slice_get}
+use Rattle.std.specs.Prelude.{string_bytes, unwrap_or}
 use Rattle.std.specs.Borrow.{Bor}
-use Rattle.std.specs.Fmt.{decimal}
-use Rattle.std.specs.Char.{is_control}
-use Rattle.std.specs.List.{flat_map}
-use Rattle.std.specs.Str.{chars}
-use Rattle.rs_choice.specs.FaultNumber.{number_of_fault, peer_of_fault}
 use Rattle.rs_choice.specs.Plan.{Peer}
-use Rattle.rs_choice.specs.declared.fault.PlanFault.{PlanFault}
-use Rattle.rs_choice.specs.declared.fault.PlanFault.TheVariants as plan
 use Rattle.rs_ended.specs.Paths.{path_in}
 use Rattle.rs_ended.specs.declared.ended.Ended.{Ended}
 use Rattle.rs_ended.specs.declared.ended.Ended.TheVariants.{Words, Setup, Unread, Memory, Run}
+use Rattle.rs_lines.specs.Line.{Text, named as named_by, one_line, out_of_memory}
+use Rattle.rs_lines.specs.Refusal.{setup_line}
 use Rattle.rs_options.specs.declared.options.Options.{Options}
 use Rattle.rs_options.specs.declared.options.WordsFault.TheVariants as words
 use Rattle.rs_run.specs.declared.run_fault.RunFault.{RunFault}
 use Rattle.rs_run.specs.declared.run_fault.RunFault.TheVariants as run
 use Rattle.rs_setup.specs.declared.setup.Setup.{Setup as SetUp}
-use Rattle.rs_setup.specs.declared.setup.SetupFault.{SetupFault}
-use Rattle.rs_setup.specs.declared.setup.SetupFault.TheVariants as setup
 
-abbrev pub Text : Type 0
-Text = List ℕ
-
--- a hexadecimal digit
-abbrev pub hex_digit : ℕ → ℕ
-hex_digit value = if nat_lt value 10 then 48 + value else 87 + value
-
--- a control character by its two hexadecimal digits
-abbrev pub escaped : ℕ → Text
-escaped control =
-    codes "\\u{" ++ (encode_utf8 (hex_digit (control / 16 % 16))
-    ++ (encode_utf8 (hex_digit (control % 16)) ++ codes "}"))
-
--- a character as it is shown: a line break as two characters, another control character by its number, any
--- other as it is
-abbrev pub shown : ℕ → Text
-shown character =
-    if character == 10 then codes "\\n"
-    else (if character == 13 then codes "\\r"
-    else (if is_control character then escaped character else encode_utf8 character))
-
--- a text whose control characters are escaped, so that it stays on one line
-abbrev pub one_line : Text → Text
-one_line text = flat_map shown (chars text)
+abbrev pub program : Text
+program = codes "route_server"
 
 -- a line begins with the program's name
 abbrev pub named : Text → Text
-named text = codes "route_server: " ++ text
+named text = named_by program text
 
 abbrev pub out_of_memory_line : Text
-out_of_memory_line = named (codes "out of memory")
-
--- the number of a fault, and of the peer at fault where there is one
-abbrev pub numbers : ℕ → Option ℕ → Text
-numbers fault None = decimal fault
-numbers fault (Some peer) = decimal fault ++ (codes " at peer " ++ decimal peer)
-
-abbrev pub plan_line : PlanFault → Text
-plan_line plan.Memory = out_of_memory_line
-plan_line fault = named (codes "plan fault P" ++ numbers (number_of_fault fault) (peer_of_fault fault))
-
--- what is said of a key of the configuration
-abbrev pub key_line : Text → Text → Text
-key_line key what = named (codes "configuration: " ++ (one_line key ++ (codes " is " ++ what)))
-
-abbrev pub setup_line : SetupFault → Text
-setup_line setup.NotToml = named (codes "configuration is not TOML")
-setup_line (setup.Unknown key) = key_line (string_bytes key) (codes "unknown")
-setup_line (setup.Missing key) = key_line (string_bytes key) (codes "missing")
-setup_line (setup.NotValid key) = key_line (string_bytes key) (codes "not valid")
-setup_line (setup.Plan fault) = plan_line fault
-setup_line setup.Memory = out_of_memory_line
+out_of_memory_line = named out_of_memory
 
 -- the name of a peer, by its number
 abbrev pub name_of : List Peer → ℕ → Text
@@ -105,7 +55,7 @@ line_of (Words (words.Help text)) set_up options = string_bytes text
 line_of (Words (words.Version text)) set_up options = string_bytes text
 line_of (Words (words.Refused text)) set_up options = string_bytes text
 line_of (Words words.Memory) set_up options = out_of_memory_line
-line_of (Setup fault) set_up options = setup_line fault
+line_of (Setup fault) set_up options = setup_line program fault
 line_of (Unread path) set_up options = unread_line (string_bytes path)
 line_of Memory set_up options = out_of_memory_line
 line_of (Run fault) (Some set_up) (Some options) = run_line fault set_up.now options.now

@@ -10,4 +10,4 @@ mod texts;
 
 pub use ended::{Ended, FAILED, OUT_OF_MEMORY, REFUSED, UNSETTLED, status};
 pub use paths::path_in;
-pub use texts::{MEMORY_LINE, NOT_UTF_8, OUTPUT_LINE, dump_path, line, on_one_line};
+pub use texts::{MEMORY_LINE, NOT_UTF_8, OUTPUT_LINE, dump_path, line};

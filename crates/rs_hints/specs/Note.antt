@@ -3,13 +3,13 @@ use Rattle.std.specs.Prelude.{ℕ, [], ◌++◌, Option, None, Some, codes}
 use Rattle.std.specs.Fmt.{decimal}
 use Rattle.std.specs.Int.{to_be_bytes, w32}
 use Rattle.std.specs.Net.Text.{ipv4_text}
-use Rattle.rs_ended.specs.Texts.{Text, one_line}
 use Rattle.rs_hints.specs.Format.{format_name}
 use Rattle.rs_hints.specs.declared.hint.Hint.{Hint}
 use Rattle.rs_hints.specs.declared.hint.Hint.TheVariants.{NotMrt, NoRecord}
 use Rattle.rs_inventory.specs.declared.kind.Kind.{Kind}
 use Rattle.rs_inventory.specs.declared.kind.Kind.TheVariants as kinds
 use Rattle.rs_inventory.specs.declared.peer.Peer.{Peer}
+use Rattle.rs_lines.specs.Line.{Text, one_line}
 
 -- what all records are, where one kind explains them
 abbrev pub kind_text : Option Kind → Text

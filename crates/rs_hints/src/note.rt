@@ -6,8 +6,8 @@ ghost use Rattle.std.specs.Net.Addr.{ipv4_octets};
 ghost use Rattle.rs_hints.specs.Note.{count_text, format_text, kind_text, note_of, others_text, text_of, whose_text};
 
 use crate::hint::Hint;
-use rs_ended::on_one_line;
 use rs_inventory::{Kind, Peer};
+use rs_lines::on_one_line;
 use std::alloc::{AllocError, Global};
 use std::net::Ipv4Addr;
 

@@ -37,17 +37,3 @@ pub(crate) fn address_text(alloc: Global, address: u32) -> Result<String, AllocE
     let address = Address(address);
     format!(in alloc; "{address}")
 }
-
-/// The text with its control characters escaped, so that it stays on one line.
-pub(crate) fn on_one_line(alloc: Global, text: &str) -> Result<String, AllocError> {
-    let mut line = String::new(alloc);
-    for character in text.chars() {
-        if character.is_control() {
-            let number = character as u32;
-            write!(line, "\\u{{{number:02x}}}")?;
-        } else {
-            line.push(character)?;
-        }
-    }
-    Ok(line)
-}

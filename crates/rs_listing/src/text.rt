@@ -1,7 +1,8 @@
 //! Inventories as a text for people.
 
-use crate::shown::{Address, RecordedFile, address_text, on_one_line};
+use crate::shown::{Address, RecordedFile, address_text};
 use rs_inventory::{Compression, Inventory, Kind, Peer, PeerRecords, SessionTimes};
+use rs_lines::on_one_line;
 use rs_mrt::MrtFault;
 use rs_timestamp::Utc;
 use std::alloc::{AllocError, Global};

@@ -51,7 +51,7 @@ fn files(alloc: Global) -> Result<Vec<RecordedFile>, Fail> {
     Ok(files)
 }
 
-const TEXT: &str = "a \"b\"\\u{0a}.mrt
+const TEXT: &str = "a \"b\"\\n.mrt
 records 8, 2023-11-14 22:13:20 to 2023-11-14 23:13:20 UTC
   UPDATE 1
   OPEN 1

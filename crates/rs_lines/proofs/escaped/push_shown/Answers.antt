@@ -1,6 +1,6 @@
 -- Each answer is one search, so that a wrong body is refused soon.
 use Rattle.std.proofs.Common.{rules}
-use Rattle.rs_ended.proofs.texts.push_shown.Goals as goal
+use Rattle.rs_lines.proofs.escaped.push_shown.Goals as goal
 
 pub returns-in-10 : goal.returns-in-10
 returns-in-10 c = search rules

@@ -4,8 +4,8 @@ use Rattle.std.proofs.lemmas.Iterator.{YieldsList-from_chars}
 use Rattle.std.proofs.lemmas.Iterator.Consumers.{YieldsList-end}
 use Rattle.std.proofs.lemmas.List.{map-id}
 use Rattle.std.specs.List.{flat_map}
-use Rattle.rs_ended.specs.Texts.{shown}
-use Rattle.rs_ended.proofs.texts.on_one_line.Goals as goal
+use Rattle.rs_lines.specs.Line.{shown}
+use Rattle.rs_lines.proofs.escaped.on_one_line.Goals as goal
 
 pub returns : goal.returns
 returns c =

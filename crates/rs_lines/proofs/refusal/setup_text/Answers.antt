@@ -1,6 +1,6 @@
 -- Each answer is one search, so that a wrong body is refused soon.
 use Rattle.std.proofs.Common.{rules}
-use Rattle.rs_ended.proofs.texts.setup_line.Goals as goal
+use Rattle.rs_lines.proofs.refusal.setup_text.Goals as goal
 
 pub returns-in-Memory : goal.returns-in-Memory
 returns-in-Memory c = search rules
