@@ -44,14 +44,6 @@ impl Clock {
         }
     }
 
-    // A time of the one day, where there is one.
-    pub(crate) fn day(self) -> Option<u32> {
-        match self {
-            Clock::OneDay(time) => Some(time),
-            _ => None,
-        }
-    }
-
     // A time, as it is shown.
     pub(crate) fn text(self, alloc: Global, time: u32) -> Result<String, AllocError> {
         match self {
@@ -63,6 +55,17 @@ impl Clock {
                 let utc = Utc(time);
                 format!(in alloc; "{utc}")
             }
+        }
+    }
+
+    // Adds to a head line how the times below it are shown: with the day where all are of one, and in UTC.
+    pub(crate) fn add_day(self, text: &mut String) -> Result<(), AllocError> {
+        match self {
+            Clock::OneDay(time) => {
+                let date = civil_time(time).date();
+                write!(text, " (times of {date} UTC)")
+            }
+            _ => text.push_str(" (times in UTC)"),
         }
     }
 

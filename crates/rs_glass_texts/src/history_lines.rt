@@ -8,7 +8,7 @@ use crate::route_text::add_route;
 use rs_choice::Exchange;
 use rs_glass::{Event, Gets, History};
 use rs_session::Reason;
-use rs_timestamp::{Utc, civil_time};
+use rs_timestamp::Utc;
 use std::alloc::{AllocError, Global};
 
 /// The history as a text of several lines: for each thing that happened the time, the peer, whose route the
@@ -93,13 +93,8 @@ fn add_head(
         let until = Utc(until);
         write!(text, " until {until}")?;
     }
-    match clock.day() {
-        Some(day) => {
-            let date = civil_time(day).date();
-            writeln!(text, " (times of {date} UTC)")?;
-        }
-        None => writeln!(text, " (times in UTC)")?,
-    }
+    clock.add_day(text)?;
+    text.push('\n')?;
     match (history.client, history.from) {
         (Some(client), Some(_)) => {
             text.push_str("before that ")?;

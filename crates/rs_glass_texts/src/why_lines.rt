@@ -6,7 +6,7 @@ use crate::names::{add_gets, asn_at, name_at, name_width};
 use crate::reasons::{answer_name, because};
 use rs_choice::Exchange;
 use rs_glass::{Answer, Answers, LessSpecific};
-use rs_timestamp::{Utc, civil_time};
+use rs_timestamp::Utc;
 use std::alloc::{AllocError, Global};
 
 // How wide the columns of AS numbers and of answers are.
@@ -57,17 +57,14 @@ fn add_head(
     clock: Clock,
 ) -> Result<(), AllocError> {
     add_gets(text, plan, (answers.client, answers.best), answers.prefix)?;
-    match (answers.until, clock.day()) {
-        (Some(until), _) => {
+    match answers.until {
+        Some(until) => {
             let until = Utc(until);
-            writeln!(text, " (until {until} UTC)")
+            write!(text, " (until {until} UTC)")?;
         }
-        (None, Some(day)) => {
-            let date = civil_time(day).date();
-            writeln!(text, " (times of {date} UTC)")
-        }
-        (None, None) => writeln!(text, " (times in UTC)"),
+        None => clock.add_day(text)?,
     }
+    text.push('\n')
 }
 
 // Adds the line of titles.
