@@ -1,5 +1,6 @@
 //! How the program ends where it stops short: its status.
 
+use rs_files::FileFault;
 use rs_glass::GlassFault;
 use rs_glass_words::WordsFault;
 use rs_setup::{Setup, SetupFault};
@@ -42,6 +43,14 @@ impl Ended {
                 Some(path) => Ended::by_path(alloc, path),
                 None => Ended::Memory,
             },
+        }
+    }
+
+    /// What ends the program where the file at a path has a fault.
+    pub fn by_file(alloc: Global, fault: FileFault, path: &str) -> Ended {
+        match fault {
+            FileFault::Memory => Ended::Memory,
+            FileFault::Unread => Ended::by_path(alloc, path),
         }
     }
 

@@ -1,58 +1,26 @@
-//! Reads the configuration whole, and opens the recorded files, which are read in pieces.
+//! Opens the recorded files of the peers.
 
 ghost use Rattle.std.specs.Prelude.{◌≡◌, ◌<◌, All, IfOk, length};
 
 use crate::ended::Ended;
-use rs_mrt::IoReader;
-use std::fs;
-use std::fs::{File, Files};
-use std::io::{BufReader, ErrorKind};
-
-/// The number of octets that a file which is read whole must stay below: 2^50.
-const FILE_LIMIT: usize = 1_125_899_906_842_624;
-
-/// How many octets of a recorded file are read at once.
-const PIECE_LEN: usize = 65_536;
-
-/// Reads a file whole. A file that can't be read, or that has too many octets, is named.
-pub fn read_file<R: AllocGlobal + Files>(rt: &R, path: &str) -> Result<Vec<u8>, Ended> {
-    match fs::read(rt, path) {
-        Ok(octets) if octets.len() < FILE_LIMIT => Ok(octets),
-        Err(error) if error.kind() == ErrorKind::OutOfMemory => Err(Ended::Memory),
-        _ => Err(Ended::by_path(rt.alloc(), path)),
-    }
-}
+use rs_files::{Recorded, open_file};
+use std::fs::Files;
 
 /// Opens the files of these paths, in their order, and reads nothing yet. The first that can't be opened is named.
 pub fn open_files<R: AllocGlobal + Files>(
     rt: &R,
     paths: &[String],
-) -> Result<Vec<IoReader<BufReader<R::File>>>, Ended>
+) -> Result<Vec<Recorded<R::File>>, Ended>
     ensures one_for_each { IfOk result (λ files. length files.items ≡ length paths.now) }
     ensures no_failure { IfOk result (λ files. All (λ file. file.failures < u64.MAX) files.items) }
 {
     let mut files = Vec::with_capacity(rt.alloc(), paths.len())?;
     for path in paths {
-        let file = open_file(rt, path)?;
+        let file = match open_file(rt, path) {
+            Ok(file) => file,
+            Err(fault) => return Err(Ended::by_file(rt.alloc(), fault, path)),
+        };
         files.push(file).map_err(|_| Ended::Memory)?;
     }
     Ok(files)
-}
-
-/// Opens a file, and reads nothing yet. One that can't be opened is named.
-pub fn open_file<R: AllocGlobal + Files>(
-    rt: &R,
-    path: &str,
-) -> Result<IoReader<BufReader<R::File>>, Ended>
-    ensures no_failure { IfOk result (λ file. file.failures < u64.MAX) }
-{
-    let file = match File::open(rt, path) {
-        Ok(file) => file,
-        Err(error) if error.kind() == ErrorKind::OutOfMemory => return Err(Ended::Memory),
-        Err(_) => return Err(Ended::by_path(rt.alloc(), path)),
-    };
-    match BufReader::with_capacity(rt.alloc(), PIECE_LEN, file) {
-        Ok(reader) => Ok(IoReader::new(reader)),
-        Err(_) => Err(Ended::Memory),
-    }
 }

@@ -14,8 +14,9 @@ mod files;
 mod lines;
 
 use ended::{Ended, OUT_OF_MEMORY};
-use files::{open_file, open_files, read_file};
+use files::open_files;
 use lines::{MEMORY_LINE, line};
+use rs_files::{open_file, read_file};
 use rs_glass::{History, Question, explain_all, read_happenings, read_sessions, replay};
 use rs_glass_texts::{history_json, history_text, why_json, why_text};
 use rs_glass_words::{HistoryQuery, PeersQuery, Query, WhyQuery, WordsFault, read_query};
@@ -67,7 +68,10 @@ fn configuration<R: AllocGlobal + Files>(rt: &R, path: &str) -> Result<Setup, En
     ensures { IfOk result (λ setup. length setup.files.items ≡ length setup.plan.value.peers) }
 {
     a_configuration_has_a_file_for_each_peer();
-    let text = read_file(rt, path)?;
+    let text = match read_file(rt, path) {
+        Ok(text) => text,
+        Err(fault) => return Err(Ended::by_file(rt.alloc(), fault, path)),
+    };
     match read_setup(rt.alloc(), &text) {
         Ok(setup) => Ok(setup),
         Err(fault) => Err(Ended::Setup(fault)),
@@ -167,7 +171,10 @@ fn peers<R: AllocGlobal + Files>(rt: &R, query: PeersQuery) -> Result<String, En
 
 // What the recorded file at a path holds.
 fn recorded_file<R: AllocGlobal + Files>(rt: &R, path: String) -> Result<RecordedFile, Ended> {
-    let reader = open_file(rt, &path)?;
+    let reader = match open_file(rt, &path) {
+        Ok(reader) => reader,
+        Err(fault) => return Err(Ended::by_file(rt.alloc(), fault, &path)),
+    };
     match read_inventory(rt.alloc(), reader) {
         Ok(inventory) => Ok(RecordedFile { path, inventory }),
         Err(InventoryFault::Memory) => Err(Ended::Memory),

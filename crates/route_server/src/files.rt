@@ -1,38 +1,16 @@
-//! Reads the configuration whole, and opens the recorded files, which are read in pieces and may be
-//! counted on the way.
+//! Opens the recorded files, whose octets may be counted on the way, and tells which file can't be read.
 
-ghost use Rattle.std.specs.Prelude.{◌≡◌, ◌<◌, All, None, IfErr, IfOk, length, vec_len};
+ghost use Rattle.std.specs.Prelude.{◌≡◌, ◌<◌, All, None, IfErr, IfOk, length};
 ghost use Rattle.rs_ended.specs.Texts.{CanTell};
 
 use crate::file_identity::found_at;
 use crate::read_once::first_unreadable;
 use rs_ended::Ended;
-use rs_mrt::IoReader;
+use rs_files::{FileFault, Recorded, in_pieces, open};
 use rs_progress::{Counted, Progress};
-use std::fs;
-use std::fs::{File, Files};
-use std::io::{BufReader, Eprint, ErrorKind, Read};
-
-/// The number of octets that a file which is read whole must stay below: 2^50.
-pub const FILE_LIMIT: usize = 1_125_899_906_842_624;
-
-/// How many octets of a recorded file are read at once.
-const PIECE_LEN: usize = 65_536;
-
-/// A recorded file that is read in pieces.
-pub type Recorded<F> = IoReader<BufReader<F>>;
-
-/// Reads a file whole. A file that can't be read, or that has too many octets, is named.
-pub fn read_file<R: AllocGlobal + Files>(rt: &R, path: &str) -> Result<Vec<u8>, Ended>
-    ensures limit { IfOk result (λ octets. vec_len octets < FILE_LIMIT) }
-    ensures refused { IfErr result (λ ended. CanTell ended None None) }
-{
-    match fs::read(rt, path) {
-        Ok(octets) if octets.len() < FILE_LIMIT => Ok(octets),
-        Err(error) if error.kind() == ErrorKind::OutOfMemory => Err(Ended::Memory),
-        _ => Err(Ended::Unread(String::from_str(rt.alloc(), path)?)),
-    }
-}
+use std::alloc::Global;
+use std::fs::Files;
+use std::io::Eprint;
 
 /// How many octets the files of these paths have in all; none where that isn't known of one, as of a
 /// pipe or a device.
@@ -65,38 +43,36 @@ pub fn open_files<'a, R: AllocGlobal + Files, E: Eprint>(
     }
     let mut files = Vec::with_capacity(rt.alloc(), paths.len())?;
     for path in paths {
-        let file = in_pieces(rt, Counted::new(open(rt, path)?, progress))?;
+        let file = match open_counted(rt, path, progress) {
+            Ok(file) => file,
+            Err(fault) => return Err(ended_at(rt.alloc(), fault, path)),
+        };
         files.push(file).map_err(|_| Ended::Memory)?;
     }
     Ok(files)
 }
 
-/// Opens a file, and reads nothing yet. One that can't be opened is named.
-pub fn open_file<R: AllocGlobal + Files>(rt: &R, path: &str) -> Result<Recorded<R::File>, Ended>
-    ensures no_failure { IfOk result (λ file. file.failures < u64.MAX) }
-    ensures refused { IfErr result (λ ended. CanTell ended None None) }
+// Opens a recorded file whose octets are counted where there is a progress, and reads nothing yet.
+fn open_counted<'a, R: AllocGlobal + Files, E: Eprint>(
+    rt: &R,
+    path: &str,
+    progress: Option<&'a Progress<E>>,
+) -> Result<Recorded<Counted<'a, R::File, E>>, FileFault>
+    ensures no_failure { IfOk result (λ file. file.failures ≡ 0) }
 {
-    in_pieces(rt, open(rt, path)?)
+    in_pieces(rt.alloc(), Counted::new(open(rt, path)?, progress))
 }
 
-// Opens a file. One that can't be opened is named.
-fn open<R: AllocGlobal + Files>(rt: &R, path: &str) -> Result<R::File, Ended>
-    ensures refused { IfErr result (λ ended. CanTell ended None None) }
+/// What a fault of the file at a path ends the program with: a file that can't be read is named, unless memory for
+/// that is refused.
+pub fn ended_at(alloc: Global, fault: FileFault, path: &str) -> Ended
+    ensures { CanTell result None None }
 {
-    match File::open(rt, path) {
-        Ok(file) => Ok(file),
-        Err(error) if error.kind() == ErrorKind::OutOfMemory => Err(Ended::Memory),
-        Err(_) => Err(Ended::Unread(String::from_str(rt.alloc(), path)?)),
-    }
-}
-
-// What a reader gives, read in pieces.
-fn in_pieces<R: AllocGlobal, F: Read + Drop>(rt: &R, inner: F) -> Result<Recorded<F>, Ended>
-    ensures no_failure { IfOk result (λ file. file.failures < u64.MAX) }
-    ensures refused { IfErr result (λ ended. CanTell ended None None) }
-{
-    match BufReader::with_capacity(rt.alloc(), PIECE_LEN, inner) {
-        Ok(reader) => Ok(IoReader::new(reader)),
-        Err(_) => Err(Ended::Memory),
+    match fault {
+        FileFault::Memory => Ended::Memory,
+        FileFault::Unread => match String::from_str(alloc, path) {
+            Ok(path) => Ended::Unread(path),
+            Err(_) => Ended::Memory,
+        },
     }
 }

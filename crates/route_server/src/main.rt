@@ -19,10 +19,11 @@ mod read_once;
 mod tried;
 
 use copied::Copied;
-use files::{octets_of, open_files, read_file};
+use files::{ended_at, octets_of, open_files};
 use folder_outlet::FolderOutlet;
 use notes::print_notes;
 use rs_ended::{Ended, FAILED, MEMORY_LINE, NOT_UTF_8, OUT_OF_MEMORY, OUTPUT_LINE, line, status};
+use rs_files::read_file;
 use rs_lines::on_one_line;
 use rs_mrt::IoWriter;
 use rs_options::{Options, WordsFault};
@@ -109,7 +110,11 @@ fn configuration<R: AllocGlobal + Files>(rt: &R, options: &Options) -> Result<Se
     ensures refused { IfErr result (λ ended. CanTell ended None None) }
 {
     a_configuration_has_a_file_for_each_peer();
-    let text = read_file(rt, &options.config)?;
+    let path = &options.config;
+    let text = match read_file(rt, path) {
+        Ok(text) => text,
+        Err(fault) => return Err(ended_at(rt.alloc(), fault, path)),
+    };
     match read_setup(rt.alloc(), &text) {
         Ok(setup) => Ok(setup),
         Err(fault) => Err(Ended::Setup(fault)),

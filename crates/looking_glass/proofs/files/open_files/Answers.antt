@@ -8,8 +8,9 @@ all-one_more xs x P = All-push P xs x
 
 pub loop-path-preserved : goal.loop-path-preserved
 loop-path-preserved g c =
-    let pushed : c.push.new.self.items ≡ c.loop-path.files.items ++ c.in_ok-file.file ∷ [] = search rules in
+    let pushed : c.push.new.self.items ≡ c.loop-path.files.items ++ c.in-Ok.file ∷ [] = search rules in
+    let fresh : c.in-Ok.file.failures < 2 ^ 64 - 1 = search rules in
     record {
-      one_for_each = omega (arith, ap length pushed, length-append c.loop-path.files.items (c.in_ok-file.file ∷ []), c.loop-path.invariant.one_for_each);
-      no_failure = rw pushed (all-one_more c.loop-path.files.items c.in_ok-file.file (λ file. file.failures < 2 ^ 64 - 1) c.loop-path.invariant.no_failure c.in_ok-file.ensures.no_failure);
+      one_for_each = omega (arith, ap length pushed, length-append c.loop-path.files.items (c.in-Ok.file ∷ []), c.loop-path.invariant.one_for_each);
+      no_failure = rw pushed (all-one_more c.loop-path.files.items c.in-Ok.file (λ file. file.failures < 2 ^ 64 - 1) c.loop-path.invariant.no_failure fresh);
     }
