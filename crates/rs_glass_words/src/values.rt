@@ -2,27 +2,13 @@
 
 use rs_setup::slashed_subnet;
 use rs_timestamp::read_time;
-use rs_update::{Errors, Prefix};
+use rs_update::Prefix;
 
 /// How a prefix is written.
 pub const PREFIX_FORM: &str = "an IPv4 prefix, as 192.0.2.0/24";
 
 /// How a time is written.
 pub const TIME_FORM: &str = "seconds since 1970 or a time as 2026-11-22T06:36:20Z";
-
-/// How the standards are named.
-pub(crate) const RFC_4271: &str = "rfc4271";
-
-pub(crate) const RFC_7606: &str = "rfc7606";
-
-// The standard of a name.
-pub(crate) fn standard_of(word: &str) -> Option<Errors> {
-    match word {
-        "rfc4271" => Some(Errors::Rfc4271),
-        "rfc7606" => Some(Errors::Rfc7606),
-        _ => None,
-    }
-}
 
 // The prefix that a text writes. Host bits are cleared.
 pub(crate) fn prefix_of(text: &str) -> Option<Prefix> {

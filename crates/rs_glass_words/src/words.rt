@@ -2,9 +2,10 @@
 
 use crate::command::program;
 use crate::query::{HistoryQuery, PeersQuery, Query, WhyQuery, WordsFault};
-use crate::values::{PREFIX_FORM, TIME_FORM, prefix_of, standard_of, time_of};
+use crate::values::{PREFIX_FORM, TIME_FORM, prefix_of, time_of};
 use clap::error::ErrorKind;
 use clap::{ArgMatches, Error};
+use rs_options::standard_of;
 use rs_update::{Errors, Prefix};
 use std::alloc::{AllocError, Global};
 

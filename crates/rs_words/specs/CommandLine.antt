@@ -8,11 +8,10 @@ use Rattle.clap.specs.declared.builder.ArgAction.TheVariants.{Set}
 use Rattle.clap.specs.declared.builder.value_parser.ValueParser.TheVariants.{NonEmptyString, Signed, Unsigned}
 use Rattle.clap.specs.declared.error.kind.ErrorKind.{ErrorKind}
 use Rattle.clap.specs.declared.error.kind.ErrorKind.TheVariants.{DisplayHelp, DisplayVersion, OutOfMemory}
+use Rattle.rs_options.specs.Standard.{standard_name}
 use Rattle.rs_options.specs.declared.options.Options.{Options}
 use Rattle.rs_options.specs.declared.options.WordsFault.{WordsFault}
 use Rattle.rs_options.specs.declared.options.WordsFault.TheVariants.{Help, Version, Refused, Memory}
-use Rattle.rs_update.specs.declared.errors.Errors.{Errors}
-use Rattle.rs_update.specs.declared.errors.Errors.TheVariants.{Rfc4271, Rfc7606}
 
 -- an option of one value that must be there
 abbrev pub required_option : Text → Rule
@@ -62,11 +61,6 @@ with_version app = on_top (λ shape. record shape { has_version = true }) app
 -- the program's command, with its six options
 abbrev pub program : App
 program = with_manner (with_places (with_version (new_app (codes "route_server"))))
-
--- the name of a standard on the command line
-abbrev pub standard_name : Errors → Text
-standard_name Rfc4271 = codes "rfc4271"
-standard_name Rfc7606 = codes "rfc7606"
 
 -- the number that a text of decimal digits stands for
 abbrev pub number_of : Text → ℕ

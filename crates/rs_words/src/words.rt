@@ -1,17 +1,15 @@
 //! Reads the words of the command line, with `clap`.
 
-ghost use Rattle.std.specs.Prelude.{◌≡◌, ◌≢◌, [], IfErr, IfOk, IfSome, None, OnOk, false, map, string_bytes};
+ghost use Rattle.std.specs.Prelude.{◌≡◌, [], IfErr, IfOk, OnOk, false, map, string_bytes};
 ghost use Rattle.clap.specs.Words.{app_of, found_of, kind_of, rows_of, rule_of};
-ghost use Rattle.rs_update.specs.declared.errors.Errors.TheVariants.{Rfc4271, Rfc7606};
 ghost use Rattle.rs_words.specs.CommandLine.{AreOptionsOf, HoldOptions, IsToldAs, SaysWhy, config_rule, errors_rule};
-ghost use Rattle.rs_words.specs.CommandLine.{faults_in, out_rule, program, ring_rule, shards_rule, standard_name};
-ghost use Rattle.rs_words.specs.CommandLine.{time_rule, with_manner};
+ghost use Rattle.rs_words.specs.CommandLine.{faults_in, out_rule, program, ring_rule, shards_rule, time_rule};
+ghost use Rattle.rs_words.specs.CommandLine.{with_manner};
 
 use clap::builder::ValueParser;
 use clap::error::ErrorKind;
 use clap::{Arg, ArgAction, ArgMatches, Command, Error, value_parser};
-use rs_options::{Options, WordsFault};
-use rs_update::Errors;
+use rs_options::{Options, WordsFault, standard_of};
 use std::alloc::{AllocError, Global};
 
 // The program's version.
@@ -105,18 +103,6 @@ fn options_of(alloc: Global, matches: &ArgMatches<'_>) -> Result<Options, WordsF
         shards,
         errors,
     })
-}
-
-// The standard that a word names.
-fn standard_of(word: &str) -> Option<Errors>
-    ensures named { IfSome result (λ errors. word.now ≡ standard_name errors) }
-    ensures none { result ≡ None → (word.now ≢ standard_name Rfc4271) × (word.now ≢ standard_name Rfc7606) }
-{
-    match word {
-        "rfc4271" => Some(Errors::Rfc4271),
-        "rfc7606" => Some(Errors::Rfc7606),
-        _ => None,
-    }
 }
 
 // Why the words give no options, with the text of `clap`.
