@@ -2,11 +2,11 @@
 //! rings into the tables, in one thread in any order that a schedule gives, or on a thread for each peer and
 //! for each shard of the tables.
 //!
-//! Reading order: `turn` (one step of a schedule), `counts` and `lane` (one peer's session and ring),
-//! `opening` (of all peers), `steps` (their turns), `schedule` (a whole schedule in one thread), `floor` (its
-//! end), `laws` (of the definitions); then `lines` and `rings` (what each thread of a run takes), `crew`
-//! (their start and join), `outcome` (how a run ended), `ended` and `served` (what it leaves), `serving`
-//! (whole runs); and `fault`.
+//! Reading order: `turn` (one step of a schedule), `identity` (who a peer is), `counts` and `lane` (one peer's
+//! session and ring), `opening` (of all peers), `steps` (their turns), `schedule` (a whole schedule in one
+//! thread), `floor` (its end), `laws` (of the definitions); then `lines` and `rings` (what each thread of a run
+//! takes), `crew` (their start and join), `outcome` (how a run ended), `ended` and `served` (what it leaves),
+//! `serving` (whole runs); and `fault`.
 #![tactic(auto)]
 
 mod counts;
@@ -14,6 +14,7 @@ mod crew;
 mod ended;
 mod fault;
 mod floor;
+mod identity;
 mod lane;
 mod laws;
 mod lines;

@@ -5,10 +5,11 @@ ghost use Rattle.rs_ring.specs.Items.{is_capacity};
 ghost use Rattle.rs_choice.specs.Plan.{peer_of};
 ghost use Rattle.rs_floor.specs.Lines.{AreLines, IsLine};
 
+use crate::identity::peer_id;
 use rs_choice::{Exchange, PeerSpec};
 use rs_mrt::{Read, RecordReader};
 use rs_ring::{Receiver, ring};
-use rs_session::{PeerId, Word, a_reader_gives_a_file_or_fails};
+use rs_session::{Word, a_reader_gives_a_file_or_fails};
 use rs_worker::Job;
 use std::alloc::{AllocError, Global};
 
@@ -61,10 +62,7 @@ fn open_line<R: Read + Drop>(
     };
     let job = Job {
         source: RecordReader::new(reader),
-        id: PeerId {
-            address: peer.address,
-            asn: peer.asn,
-        },
+        id: peer_id(peer),
         out,
     };
     Ok((job, receiver))

@@ -5,9 +5,9 @@ ghost use Rattle.rs_ring.specs.Items.{is_capacity};
 ghost use Rattle.rs_floor.specs.FloorContent.{AreFresh, FitAll};
 
 use crate::counts::Counts;
+use crate::identity::peer_id;
 use crate::lane::Lane;
 use rs_choice::Exchange;
-use rs_session::PeerId;
 use std::alloc::{AllocError, Global};
 
 // A lane for each peer, in the order of the peers. Refused where memory is.
@@ -26,11 +26,7 @@ pub(crate) fn open_lanes<'a>(
     let mut lanes = Vec::with_capacity(alloc, files.len())?;
     for (number, file) in files.iter().enumerate() {
         let peer = plan.peer(number);
-        let id = PeerId {
-            address: peer.address,
-            asn: peer.asn,
-        };
-        lanes.push(Lane::new(alloc, file, id, capacity)?)?;
+        lanes.push(Lane::new(alloc, file, peer_id(peer), capacity)?)?;
     }
     Ok(lanes)
 }
