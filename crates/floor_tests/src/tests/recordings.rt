@@ -3,6 +3,7 @@
 ghost use Rattle.std.specs.Prelude.{◌≡◌, [], IfSome};
 
 use rs_choice::{Exchange, Local, PeerSpec};
+use rs_mrt::{MemoryReader, ReadLimits};
 use rs_ring::{Closing, Receiver, Sender, ring};
 use rs_session::{Body, PeerId, Session, Word};
 use rs_update::{Attributes, Prefix};
@@ -197,4 +198,19 @@ pub(super) fn ring_of<T: Closing>(
         Ok(ends) => Some(ends),
         Err(_) => None,
     }
+}
+
+// A reader of a file that gives at most so many octets at once, and fails once so many came, where a number is given.
+pub(super) fn failing_reader(
+    file: &[u8],
+    piece: usize,
+    octets_before_failure: Option<usize>,
+) -> MemoryReader<'_>
+    ensures { result.failures ≡ 0 }
+{
+    let limits = ReadLimits {
+        octets_before_failure,
+        piece,
+    };
+    MemoryReader::new(file, limits)
 }

@@ -1,12 +1,10 @@
 //! Whole runs and schedules that are refused memory or a thread, whichever of the process it is, and runs of
 //! which a read fails, whichever it is. The answer is the refusal, or that of a run that is refused nothing.
 
-ghost use Rattle.std.specs.Prelude.{◌≡◌};
-
-use super::recordings::exchange;
+use super::recordings::{exchange, failing_reader};
 use rs_choice::Exchange;
 use rs_floor::{Floor, FloorRefused, Gate, Open, PeerEnd, Served, Turn, replay, serve_by};
-use rs_mrt::{MemoryReader, ReadLimits};
+use rs_mrt::MemoryReader;
 use rs_session::Reason;
 use rs_table::{Row, Tables};
 use rs_update::Errors;
@@ -173,21 +171,10 @@ fn run<R: Threads + Wait + Sync + Abort, G: Gate>(
     let readers: Vec<MemoryReader<'_>> = files
         .iter()
         .zip(failures)
-        .map(|(file, octets)| reader(file, octets))
+        .map(|(file, octets)| failing_reader(file, 1, octets))
         .collect(alloc)?;
     assert!(rt; readers.len() == plan.count());
     serve_by(rt, alloc, plan, readers, capacity, 2, Errors::Rfc4271, gate)
-}
-
-// A reader of a file that gives one octet at once, and fails once so many came.
-fn reader(file: &[u8], octets_before_failure: Option<usize>) -> MemoryReader<'_>
-    ensures { result.failures ≡ 0 }
-{
-    let limits = ReadLimits {
-        octets_before_failure,
-        piece: 1,
-    };
-    MemoryReader::new(file, limits)
 }
 
 // Every peer's session ended as the case says.

@@ -1,13 +1,11 @@
 //! Whole runs: one thread for each peer and for each shard.
 
-ghost use Rattle.std.specs.Prelude.{◌≡◌};
-
 use super::recordings::*;
 use rs_choice::Exchange;
 use rs_floor::{
     FloorRefused, Gate, Open, PeerEnd, Served, serve, serve_readers, serve_sharded, verdict,
 };
-use rs_mrt::{BGP4MP, IoReader, MemoryReader, ReadLimits, STATE_CHANGE_AS4, write_header};
+use rs_mrt::{BGP4MP, IoReader, MemoryReader, STATE_CHANGE_AS4, write_header};
 use rs_session::Reason;
 use rs_update::Prefix;
 use std::alloc::{AllocError, Global};
@@ -528,7 +526,7 @@ fn check_failed_reads<R: Threads + Wait + Sync + Abort>(
 ) {
     let readers: Vec<MemoryReader<'_>> = before_failure
         .iter()
-        .map(|octets| failing_reader(file, *octets))
+        .map(|octets| failing_reader(file, 1000, *octets))
         .collect(alloc)
         .expect(rt, "memory");
     assert!(rt; readers.len() == plan.count());
@@ -549,17 +547,6 @@ fn a_failed_read_is_told_of_the_least_peer(rt: HostRuntime) {
     ] {
         check_failed_reads(&rt, alloc, &plan, &file, before_failure, wanted);
     }
-}
-
-// A reader of a file that fails once so many octets came.
-fn failing_reader(file: &[u8], octets_before_failure: Option<usize>) -> MemoryReader<'_>
-    ensures { result.failures ≡ 0 }
-{
-    let limits = ReadLimits {
-        octets_before_failure,
-        piece: 1000,
-    };
-    MemoryReader::new(file, limits)
 }
 
 // Appends the record of a session of a peer that is lost (RFC 6396, section 4.4.4).
