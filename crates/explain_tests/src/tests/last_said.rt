@@ -5,7 +5,7 @@ use rs_explain::{EndedBy, Ending, LastSaid, Until};
 use rs_session::Reason;
 
 // A change: on 203.0.113.0/24, or on 192.0.2.0/24, another prefix.
-#[derive(Clone, Copy)]
+#[derive(Clone, Copy, Debug)]
 enum Said {
     Announced,
     AnnouncedOther,
@@ -46,7 +46,7 @@ fn ended(time: u32, by: EndedBy) -> LastSaid {
 
 // Changes say this last of 203.0.113.0/24.
 fn check_last(rt: &impl Abort, alloc: Global, changes: &[(u32, Said)], wanted: LastSaid) {
-    assert_eq!(rt; last_said(rt, alloc, changes), wanted);
+    assert_eq!(rt; last_said(rt, alloc, changes), wanted, "{changes:?}");
 }
 
 #[test]
@@ -118,8 +118,12 @@ fn takes(rt: &impl Abort, alloc: Global, cut: &mut Until, time: u32) -> bool {
 // Of changes at these times, those are taken that come up to a time, and before any later one.
 fn check_taken(rt: &impl Abort, alloc: Global, until: Option<u32>, taken: [bool; 5]) {
     let mut cut = Until::new(until);
-    for (time, taken) in TIMES.iter().zip(taken.iter()) {
-        assert_eq!(rt; takes(rt, alloc, &mut cut, *time), *taken, "{time}");
+    for (place, (time, taken)) in TIMES.iter().zip(taken.iter()).enumerate() {
+        assert_eq!(rt;
+            takes(rt, alloc, &mut cut, *time),
+            *taken,
+            "change {place}, at {time}, up to {until:?}"
+        );
     }
 }
 

@@ -92,8 +92,8 @@ fn refused_twice(rt: &impl Abort, alloc: Global) -> Tables {
     let mut rows = FOUR;
     rows[1].refused = &["a"];
     let mut tables = tables(alloc, &rows).expect(rt, "tables");
-    let route = "40010100 4002060201 0000FBF5 400304C000020B C00804 0000FBF6";
-    announce(rt, alloc, &mut tables, A, route);
+    let route = format!(in alloc; "{PLAIN} C00804 0000FBF6").expect(rt, "a text");
+    announce(rt, alloc, &mut tables, A, &route);
     tables
 }
 

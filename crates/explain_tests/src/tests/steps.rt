@@ -42,58 +42,74 @@ fn removal_of(explanation: &Explanation) -> Option<(usize, Step, usize)> {
     }
 }
 
-// The route of a peer loses with b at this step, to this rival, or it doesn't lose.
+// The route of a peer loses with b at this step, to this rival.
 fn check_lost(
     rt: &impl Abort,
     alloc: Global,
     tables: &Tables,
     peer: usize,
-    wanted: Option<(Step, usize)>,
+    (step, rival): (Step, usize),
+    what: &str,
 ) {
     let found = removal_of(&explained(rt, alloc, tables, B, peer));
-    assert_eq!(rt; found, wanted.map(|(step, rival)| (peer, step, rival)));
+    assert_eq!(rt; found, Some((peer, step, rival)), "{what}");
 }
 
-// What b is told of the routes of a and c.
-fn are_told(
+// The route of a peer is what b gets, and beat those of these others.
+fn check_best(
+    rt: &impl Abort,
+    alloc: Global,
+    tables: &Tables,
+    peer: usize,
+    others: &[usize],
+    what: &str,
+) {
+    let best = Explanation::Best(others.to_vec(alloc).expect(rt, "memory"));
+    check_explained(rt, alloc, tables, (B, peer), best, what);
+}
+
+// Of the routes of a and c one loses with b at this step to the other, which is what b gets, and beat that of d too.
+fn check_step(
     rt: &impl Abort,
     alloc: Global,
     rows: &[Row],
     routes: (&str, &str, &str),
-    of_a: Option<(Step, usize)>,
-    of_c: Option<(Step, usize)>,
+    (loser, step, winner): (usize, Step, usize),
+    what: &str,
 ) {
     let tables = announced(rt, alloc, rows, routes.0, routes.1, routes.2);
-    check_lost(rt, alloc, &tables, A, of_a);
-    check_lost(rt, alloc, &tables, C, of_c);
+    check_lost(rt, alloc, &tables, loser, (step, winner), what);
+    check_best(rt, alloc, &tables, winner, &[loser, D], what);
 }
 
 #[test]
 fn the_preference_goes_first(rt: HostRuntime) {
+    let alloc = rt.alloc();
     let mut rows = FOUR;
     rows[3].preference = 200;
-    let by_d = Some((Step::Preference, D));
-    are_told(&rt, rt.alloc(), &rows, (SHORT, LONG, LONG), by_d, by_d);
+    let tables = announced(&rt, alloc, &rows, SHORT, LONG, LONG);
+    let by_d = (Step::Preference, D);
+    check_lost(&rt, alloc, &tables, A, by_d, "a's");
+    check_lost(&rt, alloc, &tables, C, by_d, "c's");
 }
+
+// Routes of a, c and d, and which of a and c loses at which step to the other, and why.
+const AMONG_EQUALS: &[((&str, &str, &str), (usize, Step, usize), &str)] = &[
+    ((LONG, SHORT, EGP), (A, Step::PathLength, C), "longer path"),
+    ((EGP, SHORT, LONG), (A, Step::Origin, C), "higher origin"),
+    ((MED_5, SHORT, LONG), (A, Step::Med, C), "higher MED"),
+    (
+        (SHORT, SHORT, LONG),
+        (C, Step::Identifier, A),
+        "higher identifier",
+    ),
+];
 
 #[test]
 fn the_steps_among_equals_are_named(rt: HostRuntime) {
-    let alloc = rt.alloc();
-    let longer = Some((Step::PathLength, C));
-    are_told(&rt, alloc, &FOUR, (LONG, SHORT, EGP), longer, None);
-    let higher_origin = Some((Step::Origin, C));
-    are_told(&rt, alloc, &FOUR, (EGP, SHORT, LONG), higher_origin, None);
-    let higher_med = Some((Step::Med, C));
-    are_told(&rt, alloc, &FOUR, (MED_5, SHORT, LONG), higher_med, None);
-    let higher_identifier = Some((Step::Identifier, A));
-    are_told(
-        &rt,
-        alloc,
-        &FOUR,
-        (SHORT, SHORT, LONG),
-        None,
-        higher_identifier,
-    );
+    for (routes, removal, what) in AMONG_EQUALS {
+        check_step(&rt, rt.alloc(), &FOUR, *routes, *removal, what);
+    }
 }
 
 // Of one identifier the lower address goes first.
@@ -102,8 +118,9 @@ fn the_address_goes_last(rt: HostRuntime) {
     let mut rows = FOUR;
     rows[2].id = 11;
     rows[3].id = 11;
-    let by_a = Some((Step::Address, A));
-    are_told(&rt, rt.alloc(), &rows, (SHORT, SHORT, SHORT), None, by_a);
+    let routes = (SHORT, SHORT, SHORT);
+    let by_address = (C, Step::Address, A);
+    check_step(&rt, rt.alloc(), &rows, routes, by_address, "higher address");
 }
 
 #[test]
@@ -121,17 +138,11 @@ fn values_of_both_are_told(rt: HostRuntime) {
     assert_eq!(rt; (lengths, removal.rival.peer), ((2, 1), C));
 }
 
-// The route of a peer is what b gets, and beat those of these others.
-fn check_best(rt: &impl Abort, alloc: Global, tables: &Tables, peer: usize, others: &[usize]) {
-    let best = Explanation::Best(others.to_vec(alloc).expect(rt, "memory"));
-    check_explained(rt, alloc, tables, (B, peer), best, "it is best");
-}
-
 #[test]
 fn the_best_one_is_told_with_all_that_it_beat(rt: HostRuntime) {
     let alloc = rt.alloc();
     let tables = announced(&rt, alloc, &FOUR, LONG, SHORT, SHORT);
-    check_best(&rt, alloc, &tables, C, &[A, D]);
+    check_best(&rt, alloc, &tables, C, &[A, D], "c's is best");
 }
 
 // MED is compared within one neighbour AS: d removes c there, though a, of another neighbour AS, is what b gets.
@@ -140,7 +151,7 @@ fn a_route_may_lose_by_med_to_one_that_is_not_the_best(rt: HostRuntime) {
     let alloc = rt.alloc();
     let of_d = "40010100 4002060201 0000FBF7 400304C000020B";
     let tables = announced(&rt, alloc, &FOUR, SHORT, BY_64503_MED_10, of_d);
-    check_best(&rt, alloc, &tables, A, &[C, D]);
-    check_lost(&rt, alloc, &tables, C, Some((Step::Med, D)));
-    check_lost(&rt, alloc, &tables, D, Some((Step::Identifier, A)));
+    check_best(&rt, alloc, &tables, A, &[C, D], "a's is best");
+    check_lost(&rt, alloc, &tables, C, (Step::Med, D), "c's");
+    check_lost(&rt, alloc, &tables, D, (Step::Identifier, A), "d's");
 }
