@@ -335,13 +335,11 @@ const HELD: &[(&[&str], Candidacy)] = &[
 ];
 
 // A route of a is held with its sender, its time, and what decisions ask of it.
-fn check_held(rt: &impl Abort, held: &HeldRoute, candidacy: Candidacy) {
-    let is_candidate = candidacy != Candidacy::Ineligible;
-    let is_held = held.candidacy.is_eligible();
-    assert_eq!(rt;
-        (held.peer, held.time, held.candidacy, is_held),
-        (0, TIME, candidacy, is_candidate)
-    );
+fn check_held(rt: &impl Abort, held: &HeldRoute, candidacy: Candidacy, texts: &[&str]) {
+    let is_eligible = held.candidacy.is_eligible();
+    let found = (held.peer, held.time, held.candidacy, is_eligible);
+    let wanted = (0, TIME, candidacy, candidacy != Candidacy::Ineligible);
+    check(rt, &found, &wanted, &texts);
 }
 
 #[test]
@@ -349,7 +347,7 @@ fn who_may_get_a_route_is_held_with_it(rt: HostRuntime) -> Result<(), Fail> {
     let exchange = exchange(rt.alloc(), true, FOUR)?;
     for (texts, candidacy) in HELD {
         let held = hold(&rt, rt.alloc(), &exchange, &(0, texts))?;
-        check_held(&rt, &held, *candidacy);
+        check_held(&rt, &held, *candidacy, texts);
     }
     Ok(())
 }
@@ -374,14 +372,20 @@ const KEYS: &[(&[&str], u16, u32, u32)] = &[
 ];
 
 // A route of a has this path length, neighbour AS and MED.
-fn check_key(rt: &impl Abort, exchange: &Exchange, held: &HeldRoute, wanted: (u16, u32, u32)) {
+fn check_key(
+    rt: &impl Abort,
+    exchange: &Exchange,
+    held: &HeldRoute,
+    wanted: (u16, u32, u32),
+    texts: &[&str],
+) {
     assert!(rt; exchange.count() > 0);
     let standing = exchange.standing(&Candidate {
         peer: 0,
         attributes: &held.attributes,
     });
     let found = (held.path_length, standing.neighbour, standing.med);
-    check(rt, &found, &wanted, &"path length, neighbour AS, MED");
+    check(rt, &found, &wanted, &texts);
 }
 
 #[test]
@@ -389,12 +393,13 @@ fn what_the_steps_compare_is_found_of_a_route(rt: HostRuntime) -> Result<(), Fai
     let exchange = exchange(rt.alloc(), true, FOUR)?;
     for (texts, path_length, neighbour, med) in KEYS {
         let held = hold(&rt, rt.alloc(), &exchange, &(0, texts))?;
-        check_key(&rt, &exchange, &held, (*path_length, *neighbour, *med));
+        let wanted = (*path_length, *neighbour, *med);
+        check_key(&rt, &exchange, &held, wanted, texts);
     }
     Ok(())
 }
 
-// Each of some routes is for all, or not.
+// Each of the routes of a, b and c is for all, or not.
 fn check_open(
     rt: &impl Abort,
     alloc: Global,
@@ -405,7 +410,7 @@ fn check_open(
         .iter()
         .map(|held| held.candidacy.is_open())
         .collect(alloc)?;
-    assert_eq!(rt; are_open.as_slice(), wanted);
+    check(rt, &are_open.as_slice(), &wanted, &"for all, of a, b and c");
     Ok(())
 }
 

@@ -115,7 +115,7 @@ fn sender_for(
     Ok(permitted.get(place).map(|chosen| chosen.peer))
 }
 
-// Each client gets the route of the other of a and c, of which a's isn't for b.
+// a and b get the route of c, since a's isn't for b, and c and d get that of a.
 fn check_senders(
     rt: &impl Abort,
     alloc: Global,

@@ -165,7 +165,9 @@ fn check_many(
     want: PlanFault,
 ) -> Result<(), AllocError> {
     let rows = vec![in alloc; A; count]?;
-    check_plan(rt, alloc, local, &rows, Some(want), "many peers")
+    let fault = fault_of(alloc, local, &rows)?;
+    check(rt, &fault, &Some(want), &("peers", count));
+    Ok(())
 }
 
 #[test]
