@@ -16,11 +16,12 @@ use std::sync::{Arc, Wait};
 use std::test::*;
 use std::thread::Threads;
 
-// An exchange of four peers: what is recorded of each in hexadecimal digits, how many of its changes and of
-// the records that are passed over its session has, and the rows of each client: the first octet of the
-// prefix, and the peer that sent the route.
+// An exchange of four peers: what it shows, what is recorded of each in hexadecimal digits, how many of its
+// changes and of the records that are passed over its session has, and the rows of each client: the first
+// octet of the prefix, and the peer that sent the route.
 #[derive(Clone, Copy)]
 struct Case {
+    what: &'static str,
     recorded: [&'static str; 4],
     counts: [(u64, u64); 4],
     rows: [&'static [(u32, usize)]; 4],
@@ -38,6 +39,7 @@ const LONGER: &str =
 
 // The best route on 203.0.113.0/24 isn't for the second peer: it gets the other one.
 const NO_PATH_IS_HIDDEN: Case = Case {
+    what: "no path is hidden",
     recorded: [RESTRICTED, "", LONGER, ""],
     counts: [(2, 0), (1, 0), (2, 0), (1, 0)],
     rows: [&[(203, 2)], &[(203, 2)], &[(203, 0)], &[(203, 0)]],
@@ -63,6 +65,7 @@ const COLLECTED: &str =
 
 // The file of the first peer is a collector's.
 const COLLECTORS_FILE: Case = Case {
+    what: "a collector's file",
     recorded: [COLLECTED, "", "", ""],
     counts: [(3, 5), (1, 0), (1, 0), (1, 0)],
     rows: [
@@ -109,7 +112,8 @@ fn check_rows(rt: &impl Abort, tables: &Tables, case: &Case) {
     for client in 0..4 {
         assert!(rt;
             has_rows(rt, tables, case, client) != Some(false),
-            "of client {client}"
+            "{}: client {client}",
+            case.what
         );
     }
 }
@@ -186,7 +190,7 @@ fn check_ends(rt: &impl Abort, served: &Served, case: &Case) {
             passed: *passed,
             reason: Reason::EndOfFile,
         };
-        assert_eq!(rt; served.end(peer), end);
+        assert_eq!(rt; served.end(peer), end, "{}: peer {peer}", case.what);
     }
 }
 
@@ -282,7 +286,7 @@ fn check_floor(rt: &impl Abort, floor: &Floor, case: &Case) {
     for (peer, (changes, _)) in case.counts.iter().enumerate() {
         assert!(rt; peer < floor.tables().count());
         let counts = (floor.sent(peer), floor.received(peer));
-        assert_eq!(rt; counts, (*changes, *changes));
+        assert_eq!(rt; counts, (*changes, *changes), "{}: peer {peer}", case.what);
     }
     check_rows(rt, floor.tables(), case);
 }
@@ -316,7 +320,12 @@ fn check_served<R: Threads + Wait + Sync + Abort>(
     let answer = run(rt, plan, alloc, &files, [None; 4], capacity, &Open);
     let served = answer.expect(rt, "a run");
     for client in 0..4 {
-        assert_eq!(rt; has_rows(rt, served.tables(), case, client), Some(true));
+        assert_eq!(rt;
+            has_rows(rt, served.tables(), case, client),
+            Some(true),
+            "{}: client {client} through {capacity}",
+            case.what
+        );
     }
     check_run(rt, case, Ok(served));
 }

@@ -78,7 +78,7 @@ type Cuts = (&'static [(u32, Change)], &'static [(u32, Change)]);
 
 // What each of three shards gets of them: 198 and 0 are in shard 0, 1 in shard 1, 203 in shard 2. A change
 // has its place as its time.
-const CUTS: &[Cuts] = &[
+const CUTS: [Cuts; 3] = [
     (
         &[
             (0, Announce(198)),
@@ -295,12 +295,18 @@ fn through<R: Threads + Wait + Sync>(rt: &R, alloc: Global, capacity: usize) -> 
 }
 
 // What a shard received of both peers is its cut of what each of them says.
-fn check_cuts(rt: &impl Abort, received: &[Vec<(u32, Change)>; 2], cuts: Cuts, capacity: usize) {
+fn check_cuts(
+    rt: &impl Abort,
+    received: &[Vec<(u32, Change)>; 2],
+    cuts: Cuts,
+    shard: usize,
+    capacity: usize,
+) {
     let [first, second] = received;
     assert_eq!(rt;
         (first.as_slice(), second.as_slice()),
         cuts,
-        "through {capacity}"
+        "shard {shard}, through {capacity}"
     );
 }
 
@@ -309,8 +315,8 @@ fn check_through<R: Threads + Wait + Sync + Abort>(rt: &R, alloc: Global, capaci
     let Some(received) = through(rt, alloc, capacity) else {
         panic!(rt; "out of memory through {capacity}");
     };
-    for (received, cuts) in received.cuts.iter().zip(CUTS) {
-        check_cuts(rt, received, *cuts, capacity);
+    for (shard, (received, cuts)) in received.cuts.iter().zip(CUTS).enumerate() {
+        check_cuts(rt, received, cuts, shard, capacity);
     }
 }
 

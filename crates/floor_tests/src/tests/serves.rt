@@ -142,7 +142,8 @@ fn check_carried(rt: &impl Abort, alloc: Global, served: &Served, shards: usize)
     };
     assert_eq!(rt;
         (end(rt, served, 0), end(rt, served, 1).changes),
-        (whole, 1)
+        (whole, 1),
+        "with {shards} shards"
     );
     let counts = (
         count_rows(rt, alloc, served, 0),
@@ -531,7 +532,7 @@ fn check_failed_reads<R: Threads + Wait + Sync + Abort>(
         .expect(rt, "memory");
     assert!(rt; readers.len() == plan.count());
     let answer = serve_readers(rt, alloc, plan, readers, 4, &Open);
-    assert_eq!(rt; answer.err(), wanted);
+    assert_eq!(rt; answer.err(), wanted, "{before_failure:?}");
 }
 
 #[test]

@@ -212,8 +212,8 @@ fn check_changes<W: Debug>(rt: &impl Abort, sent: &Sent, want: &[Given], what: &
 }
 
 // A worker told that it sent so many changes, passed over so many records, and why it ended.
-fn check_told(rt: &impl Abort, sent: &Sent, told: (u64, u64, Reason)) {
-    assert_eq!(rt; (sent.count, sent.passed, sent.reason), told);
+fn check_told<W: Debug>(rt: &impl Abort, sent: &Sent, told: (u64, u64, Reason), what: &W) {
+    assert_eq!(rt; (sent.count, sent.passed, sent.reason), told, "{what:?}");
 }
 
 // A worker sends these changes of a file, up to its end, through a ring of this capacity.
@@ -225,8 +225,10 @@ fn check_file<R: Threads + Wait + Sync + Abort>(
     want: &[Given],
 ) -> Result<(), RingRefused> {
     let sent = run_file(rt, alloc, capacity, file, Errors::Rfc4271, &Open)?;
-    check_changes(rt, &sent, want, &capacity);
-    check_told(rt, &sent, (201, 0, Reason::EndOfFile));
+    let what = ("through", capacity);
+    check_changes(rt, &sent, want, &what);
+    let told = (want.len() as u64, 0, Reason::EndOfFile);
+    check_told(rt, &sent, told, &what);
     Ok(())
 }
 
@@ -329,7 +331,7 @@ fn a_worker_passes_over_a_long_record_of_another(rt: HostRuntime) -> Result<(), 
     let file = file_with_long_record(rt.alloc())?;
     let sent = run_pieces(&rt, rt.alloc(), &file, ReadLimits::none())?;
     check_changes(&rt, &sent, &[FIRST, END], &"a long record");
-    check_told(&rt, &sent, (2, 1, Reason::EndOfFile));
+    check_told(&rt, &sent, (2, 1, Reason::EndOfFile), &"a long record");
     Ok(())
 }
 
@@ -352,7 +354,7 @@ fn a_worker_closes_at_a_message_that_is_too_long(rt: HostRuntime) -> Result<(), 
     };
     let closed = [Given::Close(100, reason)];
     check_changes(&rt, &sent, &closed, &"a long message");
-    check_told(&rt, &sent, (1, 0, reason));
+    check_told(&rt, &sent, (1, 0, reason), &"a long message");
     Ok(())
 }
 
