@@ -1,4 +1,5 @@
-/* Refuses one thread of a program: the one whose number, from 1, is in REFUSE_THREAD. Preloaded by `refuse_in_tests` and `refuse_in_a_run`.
+/* Refuses one thread of a program: the one whose number, from 1, is in REFUSE_THREAD. Preloaded by `refuse_in_tests`, `refuse_in_a_run` and
+   `refuse_each_allocation`.
    Where it was refused, the file named by REFUSED_FILE is made. A process that ends by itself waits for its threads: nobody else waits for
    the one that frees tables. Where one of them still runs after ten seconds, as one does that waits for what never comes, the process says so
    and ends with status 99. */
