@@ -16,7 +16,9 @@ const SERVER_AS: u32 = 64500;
 const SERVER_ADDRESS: u32 = 0xC000_0201;
 const FIRST_AS: u32 = 64501;
 const FIRST_ADDRESS: u32 = 0xC000_020B;
-const FIRST_PREFIX: u32 = 20 << 24;
+// The first octets over which the prefixes are spread, and how many there are.
+const FIRST_OCTET: u32 = 20;
+const FIRST_OCTETS: u32 = 200;
 const START: u32 = 1_700_000_000;
 
 struct Peer {
@@ -123,9 +125,16 @@ fn field(numbers: &[u32]) -> Vec<u8> {
             _ => 24,
         };
         out.push(len);
-        out.extend_from_slice(&(FIRST_PREFIX + (number << 8)).to_be_bytes()[..usize::from((len + 7) / 8)]);
+        out.extend_from_slice(&address_of(*number).to_be_bytes()[..usize::from((len + 7) / 8)]);
     }
     out
+}
+
+// The address of the prefix of a number. Each 256 numbers share their first 16 bits, and one block of so many after
+// another has the next first octet, as those of a real table have many: so each shard gets its part.
+fn address_of(number: u32) -> u32 {
+    let block = number / 256;
+    (FIRST_OCTET + block % FIRST_OCTETS) << 24 | (block / FIRST_OCTETS) << 16 | (number % 256) << 8
 }
 
 // The numbers of a peer's prefixes, each once, in an order of its own.
