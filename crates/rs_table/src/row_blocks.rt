@@ -10,7 +10,7 @@ ghost use Rattle.rs_table.specs.RowBlocksView.{cell_of, row_found};
 
 use crate::cell::Cell;
 use crate::client_rows::ClientRows;
-use crate::route::Row;
+use crate::route::{Route, Row};
 use rs_update::Prefix;
 use std::alloc::{AllocError, Global};
 use std::collections::btree_map::Iter;
@@ -23,12 +23,12 @@ pub const BLOCK_LEN: usize = 16384;
 // For how many prefixes of a block a thread looks up what the client gets there, or fewer.
 const PART_LEN: usize = 2048;
 
-// The cell of a prefix, and the place of the client's route in it, once that is found.
+// The cell of a prefix, and the route that the client gets there, once that is found.
 #[derive(Clone, Copy)]
 struct PrefixCell<'a> {
     prefix: Prefix,
     cell: &'a Cell,
-    place: Option<usize>,
+    route: Option<Route<'a>>,
 }
 
 /// The rows of a client's table, block by block. Its memory is taken when it is made: half a MB.
@@ -114,7 +114,7 @@ fn take_cells<'a>(cells: &mut Iter<'a, Prefix, Cell>, taken: &mut Vec<PrefixCell
         let Ok(()) = taken.push(PrefixCell {
             prefix: *entry.0,
             cell: entry.1,
-            place: None,
+            route: None,
         }) else {
             unreachable!();
         };
@@ -139,7 +139,7 @@ fn find_rows<T: Threads + Sync>(rt: &T, client: usize, taken: &mut [PrefixCell<'
 fn find_row(one: &mut PrefixCell<'_>, client: usize)
     ensures { row_found one.new ≡ stored_row client (cell_of one.old) }
 {
-    one.place = one.cell.best_place(client);
+    one.route = one.cell.best(client);
 }
 
 // Puts the rows that were found into a block, in place of those that were there.
@@ -165,10 +165,9 @@ impl<'a> PrefixCell<'a> {
     fn row(&self) -> Option<Row<'a>>
         ensures { option_map row_of result ≡ row_found self.now }
     {
-        let route = self.cell.kept_at(self.place?)?;
         Some(Row {
             prefix: self.prefix,
-            route,
+            route: self.route?,
         })
     }
 }
