@@ -27,10 +27,6 @@ cell_code =
 abbrev pub routes_in : CellContent → List SentRoute
 routes_in cell = map sent_of_held cell.held
 
--- the route at a place
-abbrev pub kept_at : CellContent → ℕ → Option SentRoute
-kept_at cell place = option_map sent_of_held (slice_get cell.held place)
-
 -- the route that a client gets by what is kept
 abbrev pub route_unless_own : List SentRoute → ℕ → ℕ → Option SentRoute
 route_unless_own routes client peer =

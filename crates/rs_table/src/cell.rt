@@ -4,12 +4,12 @@
 //! A cell is made whole, with room for a route of every peer, so that no later change of it takes memory.
 
 ghost use Rattle.std.specs.Prelude.{◌≡◌, ◌<◌, ◌≤◌, ◌∷◌, [], IfOk, IsTrue, IsFalse, None, length, vec_capacity};
-ghost use Rattle.std.specs.Option.{option_and_then, option_map};
+ghost use Rattle.std.specs.Option.{option_map};
 ghost use Rattle.rs_choice.specs.Held.{sent_of_held, IsJudged};
 ghost use Rattle.rs_choice.specs.RouteChanges.{IsChange, IsKnown};
 ghost use Rattle.rs_table.specs.ByPeer.{place_of, route_at, with_one, with_route, without_one, without_route};
 ghost use Rattle.rs_table.specs.ByPeer.{IsAscending, IsPut, IsTaken};
-ghost use Rattle.rs_table.specs.Cell.{kept_at, routes_in, stored_best, AreHeld, IsCell};
+ghost use Rattle.rs_table.specs.Cell.{routes_in, stored_best, AreHeld, IsCell};
 ghost use Rattle.rs_table.specs.RouteView.{sent_route_of};
 ghost use Rattle.rs_table.specs.Table.{sent_by};
 
@@ -114,50 +114,26 @@ impl Cell {
     pub(crate) fn route(&self, peer: usize) -> Option<Route<'_>>
         ensures { option_map sent_route_of result ≡ option_map (sent_by peer) (route_at (routes_in self.now) peer) }
     {
-        self.kept_at(self.place_of(peer)?)
+        let route = self.held.get(place(&self.held, peer))?;
+        if usize::from(route.peer) != peer {
+            return None;
+        }
+        Some(Route {
+            peer,
+            time: route.time,
+            attributes: &route.attributes,
+        })
     }
 
     // The route that a client gets.
     pub(crate) fn best(&self, client: usize) -> Option<Route<'_>>
         ensures { option_map sent_route_of result ≡ stored_best self.now client }
     {
-        self.kept_at(self.best_place(client)?)
-    }
-
-    // The place of the route that a client gets.
-    pub(crate) fn best_place(&self, client: usize) -> Option<usize>
-        ensures { option_and_then (kept_at self.now) result ≡ stored_best self.now client }
-    {
         let best = usize::from(*self.bests.get(client)?);
         if best == client {
             None
         } else {
-            self.place_of(best)
-        }
-    }
-
-    // The route at a place.
-    pub(crate) fn kept_at(&self, place: usize) -> Option<Route<'_>>
-        ensures { option_map sent_route_of result ≡ kept_at self.now place }
-    {
-        let route = self.held.get(place)?;
-        Some(Route {
-            peer: usize::from(route.peer),
-            time: route.time,
-            attributes: &route.attributes,
-        })
-    }
-
-    // The place of the route of a peer.
-    fn place_of(&self, peer: usize) -> Option<usize>
-        ensures { option_and_then (kept_at self.now) result
-            ≡ option_map (sent_by peer) (route_at (routes_in self.now) peer) }
-    {
-        let place = place(&self.held, peer);
-        if is_at(&self.held, place, peer) {
-            Some(place)
-        } else {
-            None
+            self.route(best)
         }
     }
 }
