@@ -1,6 +1,6 @@
 //! Keeps the program from writing a dump over a file that it reads.
 
-ghost use Rattle.std.specs.Prelude.{◌≡◌, ◌<◌, None, IfErr, IfOk, IfSome, length};
+ghost use Rattle.std.specs.Prelude.{◌<◌, None, IfErr, IfOk, IfSome, length};
 ghost use Rattle.rs_ended.specs.Texts.{CanTell};
 
 use crate::file_identity::{FileIdentity, found_at};

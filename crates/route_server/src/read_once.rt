@@ -3,7 +3,7 @@
 //!
 //! Our choice: of the null device, which never gives any, several peers may read.
 
-ghost use Rattle.std.specs.Prelude.{◌≡◌, ◌<◌, None, IfErr, IfOk, IfSome, length};
+ghost use Rattle.std.specs.Prelude.{◌<◌, None, IfErr, IfOk, IfSome, length};
 ghost use Rattle.rs_ended.specs.Texts.{CanTell};
 
 use crate::file_identity::{FileIdentity, found_at};

@@ -4,7 +4,7 @@
 //! Our choice: a dump that stands there already is not touched before the run; where one doesn't, a file of
 //! another name is made in the folder and taken away again.
 
-ghost use Rattle.std.specs.Prelude.{◌≡◌, ◌<◌, None, IfErr, IfOk, IfSome, length};
+ghost use Rattle.std.specs.Prelude.{◌<◌, None, IfErr, IfOk, IfSome, length};
 ghost use Rattle.rs_ended.specs.Texts.{CanTell};
 
 use crate::file_identity::found_at;

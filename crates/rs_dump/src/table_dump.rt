@@ -1,10 +1,9 @@
 //! The dump of a client's table (RFC 6396, section 4.3) without a list of its rows.
 
-ghost use Rattle.std.specs.Prelude.{◌≡◌, ◌+◌, ◌<◌, ◌≤◌, ◌↔◌, ◌++◌, [], All, length, map, IfNone, IfOk, IfSome};
-ghost use Rattle.std.specs.Prelude.{IsErrOf, IsTrue, IsFalse, OnOk, OnSome, vec_capacity};
+ghost use Rattle.std.specs.Prelude.{◌≡◌, ◌+◌, ◌<◌, ◌≤◌, ◌↔◌, All, length, IfNone, IfOk, IfSome};
+ghost use Rattle.std.specs.Prelude.{IsErrOf, IsTrue, OnOk, OnSome};
 ghost use Rattle.std.specs.Io.KnownBytes.{Appends};
 ghost use Rattle.rs_mrt.specs.Stream.{AppendsBeginning};
-ghost use Rattle.rs_table.specs.RouteView.{row_of};
 ghost use Rattle.rs_table.specs.Table.{table_of};
 ghost use Rattle.rs_dump.specs.Dump.{dumped};
 

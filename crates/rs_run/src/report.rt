@@ -1,7 +1,6 @@
 //! The lines of the report: a line for each peer's session, and one for each client's table.
 
-ghost use Rattle.std.specs.Prelude.{◌≡◌, ◌++◌, OnOk, Some, length, map, string_bytes};
-ghost use Rattle.rs_choice.specs.Plan.{Peer};
+ghost use Rattle.std.specs.Prelude.{◌≡◌, ◌++◌, OnOk, Some, length, string_bytes};
 ghost use Rattle.rs_run.specs.Report.{peer_line, peer_lines, reason_text, table_line};
 
 use rs_choice::Exchange;
