@@ -1,5 +1,5 @@
 -- The octets of rows, part by part. The proofs of what writes rows rest on it: add_rows, spell_rows, add_parts, write_dump and write_table_dump.
-use Rattle.std.proofs.Common.{◌≡◌, ℕ, suc, ◌+◌, ◌∙◌, List, [], ◌∷◌, ◌++◌, All, length, map, take, drop, get_or, ◌<◌, ◌≤◌, ◌-◌, min, length-take, length-take-le, length-drop, refl, ap, sym, subst, append_assoc, arith}
+use Rattle.std.proofs.Common.{◌≡◌, ℕ, suc, ◌+◌, ◌∙◌, List, [], ◌∷◌, ◌++◌, All, length, map, take, drop, get_or, ◌<◌, ◌≤◌, ◌-◌, min, length-append, length-take, length-take-le, length-drop, refl, ap, sym, subst, append_assoc, arith}
 use Rattle.std.specs.List.{flat_map, enumerate_from, drop-map}
 use Rattle.std.proofs.lemmas.Grind.{flat_map-append}
 use Rattle.std.proofs.lemmas.List.{append-nil, length-map, map-append, take_more, take-append-drop, take-take, drop-take, take_min, take-map, drop_at, take_at}
@@ -109,3 +109,9 @@ pub All-behind : (P : TableRow → Type 0) (rows later : List TableRow) → All 
 All-behind P rows later all =
     let Q : List TableRow → Type 0 = λ part. All P part in
     subst Q (drop_at rows later (length rows) refl) (All-drop P (length rows) (rows ++ later) all)
+
+-- rows that were written and those of a block are no more than the table has
+pub no-more : (written to_come table later : List TableRow) (block : List Row) → written ++ to_come ≡ table → to_come ≡ map row_of block ++ later
+    → length written + length block ≤ length table
+no-more written to_come table later block all is =
+    omega (arith, ap length all, ap length is, length-append written to_come, length-append (map row_of block) later, length-map block row_of)

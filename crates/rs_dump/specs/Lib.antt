@@ -7,6 +7,7 @@ pub mod Laws  -- a dump in the words of the file that it is
 pub mod Buffer  -- records that wait
 pub mod UnderWay  -- a dump that is being written
 pub mod Parts  -- rows that are spelled side by side
+pub mod Ahead  -- rows that are found beside them
 -- What the contracts name of the crates below:
 pub use Rattle.rs_choice.specs.Plan
 pub use Rattle.rs_mrt.specs.Endian

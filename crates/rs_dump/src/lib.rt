@@ -1,9 +1,11 @@
 //! Dumps of a client's table as TABLE_DUMP_V2: the peers, and then the route of one prefix after another.
 //!
-//! Reading order: `fault`, `peer_index`, `rib`, `buffer`, `under_way`, `dump`, `side_by_side`, `table_dump`, `laws`.
+//! Reading order: `fault`, `peer_index`, `rib`, `buffer`, `under_way`, `dump`, `ahead`, `side_by_side`,
+//! `table_dump`, `laws`.
 //! Standards: RFC 6396, sections 2, 4.3, 4.3.1, 4.3.2 and 4.3.4 (RIB_IPV4_UNICAST alone).
 #![tactic(auto)]
 
+mod ahead;
 mod buffer;
 mod dump;
 mod fault;

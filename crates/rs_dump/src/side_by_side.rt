@@ -1,23 +1,27 @@
-//! Rows that are spelled side by side: a part of them on each thread. They are written in their order.
+//! Rows that are spelled side by side: a part of them on each thread, and beside them the rows behind them are found. They are
+//! written in their order.
 //!
 //! Our choice: where memory is refused for a part, its rows are spelled when they are written, one after another
 //! in the dump's own buffer, so that a dump that is begun needs no memory. Where a thread is refused, the calling
 //! thread spells its part.
 
-ghost use Rattle.std.specs.Prelude.{◌≡◌, ◌+◌, ◌<◌, ◌≤◌, ◌/◌, ◌%◌, ◌++◌, min, All, length, map, IfOk, OnOk, OnErr};
-ghost use Rattle.std.specs.Prelude.{vec_len, vec_capacity};
+ghost use Rattle.std.specs.Prelude.{◌≡◌, ◌+◌, ◌<◌, ◌≤◌, ◌++◌, All, length, map, IfOk, IfSome, OnOk, OnErr};
+ghost use Rattle.std.specs.Prelude.{vec_capacity};
+ghost use Rattle.std.specs.Thread.{IsSync};
 ghost use Rattle.rs_mrt.specs.Stream.{AppendsBeginning};
 ghost use Rattle.rs_table.specs.RouteView.{row_of};
+ghost use Rattle.rs_dump.specs.Ahead.{HoldsNext};
 ghost use Rattle.rs_dump.specs.Dump.{spelled_rows};
 ghost use Rattle.rs_dump.specs.Parts.{ArePartsOf};
 ghost use Rattle.rs_dump.specs.UnderWay.{IsUnderWay};
 
+use crate::ahead::Ahead;
 use crate::rib::{MAX_ROW_LEN, spell_row};
 use crate::under_way::{BUFFER_LEN, add_octets, add_rows};
 use rs_mrt::{Failed, Write};
-use rs_table::Row;
+use rs_table::{BLOCK_LEN, Row};
 use std::alloc::{AllocError, Global};
-use std::thread::{Threads, map_chunks};
+use std::thread::{Threads, join, map_chunks};
 
 // How many rows are spelled on one thread.
 const PART_LEN: usize = 2048;
@@ -25,35 +29,38 @@ const PART_LEN: usize = 2048;
 // For how many octets of each row memory is taken at first: few rows take more.
 const USUAL_ROW_LEN: usize = 128;
 
-// Adds the records of rows, of which the first has this place among all rows of the dump. Where there are
-// more than a part, they are spelled side by side.
-pub(crate) fn add_side_by_side<T: Threads + Sync, W: Write>(
+// The records of rows, a part from each thread, where there was memory for it.
+pub(crate) type Parts = Vec<Result<Vec<u8>, AllocError>>;
+
+// Spells the rows of a block, of which the first has this place among all rows of the dump, where they are more than a
+// part, and goes on to the next block: side by side.
+pub(crate) fn spell_and_find<'a, T: Threads + Sync>(
     rt: &T,
     alloc: Global,
-    out: &mut W,
-    buffer: &mut Vec<u8>,
     time: u32,
     first: u32,
     rows: &[Row],
-) -> Result<(), Failed>
+    ahead: Ahead<'a>,
+) -> (Option<Parts>, Ahead<'a>)
     requires peers_known { All (λ row. row.route.peer < 65536) (map row_of rows.now) }
     requires numbered { first + length rows.now ≤ u32.MAX }
-    requires failures { W.failures out.old < u64.MAX }
-    requires capacity { BUFFER_LEN ≤ vec_capacity buffer.old }
-    ensures ok { OnOk result (IsUnderWay (W.taken out.old) (W.taken out.new) buffer.new.items
-        (buffer.old.items ++ spelled_rows time first (map row_of rows.now))) }
-    ensures ok_failures { OnOk result (W.failures out.new ≡ W.failures out.old) }
-    ensures err { OnErr result (AppendsBeginning (W.taken out.old) (W.taken out.new)
-        (buffer.old.items ++ spelled_rows time first (map row_of rows.now))) }
-    ensures err_failures { OnErr result (W.failures out.new ≡ W.failures out.old + 1) }
-    ensures capacity { BUFFER_LEN ≤ vec_capacity buffer.new }
+    requires capacity { BLOCK_LEN ≤ vec_capacity ahead.block }
+    ensures parts { IfSome result.0 (λ parts. ArePartsOf time first rows.now parts.items) }
+    ensures next { HoldsNext ahead.entry.later result.1 }
 {
-    if rows.len() > PART_LEN {
-        if let Ok(parts) = spell_parts(rt, alloc, time, first, rows) {
-            return add_parts(out, buffer, time, first, rows, &parts);
-        }
+    if rows.len() <= PART_LEN {
+        return (None, ahead.next(rt));
     }
-    add_rows(out, buffer, time, first, rows)
+    let spell = move || -> Option<Parts>
+        requires { IsSync T.row × All (λ row. row.route.peer < 65536) (map row_of rows.now)
+            × (first + length rows.now ≤ u32.MAX) }
+        ensures { IfSome result (λ parts. ArePartsOf time first rows.entry.now parts.items) }
+    { spell_parts(rt, alloc, time, first, rows).ok() };
+    let find = move || -> Ahead<'_>
+        requires { IsSync T.row × (BLOCK_LEN ≤ vec_capacity ahead.block) }
+        ensures { HoldsNext ahead.entry.later result }
+    { ahead.next(rt) };
+    join(rt, spell, find)
 }
 
 // Spells rows in parts, each on a thread of its own; a part for which memory is refused is not there.
@@ -63,12 +70,10 @@ fn spell_parts<T: Threads + Sync>(
     time: u32,
     first: u32,
     rows: &[Row],
-) -> Result<Vec<Result<Vec<u8>, AllocError>>, AllocError>
+) -> Result<Parts, AllocError>
     requires peers_known { All (λ row. row.route.peer < 65536) (map row_of rows.now) }
     requires numbered { first + length rows.now ≤ u32.MAX }
-    ensures count { IfOk result (λ parts. vec_len parts
-        ≡ length rows.now / PART_LEN + min 1 (length rows.now % PART_LEN)) }
-    ensures parts { IfOk result (λ parts. ArePartsOf time first rows.now parts.items) }
+    ensures { IfOk result (λ parts. ArePartsOf time first rows.now parts.items) }
 {
     let spell = |start: usize, part: &[Row]| -> Result<Vec<u8>, AllocError>
         requires { (first + start + length part.now ≤ u32.MAX)
@@ -93,6 +98,34 @@ fn spell_rows(alloc: Global, time: u32, first: u32, rows: &[Row]) -> Result<Vec<
     Ok(octets)
 }
 
+// Adds the records of the rows of a block: the parts that are spelled, or where there are none one row after another.
+pub(crate) fn add_block<W: Write>(
+    out: &mut W,
+    buffer: &mut Vec<u8>,
+    time: u32,
+    first: u32,
+    rows: &[Row],
+    parts: Option<Parts>,
+) -> Result<(), Failed>
+    requires peers_known { All (λ row. row.route.peer < 65536) (map row_of rows.now) }
+    requires numbered { first + length rows.now ≤ u32.MAX }
+    requires failures { W.failures out.old < u64.MAX }
+    requires capacity { BUFFER_LEN ≤ vec_capacity buffer.old }
+    requires parts { IfSome parts (λ parts. ArePartsOf time first rows.now parts.items) }
+    ensures ok { OnOk result (IsUnderWay (W.taken out.old) (W.taken out.new) buffer.new.items
+        (buffer.old.items ++ spelled_rows time first (map row_of rows.now))) }
+    ensures ok_failures { OnOk result (W.failures out.new ≡ W.failures out.old) }
+    ensures err { OnErr result (AppendsBeginning (W.taken out.old) (W.taken out.new)
+        (buffer.old.items ++ spelled_rows time first (map row_of rows.now))) }
+    ensures err_failures { OnErr result (W.failures out.new ≡ W.failures out.old + 1) }
+    ensures capacity { BUFFER_LEN ≤ vec_capacity buffer.new }
+{
+    match parts {
+        Some(parts) => add_parts(out, buffer, time, first, rows, &parts),
+        None => add_rows(out, buffer, time, first, rows),
+    }
+}
+
 // Adds the parts of rows in their order.
 fn add_parts<W: Write>(
     out: &mut W,
@@ -106,7 +139,6 @@ fn add_parts<W: Write>(
     requires numbered { first + length rows.now ≤ u32.MAX }
     requires failures { W.failures out.old < u64.MAX }
     requires capacity { BUFFER_LEN ≤ vec_capacity buffer.old }
-    requires count { length parts.now ≡ length rows.now / PART_LEN + min 1 (length rows.now % PART_LEN) }
     requires parts { ArePartsOf time first rows.now parts.now }
     ensures ok { OnOk result (IsUnderWay (W.taken out.old) (W.taken out.new) buffer.new.items
         (buffer.old.items ++ spelled_rows time first (map row_of rows.now))) }

@@ -5,22 +5,25 @@ ghost use Rattle.std.specs.Prelude.{IsErrOf, IsTrue, OnOk, OnSome};
 ghost use Rattle.std.specs.Io.KnownBytes.{Appends};
 ghost use Rattle.rs_mrt.specs.Stream.{AppendsBeginning};
 ghost use Rattle.rs_table.specs.Table.{table_of};
+ghost use Rattle.rs_dump.specs.Ahead.{HoldsNext};
 ghost use Rattle.rs_dump.specs.Dump.{dumped};
 
+use crate::ahead::Ahead;
 use crate::fault::DumpFault;
-use crate::side_by_side::add_side_by_side;
+use crate::side_by_side::{add_block, spell_and_find};
 use crate::under_way::begin_dump;
 use rs_mrt::{Write, write_all};
 use rs_table::{BLOCK_LEN, ClientRows, Tables, table_is_computed};
-use std::alloc::Global;
+use std::alloc::{AllocError, Global};
+use std::mem::replace;
 use std::thread::Threads;
 
 // How many rows a dump can number: a Sequence Number has four octets (RFC 6396, section 4.3.2).
 const MAX_ROWS: usize = 4294967295;
 
 /// Writes the dump of a client's table to `out` as `write_dump` does with the rows of that table, and answers
-/// their number. Many rows are looked up and spelled side by side on threads, at most 16,384 at a time, which
-/// bounds the memory that is taken for their octets.
+/// their number. Many rows are looked up and spelled side by side on threads: at most 16,384 are spelled, while the
+/// next 16,384 are looked up, which bounds the memory that is taken for them.
 ///
 /// `TooManyRows` comes exactly where the table has more than 4,294,967,295 rows, and is tested first.
 /// `TooManyRows` and `Memory` leave `out` as it was; after `Write` a beginning of the dump is out.
@@ -49,16 +52,36 @@ pub fn write_table_dump<T: Threads + Sync, W: Write>(
     let Some(rows) = numbered_rows(tables, client) else {
         return Err(DumpFault::TooManyRows);
     };
-    let mut blocks = rows.in_blocks(alloc)?;
     let mut buffer = begin_dump(alloc, tables.plan(), client, time)?;
-    let mut block = Vec::with_capacity(alloc, BLOCK_LEN)?;
+    let mut spare = Vec::with_capacity(alloc, BLOCK_LEN)?;
+    let mut ahead = first_block(rt, alloc, rows)?;
     let mut count: u32 = 0;
-    while blocks.next_block(rt, &mut block) {
-        add_side_by_side(rt, alloc, out, &mut buffer, time, count, &block)?;
+    while ahead.is_there {
+        let block = replace(&mut ahead.block, spare);
+        let (parts, next) = spell_and_find(rt, alloc, time, count, &block, ahead);
+        add_block(out, &mut buffer, time, count, &block, parts)?;
         count += block.len() as u32;
+        ahead = next;
+        spare = block;
     }
     write_all(out, &buffer)?;
     Ok(count)
+}
+
+// The first block of rows.
+fn first_block<'a, T: Threads + Sync>(
+    rt: &T,
+    alloc: Global,
+    rows: ClientRows<'a>,
+) -> Result<Ahead<'a>, AllocError>
+    ensures { IfOk result (HoldsNext rows.entry) }
+{
+    let ahead = Ahead {
+        block: Vec::with_capacity(alloc, BLOCK_LEN)?,
+        is_there: false,
+        later: rows.in_blocks(alloc)?,
+    };
+    Ok(ahead.next(rt))
 }
 
 // The rows of a client's table, where a dump can number them all.

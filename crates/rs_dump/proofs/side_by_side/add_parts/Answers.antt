@@ -21,12 +21,12 @@ add_part-requires-clause-part g c =
     let rows = c.args.rows.now in
     let number = c.loop-number.number in
     let start = number * 2048 in
-    let within : number * 2048 ≤ length rows = omega (arith, c.requires.count) in
+    let within : number * 2048 ≤ length rows = omega (arith, c.requires.parts.count) in
     let is : take (c.min-end.result - start) (drop start rows) ≡ take 2048 (drop start rows) = rows-between rows start 2048 c.min-end.result within c.min-end.ensures in
     let bound : number < length c.args.parts.now = omega arith in
     let P : List Row → Type 0 = λ part. IfOk c.index-parts-number.result (λ octets. octets.items ≡ spelled_rows c.args.time (c.args.first + start) (map row_of part)) in
     let Q : Result (Vec ℕ) AllocError → Type 0 = λ part. IfOk part (λ octets. octets.items ≡ spelled_rows c.args.time (c.args.first + start) (map row_of (take 2048 (drop start rows)))) in
-    subst P (sym is) (subst Q (sym c.index-parts-number.is) (c.requires.parts number c.index-parts-number.result bound))
+    subst P (sym is) (subst Q (sym c.index-parts-number.is) (c.requires.parts.each number c.index-parts-number.result bound))
 
 pub returns-in_err-add_part-clause-err : goal.returns-in_err-add_part-clause-err
 returns-in_err-add_part-clause-err g c =
@@ -35,7 +35,7 @@ returns-in_err-add_part-clause-err g c =
     let start = c.loop-number.number * 2048 in
     let time = c.args.time in
     let first = c.args.first in
-    let within : start ≤ length rows = omega (arith, c.requires.count) in
+    let within : start ≤ length rows = omega (arith, c.requires.parts.count) in
     let waited = c.args.buffer.now.items in
     let before = spelled_rows time first (map row_of (take start rows)) in
     let others = drop start rows in
@@ -57,7 +57,7 @@ loop-number-preserved g c =
     let start = number * 2048 in
     let time = c.args.time in
     let first = c.args.first in
-    let within : start ≤ length rows = omega (arith, c.requires.count) in
+    let within : start ≤ length rows = omega (arith, c.requires.parts.count) in
     let waited = c.args.buffer.now.items in
     let before = spelled_rows time first (map row_of (take start rows)) in
     let part = spelled_rows time (first + start) (map row_of (take (c.min-end.result - start) (drop start rows))) in

@@ -1,0 +1,38 @@
+//! The rows of a table that are found ahead: the next block stands ready while the one before it is spelled.
+
+ghost use Rattle.std.specs.Prelude.{◌≤◌, vec_capacity};
+ghost use Rattle.rs_dump.specs.Ahead.{HoldsNext};
+
+use rs_table::{BLOCK_LEN, Row, RowBlocks};
+use std::thread::Threads;
+
+// The next block of rows, and the blocks behind it.
+#[derive(Drop)]
+pub(crate) struct Ahead<'a> {
+    // The rows of the next block.
+    pub(crate) block: Vec<Row<'a>>,
+    // Whether there is a next block, or the table is at its end.
+    pub(crate) is_there: bool,
+    // The rows behind it.
+    pub(crate) later: RowBlocks<'a>,
+}
+
+impl<'a> Ahead<'a> {
+    // Goes on to the block behind this one, which is done with.
+    pub(crate) fn next<T: Threads + Sync>(self, rt: &T) -> Ahead<'a>
+        requires { BLOCK_LEN ≤ vec_capacity self.block }
+        ensures { HoldsNext self.entry.later result }
+    {
+        let Ahead {
+            mut block,
+            is_there: _,
+            mut later,
+        } = self;
+        let is_there = later.next_block(rt, &mut block);
+        Ahead {
+            block,
+            is_there,
+            later,
+        }
+    }
+}
