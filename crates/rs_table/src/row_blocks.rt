@@ -31,7 +31,7 @@ struct PrefixCell<'a> {
     route: Option<Route<'a>>,
 }
 
-/// The rows of a client's table, block by block. Its memory is taken when it is made: half a MB.
+/// The rows of a client's table, block by block. Its memory is taken when it is made: 0.7 MB.
 #[derive(Drop)]
 pub struct RowBlocks<'a> {
     client: usize,
