@@ -1,9 +1,10 @@
 //! The rows of a table that are found ahead: the next block stands ready while the one before it is spelled.
 
-ghost use Rattle.std.specs.Prelude.{◌≤◌, vec_capacity};
+ghost use Rattle.std.specs.Prelude.{◌≤◌, IfOk, vec_capacity};
 ghost use Rattle.rs_dump.specs.Ahead.{HoldsNext};
 
-use rs_table::{BLOCK_LEN, Row, RowBlocks};
+use rs_table::{BLOCK_LEN, ClientRows, Row, RowBlocks};
+use std::alloc::{AllocError, Global};
 use std::thread::Threads;
 
 // The next block of rows, and the blocks behind it.
@@ -18,6 +19,22 @@ pub(crate) struct Ahead<'a> {
 }
 
 impl<'a> Ahead<'a> {
+    // The first block of rows, and those behind it.
+    pub(crate) fn of<T: Threads + Sync>(
+        rt: &T,
+        alloc: Global,
+        rows: ClientRows<'a>,
+    ) -> Result<Ahead<'a>, AllocError>
+        ensures { IfOk result (HoldsNext rows.entry) }
+    {
+        let before = Ahead {
+            block: Vec::with_capacity(alloc, BLOCK_LEN)?,
+            is_there: false,
+            later: rows.in_blocks(alloc)?,
+        };
+        Ok(before.next(rt))
+    }
+
     // Goes on to the block behind this one, which is done with.
     pub(crate) fn next<T: Threads + Sync>(self, rt: &T) -> Ahead<'a>
         requires { BLOCK_LEN ≤ vec_capacity self.block }

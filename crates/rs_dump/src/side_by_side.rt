@@ -1,5 +1,5 @@
-//! Rows that are spelled side by side: a part of them on each thread, and beside them the rows behind them are found. They are
-//! written in their order.
+//! Rows that are spelled side by side: a part of them on each thread, while the rows behind them are looked up. They
+//! are written in their order.
 //!
 //! Our choice: where memory is refused for a part, its rows are spelled when they are written, one after another
 //! in the dump's own buffer, so that a dump that is begun needs no memory. Where a thread is refused, the calling
@@ -32,8 +32,8 @@ const USUAL_ROW_LEN: usize = 128;
 // The records of rows, a part from each thread, where there was memory for it.
 pub(crate) type Parts = Vec<Result<Vec<u8>, AllocError>>;
 
-// Spells the rows of a block, of which the first has this place among all rows of the dump, where they are more than a
-// part, and goes on to the next block: side by side.
+// Spells the rows of a block, of which the first has this place among all rows of the dump, and looks up the next
+// block beside it. Rows that are no more than a part are left to be spelled when they are written.
 pub(crate) fn spell_and_find<'a, T: Threads + Sync>(
     rt: &T,
     alloc: Global,

@@ -5,7 +5,6 @@ ghost use Rattle.std.specs.Prelude.{IsErrOf, IsTrue, OnOk, OnSome};
 ghost use Rattle.std.specs.Io.KnownBytes.{Appends};
 ghost use Rattle.rs_mrt.specs.Stream.{AppendsBeginning};
 ghost use Rattle.rs_table.specs.Table.{table_of};
-ghost use Rattle.rs_dump.specs.Ahead.{HoldsNext};
 ghost use Rattle.rs_dump.specs.Dump.{dumped};
 
 use crate::ahead::Ahead;
@@ -14,7 +13,7 @@ use crate::side_by_side::{add_block, spell_and_find};
 use crate::under_way::begin_dump;
 use rs_mrt::{Write, write_all};
 use rs_table::{BLOCK_LEN, ClientRows, Tables, table_is_computed};
-use std::alloc::{AllocError, Global};
+use std::alloc::Global;
 use std::mem::replace;
 use std::thread::Threads;
 
@@ -54,7 +53,7 @@ pub fn write_table_dump<T: Threads + Sync, W: Write>(
     };
     let mut buffer = begin_dump(alloc, tables.plan(), client, time)?;
     let mut spare = Vec::with_capacity(alloc, BLOCK_LEN)?;
-    let mut ahead = first_block(rt, alloc, rows)?;
+    let mut ahead = Ahead::of(rt, alloc, rows)?;
     let mut count: u32 = 0;
     while ahead.is_there {
         let block = replace(&mut ahead.block, spare);
@@ -66,22 +65,6 @@ pub fn write_table_dump<T: Threads + Sync, W: Write>(
     }
     write_all(out, &buffer)?;
     Ok(count)
-}
-
-// The first block of rows.
-fn first_block<'a, T: Threads + Sync>(
-    rt: &T,
-    alloc: Global,
-    rows: ClientRows<'a>,
-) -> Result<Ahead<'a>, AllocError>
-    ensures { IfOk result (HoldsNext rows.entry) }
-{
-    let ahead = Ahead {
-        block: Vec::with_capacity(alloc, BLOCK_LEN)?,
-        is_there: false,
-        later: rows.in_blocks(alloc)?,
-    };
-    Ok(ahead.next(rt))
 }
 
 // The rows of a client's table, where a dump can number them all.
