@@ -1,5 +1,4 @@
 -- A plan: its faults and its policy.
-pub mod TestLemmas
 pub mod PlanLemmas
 pub mod PlanLaws
 pub mod PolicyLemmas

@@ -1,6 +1,6 @@
 //! What decisions ask of a route before they look at the others, in one octet.
 
-ghost use Rattle.std.specs.Prelude.{◌≡◌, IsTrue};
+ghost use Rattle.std.specs.Prelude.{◌≡◌};
 ghost use Rattle.rs_choice.specs.Candidacy.{origin_of_candidacy, is_candidate, is_open_candidate, CandidacyOf};
 
 use rs_update::Origin;

@@ -2,7 +2,7 @@
 //! AS) and communities (server's AS, client's AS) tell, reaches no other, and no more is asked of it for
 //! these.
 
-ghost use Rattle.std.specs.Prelude.{◌≡◌, ◌<◌, IfSome, IsTrue, length};
+ghost use Rattle.std.specs.Prelude.{◌<◌, IsTrue};
 ghost use Rattle.std.specs.List.{All};
 ghost use Rattle.rs_update.specs.Shapes.{numbers_in};
 ghost use Rattle.rs_choice.specs.Held.{IsJudged};

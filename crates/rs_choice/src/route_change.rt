@@ -5,7 +5,7 @@
 //! length and origin, or goes before them in its own neighbour AS. For all other clients there is a decision
 //! anew, or the new route is seen to be the choice (`new_route`).
 
-ghost use Rattle.std.specs.Prelude.{◌≡◌, ◌≢◌, ◌<◌, ◌≤◌, ◌↔◌, ◌&&◌, ◌||◌, not, IfSome, IsTrue, IsFalse, Some, length};
+ghost use Rattle.std.specs.Prelude.{◌≡◌, ◌≢◌, ◌<◌, ◌≤◌, ◌&&◌, ◌||◌, IfSome, IsTrue, IsFalse, Some, length};
 ghost use Rattle.std.specs.Prelude.{map, slice_index_or, true, false, ℕ};
 ghost use Rattle.std.specs.List.{All};
 ghost use Rattle.rs_choice.specs.declared.held_route.HeldRoute.{HeldRoute};

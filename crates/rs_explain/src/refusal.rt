@@ -1,6 +1,6 @@
 //! The rules of export policy that refuse a route, one by one (RFC 7947, section 2.3; the rules are our choice).
 
-ghost use Rattle.std.specs.Prelude.{◌≡◌, ◌≢◌, ◌<◌, length};
+ghost use Rattle.std.specs.Prelude.{◌≡◌, ◌<◌, length};
 ghost use Rattle.rs_explain.specs.Reasons.{refusal_of, ruling};
 
 use rs_choice::Exchange;

@@ -1,12 +1,11 @@
 -- The routes that stand at some places of a list, and the choice among them by neighbour groups.
 -- For clients.rt, `choose_by_groups` of decision.rt, and entrants.rt.
-use Rattle.std.proofs.Common.{◌≡◌, ◌∙◌, sym, ap, refl, ℕ, suc, zero, ◌+◌, ◌<◌, arith, Bool, true, false, cond, inl, inr, List, [], ◌∷◌, ◌++◌, length, length-append, map, take, get_or, Option, Some, None}
+use Rattle.std.proofs.Common.{◌≡◌, ◌∙◌, sym, ap, refl, ℕ, suc, zero, ◌+◌, ◌<◌, arith, Bool, true, false, cond, inl, inr, List, [], ◌∷◌, ◌++◌, length, map, take, get_or, Option, Some, None}
 use Rattle.std.specs.Prelude.{slice_get, filter}
-use Rattle.std.specs.List.{All}
 use Rattle.std.specs.Option.{option_map}
 use Rattle.std.proofs.Math.Seq.{take-suc}
 use Rattle.std.proofs.lemmas.List.{append-nil, map-append}
-use Rattle.std.proofs.lemmas.List.Elements.{All-append, filter-append, filter_map-append}
+use Rattle.std.proofs.lemmas.List.Elements.{All-tail, filter-append, filter_map-append}
 use Rattle.std.proofs.lemmas.Option.{get_or_from_slice_get, slice_get_within}
 use Rattle.rs_choice.specs.declared.candidate.Standing.{Standing}
 use Rattle.rs_choice.specs.declared.candidate.Placed.{Placed}
@@ -20,15 +19,7 @@ use Rattle.rs_choice.specs.Naturality.{choice-map, member_at-place_of_choice, pl
 use Rattle.rs_choice.specs.Plan.{Plan}
 use Rattle.rs_choice.specs.Sharing.{sents_at, ArePlaces}
 use Rattle.rs_choice.proofs.neighbour_groups.GroupChoice.{first_is_choice}
-use Rattle.rs_choice.proofs.decision.Members.{Mem}
-
-pub all_later : {X : Type 0} (P : X → Type 0) (x : X) (xs : List X) → All P (x ∷ xs) → All P xs
-all_later P x xs all k d within = all (suc k) d (omega (arith, within))
-
-pub some_held : (held : List HeldRoute) (place : ℕ) → place < length held → (one : HeldRoute) × (slice_get held place ≡ Some one)
-some_held [] place within = absurd (omega arith)
-some_held (one ∷ later) zero within = (one, refl)
-some_held (one ∷ later) (suc place) within = some_held later place (omega (arith, within))
+use Rattle.rs_choice.proofs.decision.Members.{Mem, some_at}
 
 chosen_first : (held : List HeldRoute) (place : ℕ) (places : List ℕ) (one : HeldRoute) → slice_get held place ≡ Some one →
     chosen_of held (place ∷ places) ≡ one ∷ chosen_of held places
@@ -38,37 +29,25 @@ chosen_first held place places one at = rw at refl
 pub chosen_length : (held : List HeldRoute) (places : List ℕ) → ArePlaces held places → length (chosen_of held places) ≡ length places
 chosen_length held [] all = refl
 chosen_length held (place ∷ places) all =
-    let found = some_held held place (all 0 0 (omega arith)) in
-    ap length (chosen_first held place places found.0 found.1) ∙ ap suc (chosen_length held places (all_later (λ place. place < length held) place places all))
+    let found = some_at held place (all 0 0 (omega arith)) in
+    ap length (chosen_first held place places found.0 found.1) ∙ ap suc (chosen_length held places (All-tail (λ place. place < length held) place places all))
 
 pub chosen_at : (held : List HeldRoute) (places : List ℕ) → ArePlaces held places → (i place : ℕ) → slice_get places i ≡ Some place →
     slice_get (chosen_of held places) i ≡ slice_get held place
 chosen_at held [] all i place at = absurd (cc (at))
 chosen_at held (first ∷ places) all zero place at =
-    let found = some_held held first (all 0 0 (omega arith)) in
+    let found = some_at held first (all 0 0 (omega arith)) in
     let e : first ≡ place = cc (at) in
     ap (λ list. slice_get list 0) (chosen_first held first places found.0 found.1) ∙ sym found.1 ∙ ap (slice_get held) e
 chosen_at held (first ∷ places) all (suc i) place at =
-    let found = some_held held first (all 0 0 (omega arith)) in
+    let found = some_at held first (all 0 0 (omega arith)) in
     ap (λ list. slice_get list (suc i)) (chosen_first held first places found.0 found.1)
-    ∙ chosen_at held places (all_later (λ place. place < length held) first places all) i place at
+    ∙ chosen_at held places (All-tail (λ place. place < length held) first places all) i place at
 
 -- one more place gives one more route
 pub chosen_push : (held : List HeldRoute) (places : List ℕ) (place : ℕ) (one : HeldRoute) → slice_get held place ≡ Some one →
     chosen_of held (places ++ place ∷ []) ≡ chosen_of held places ++ one ∷ []
 chosen_push held places place one at = filter_map-append (slice_get held) places (place ∷ []) ∙ ap (λ list. chosen_of held places ++ list) (chosen_first held place [] one at)
-
--- what holds of all and of one more
-pub all_push : {X : Type 0} (P : X → Type 0) (xs : List X) (x : X) → All P xs → P x → All P (xs ++ x ∷ [])
-all_push P xs x all holds = All-append P xs (x ∷ []) all (alone holds)
-  where
-    alone : P x → All P (x ∷ [])
-    alone holds zero d below = holds
-    alone holds (suc k) d below = absurd (omega (arith, below))
-
-pub places_push : (held : List HeldRoute) (places : List ℕ) (place : ℕ) → ArePlaces held places → place < length held → ArePlaces held (places ++ place ∷ [])
-places_push held places place all within =
-    all_push (λ place. place < length held) places place all within
 
 pub within_at : (held : List HeldRoute) (places : List ℕ) → ArePlaces held places → (i place : ℕ) → slice_get places i ≡ Some place → place < length held
 within_at held places all i place at =
@@ -100,14 +79,6 @@ filter_push p xs x passes = filter-append p xs (x ∷ []) ∙ ap (λ b. filter p
 pub filter_skip : {X : Type 0} (p : X → Bool) (xs : List X) (x : X) → p x ≡ false → filter p (xs ++ x ∷ []) ≡ filter p xs
 filter_skip p xs x fails = filter-append p xs (x ∷ []) ∙ ap (λ b. filter p xs ++ cond b (x ∷ []) []) fails ∙ append-nil (filter p xs)
 
-pub length_push : {X : Type 0} (xs : List X) (x : X) → length (xs ++ x ∷ []) ≡ length xs + 1
-length_push xs x = length-append xs (x ∷ [])
-
-pub mem_map : {X Y : Type 0} (f : X → Y) (xs : List X) (x : X) → Mem xs x → Mem (map f xs) (f x)
-mem_map f [] x h = absurd h
-mem_map f (y ∷ xs) x (inl same) = inl (ap f same)
-mem_map f (y ∷ xs) x (inr h) = inr (mem_map f xs x h)
-
 -- who stands at one of the places is one of the chosen
 pub mem_chosen : (held : List HeldRoute) (places : List ℕ) → ArePlaces held places → (place : ℕ) (one : HeldRoute) → Mem places place → slice_get held place ≡ Some one →
     Mem (chosen_of held places) one
@@ -116,8 +87,8 @@ mem_chosen held (first ∷ places) all place one (inl same) at =
     let at_first : slice_get held first ≡ Some one = ap (slice_get held) same ∙ at in
     rw (chosen_first held first places one at_first) (inl refl)
 mem_chosen held (first ∷ places) all place one (inr h) at =
-    let found = some_held held first (all 0 0 (omega arith)) in
-    rw (chosen_first held first places found.0 found.1) (inr (mem_chosen held places (all_later (λ place. place < length held) first places all) place one h at))
+    let found = some_at held first (all 0 0 (omega arith)) in
+    rw (chosen_first held first places found.0 found.1) (inr (mem_chosen held places (All-tail (λ place. place < length held) first places all) place one h at))
 
 -- the first of the groups of all members stands at the place of the choice
 pub place_by_groups : {M : Type 0} (standing : M → Standing) (set : List M) (groups : List Group) (first : Option Placed) →

@@ -1,9 +1,10 @@
 -- What is shared of the decisions of all clients, from the groups of the eligible routes: for `share` and `chosen_peer` of clients.rt.
-use Rattle.std.proofs.Common.{◌≡◌, ◌∙◌, sym, ap, refl, ℕ, suc, zero, ◌<◌, arith, Bool, true, false, cond, List, [], ◌∷◌, length, map, get_or, Option, Some, None}
-use Rattle.std.specs.Prelude.{slice_get, filter, IfSome, IsTrue}
+use Rattle.std.proofs.Common.{◌≡◌, ◌∙◌, sym, ap, refl, ℕ, ◌<◌, arith, Bool, true, cond, List, [], ◌∷◌, length, map, get_or, Option, Some, None}
+use Rattle.std.specs.Prelude.{slice_get, filter, IfSome}
 use Rattle.std.specs.List.{All, Contains}
 use Rattle.std.specs.Option.{option_map}
 use Rattle.std.proofs.lemmas.List.{length-map}
+use Rattle.std.proofs.lemmas.List.Elements.{All-tail, filter_passes}
 use Rattle.std.proofs.lemmas.Option.{slice_get-get_or, slice_get_within}
 use Rattle.rs_choice.specs.declared.candidate.Standing.{Standing}
 use Rattle.rs_choice.specs.declared.candidate.Placed.{Placed}
@@ -19,10 +20,10 @@ use Rattle.rs_choice.specs.Held.{sent_of_held, AreEligible, IsJudged}
 use Rattle.rs_choice.specs.Naturality.{choice-map, filter-map}
 use Rattle.rs_choice.specs.Plan.{Plan}
 use Rattle.rs_choice.specs.Sharing.{sents_at, ArePlaces, AreWeighing, RestsOn, Weighs}
-use Rattle.rs_choice.proofs.clients.ChosenLemmas.{all_later, chosen_at, chosen_length, mem_chosen, mem_map, place_by_groups, peer_of_choice}
-use Rattle.rs_choice.proofs.neighbour_groups.GroupMarks.{place_within}
-use Rattle.rs_choice.proofs.decision.LawLemmas.{contains-mem, mem-contains}
-use Rattle.rs_choice.proofs.neighbour_groups.GroupSettling.{group_at, groups_settle}
+use Rattle.rs_choice.proofs.clients.ChosenLemmas.{chosen_at, chosen_length, mem_chosen, place_by_groups, peer_of_choice}
+use Rattle.rs_choice.proofs.neighbour_groups.GroupMarks.{group_at, place_within}
+use Rattle.rs_choice.proofs.decision.Members.{contains-mem, mem-contains, mem_map}
+use Rattle.rs_choice.proofs.neighbour_groups.GroupSettling.{groups_settle}
 
 pub view_length : (plan : Plan) (held : List HeldRoute) (places : List ℕ) → ArePlaces held places →
     length (map (standing_of_held plan) (chosen_of held places)) ≡ length places
@@ -42,7 +43,7 @@ eligible_alike : (plan : Plan) (held : List HeldRoute) → All (IsJudged plan) h
 eligible_alike plan [] all = refl
 eligible_alike plan (one ∷ later) all =
     let judged = all 0 one (omega arith) in
-    let rest = eligible_alike plan later (all_later (IsJudged plan) one later all) in
+    let rest = eligible_alike plan later (All-tail (IsJudged plan) one later all) in
     ap (λ b. cond b (one ∷ filter (λ (one : HeldRoute). is_candidate one.candidacy) later) (filter (λ (one : HeldRoute). is_candidate one.candidacy) later)) judged.eligible
     ∙ ap (λ list. cond (is_eligible plan one.peer one.attributes.value) (one ∷ list) list) rest
 
@@ -51,19 +52,6 @@ pub eligible_sents : (plan : Plan) (held : List HeldRoute) (places : List ℕ) �
 eligible_sents plan held places all is =
     ap (map sent_of_held) (is ∙ eligible_alike plan held all)
     ∙ sym (filter-map sent_of_held (λ (sent : SentRoute). is_eligible plan sent.peer sent.attributes) held)
-
-all_one_more : {X : Type 0} (P : X → Type 0) (x : X) (xs : List X) → P x → All P xs → All P (x ∷ xs)
-all_one_more P x xs holds all zero d within = holds
-all_one_more P x xs holds all (suc k) d within = all k d (omega (arith, within))
-
--- what a filter keeps passes its test
-filter_passes : {M : Type 0} (p : M → Bool) (xs : List M) → All (λ x. IsTrue (p x)) (filter p xs)
-filter_passes p [] = λ k d within. absurd (omega (arith, within))
-filter_passes {M} p (x ∷ xs) = go (filter_passes p xs) (p x) refl
-  where
-    go : All (λ x. IsTrue (p x)) (filter p xs) → (b : Bool) → p x ≡ b → All (λ x. IsTrue (p x)) (cond b (x ∷ filter p xs) (filter p xs))
-    go later true e = all_one_more (λ x. IsTrue (p x)) x (filter p xs) e later
-    go later false e = later
 
 pub eligible_all : (plan : Plan) (routes : List SentRoute) → AreEligible plan (eligible_among plan routes)
 eligible_all plan routes = filter_passes (λ (sent : SentRoute). is_eligible plan sent.peer sent.attributes) routes
@@ -88,15 +76,12 @@ module _ (plan : Plan) (held : List HeldRoute) (places : List ℕ) (groups : Lis
   chosen_is first are is = peer_of_choice plan chosen (option_map (λ first. first.place) first) (place_by_groups (standing_of_held plan) chosen groups first are is)
 
   -- without a group there is no entrant
-  no_entrant : AreGroups (standing_in view) (length view) groups → length (places_of groups) ≡ 0 → chosen ≡ []
-  no_entrant are none = go chosen (λ k below.
-      let found = are.grouping.all k (let n = length-map chosen (standing_of_held plan) in omega (arith, below, n)) in
+  no_entrant : AreGroups (standing_in view) (length view) groups → length (places_of groups) ≡ 0 → (xs : List HeldRoute) → length xs ≡ length view → xs ≡ []
+  no_entrant are none [] same = refl
+  no_entrant are none (x ∷ xs) same =
+      let found = are.grouping.all 0 (omega (arith, same)) in
       let within = slice_get_within (places_of groups) found.0 found.1 found.2 in
-      absurd (omega (arith, within, none)))
-    where
-      go : (xs : List HeldRoute) → ((k : ℕ) → k < length xs → ⊥) → xs ≡ []
-      go [] empty = refl
-      go (x ∷ xs) empty = absurd (empty 0 (omega arith))
+      absurd (omega (arith, within, none))
 
   -- the choice among the chosen stays while those that have a weight stay
   settled : (first : Option Placed) → AreGroups (standing_in view) (length view) groups → IsFirstOf (standing_in view) (places_of groups) (length (places_of groups)) first →
@@ -104,7 +89,7 @@ module _ (plan : Plan) (held : List HeldRoute) (places : List ℕ) (groups : Lis
       ((i : ℕ) (group : Group) (one : HeldRoute) → slice_get groups i ≡ Some group → Weighs group first → slice_get chosen group.place ≡ Some one → kept one ≡ true) →
       choice (standing_of_held plan) (filter kept chosen) ≡ choice (standing_of_held plan) chosen
   settled None are none kept keeps =
-      let empty = no_entrant are none in
+      let empty = no_entrant are none chosen (sym (length-map chosen (standing_of_held plan))) in
       ap (λ list. choice (standing_of_held plan) (filter kept list)) empty ∙ sym (ap (choice (standing_of_held plan)) empty)
   settled (Some first) are is kept keeps =
       let n = length-map chosen (standing_of_held plan) in

@@ -1,17 +1,15 @@
 -- A client's candidates, gone over one after another, without those that one before them outdoes: for `contenders` of clients.rt.
-use Rattle.std.proofs.Common.{◌≡◌, ◌∙◌, sym, ap, refl, Bool, true, false, inl, inr, List, [], ◌∷◌, ◌++◌, Option, Some, None, ℕ}
-use Rattle.std.specs.Prelude.{filter}
-use Rattle.std.proofs.lemmas.List.{append_assoc}
+use Rattle.std.proofs.Common.{◌≡◌, ◌∙◌, sym, ap, refl, Bool, true, false, ◌⊎◌, inl, inr, List, [], ◌∷◌, ◌++◌, Option, Some, None, ℕ}
+use Rattle.std.proofs.lemmas.List.{append-nil, append_assoc}
 use Rattle.rs_choice.specs.declared.candidate.Standing.{Standing}
-use Rattle.rs_choice.specs.Clients.{candidates_among, eligible_among, is_sent_to}
+use Rattle.rs_choice.specs.Clients.{candidates_among, is_sent_to}
 use Rattle.rs_choice.specs.Comparison.{Outdoes}
 use Rattle.rs_choice.specs.Contenders.{Contends}
 use Rattle.rs_choice.specs.Decision.{SentRoute, choice, standing_of}
 use Rattle.rs_choice.specs.Eligibility.{is_eligible}
 use Rattle.rs_choice.specs.Plan.{Plan}
-use Rattle.rs_choice.proofs.decision.BehindLemmas.{outdone}
-use Rattle.rs_choice.proofs.clients.ChosenLemmas.{filter_push, filter_skip}
-use Rattle.rs_choice.proofs.decision.Members.{Mem}
+use Rattle.rs_choice.proofs.decision.BehindLemmas.{candidates_with, no_candidate, outdone}
+use Rattle.rs_choice.proofs.decision.Members.{Mem, mem-append_left}
 
 -- the last of some routes has a standing, where there is one
 abbrev pub HasLast : Plan → List SentRoute → Option Standing → Type 0
@@ -23,40 +21,20 @@ abbrev pub ChooseSame : Plan → List SentRoute → List SentRoute → Type 0
 ChooseSame plan some others =
     (later : List SentRoute) → choice (standing_of plan) (some ++ later) ≡ choice (standing_of plan) (others ++ later)
 
-pub mem_last : {M : Type 0} (xs : List M) (x : M) → Mem (xs ++ x ∷ []) x
-mem_last [] x = inl refl
-mem_last (y ∷ ys) x = inr (mem_last ys x)
-
-mem_before : {M : Type 0} (xs later : List M) (x : M) → Mem xs x → Mem (xs ++ later) x
-mem_before [] later x h = absurd h
-mem_before (y ∷ ys) later x (inl same) = inl same
-mem_before (y ∷ ys) later x (inr h) = inr (mem_before ys later x h)
-
 module _ (plan : Plan) (client : ℕ) (routes : List SentRoute) (one : SentRoute) where
   abbrev is_fit : SentRoute → Bool
   is_fit sent = is_eligible plan sent.peer sent.attributes
 
   with_candidate : is_fit one ≡ true → is_sent_to plan client one ≡ true →
       candidates_among plan client (routes ++ one ∷ []) ≡ candidates_among plan client routes ++ one ∷ []
-  with_candidate eligible permitted =
-      ap (filter (is_sent_to plan client)) (filter_push is_fit routes one eligible)
-      ∙ filter_push (is_sent_to plan client) (eligible_among plan routes) one permitted
+  with_candidate = candidates_with is_fit (is_sent_to plan client) routes [] one
 
-  without_ineligible : is_fit one ≡ false → candidates_among plan client (routes ++ one ∷ []) ≡ candidates_among plan client routes
-  without_ineligible ineligible = ap (filter (is_sent_to plan client)) (filter_skip is_fit routes one ineligible)
-
-  without_refused : is_sent_to plan client one ≡ false → candidates_among plan client (routes ++ one ∷ []) ≡ candidates_among plan client routes
-  without_refused refused = go (is_fit one) refl
-    where
-      go : (b : Bool) → is_fit one ≡ b → candidates_among plan client (routes ++ one ∷ []) ≡ candidates_among plan client routes
-      go true e =
-          ap (filter (is_sent_to plan client)) (filter_push is_fit routes one e)
-          ∙ filter_skip (is_sent_to plan client) (eligible_among plan routes) one refused
-      go false e = without_ineligible e
+  without_candidate : (is_fit one ≡ false) ⊎ (is_sent_to plan client one ≡ false) → candidates_among plan client (routes ++ one ∷ []) ≡ candidates_among plan client routes
+  without_candidate fails = no_candidate is_fit (is_sent_to plan client) routes [] one fails ∙ ap (candidates_among plan client) (append-nil routes)
 
   module _ (some : List SentRoute) (same : ChooseSame plan some (candidates_among plan client routes)) where
-    as_before : candidates_among plan client (routes ++ one ∷ []) ≡ candidates_among plan client routes → ChooseSame plan some (candidates_among plan client (routes ++ one ∷ []))
-    as_before is later = same later ∙ sym (ap (λ list. choice (standing_of plan) (list ++ later)) is)
+    as_before : (is_fit one ≡ false) ⊎ (is_sent_to plan client one ≡ false) → ChooseSame plan some (candidates_among plan client (routes ++ one ∷ []))
+    as_before fails later = same later ∙ sym (ap (λ list. choice (standing_of plan) (list ++ later)) (without_candidate fails))
 
     -- what a list with a candidate more is, whatever comes after it
     with_later : is_fit one ≡ true → is_sent_to plan client one ≡ true → (later : List SentRoute) →
@@ -78,14 +56,14 @@ module _ (plan : Plan) (client : ℕ) (routes : List SentRoute) (one : SentRoute
       where
         go : (b : Bool) → is_fit one ≡ b → (c : Bool) → is_sent_to plan client one ≡ c → ChooseSame plan some (candidates_among plan client (routes ++ one ∷ []))
         go true eligible true permitted = λ later.
-            sym (outdone (standing_of plan) some later one other (mem_before some later other member) outdoes) ∙ with_later eligible permitted later
-        go false ineligible c e = as_before (without_ineligible ineligible)
-        go true e false refused = as_before (without_refused refused)
+            sym (outdone (standing_of plan) some later one other (mem-append_left some later other member) outdoes) ∙ with_later eligible permitted later
+        go false ineligible c e = as_before (inl ineligible)
+        go true e false refused = as_before (inr refused)
 
     -- one that doesn't contend is left out
     pub without_one : (last : Option Standing) → HasLast plan some last → Contends plan client one last None → ChooseSame plan some (candidates_among plan client (routes ++ one ∷ []))
-    without_one last has (inl ineligible) = as_before (without_ineligible ineligible)
-    without_one last has (inr (inl refused)) = as_before (without_refused refused)
+    without_one last has (inl ineligible) = as_before (inl ineligible)
+    without_one last has (inr (inl refused)) = as_before (inr refused)
     without_one None has (inr (inr outdone)) = absurd outdone
     without_one (Some standing) has (inr (inr outdoes)) =
         without_outdone has.0 has.1 (rw has.2 at outdoes)

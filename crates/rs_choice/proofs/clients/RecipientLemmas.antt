@@ -1,6 +1,7 @@
 -- Marks of clients, and the clients that a route for named clients alone doesn't reach: for recipients.rt and route_change.rt.
 use Rattle.std.proofs.Common.{◌≡◌, ◌∙◌, ◌<◌, sym, subst, refl, length, ℕ, Bool, true, false, ◌&&◌, ◌⊎◌, inl, inr, List, [], Option, Some, None}
 use Rattle.std.specs.Prelude.{slice_index_or, nat_lt}
+use Rattle.std.proofs.lemmas.Bool.{and_right, both_ways}
 use Rattle.rs_update.specs.Community.{has_value}
 use Rattle.rs_choice.specs.declared.held_route.HeldRoute.{HeldRoute}
 use Rattle.rs_choice.specs.declared.route_change.KnownBest.{KnownBest}
@@ -8,7 +9,6 @@ use Rattle.rs_choice.specs.declared.route_change.RouteChange.{RouteChange}
 use Rattle.rs_choice.specs.Plan.{Plan}
 use Rattle.rs_choice.specs.Recipients.{AreRecipients, IsMarked, IsPassed}
 use Rattle.rs_choice.specs.RouteChanges.{new_route, AreBehind, AreNoCandidates, IsNoCandidate, IsUntouched, KnowsBest}
-use Rattle.rs_choice.proofs.decision.Eliminations.{true_not_false}
 
 -- who is passed over is untouched
 pub passed_untouched : (plan : Plan) (held : List HeldRoute) (change : RouteChange) (bests : List ℕ) (marks : List Bool) (known : KnownBest) →
@@ -16,7 +16,7 @@ pub passed_untouched : (plan : Plan) (held : List HeldRoute) (change : RouteChan
     (client : ℕ) → client < length plan.peers → IsPassed bests marks known client → IsUntouched plan held change client (slice_index_or bests client 0)
 passed_untouched plan held change bests marks known recipients knows client within (inl unmarked) =
     elim (recipients client within) [
-      | inl marked ↦ absurd (true_not_false (slice_index_or marks client true) marked unmarked)
+      | inl marked ↦ absurd (both_ways (slice_index_or marks client true) unmarked marked)
       | inr none ↦ inl none
     ]
 passed_untouched plan held change bests marks known recipients knows client within (inr passed) =
@@ -29,12 +29,7 @@ passed_untouched plan held change bests marks known recipients knows client with
 
 -- no value is that of two halves where there is none
 pub none_of_none : (high low : ℕ) → has_value [] high low ≡ false
-none_of_none high low = go (nat_lt high 65536) (nat_lt low 65536)
-  where
-    go : (a b : Bool) → (a && (b && false)) ≡ false
-    go true true = refl
-    go true false = refl
-    go false b = refl
+none_of_none high low = and_right (nat_lt high 65536) (nat_lt low 65536 && false) (and_right (nat_lt low 65536) false refl)
 
 -- a client has a mark, or neither route of a change is a candidate of it
 pub of_both_routes : (plan : Plan) (held : List HeldRoute) (change : RouteChange) (marks : List Bool) (client : ℕ) →
@@ -44,7 +39,7 @@ pub of_both_routes : (plan : Plan) (held : List HeldRoute) (change : RouteChange
 of_both_routes plan held change marks client old new = go (slice_index_or marks client true) refl
   where
     unless : (one : HeldRoute) → slice_index_or marks client true ≡ false → IsMarked marks client ⊎ IsNoCandidate plan client one → IsNoCandidate plan client one
-    unless one e (inl marked) = absurd (true_not_false (slice_index_or marks client true) marked e)
+    unless one e (inl marked) = absurd (both_ways (slice_index_or marks client true) e marked)
     unless one e (inr none) = none
 
     go : (b : Bool) → slice_index_or marks client true ≡ b → IsMarked marks client ⊎ AreNoCandidates plan held change client

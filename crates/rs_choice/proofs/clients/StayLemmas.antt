@@ -1,16 +1,16 @@
 -- Clients to which a change of one peer's route is of no matter get what they got.
 -- For `next_touched`, `choose_for_touched` and `outdoes_both` of route_change.rt.
-use Rattle.std.proofs.Common.{◌≡◌, ◌≢◌, ◌∙◌, sym, ap, subst, refl, ℕ, ◌+◌, ◌<◌, ◌≤◌, arith, below_more, set, Bool, true, false, cond, not, ◌==◌, ◌⊎◌, inl, inr, List, [], ◌∷◌, ◌++◌, length, map, Option, Some}
-use Rattle.std.specs.Prelude.{filter, nat_lt, IsTrue, slice_get, slice_index_or}
-use Rattle.std.specs.List.{All, Contains}
+use Rattle.std.proofs.Common.{◌≡◌, ◌≢◌, ◌∙◌, sym, ap, subst, refl, ℕ, ◌+◌, ◌<◌, ◌≤◌, arith, below_more, set, Bool, true, false, not, ◌==◌, inl, inr, List, [], ◌∷◌, ◌++◌, length, map, Option}
+use Rattle.std.specs.Prelude.{filter, IsTrue, slice_index_or}
+use Rattle.std.specs.List.{All}
 use Rattle.std.specs.Option.{option_map}
-use Rattle.std.proofs.lemmas.Bool.Decides.{eqb_tells, nat_tests}
-use Rattle.std.proofs.lemmas.List.{get_or-set_other, get_or-set_same}
-use Rattle.std.proofs.lemmas.Option.{get_or_from_slice_get, slice_get_within}
+use Rattle.std.proofs.lemmas.Bool.{cases_lt, cond_both}
+use Rattle.std.proofs.lemmas.Bool.Decides.{eqb_tells}
+use Rattle.std.proofs.lemmas.List.{append_assoc, get_or-set_other, get_or-set_same}
 use Rattle.rs_choice.specs.declared.held_route.HeldRoute.{HeldRoute}
 use Rattle.rs_choice.specs.declared.route_change.RouteChange.{RouteChange}
 use Rattle.rs_choice.specs.Candidacy.{is_candidate}
-use Rattle.rs_choice.specs.Clients.{is_sent_to, best_peer_for, eligible_among, peer_or_own}
+use Rattle.rs_choice.specs.Clients.{is_sent_to, best_peer_for, candidates_among, eligible_among, peer_or_own}
 use Rattle.rs_choice.specs.Comparison.{Outdoes}
 use Rattle.rs_choice.specs.Decision.{SentRoute, standing_of}
 use Rattle.rs_choice.specs.Eligibility.{is_eligible}
@@ -18,35 +18,10 @@ use Rattle.rs_choice.specs.Held.{sent_of_held, IsJudged}
 use Rattle.rs_choice.specs.Laws.{IsNoMatterTo}
 use Rattle.rs_choice.specs.Naturality.{filter-map}
 use Rattle.rs_choice.specs.Plan.{Plan}
-use Rattle.rs_choice.specs.RouteChanges.{of_others, IsChange, IsOneOf, IsUntouched}
+use Rattle.rs_choice.specs.RouteChanges.{IsChange, IsOneOf, IsUntouched}
 use Rattle.rs_choice.proofs.decision.BehindLemmas.{others_are_no_matter}
-use Rattle.rs_choice.proofs.clients.ChosenLemmas.{mem_map}
-use Rattle.rs_choice.proofs.decision.LawLemmas.{choice_cases, contains-mem, mem-contains}
-use Rattle.rs_choice.proofs.decision.Members.{Mem, mem-filter, mem_of-filter}
-
--- ---- lists
-
-append-assoc : {M : Type 0} (xs ys zs : List M) → (xs ++ ys) ++ zs ≡ xs ++ (ys ++ zs)
-append-assoc [] ys zs = refl
-append-assoc (x ∷ xs) ys zs = ap (λ rest. x ∷ rest) (append-assoc xs ys zs)
-
--- members of two lists after one another, where those of the second are of a third
-mem_widen : {M : Type 0} (first some others : List M) (x : M) → ((y : M) → Mem some y → Mem others y) → Mem (first ++ some) x → Mem (first ++ others) x
-mem_widen [] some others x wider h = wider x h
-mem_widen (y ∷ ys) some others x wider (inl same) = inl same
-mem_widen (y ∷ ys) some others x wider (inr h) = inr (mem_widen ys some others x wider h)
-
--- who is made of one of a list
-pub mem_of-map : {X Y : Type 0} (f : X → Y) (xs : List X) (y : Y) → Mem (map f xs) y → (x : X) × Mem xs x × (f x ≡ y)
-mem_of-map f [] y h = absurd h
-mem_of-map f (x ∷ xs) y (inl same) = (x, inl refl, same)
-mem_of-map f (x ∷ xs) y (inr h) = let found = mem_of-map f xs y h in (found.0, inr found.1, found.2)
-
-pub contains_at : {X : Type 0} (xs : List X) (place : ℕ) (x : X) → slice_get xs place ≡ Some x → Contains xs x
-contains_at xs place x at = (place, slice_get_within xs place x at, get_or_from_slice_get xs place x x at)
-
-pub all_mem : {X : Type 0} (P : X → Type 0) (xs : List X) (x : X) → All P xs → Mem xs x → P x
-all_mem P xs x all h = let at = mem-contains xs x h in subst P at.2 (all at.0 x at.1)
+use Rattle.rs_choice.proofs.decision.LawLemmas.{choice_cases}
+use Rattle.rs_choice.proofs.decision.Members.{Mem, all_mem, contains-mem, mem-contains, mem-filter, mem_map, mem_of-filter, mem_of-map, mem_widen}
 
 -- as the first of numbers are found, and the later ones stay
 pub found_more : (items : List ℕ) (is : ℕ → ℕ) (n x : ℕ) → n < length items → x ≡ is n → ((k : ℕ) → k < n → slice_index_or items k 0 ≡ is k) →
@@ -70,29 +45,36 @@ no_matter_wider plan client some others one wider (inr (inl refused)) = inr (inl
 no_matter_wider plan client some others one wider (inr (inr found)) =
     inr (inr (found.0, mem-contains others found.0 (wider found.0 (contains-mem some found.0 found.1)), found.2, found.3, found.4))
 
-one_less : (plan : Plan) (client : ℕ) (q : SentRoute → Bool) (first xs : List SentRoute) (x : SentRoute) (b : Bool) → q x ≡ b →
-    ((one : SentRoute) → Mem (x ∷ xs) one → q one ≡ false → IsNoMatterTo plan client (first ++ cond b (x ∷ filter q xs) (filter q xs)) one) →
-    ((first : List SentRoute) → ((one : SentRoute) → Mem xs one → q one ≡ false → IsNoMatterTo plan client (first ++ filter q xs) one) →
-    best_peer_for plan client (first ++ xs) ≡ best_peer_for plan client (first ++ filter q xs)) →
-    best_peer_for plan client (first ++ x ∷ xs) ≡ best_peer_for plan client (first ++ cond b (x ∷ filter q xs) (filter q xs))
-one_less plan client q first xs x true e nothing later =
-    ap (best_peer_for plan client) (sym (append-assoc first (x ∷ []) xs))
-    ∙ later (first ++ x ∷ []) (λ one member out. subst (λ list. IsNoMatterTo plan client list one) (sym (append-assoc first (x ∷ []) (filter q xs))) (nothing one (inr member) out))
-    ∙ ap (best_peer_for plan client) (append-assoc first (x ∷ []) (filter q xs))
-one_less plan client q first xs x false e nothing later =
-    others_are_no_matter plan client first xs x
-    (no_matter_wider plan client (first ++ filter q xs) (first ++ xs) x
-    (λ y. mem_widen first (filter q xs) xs y (λ z h. (mem-filter q xs z h).0))
-    (nothing x (inl refl) e))
-    ∙ later first (λ one member out. nothing one (inr member) out)
-
 -- a client gets the same without all routes that a test leaves out, where they are of no matter beside the others
 without_those : (plan : Plan) (client : ℕ) (q : SentRoute → Bool) (first later : List SentRoute) →
     ((one : SentRoute) → Mem later one → q one ≡ false → IsNoMatterTo plan client (first ++ filter q later) one) →
     best_peer_for plan client (first ++ later) ≡ best_peer_for plan client (first ++ filter q later)
 without_those plan client q first [] nothing = refl
-without_those plan client q first (x ∷ xs) nothing =
-    one_less plan client q first xs x (q x) refl nothing (λ first. without_those plan client q first xs)
+without_those plan client q first (x ∷ xs) nothing = cond_both (q x) (x ∷ filter q xs) (filter q xs)
+    (λ list. ((one : SentRoute) → Mem (x ∷ xs) one → q one ≡ false → IsNoMatterTo plan client (first ++ list) one) →
+    best_peer_for plan client (first ++ x ∷ xs) ≡ best_peer_for plan client (first ++ list))
+    (λ stays nothing.
+    ap (best_peer_for plan client) (sym (append_assoc first (x ∷ []) xs))
+    ∙ without_those plan client q (first ++ x ∷ []) xs
+    (λ one member out. subst (λ list. IsNoMatterTo plan client list one) (sym (append_assoc first (x ∷ []) (filter q xs))) (nothing one (inr member) out))
+    ∙ ap (best_peer_for plan client) (append_assoc first (x ∷ []) (filter q xs)))
+    (λ goes nothing.
+    others_are_no_matter plan client first xs x
+    (no_matter_wider plan client (first ++ filter q xs) (first ++ xs) x
+    (λ y. mem_widen first (filter q xs) xs y (λ h. (mem-filter q xs y h).0))
+    (nothing x (inl refl) goes))
+    ∙ without_those plan client q first xs (λ one member out. nothing one (inr member) out))
+    nothing
+
+-- a candidate of a client is one of the held routes, eligible and permitted
+pub held_candidate : (plan : Plan) (client : ℕ) (routes : List HeldRoute) (sent : SentRoute) → Mem (candidates_among plan client (map sent_of_held routes)) sent →
+    (r : HeldRoute) × Mem routes r × (sent_of_held r ≡ sent) × IsTrue (is_eligible plan r.peer r.attributes.value) × IsTrue (is_sent_to plan client (sent_of_held r))
+held_candidate plan client routes sent member =
+    let is_fit = λ (sent : SentRoute). is_eligible plan sent.peer sent.attributes in
+    let permitted = mem-filter (is_sent_to plan client) (eligible_among plan (map sent_of_held routes)) sent member in
+    let eligible = mem-filter is_fit (map sent_of_held routes) sent permitted.0 in
+    let from = mem_of-map sent_of_held routes sent eligible.0 in
+    (from.0, from.1, from.2, ap is_fit from.2 ∙ eligible.1, ap (is_sent_to plan client) from.2 ∙ permitted.1)
 
 -- ---- a change
 
@@ -117,23 +99,21 @@ module _ (plan : Plan) (held : List HeldRoute) (change : RouteChange) (bests : L
   is_other : (peer : ℕ) → peer ≢ change.peer → not (peer == change.peer) ≡ true
   is_other peer apart = elim (eqb_tells peer change.peer) [ inl same ↦ absurd (apart same.1) | inr other ↦ ap not other.0 ]
 
+  -- a route of another peer was held before
+  pub was_held : (r : HeldRoute) → r.peer ≢ change.peer → Mem held r → Mem is.before r
+  was_held r apart member =
+      let other = λ (one : HeldRoute). not (one.peer == change.peer) in
+      (mem-filter other is.before r (subst (λ list. Mem list r) (sym is.others) (mem_of-filter other held r (is_other r.peer apart) member))).0
+
   -- what is known of the route that a client got
   got : best ≢ client → (r : HeldRoute) × Mem is.before r × (r.peer ≡ best) × IsTrue (is_eligible plan r.peer r.attributes.value) × IsTrue (is_sent_to plan client (sent_of_held r))
   got apart =
-      let p = λ (sent : SentRoute). is_eligible plan sent.peer sent.attributes in
-      elim (choice_cases (standing_of plan) (filter (is_sent_to plan client) (eligible_among plan (map sent_of_held is.before)))) [
-        | inl none ↦ absurd (apart (ap (λ (found : Option SentRoute). peer_or_own (option_map (λ (sent : SentRoute). sent.peer) found) client) none.0))
+      let peer_or_client = λ (found : Option SentRoute). peer_or_own (option_map (λ (sent : SentRoute). sent.peer) found) client in
+      elim (choice_cases (standing_of plan) (candidates_among plan client (map sent_of_held is.before))) [
+        | inl none ↦ absurd (apart (ap peer_or_client none.0))
         | inr found ↦
-            let permitted = mem-filter (is_sent_to plan client) (eligible_among plan (map sent_of_held is.before)) found.0 found.2.member.member in
-            let eligible = mem-filter p (map sent_of_held is.before) found.0 permitted.0 in
-            let from = mem_of-map sent_of_held is.before found.0 eligible.0 in
-            let peer : found.0.peer ≡ best = sym (ap (λ (found : Option SentRoute). peer_or_own (option_map (λ (sent : SentRoute). sent.peer) found) client) found.1) in (
-              from.0,
-              from.1,
-              ap (λ (sent : SentRoute). sent.peer) from.2 ∙ peer,
-              ap p from.2 ∙ eligible.1,
-              ap (is_sent_to plan client) from.2 ∙ permitted.1,
-            )
+            let r = held_candidate plan client is.before found.0 found.2.member.member in
+            (r.0, r.1, ap (λ (sent : SentRoute). sent.peer) r.2 ∙ sym (ap peer_or_client found.1), r.3, r.4)
       ]
 
   -- a route of a change that is of no matter beside those that are held is so beside those of others
@@ -151,18 +131,15 @@ module _ (plan : Plan) (held : List HeldRoute) (change : RouteChange) (bests : L
           let found = behind.2 one is_one e in
           let other = found.0 in
           let judged_other = all_mem (IsJudged plan) held other all (contains-mem held other found.1) in
-          let is_others : Mem (of_others change.peer held) other =
-          mem_of-filter (λ (one : HeldRoute). not (one.peer == change.peer)) held other (is_other other.peer (λ same. behind.1 (sym found.2 ∙ same))) (contains-mem held other found.1) in
-          let was_others : Mem (of_others change.peer is.before) other = subst (λ list. Mem list other) (sym is.others) is_others in
-          let was : Mem is.before other = (mem-filter (λ (one : HeldRoute). not (one.peer == change.peer)) is.before other was_others).0 in
+          let apart : other.peer ≢ change.peer = λ same. behind.1 (sym found.2 ∙ same) in
+          let was = was_held other apart (contains-mem held other found.1) in
           let same : r.0 ≡ other = is.apart r.0 other (mem-contains is.before r.0 r.1) (mem-contains is.before other was) (r.2 ∙ sym found.2) in
           let eligible : IsTrue (is_eligible plan other.peer other.attributes.value) = subst (λ (o : HeldRoute). IsTrue (is_eligible plan o.peer o.attributes.value)) same r.3 in
           let permitted : IsTrue (is_sent_to plan client (sent_of_held other)) = subst (λ (o : HeldRoute). IsTrue (is_sent_to plan client (sent_of_held o))) same r.4 in
           let candidate : IsTrue (is_candidate other.candidacy) = judged_other.eligible ∙ eligible in
           let outdoes : Outdoes (standing_of plan (sent_of_held other)) (standing_of plan (sent_of_held one)) =
           rw (← judged_other.standing candidate, ← judged.standing e) found.3 in
-          let kept_other : Mem kept (sent_of_held other) =
-          subst (λ list. Mem list (sent_of_held other)) (sym (filter-map sent_of_held of_other is.before)) (mem_map sent_of_held (of_others change.peer is.before) other was_others) in
+          let kept_other = mem_of-filter of_other (map sent_of_held is.before) (sent_of_held other) (is_other other.peer apart) (mem_map sent_of_held is.before other was) in
           inr (inr (sent_of_held other, mem-contains kept (sent_of_held other) kept_other, eligible, permitted, outdoes))
 
   pub stays : All (IsJudged plan) held → IsUntouched plan held change client best → best ≡ best_peer_for plan client (map sent_of_held held)
@@ -184,13 +161,6 @@ module _ (plan : Plan) (held : List HeldRoute) (change : RouteChange) (bests : L
       slice_index_or bests client 0 ≡ best_peer_for plan client (map sent_of_held held)
   stays_there all untouched = is.best client known ∙ stays all (subst (IsUntouched plan held change client) (is.best client known) untouched)
 
-pub either_side : (a b : ℕ) → (a < b) ⊎ (b ≤ a)
-either_side a b = go (nat_lt a b) refl
-  where
-    go : (t : Bool) → nat_lt a b ≡ t → (a < b) ⊎ (b ≤ a)
-    go true e = inl (grind (arith, nat_tests))
-    go false e = inr (grind (arith, nat_tests))
-
 -- where the clients below one are decided, and those up to another one are untouched, all below that one are
 pub further : (plan : Plan) (held : List HeldRoute) (change : RouteChange) (bests : List ℕ) → IsChange plan held change bests → All (IsJudged plan) held →
     (items : List ℕ) (from next : ℕ) → next ≤ length plan.peers →
@@ -199,7 +169,7 @@ pub further : (plan : Plan) (held : List HeldRoute) (change : RouteChange) (best
     ((k : ℕ) → k < next → from ≤ k → IsUntouched plan held change k (slice_index_or items k 0)) →
     (k : ℕ) → k < next → slice_index_or items k 0 ≡ best_peer_for plan k (map sent_of_held held)
 further plan held change bests is all items from next within first later untouched k below =
-    elim (either_side k from) [
+    elim (cases_lt k from) [
       | inl less ↦ first k less
       | inr above ↦
           later k above
@@ -210,7 +180,7 @@ further plan held change bests is all items from next within first later untouch
 pub of_all_below : (P : ℕ → Type 0) (client next : ℕ) → ((k : ℕ) → k < client → P k) → P client → ((k : ℕ) → k < next → client + 1 ≤ k → P k) →
     (k : ℕ) → k < next → P k
 of_all_below P client next before here after k below =
-    elim (either_side k client) [
+    elim (cases_lt k client) [
       | inl less ↦ before k less
       | inr above ↦ elim (eqb_tells k client) [
         | inl same ↦ subst P (sym same.1) here

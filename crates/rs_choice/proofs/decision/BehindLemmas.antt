@@ -1,11 +1,12 @@
 -- A candidate that the first three steps remove is of no matter to the choice, nor is one that another of its neighbour AS outdoes, nor a
 -- route that is no candidate.
 -- For `those_behind_are_no_matter` of laws.rt, ContenderLemmas and StayLemmas.
-use Rattle.std.proofs.Common.{◌≡◌, ◌∙◌, sym, ap, refl, arith, Bool, true, false, cond, not, ◌⊎◌, inl, inr, List, [], ◌∷◌, ◌++◌, subst, Option}
+use Rattle.std.proofs.Common.{◌≡◌, ◌∙◌, sym, ap, refl, arith, ℕ, ◌<◌, Bool, true, false, cond, not, ◌⊎◌, inl, inr, List, [], ◌∷◌, ◌++◌, subst, Option}
 use Rattle.std.specs.Prelude.{◌==◌, nat_lt, filter, ◌||◌, ◌&&◌}
+use Rattle.std.specs.Bool.{Decides}
 use Rattle.std.specs.List.{list_any}
 use Rattle.std.specs.Option.{option_map}
-use Rattle.std.proofs.lemmas.Bool.Decides.{nat_tests}
+use Rattle.std.proofs.lemmas.Bool.Decides.{not_from_Decides, Decides-and, Decides-eqb, Decides-like, Decides-ltb, Decides-or}
 use Rattle.std.proofs.lemmas.List.Elements.{filter-append}
 use Rattle.rs_choice.specs.declared.candidate.Standing.{Standing}
 use Rattle.rs_choice.specs.declared.step.Step.TheVariants as steps
@@ -15,89 +16,50 @@ use Rattle.rs_choice.specs.Decision.{SentRoute, beats, remaining, choice, standi
 use Rattle.rs_update.specs.Spelling.{origin_code}
 use Rattle.rs_choice.specs.Eligibility.{is_eligible}
 use Rattle.rs_choice.specs.Laws.{RemovedIsNoMatter, BehindIsNoMatter, OthersAreNoMatter, OutdoneIsNoMatter}
-use Rattle.rs_choice.proofs.decision.Members.{Mem, mem_of-filter, list_any-none}
-use Rattle.rs_choice.proofs.decision.Eliminations.{Same, Unbeaten, Left, By, same3, is_false, true_not_false, means_lower_med, holds_lower_med}
-use Rattle.rs_choice.proofs.decision.LawLemmas.{any_found, choice_cases, contains-mem, mem-contains}
+use Rattle.rs_choice.proofs.decision.Members.{Mem, any_found, contains-mem, list_any-none, mem-append_right, mem-contains, mem_of-filter, mem_widen}
+use Rattle.rs_choice.proofs.decision.Eliminations.{Same, Unbeaten, Left, By, same3, beats_tells, follows_level, is_false}
+use Rattle.rs_choice.proofs.decision.LawLemmas.{some_choice}
+use Rattle.rs_choice.proofs.decision.ScanLemmas.{not_ahead_of_itself}
 use Rattle.rs_choice.proofs.decision.ShareLemmas.{reaching_med, choice_stays}
-use Rattle.rs_choice.proofs.plan.TestLemmas.{both, either, less_number, number_less, number_same, of_both, of_either, same_number}
 
--- ---- ahead by the first three steps, as a test
+-- ---- tests of what outdoes what
 
-abbrev is_ahead : Standing → Standing → Bool
+-- a test that answers whether something holds
+abbrev Test : Type 0 → Type 0
+Test P = (answer : Bool) × Decides answer P
+
+either : {P Q : Type 0} → Test P → Test Q → Test (P ⊎ Q)
+either p q = (p.0 || q.0, Decides-or p.0 q.0 p.1 q.1)
+
+both : {P Q : Type 0} → Test P → Test Q → Test (P × Q)
+both p q = (p.0 && q.0, Decides-and p.0 q.0 p.1 q.1)
+
+below : (a b : ℕ) → Test (a < b)
+below a b = (nat_lt a b, Decides-ltb a b)
+
+equal : (a b : ℕ) → Test (a ≡ b)
+equal a b = (a == b, Decides-eqb a b)
+
+pub is_ahead : (one other : Standing) → Test (IsAhead one other)
 is_ahead one other =
-    nat_lt other.preference one.preference
-    || (one.preference == other.preference
-    && (nat_lt one.path_length other.path_length
-    || (one.path_length == other.path_length && nat_lt (origin_code one.origin) (origin_code other.origin))))
+    either (either (below other.preference one.preference) (both (equal one.preference other.preference) (below one.path_length other.path_length)))
+    (both (both (equal one.preference other.preference) (equal one.path_length other.path_length)) (below (origin_code one.origin) (origin_code other.origin)))
 
-means_ahead : (one other : Standing) → is_ahead one other ≡ true → IsAhead one other
-means_ahead one other h = grind (arith, nat_tests)
+precedes : (one other : Standing) → Test (Precedes one other)
+precedes one other = either (below one.id other.id) (both (equal one.id other.id) (below one.address other.address))
 
-holds_ahead : (one other : Standing) → IsAhead one other → is_ahead one other ≡ true
-holds_ahead one other h = grind (arith, nat_tests)
+outdoes_by_med : (one other : Standing) → Test (OutdoesByMed one other)
+outdoes_by_med one other =
+    either (both (equal one.neighbour other.neighbour) (below one.med other.med))
+    (both (both (equal one.neighbour other.neighbour) (equal one.med other.med)) (precedes one other))
 
-not_ahead_of_itself : (one : Standing) → IsAhead one one → ⊥
-not_ahead_of_itself one h = grind arith
+is_level : (one other : Standing) → Test (IsLevel one other)
+is_level one other =
+    let parts = both (equal one.preference other.preference) (both (equal one.path_length other.path_length) (equal (origin_code one.origin) (origin_code other.origin))) in
+    (parts.0, Decides-like parts.0 (λ h. (h.0, h.1.0, h.1.1)) (λ h. (h.0, (h.1, h.2))) parts.1)
 
--- ---- outdone by all six, as a test
-
-abbrev precedes : Standing → Standing → Bool
-precedes one other = nat_lt one.id other.id || (one.id == other.id && nat_lt one.address other.address)
-
-means_precedes : (one other : Standing) → precedes one other ≡ true → Precedes one other
-means_precedes one other h = grind (arith, nat_tests)
-
-holds_precedes : (one other : Standing) → Precedes one other → precedes one other ≡ true
-holds_precedes one other h = grind (arith, nat_tests)
-
-abbrev outdoes_by_med : Standing → Standing → Bool
-outdoes_by_med one other = one.neighbour == other.neighbour && (nat_lt one.med other.med || (one.med == other.med && precedes one other))
-
-abbrev is_level : Standing → Standing → Bool
-is_level one other = one.preference == other.preference && (one.path_length == other.path_length && origin_code one.origin == origin_code other.origin)
-
-means_level : (one other : Standing) → is_level one other ≡ true → IsLevel one other
-means_level one other h = grind (arith, nat_tests)
-
-holds_level : (one other : Standing) → IsLevel one other → is_level one other ≡ true
-holds_level one other h = grind (arith, nat_tests)
-
-means_by_med : (one other : Standing) → outdoes_by_med one other ≡ true → OutdoesByMed one other
-means_by_med one other h =
-    let parts = both (one.neighbour == other.neighbour) (nat_lt one.med other.med || (one.med == other.med && precedes one other)) h in
-    let neighbour = same_number one.neighbour other.neighbour parts.0 in
-    elim (either (nat_lt one.med other.med) (one.med == other.med && precedes one other) parts.1) [
-      | inl lower ↦ inl (neighbour, less_number one.med other.med lower)
-      | inr later ↦
-          let last = both (one.med == other.med) (precedes one other) later in
-          inr ((neighbour, same_number one.med other.med last.0), means_precedes one other last.1)
-    ]
-
-holds_by_med : (one other : Standing) → OutdoesByMed one other → outdoes_by_med one other ≡ true
-holds_by_med one other (inl lower) =
-    of_both (one.neighbour == other.neighbour) (nat_lt one.med other.med || (one.med == other.med && precedes one other)) (number_same one.neighbour other.neighbour lower.0)
-    (of_either (nat_lt one.med other.med) (one.med == other.med && precedes one other) (inl (number_less one.med other.med lower.1)))
-holds_by_med one other (inr same) =
-    of_both (one.neighbour == other.neighbour) (nat_lt one.med other.med || (one.med == other.med && precedes one other)) (number_same one.neighbour other.neighbour same.0.0)
-    (of_either (nat_lt one.med other.med) (one.med == other.med && precedes one other)
-    (inr (of_both (one.med == other.med) (precedes one other) (number_same one.med other.med same.0.1) (holds_precedes one other same.1))))
-
-abbrev outdoes : Standing → Standing → Bool
-outdoes one other = is_ahead one other || (is_level one other && outdoes_by_med one other)
-
-means_outdoes : (one other : Standing) → outdoes one other ≡ true → Outdoes one other
-means_outdoes one other h = elim (either (is_ahead one other) (is_level one other && outdoes_by_med one other) h) [
-  | inl ahead ↦ inl (means_ahead one other ahead)
-  | inr later ↦
-      let parts = both (is_level one other) (outdoes_by_med one other) later in
-      inr (means_level one other parts.0, means_by_med one other parts.1)
-]
-
-holds_outdoes : (one other : Standing) → Outdoes one other → outdoes one other ≡ true
-holds_outdoes one other (inl ahead) = of_either (is_ahead one other) (is_level one other && outdoes_by_med one other) (inl (holds_ahead one other ahead))
-holds_outdoes one other (inr later) =
-    of_either (is_ahead one other) (is_level one other && outdoes_by_med one other)
-    (inr (of_both (is_level one other) (outdoes_by_med one other) (holds_level one other later.0) (holds_by_med one other later.1)))
+outdoes : (one other : Standing) → Test (Outdoes one other)
+outdoes one other = either (is_ahead one other) (both (is_level one other) (outdoes_by_med one other))
 
 does_not_outdo_itself : (one : Standing) → Outdoes one one → ⊥
 does_not_outdo_itself one (inl ahead) = not_ahead_of_itself one ahead
@@ -105,31 +67,21 @@ does_not_outdo_itself one (inr (level, inl lower)) = absurd (omega (arith, lower
 does_not_outdo_itself one (inr (level, inr (med, inl id))) = absurd (omega (arith, id))
 does_not_outdo_itself one (inr (level, inr (med, inr address))) = absurd (omega (arith, address.1))
 
--- what is ahead of one is ahead of each that is level with it
-ahead_of_level : (w one other : Standing) → IsLevel one other → IsAhead w one → IsAhead w other
-ahead_of_level w one other level ahead = grind arith
-
--- and what goes before one by the first four steps goes before each of its neighbour AS that is level with it and has no lower MED
+-- what goes before one by the first four steps goes before each of its neighbour AS that is level with it and has no lower MED
 ahead_by_med_of_level : (w one other : Standing) → IsLevel one other → HasSameMed one other → IsAheadByMed w one → IsAheadByMed w other
-ahead_by_med_of_level w one other level med (inl ahead) = inl (ahead_of_level w one other level ahead)
+ahead_by_med_of_level w one other level med (inl ahead) = inl (follows_level w one other level ahead)
 ahead_by_med_of_level w one other level med (inr (w_level, lower)) =
     inr ((w_level.0 ∙ level.0, w_level.1 ∙ level.1, w_level.2 ∙ level.2), (lower.0 ∙ med.0, omega (arith, lower.1, med.1)))
 
 -- ---- a list with one member more
 
 mem_more : {M : Type 0} (before after : List M) (one x : M) → Mem (before ++ after) x → Mem (before ++ one ∷ after) x
-mem_more [] after one x h = inr h
-mem_more (y ∷ ys) after one x (inl same) = inl same
-mem_more (y ∷ ys) after one x (inr h) = inr (mem_more ys after one x h)
+mem_more before after one x = mem_widen before after (one ∷ after) x inr
 
 mem_fewer : {M : Type 0} (before after : List M) (one x : M) → Mem (before ++ one ∷ after) x → (one ≡ x) ⊎ Mem (before ++ after) x
 mem_fewer [] after one x h = h
 mem_fewer (y ∷ ys) after one x (inl same) = inr (inl same)
 mem_fewer (y ∷ ys) after one x (inr h) = elim (mem_fewer ys after one x h) [ inl same ↦ inl same | inr member ↦ inr (inr member) ]
-
-mem_here : {M : Type 0} (before after : List M) (one : M) → Mem (before ++ one ∷ after) one
-mem_here [] after one = inl refl
-mem_here (y ∷ ys) after one = inr (mem_here ys after one)
 
 filter_with : {M : Type 0} (p : M → Bool) (before after : List M) (one : M) → p one ≡ true →
     filter p (before ++ one ∷ after) ≡ filter p before ++ one ∷ filter p after
@@ -146,10 +98,10 @@ filter_without p before after one fails =
 
 module _ {M : Type 0} (standing : M → Standing) where
   abbrev is_kept : M → M → Bool
-  is_kept other x = not (outdoes (standing other) (standing x))
+  is_kept other x = not (outdoes (standing other) (standing x)).0
 
   kept : (other x : M) → (Outdoes (standing other) (standing x) → ⊥) → is_kept other x ≡ true
-  kept other x h = ap not (is_false (outdoes (standing other) (standing x)) (λ outdone. h (means_outdoes (standing other) (standing x) outdone)))
+  kept other x h = let test = outdoes (standing other) (standing x) in ap not (is_false test.0 (λ outdone. h (test.1.0 outdone)))
 
   reaching : (set : List M) → Same (Mem (reaching_med standing set)) (Unbeaten (By standing IsAhead) (Mem set))
   unfolding remaining
@@ -174,7 +126,7 @@ module _ {M : Type 0} (standing : M → Standing) where
   removed_too set other third one member reached (inr (level, by_med)) lower = (
     (reaching set).from other (record {
       member = member;
-      best = λ w k ahead. ((reaching set).to third reached).best w k (ahead_of_level (standing w) (standing other) (standing third) level ahead);
+      best = λ w k ahead. ((reaching set).to third reached).best w k (follows_level (standing w) (standing other) (standing third) level ahead);
     }),
     elim by_med [
       | inl less ↦ (less.0 ∙ lower.0, omega (arith, less.1, lower.1))
@@ -184,28 +136,25 @@ module _ {M : Type 0} (standing : M → Standing) where
 
   without_outdone : (set : List M) (other : M) → Mem set other → choice standing (filter (is_kept other) set) ≡ choice standing set
   without_outdone set other member =
-      elim (choice_cases standing set) [
-        | inl none ↦ let nothing : Mem [] other = rw none.1 at member in absurd nothing
-        | inr found ↦
-            choice_stays standing set (is_kept other) found.0 found.1
-            (kept other found.0 (chosen_is_kept set other found.0 member found.2))
-            (λ one third one_member stays third_member beaten. by_kept one third (outdoes (standing other) (standing third)) refl third_member beaten)
-            ∙ sym found.1
-      ]
+      let found = some_choice standing set other member in
+      choice_stays standing set (is_kept other) found.0 found.1
+      (kept other found.0 (chosen_is_kept set other found.0 member found.2))
+      (λ one third one_member stays third_member beaten. by_kept one third (outdoes (standing other) (standing third)).0 refl third_member beaten)
+      ∙ sym found.1
     where
-      by_kept : (one third : M) (b : Bool) → outdoes (standing other) (standing third) ≡ b → Mem (reaching_med standing set) third →
+      by_kept : (one third : M) (b : Bool) → (outdoes (standing other) (standing third)).0 ≡ b → Mem (reaching_med standing set) third →
           beats steps.Med (standing third) (standing one) ≡ true →
           (x : M) × Mem (reaching_med standing set) x × (is_kept other x ≡ true) × (beats steps.Med (standing x) (standing one) ≡ true)
       by_kept one third false e reached beaten = (third, reached, ap not e, beaten)
       by_kept one third true e reached beaten =
-          let also = removed_too set other third one member reached (means_outdoes (standing other) (standing third) e) (means_lower_med (standing third) (standing one) beaten) in
-          (other, also.0, kept other other (does_not_outdo_itself (standing other)), holds_lower_med (standing other) (standing one) also.1)
+          let also = removed_too set other third one member reached ((outdoes (standing other) (standing third)).1.0 e) ((beats_tells steps.Med (standing third) (standing one)).0 beaten) in
+          (other, also.0, kept other other (does_not_outdo_itself (standing other)), (beats_tells steps.Med (standing other) (standing one)).1 also.1)
 
   pub outdone : (before after : List M) (one other : M) → Mem (before ++ after) other → Outdoes (standing other) (standing one) →
       choice standing (before ++ one ∷ after) ≡ choice standing (before ++ after)
-  outdone before after one other member outdoes =
+  outdone before after one other member behind =
       sym (without_outdone (before ++ one ∷ after) other (mem_more before after one other member))
-      ∙ ap (choice standing) (filter_without (is_kept other) before after one (ap not (holds_outdoes (standing other) (standing one) outdoes)))
+      ∙ ap (choice standing) (filter_without (is_kept other) before after one (ap not ((outdoes (standing other) (standing one)).1.1 behind)))
       ∙ without_outdone (before ++ after) other member
 
   pub behind : (before after : List M) (one other : M) → Mem (before ++ after) other → IsAhead (standing other) (standing one) →
@@ -214,23 +163,23 @@ module _ {M : Type 0} (standing : M → Standing) where
 
   pub removed : (before after : List M) (one : M) → (Mem (reaching_med standing (before ++ one ∷ after)) one → ⊥) →
       choice standing (before ++ one ∷ after) ≡ choice standing (before ++ after)
-  removed before after one gone = go (list_any (λ w. is_ahead (standing w) (standing one)) (before ++ one ∷ after)) refl
+  removed before after one gone = go (list_any (λ w. (is_ahead (standing w) (standing one)).0) (before ++ one ∷ after)) refl
     where
-      go : (b : Bool) → list_any (λ w. is_ahead (standing w) (standing one)) (before ++ one ∷ after) ≡ b →
+      go : (b : Bool) → list_any (λ w. (is_ahead (standing w) (standing one)).0) (before ++ one ∷ after) ≡ b →
           choice standing (before ++ one ∷ after) ≡ choice standing (before ++ after)
       go true e =
-          let found = any_found (λ w. is_ahead (standing w) (standing one)) (before ++ one ∷ after) e in
-          let ahead = means_ahead (standing found.0) (standing one) found.2 in
+          let found = any_found (λ w. (is_ahead (standing w) (standing one)).0) (before ++ one ∷ after) e in
+          let ahead = (is_ahead (standing found.0) (standing one)).1.0 found.2 in
           elim (mem_fewer before after one found.0 found.1) [
             | inl same ↦ let itself : IsAhead (standing one) (standing one) = rw (← same) at ahead in absurd (not_ahead_of_itself (standing one) itself)
             | inr member ↦ behind before after one found.0 member ahead
           ]
       go false e =
           absurd (gone ((reaching (before ++ one ∷ after)).from one (record {
-            member = mem_here before after one;
-            best = λ w member ahead.
-                true_not_false (is_ahead (standing w) (standing one)) (holds_ahead (standing w) (standing one) ahead)
-                (list_any-none (λ w. is_ahead (standing w) (standing one)) (before ++ one ∷ after) w e member);
+            member = mem-append_right before (one ∷ after) one (inl refl);
+            best = λ w member.
+                let test = is_ahead (standing w) (standing one) in
+                not_from_Decides test.0 test.1 (list_any-none (λ w. (is_ahead (standing w) (standing one)).0) (before ++ one ∷ after) w e member);
           })))
 
 pub behind_is_no_matter : BehindIsNoMatter
@@ -249,7 +198,7 @@ removed_is_no_matter plan before after one gone =
 -- ---- for a client
 
 -- one that either test leaves out may go
-no_candidate : {M : Type 0} (p q : M → Bool) (before after : List M) (one : M) → (p one ≡ false) ⊎ (q one ≡ false) →
+pub no_candidate : {M : Type 0} (p q : M → Bool) (before after : List M) (one : M) → (p one ≡ false) ⊎ (q one ≡ false) →
     filter q (filter p (before ++ one ∷ after)) ≡ filter q (filter p (before ++ after))
 no_candidate p q before after one (inl fails) = ap (filter q) (filter_without p before after one fails)
 no_candidate p q before after one (inr fails) = go (p one) refl
@@ -261,7 +210,7 @@ no_candidate p q before after one (inr fails) = go (p one) refl
         ∙ ap (filter q) (sym (filter-append p before after))
     go false e = ap (filter q) (filter_without p before after one e)
 
-candidates_with : {M : Type 0} (p q : M → Bool) (before after : List M) (one : M) → p one ≡ true → q one ≡ true →
+pub candidates_with : {M : Type 0} (p q : M → Bool) (before after : List M) (one : M) → p one ≡ true → q one ≡ true →
     filter q (filter p (before ++ one ∷ after)) ≡ filter q (filter p before) ++ one ∷ filter q (filter p after)
 candidates_with p q before after one eligible permitted =
     ap (filter q) (filter_with p before after one eligible) ∙ filter_with q (filter p before) (filter p after) one permitted

@@ -1,11 +1,15 @@
 -- What eliminations leave, by members: two in a row are one by both.
--- For `mark_named` of recipients.rt, and the lemmas of choices and groups.
+-- For the lemmas of choices, clients and groups, and those of rs_explain.
 use Rattle.std.proofs.Common.{◌≡◌, ap, refl, arith, Bool, true, false, not, inl, inr, List}
+use Rattle.std.specs.Prelude.{◌==◌, nat_lt}
+use Rattle.std.specs.Bool.{Decides}
 use Rattle.std.specs.List.{list_any}
-use Rattle.std.proofs.lemmas.Bool.Decides.{nat_tests}
+use Rattle.std.proofs.lemmas.Bool.{not-true}
+use Rattle.std.proofs.lemmas.Bool.Decides.{not_from_Decides, Decides-and, Decides-eqb, Decides-ltb}
 use Rattle.rs_choice.specs.declared.candidate.Standing.{Standing}
 use Rattle.rs_choice.specs.declared.step.Step.{Step}
 use Rattle.rs_choice.specs.declared.step.Step.TheVariants as steps
+use Rattle.rs_update.specs.Spelling.{origin_code}
 use Rattle.rs_choice.specs.Decision.{beats, decision_steps, unbeaten, remaining}
 use Rattle.rs_choice.specs.Comparison.{FirstOrSecond, IsPreferred, IsAsPreferred, IsShorter, IsPreferredOrShorter, IsAsLong, HasLowerOrigin, IsAhead, IsLevel, HasLowerMed, IsAheadByMed, HasLowerId, HasSameId, HasLowerAddress, Precedes}
 use Rattle.rs_choice.proofs.decision.Members.{Mem, mem-filter, mem_of-filter, list_any-none, none-list_any}
@@ -54,97 +58,33 @@ same_both First Equal Second In equal follows = record {
 abbrev pub By : {M : Type 0} → (M → Standing) → (Standing → Standing → Type 0) → M → M → Type 0
 By standing Beats w x = Beats (standing w) (standing x)
 
-pub not_true : (b : Bool) → not b ≡ true → b ≡ false
-not_true true h = absurd (cc)
-not_true false h = refl
-
-pub true_not_false : (b : Bool) → b ≡ true → b ≡ false → ⊥
-true_not_false b t f = absurd (cc (t, f))
-
 pub is_false : (b : Bool) → (b ≡ true → ⊥) → b ≡ false
 is_false true h = absurd (h refl)
 is_false false h = refl
 
--- the members that a step leaves
-pub same_step : {M : Type 0} (standing : M → Standing) (step : Step) (Beats : Standing → Standing → Type 0) →
-    ((one other : Standing) → beats step one other ≡ true → Beats one other) → ((one other : Standing) → Beats one other → beats step one other ≡ true) →
-    (set : List M) → Same (Mem (unbeaten standing step set)) (Unbeaten (By standing Beats) (Mem set))
-unfolding unbeaten
-same_step standing step Beats means holds set = record {
-  to = λ x h.
-      let kept = mem-filter (λ one. not (list_any (λ other. beats step (standing other) (standing one)) set)) set x h in
-      let none = not_true (list_any (λ other. beats step (standing other) (standing x)) set) kept.1 in
-      record {
-        member = kept.0;
-        best = λ w k beaten.
-            true_not_false (beats step (standing w) (standing x)) (holds (standing w) (standing x) beaten)
-            (list_any-none (λ other. beats step (standing other) (standing x)) set w none k);
-      };
-  from = λ x left.
-      let none = none-list_any (λ other. beats step (standing other) (standing x)) set
-      (λ w k. is_false (beats step (standing w) (standing x)) (λ beaten. left.best w k (means (standing w) (standing x) beaten))) in
-      mem_of-filter (λ one. not (list_any (λ other. beats step (standing other) (standing one)) set)) set x (ap not none) left.member;
-}
+-- what a step compares
+abbrev pub BeatsAt : Step → Standing → Standing → Type 0
+BeatsAt steps.Preference = IsPreferred
+BeatsAt steps.PathLength = IsShorter
+BeatsAt steps.Origin = HasLowerOrigin
+BeatsAt steps.Med = HasLowerMed
+BeatsAt steps.Identifier = HasLowerId
+BeatsAt steps.Address = HasLowerAddress
 
-means_preferred : (one other : Standing) → beats steps.Preference one other ≡ true → IsPreferred one other
-means_preferred one other h = grind (arith, nat_tests)
-
-holds_preferred : (one other : Standing) → IsPreferred one other → beats steps.Preference one other ≡ true
-holds_preferred one other h = grind (arith, nat_tests)
-
-means_shorter : (one other : Standing) → beats steps.PathLength one other ≡ true → IsShorter one other
-means_shorter one other h = grind (arith, nat_tests)
-
-holds_shorter : (one other : Standing) → IsShorter one other → beats steps.PathLength one other ≡ true
-holds_shorter one other h = grind (arith, nat_tests)
-
-means_lower_origin : (one other : Standing) → beats steps.Origin one other ≡ true → HasLowerOrigin one other
-means_lower_origin one other h = grind (arith, nat_tests)
-
-holds_lower_origin : (one other : Standing) → HasLowerOrigin one other → beats steps.Origin one other ≡ true
-holds_lower_origin one other h = grind (arith, nat_tests)
-
-pub means_lower_med : (one other : Standing) → beats steps.Med one other ≡ true → HasLowerMed one other
-means_lower_med one other h = grind (arith, nat_tests)
-
-pub holds_lower_med : (one other : Standing) → HasLowerMed one other → beats steps.Med one other ≡ true
-holds_lower_med one other h = grind (arith, nat_tests)
-
-means_lower_id : (one other : Standing) → beats steps.Identifier one other ≡ true → HasLowerId one other
-means_lower_id one other h = grind (arith, nat_tests)
-
-holds_lower_id : (one other : Standing) → HasLowerId one other → beats steps.Identifier one other ≡ true
-holds_lower_id one other h = grind (arith, nat_tests)
-
-means_lower_address : (one other : Standing) → beats steps.Address one other ≡ true → HasLowerAddress one other
-means_lower_address one other h = grind (arith, nat_tests)
-
-holds_lower_address : (one other : Standing) → HasLowerAddress one other → beats steps.Address one other ≡ true
-holds_lower_address one other h = grind (arith, nat_tests)
-
-equal_preference : (w x : Standing) → (IsPreferred w x → ⊥) → (IsPreferred x w → ⊥) → IsAsPreferred w x
-equal_preference w x a b = omega arith
-
-follows_preference : (u w x : Standing) → IsAsPreferred w x → IsPreferred u w → IsPreferred u x
-follows_preference u w x e h = omega arith
-
-equal_length : (w x : Standing) → (IsPreferredOrShorter w x → ⊥) → (IsPreferredOrShorter x w → ⊥) → IsAsLong w x
-equal_length w x a b = grind arith
-
-follows_length : (u w x : Standing) → IsAsLong w x → IsPreferredOrShorter u w → IsPreferredOrShorter u x
-follows_length u w x e h = grind arith
+pub beats_tells : (step : Step) (one other : Standing) → Decides (beats step one other) (BeatsAt step one other)
+beats_tells steps.Preference one other = Decides-ltb other.preference one.preference
+beats_tells steps.PathLength one other = Decides-ltb one.path_length other.path_length
+beats_tells steps.Origin one other = Decides-ltb (origin_code one.origin) (origin_code other.origin)
+beats_tells steps.Med one other =
+    Decides-and (one.neighbour == other.neighbour) (nat_lt one.med other.med) (Decides-eqb one.neighbour other.neighbour) (Decides-ltb one.med other.med)
+beats_tells steps.Identifier one other = Decides-ltb one.id other.id
+beats_tells steps.Address one other = Decides-ltb one.address other.address
 
 pub equal_level : (w x : Standing) → (IsAhead w x → ⊥) → (IsAhead x w → ⊥) → IsLevel w x
 equal_level w x a b = grind arith
 
 pub follows_level : (u w x : Standing) → IsLevel w x → IsAhead u w → IsAhead u x
 follows_level u w x e h = grind arith
-
-equal_id : (w x : Standing) → (HasLowerId w x → ⊥) → (HasLowerId x w → ⊥) → HasSameId w x
-equal_id w x a b = omega arith
-
-follows_id : (u w x : Standing) → HasSameId w x → HasLowerId u w → HasLowerId u x
-follows_id u w x e h = omega arith
 
 -- what all members are judged by up to MED, and then by identifier and address
 abbrev pub LeftByMed : {M : Type 0} → (M → Standing) → (M → Type 0) → M → Type 0
@@ -153,68 +93,79 @@ LeftByMed standing In = Unbeaten (By standing IsAheadByMed) In
 abbrev pub Left : {M : Type 0} → (M → Standing) → (M → Type 0) → M → Type 0
 Left standing In = Unbeaten (By standing Precedes) (LeftByMed standing In)
 
-module _ {M : Type 0} (standing : M → Standing) (set : List M) where
-  abbrev s1 : List M
-  s1 = unbeaten standing steps.Preference set
+module _ {M : Type 0} (standing : M → Standing) where
+  -- the members that a step leaves are those of the set that none of it beats
+  pub unbeaten_means : (step : Step) (set : List M) (x : M) → Mem (unbeaten standing step set) x →
+      Mem set x × ((w : M) → Mem set w → beats step (standing w) (standing x) ≡ false)
+  unfolding unbeaten
+  unbeaten_means step set x h =
+      let kept = mem-filter (λ one. not (list_any (λ other. beats step (standing other) (standing one)) set)) set x h in
+      let none = not-true (list_any (λ other. beats step (standing other) (standing x)) set) kept.1 in
+      (kept.0, λ w k. list_any-none (λ other. beats step (standing other) (standing x)) set w none k)
 
-  abbrev s2 : List M
-  s2 = unbeaten standing steps.PathLength s1
+  pub means_unbeaten : (step : Step) (set : List M) (x : M) → Mem set x → list_any (λ other. beats step (standing other) (standing x)) set ≡ false →
+      Mem (unbeaten standing step set) x
+  unfolding unbeaten
+  means_unbeaten step set x h none =
+      mem_of-filter (λ one. not (list_any (λ other. beats step (standing other) (standing one)) set)) set x (ap not none) h
 
-  abbrev s3 : List M
-  s3 = unbeaten standing steps.Origin s2
+  pub same_step : (step : Step) (set : List M) → Same (Mem (unbeaten standing step set)) (Unbeaten (By standing (BeatsAt step)) (Mem set))
+  same_step step set = record {
+    to = λ x h.
+        let left = unbeaten_means step set x h in
+        record { member = left.0; best = λ w k. not_from_Decides (beats step (standing w) (standing x)) (beats_tells step (standing w) (standing x)) (left.1 w k) };
+    from = λ x left.
+        means_unbeaten step set x left.member (none-list_any (λ other. beats step (standing other) (standing x)) set
+        (λ w k. is_false (beats step (standing w) (standing x)) (λ beaten. left.best w k ((beats_tells step (standing w) (standing x)).0 beaten))));
+  }
 
-  abbrev s4 : List M
-  s4 = unbeaten standing steps.Med s3
+  -- a step after others leaves what both leave
+  step_after : (First Equal : Standing → Standing → Type 0) (step : Step) (set reached : List M) →
+      Same (Mem reached) (Unbeaten (By standing First) (Mem set)) →
+      ((w x : Standing) → (First w x → ⊥) → (First x w → ⊥) → Equal w x) → ((u w x : Standing) → Equal w x → First u w → First u x) →
+      Same (Mem (unbeaten standing step reached)) (Unbeaten (By standing (FirstOrSecond First Equal (BeatsAt step))) (Mem set))
+  step_after First Equal step set reached same equal follows =
+      let Second = By standing (BeatsAt step) in
+      let After = Unbeaten Second (Unbeaten (By standing First) (Mem set)) in
+      same_then (Mem (unbeaten standing step reached)) After (Unbeaten (By standing (FirstOrSecond First Equal (BeatsAt step))) (Mem set))
+      (same_then (Mem (unbeaten standing step reached)) (Unbeaten Second (Mem reached)) After
+      (same_step step reached) (same_unbeaten Second (Mem reached) (Unbeaten (By standing First) (Mem set)) same))
+      (same_both (By standing First) (By standing Equal) Second (Mem set)
+      (λ w x. equal (standing w) (standing x)) (λ u w x. follows (standing u) (standing w) (standing x)))
 
-  abbrev s5 : List M
-  s5 = unbeaten standing steps.Identifier s4
+  module _ (set : List M) where
+    abbrev s1 : List M
+    s1 = unbeaten standing steps.Preference set
 
-  abbrev s6 : List M
-  s6 = unbeaten standing steps.Address s5
+    abbrev s2 : List M
+    s2 = unbeaten standing steps.PathLength s1
 
-  same1 : Same (Mem s1) (Unbeaten (By standing IsPreferred) (Mem set))
-  same1 = same_step standing steps.Preference IsPreferred means_preferred holds_preferred set
+    abbrev s3 : List M
+    s3 = unbeaten standing steps.Origin s2
 
-  same2 : Same (Mem s2) (Unbeaten (By standing IsPreferredOrShorter) (Mem set))
-  same2 =
-      same_then (Mem s2) (Unbeaten (By standing IsShorter) (Mem s1)) (Unbeaten (By standing IsPreferredOrShorter) (Mem set))
-      (same_step standing steps.PathLength IsShorter means_shorter holds_shorter s1)
-      (same_then (Unbeaten (By standing IsShorter) (Mem s1)) (Unbeaten (By standing IsShorter) (Unbeaten (By standing IsPreferred) (Mem set))) (Unbeaten (By standing IsPreferredOrShorter) (Mem set))
-      (same_unbeaten (By standing IsShorter) (Mem s1) (Unbeaten (By standing IsPreferred) (Mem set)) same1)
-      (same_both (By standing IsPreferred) (By standing IsAsPreferred) (By standing IsShorter) (Mem set)
-      (λ w x. equal_preference (standing w) (standing x)) (λ u w x. follows_preference (standing u) (standing w) (standing x))))
+    abbrev s4 : List M
+    s4 = unbeaten standing steps.Med s3
 
-  pub same3 : Same (Mem s3) (Unbeaten (By standing IsAhead) (Mem set))
-  same3 =
-      same_then (Mem s3) (Unbeaten (By standing HasLowerOrigin) (Mem s2)) (Unbeaten (By standing IsAhead) (Mem set))
-      (same_step standing steps.Origin HasLowerOrigin means_lower_origin holds_lower_origin s2)
-      (same_then (Unbeaten (By standing HasLowerOrigin) (Mem s2)) (Unbeaten (By standing HasLowerOrigin) (Unbeaten (By standing IsPreferredOrShorter) (Mem set))) (Unbeaten (By standing IsAhead) (Mem set))
-      (same_unbeaten (By standing HasLowerOrigin) (Mem s2) (Unbeaten (By standing IsPreferredOrShorter) (Mem set)) same2)
-      (same_both (By standing IsPreferredOrShorter) (By standing IsAsLong) (By standing HasLowerOrigin) (Mem set)
-      (λ w x. equal_length (standing w) (standing x)) (λ u w x. follows_length (standing u) (standing w) (standing x))))
+    abbrev s5 : List M
+    s5 = unbeaten standing steps.Identifier s4
 
-  same4 : Same (Mem s4) (LeftByMed standing (Mem set))
-  same4 =
-      same_then (Mem s4) (Unbeaten (By standing HasLowerMed) (Mem s3)) (LeftByMed standing (Mem set))
-      (same_step standing steps.Med HasLowerMed means_lower_med holds_lower_med s3)
-      (same_then (Unbeaten (By standing HasLowerMed) (Mem s3)) (Unbeaten (By standing HasLowerMed) (Unbeaten (By standing IsAhead) (Mem set))) (LeftByMed standing (Mem set))
-      (same_unbeaten (By standing HasLowerMed) (Mem s3) (Unbeaten (By standing IsAhead) (Mem set)) same3)
-      (same_both (By standing IsAhead) (By standing IsLevel) (By standing HasLowerMed) (Mem set)
-      (λ w x. equal_level (standing w) (standing x)) (λ u w x. follows_level (standing u) (standing w) (standing x))))
+    abbrev s6 : List M
+    s6 = unbeaten standing steps.Address s5
 
-  same5 : Same (Mem s5) (Unbeaten (By standing HasLowerId) (Mem s4))
-  same5 = same_step standing steps.Identifier HasLowerId means_lower_id holds_lower_id s4
+    same2 : Same (Mem s2) (Unbeaten (By standing IsPreferredOrShorter) (Mem set))
+    same2 = step_after IsPreferred IsAsPreferred steps.PathLength set s1 (same_step steps.Preference set) (λ w x a b. omega arith) (λ u w x e h. omega arith)
 
-  same6 : Same (Mem s6) (Left standing (Mem set))
-  same6 =
-      same_then (Mem s6) (Unbeaten (By standing HasLowerAddress) (Mem s5)) (Left standing (Mem set))
-      (same_step standing steps.Address HasLowerAddress means_lower_address holds_lower_address s5)
-      (same_then (Unbeaten (By standing HasLowerAddress) (Mem s5)) (Unbeaten (By standing HasLowerAddress) (Unbeaten (By standing HasLowerId) (Mem s4))) (Left standing (Mem set))
-      (same_unbeaten (By standing HasLowerAddress) (Mem s5) (Unbeaten (By standing HasLowerId) (Mem s4)) same5)
-      (same_then (Unbeaten (By standing HasLowerAddress) (Unbeaten (By standing HasLowerId) (Mem s4))) (Unbeaten (By standing Precedes) (Mem s4)) (Left standing (Mem set))
-      (same_both (By standing HasLowerId) (By standing HasSameId) (By standing HasLowerAddress) (Mem s4)
-      (λ w x. equal_id (standing w) (standing x)) (λ u w x. follows_id (standing u) (standing w) (standing x)))
-      (same_unbeaten (By standing Precedes) (Mem s4) (LeftByMed standing (Mem set)) same4)))
+    pub same3 : Same (Mem s3) (Unbeaten (By standing IsAhead) (Mem set))
+    same3 = step_after IsPreferredOrShorter IsAsLong steps.Origin set s2 same2 (λ w x a b. grind arith) (λ u w x e h. grind arith)
+
+    same4 : Same (Mem s4) (LeftByMed standing (Mem set))
+    same4 = step_after IsAhead IsLevel steps.Med set s3 same3 equal_level follows_level
+
+    same6 : Same (Mem s6) (Left standing (Mem set))
+    same6 =
+        same_then (Mem s6) (Unbeaten (By standing Precedes) (Mem s4)) (Left standing (Mem set))
+        (step_after HasLowerId HasSameId steps.Address s4 s5 (same_step steps.Identifier s4) (λ w x a b. omega arith) (λ u w x e h. omega arith))
+        (same_unbeaten (By standing Precedes) (Mem s4) (LeftByMed standing (Mem set)) same4)
 
 -- what all six steps leave
 pub same_remaining : {M : Type 0} (standing : M → Standing) (set : List M) → Same (Mem (remaining standing decision_steps set)) (Left standing (Mem set))

@@ -1,8 +1,9 @@
 -- Laws of the decision process: some member is left, and who is left is so at each step.
 -- For laws.rt, BehindLemmas, and the lemmas of clients.
-use Rattle.std.proofs.Common.{◌≡◌, ◌∙◌, sym, ap, refl, ℕ, ◌<◌, suc, zero, arith, Bool, true, false, not, ◌⊎◌, inl, inr, List, [], ◌∷◌, ◌++◌, length, get_or, Option, Some, None}
-use Rattle.std.specs.Prelude.{filter, ◌||◌, MatchOption}
+use Rattle.std.proofs.Common.{◌≡◌, ◌∙◌, sym, ap, subst, refl, ◌<◌, arith, Bool, true, false, ◌⊎◌, inl, inr, List, [], ◌∷◌, ◌++◌, Some, None}
+use Rattle.std.specs.Prelude.{filter}
 use Rattle.std.specs.List.{list_any, Contains}
+use Rattle.std.proofs.lemmas.Bool.{both_ways}
 use Rattle.std.proofs.lemmas.Bool.Decides.{nat_tests}
 use Rattle.rs_choice.specs.declared.candidate.Standing.{Standing}
 use Rattle.rs_choice.specs.declared.step.Step.{Step}
@@ -11,21 +12,10 @@ use Rattle.rs_choice.specs.Policy.{is_permitted}
 use Rattle.rs_choice.specs.Comparison.{Precedes, IsAheadByMed}
 use Rattle.rs_choice.specs.Decision.{SentRoute, beats, decision_steps, unbeaten, remaining, choice, standing_of}
 use Rattle.rs_choice.specs.Laws.{SameMembers, ChoiceIsMember, ChoiceIsUnbeaten, ChoiceIgnoresOrder, MedDecidesWithinNeighbour, OpenPolicySharesChoice}
-use Rattle.rs_choice.proofs.decision.Members.{Mem, mem-filter, mem_of-filter, list_any-none, none-list_any}
-use Rattle.rs_choice.proofs.decision.Eliminations.{Same, same_unbeaten, Left, LeftByMed, By, same_remaining, means_lower_med}
-use Rattle.rs_choice.proofs.decision.PlaceLemmas.{first_cases, mem-at}
+use Rattle.rs_choice.proofs.decision.Members.{Mem, any_found, contains-mem, mem-contains, none-list_any}
+use Rattle.rs_choice.proofs.decision.Eliminations.{Same, same_unbeaten, Left, LeftByMed, By, same_remaining, beats_tells, is_false, means_unbeaten, unbeaten_means}
+use Rattle.rs_choice.proofs.decision.PlaceLemmas.{first_cases, first-mem}
 use Rattle.rs_choice.proofs.decision.ScanLemmas.{precedes_cases}
-
-pub mem-contains : {M : Type 0} (xs : List M) (x : M) → Mem xs x → Contains xs x
-mem-contains xs x h = let found = mem-at xs x h in (found.0, found.1, found.2 x)
-
-at-mem : {M : Type 0} (xs : List M) (k : ℕ) (x : M) → k < length xs → get_or xs k x ≡ x → Mem xs x
-at-mem [] k x within is = absurd (omega arith)
-at-mem (y ∷ ys) zero x within is = inl is
-at-mem (y ∷ ys) (suc k) x within is = inr (at-mem ys k x (omega arith) is)
-
-pub contains-mem : {M : Type 0} (xs : List M) (x : M) → Contains xs x → Mem xs x
-contains-mem xs x h = at-mem xs h.0 x h.1 h.2
 
 no_one_beats_itself : (step : Step) (one : Standing) → beats step one one ≡ false
 no_one_beats_itself steps.Preference one = grind (arith, nat_tests)
@@ -43,9 +33,6 @@ beats_then steps.Med a b c h k = grind (arith, nat_tests)
 beats_then steps.Identifier a b c h k = grind (arith, nat_tests)
 beats_then steps.Address a b c h k = grind (arith, nat_tests)
 
-clash : (b : Bool) → b ≡ true → b ≡ false → ⊥
-clash b t f = absurd (cc (t, f))
-
 module _ {M : Type 0} (standing : M → Standing) (step : Step) where
   abbrev pub beat : M → M → Bool
   beat w x = beats step (standing w) (standing x)
@@ -59,13 +46,10 @@ module _ {M : Type 0} (standing : M → Standing) (step : Step) where
     λ w h. elim h [
       | inl same ↦ rw (← same) (no_one_beats_itself step (standing x))
       | inr later ↦
-          go w later (beat w x) refl
+          is_false (beat w x)
+          (λ beats. both_ways (beat w z) (best w later) (beats_then step (standing w) (standing x) (standing z) beats wins))
     ],
   )
-    where
-      go : (w : M) → Mem xs w → (b : Bool) → beat w x ≡ b → beat w x ≡ false
-      go w later true e = absurd (clash (beat w z) (beats_then step (standing w) (standing x) (standing z) e wins) (best w later))
-      go w later false e = e
   best_of_two x xs z member best false loses =
       (z, inr member, λ w h. elim h [ inl same ↦ rw (← same) loses | inr later ↦ best w later ])
 
@@ -75,14 +59,10 @@ module _ {M : Type 0} (standing : M → Standing) (step : Step) where
       let found = some_unbeaten y ys in
       best_of_two x (y ∷ ys) found.0 found.1 found.2 (beat x found.0) refl
 
-  pub some_left : (x : M) (xs : List M) → (best : M) × Mem (unbeaten standing step (x ∷ xs)) best
-  unfolding unbeaten
+  some_left : (x : M) (xs : List M) → (best : M) × Mem (unbeaten standing step (x ∷ xs)) best
   some_left x xs =
-      let found = some_unbeaten x xs in (
-        found.0,
-        mem_of-filter (λ one. not (list_any (λ other. beats step (standing other) (standing one)) (x ∷ xs))) (x ∷ xs) found.0
-            (ap not (none-list_any (λ other. beats step (standing other) (standing found.0)) (x ∷ xs) found.2)) found.1,
-      )
+      let found = some_unbeaten x xs in
+      (found.0, means_unbeaten standing step (x ∷ xs) found.0 found.1 (none-list_any (λ other. beats step (standing other) (standing found.0)) (x ∷ xs) found.2))
 
 -- some member of a set is left by all steps
 pub some_remaining : {M : Type 0} (standing : M → Standing) (steps : List Step) (set : List M) (x : M) → Mem set x →
@@ -102,11 +82,7 @@ empty_or_member (x ∷ xs) = inr (x, inl refl)
 pub choice_left : {M : Type 0} (standing : M → Standing) (set : List M) (chosen : M) → choice standing set ≡ Some chosen →
     Mem (remaining standing decision_steps set) chosen
 unfolding choice
-choice_left standing set chosen e =
-    elim (first_cases (remaining standing decision_steps set)) [
-      | inl none ↦ absurd (cc (none.0, e))
-      | inr found ↦ let same : found.0 ≡ chosen = cc (found.1, e) in rw (← same) found.2
-    ]
+choice_left standing set chosen e = first-mem (remaining standing decision_steps set) chosen e
 
 pub choice_cases : {M : Type 0} (standing : M → Standing) (set : List M) →
     ((choice standing set ≡ None) × (set ≡ [])) ⊎ ((chosen : M) × (choice standing set ≡ Some chosen) × Left standing (Mem set) chosen)
@@ -120,46 +96,32 @@ choice_cases standing set =
       | inr found ↦ inr (found.0, found.1, (same_remaining standing set).to found.0 found.2)
     ]
 
-member_of_choice : (set : List SentRoute) (answer : Option SentRoute) →
-    ((answer ≡ None) × (set ≡ [])) ⊎ ((chosen : SentRoute) × (answer ≡ Some chosen) × Mem set chosen) → MatchOption answer (set ≡ []) (λ chosen. Contains set chosen)
-member_of_choice set None (inl none) = none.1
-member_of_choice set None (inr found) = absurd (cc (found.1))
-member_of_choice set (Some chosen) (inl none) = absurd (cc (none.0))
-member_of_choice set (Some chosen) (inr found) = mem-contains set chosen (let same : found.0 ≡ chosen = cc (found.1) in rw (← same) found.2)
+-- where the set has a member, there is a choice
+pub some_choice : {M : Type 0} (standing : M → Standing) (set : List M) (x : M) → Mem set x →
+    (chosen : M) × (choice standing set ≡ Some chosen) × Left standing (Mem set) chosen
+some_choice standing set x member = elim (choice_cases standing set) [
+  | inl none ↦ absurd (subst (λ list. Mem list x) none.1 member)
+  | inr found ↦ found
+]
 
 pub choice_is_member : ChoiceIsMember
-choice_is_member plan set =
-    member_of_choice set (choice (standing_of plan) set)
-    (elim (choice_cases (standing_of plan) set) [
-      | inl none ↦ inl none
-      | inr found ↦ inr (found.0, found.1, found.2.member.member)
-    ])
+choice_is_member plan set = elim (choice_cases (standing_of plan) set) [
+  | inl none ↦ rw none.0 none.1
+  | inr found ↦ rw found.1 (mem-contains set found.0 found.2.member.member)
+]
 
 -- later steps only remove
-remaining_among : {M : Type 0} (standing : M → Standing) (steps : List Step) (set : List M) (x : M) → Mem (remaining standing steps set) x → Mem set x
-unfolding remaining unbeaten
+pub remaining_among : {M : Type 0} (standing : M → Standing) (steps : List Step) (set : List M) (x : M) → Mem (remaining standing steps set) x → Mem set x
+unfolding remaining
 remaining_among standing [] set x h = h
 remaining_among standing (step ∷ later) set x h =
-    (mem-filter (λ one. not (list_any (λ other. beats step (standing other) (standing one)) set)) set x
-    (remaining_among standing later (unbeaten standing step set) x h)).0
+    (unbeaten_means standing step set x (remaining_among standing later (unbeaten standing step set) x h)).0
 
-remaining-append : {M : Type 0} (standing : M → Standing) (before after : List Step) (set : List M) →
+pub remaining-append : {M : Type 0} (standing : M → Standing) (before after : List Step) (set : List M) →
     remaining standing (before ++ after) set ≡ remaining standing after (remaining standing before set)
 unfolding remaining
 remaining-append standing [] after set = refl
 remaining-append standing (step ∷ before) after set = remaining-append standing before after (unbeaten standing step set)
-
--- what an elimination leaves: members that none of the set beats
-unbeaten_means : {M : Type 0} (standing : M → Standing) (step : Step) (set : List M) (x : M) → Mem (unbeaten standing step set) x →
-    Mem set x × ((w : M) → Mem set w → beats step (standing w) (standing x) ≡ false)
-unfolding unbeaten
-unbeaten_means standing step set x h =
-    let kept = mem-filter (λ one. not (list_any (λ other. beats step (standing other) (standing one)) set)) set x h in
-    (kept.0, λ w k. list_any-none (λ other. beats step (standing other) (standing x)) set w (not_not (list_any (λ other. beats step (standing other) (standing x)) set) kept.1) k)
-  where
-    not_not : (b : Bool) → not b ≡ true → b ≡ false
-    not_not true e = absurd (cc (e))
-    not_not false e = refl
 
 left_at_step : {M : Type 0} (standing : M → Standing) (step : Step) (after : List Step) (reached : List M) (x : M) →
     Mem (remaining standing (step ∷ after) reached) x → Mem reached x × ((w : M) → Mem reached w → beats step (standing w) (standing x) ≡ false)
@@ -185,7 +147,7 @@ same_members some others same = record {
 }
 
 -- two members that all steps leave are from one address
-one_address : (standing : SentRoute → Standing) (set : List SentRoute) (one other : SentRoute) → Left standing (Mem set) one → Left standing (Mem set) other →
+pub one_address : {M : Type 0} (standing : M → Standing) (set : List M) (one other : M) → Left standing (Mem set) one → Left standing (Mem set) other →
     (standing one).address ≡ (standing other).address
 one_address standing set one other left_one left_other =
     elim (precedes_cases (standing one) (standing other) (λ before. left_other.best one left_one.member before)) [
@@ -200,35 +162,17 @@ choice_ignores_order plan some others same own =
     elim (choice_cases st some) [
       | inl none ↦ elim (choice_cases st others) [
         | inl also ↦ none.0 ∙ sym also.0
-        | inr found ↦
-            let member : Mem some found.0 = members.from found.0 found.2.member.member in
-            let nothing : Mem [] found.0 = rw none.1 at member in
-            absurd nothing
+        | inr found ↦ absurd (cc (none.0, (some_choice st some found.0 (members.from found.0 found.2.member.member)).1))
       ]
-      | inr one ↦ elim (choice_cases st others) [
-        | inl none ↦
-            let member : Mem others one.0 = members.to one.0 one.2.member.member in
-            let nothing : Mem [] one.0 = rw none.1 at member in
-            absurd nothing
-        | inr other ↦
-            let left = (same_unbeaten (By st Precedes) (LeftByMed st (Mem some)) (LeftByMed st (Mem others))
-            (same_unbeaten (By st IsAheadByMed) (Mem some) (Mem others) members)).from other.0 other.2 in
-            let address = one_address st some one.0 other.0 one.2 left in
-            one.1 ∙ ap Some (own one.0 other.0 (mem-contains some one.0 one.2.member.member) (mem-contains some other.0 left.member.member) address) ∙ sym other.1
-      ]
+      | inr one ↦
+          let other = some_choice st others one.0 (members.to one.0 one.2.member.member) in
+          let left = (same_unbeaten (By st Precedes) (LeftByMed st (Mem some)) (LeftByMed st (Mem others))
+          (same_unbeaten (By st IsAheadByMed) (Mem some) (Mem others) members)).from other.0 other.2 in
+          let address = one_address st some one.0 other.0 one.2 left in
+          one.1 ∙ ap Some (own one.0 other.0 (mem-contains some one.0 one.2.member.member) (mem-contains some other.0 left.member.member) address) ∙ sym other.1
     ]
 
-any_of_two : {M : Type 0} (p : M → Bool) (y : M) (ys : List M) (b : Bool) → p y ≡ b → (list_any p ys ≡ true → (x : M) × Mem ys x × (p x ≡ true)) →
-    (b || list_any p ys) ≡ true → (x : M) × Mem (y ∷ ys) x × (p x ≡ true)
-any_of_two p y ys true e later h = (y, inl refl, e)
-any_of_two p y ys false e later h = let found = later h in (found.0, inr found.1, found.2)
-
-pub any_found : {M : Type 0} (p : M → Bool) (xs : List M) → list_any p xs ≡ true → (x : M) × Mem xs x × (p x ≡ true)
-any_found p [] h = absurd (cc (h))
-any_found p (y ∷ ys) h = any_of_two p y ys (p y) refl (any_found p ys) h
-
 pub med_decides : MedDecidesWithinNeighbour
-unfolding unbeaten
 med_decides plan set removed member gone = go (list_any (λ other. beats steps.Med (standing_of plan other) (standing_of plan removed)) set) refl
   where
     go : (b : Bool) → list_any (λ other. beats steps.Med (standing_of plan other) (standing_of plan removed)) set ≡ b →
@@ -237,11 +181,11 @@ med_decides plan set removed member gone = go (list_any (λ other. beats steps.M
         × ((standing_of plan other).med < (standing_of plan removed).med)
     go true e =
         let found = any_found (λ other. beats steps.Med (standing_of plan other) (standing_of plan removed)) set e in
-        let lower = means_lower_med (standing_of plan found.0) (standing_of plan removed) found.2 in
+        let lower = (beats_tells steps.Med (standing_of plan found.0) (standing_of plan removed)).0 found.2 in
         (found.0, mem-contains set found.0 found.1, lower.0, lower.1)
     go false e =
-        let kept = mem_of-filter (λ one. not (list_any (λ other. beats steps.Med (standing_of plan other) (standing_of plan one)) set)) set removed (ap not e) (contains-mem set removed member) in
-        absurd (gone (mem-contains (filter (λ one. not (list_any (λ other. beats steps.Med (standing_of plan other) (standing_of plan one)) set)) set) removed kept))
+        let left = means_unbeaten (standing_of plan) steps.Med set removed (contains-mem set removed member) e in
+        absurd (gone (mem-contains (unbeaten (standing_of plan) steps.Med set) removed left))
 
 filter_all : {M : Type 0} (p : M → Bool) (xs : List M) → ((x : M) → Mem xs x → p x ≡ true) → filter p xs ≡ xs
 filter_all p [] all = refl

@@ -1,5 +1,5 @@
 -- The choice by its place in a list: for ScanLemmas, GroupChoice, GroupSettling, LawLemmas and PlanLaws.
-use Rattle.std.proofs.Common.{◌≡◌, ◌∙◌, sym, ap, refl, ℕ, ◌+◌, ◌<◌, ◌≤◌, suc, zero, arith, not, ◌⊎◌, inl, inr, List, [], ◌∷◌, length, get_or, Some, None}
+use Rattle.std.proofs.Common.{◌≡◌, ◌∙◌, sym, ap, refl, ℕ, ◌+◌, ◌<◌, ◌≤◌, suc, zero, arith, not, ◌⊎◌, inl, inr, List, [], ◌∷◌, length, Some, None}
 use Rattle.std.specs.Prelude.{slice_get}
 use Rattle.std.specs.List.{list_any, enumerate_from, AllPairs}
 use Rattle.std.specs.Option.{option_map}
@@ -9,7 +9,7 @@ use Rattle.rs_choice.specs.declared.candidate.Standing.{Standing}
 use Rattle.rs_choice.specs.declared.step.Step.{Step}
 use Rattle.rs_choice.specs.Decision.{beats, decision_steps, unbeaten, remaining, first_member, choice, place_of_choice}
 use Rattle.rs_choice.specs.Comparison.{IsAheadByMed, Precedes}
-use Rattle.rs_choice.proofs.decision.Members.{Mem}
+use Rattle.rs_choice.proofs.decision.Members.{Mem, mem-at, mem-slice_get, slice_get-mem}
 use Rattle.rs_choice.proofs.decision.Eliminations.{Unbeaten, Left, LeftByMed, By, same_remaining}
 
 -- the numbered members of a list are those at their numbers
@@ -30,6 +30,10 @@ enumerate-at n (y ∷ ys) (suc j) x at = inr (let e : n + suc j ≡ n + 1 + j = 
 pub first_cases : {M : Type 0} (xs : List M) → ((first_member xs ≡ None) × ((x : M) → Mem xs x → ⊥)) ⊎ ((x : M) × (first_member xs ≡ Some x) × Mem xs x)
 first_cases [] = inl (refl, λ x h. h)
 first_cases (x ∷ xs) = inr (x, refl, inl refl)
+
+pub first-mem : {M : Type 0} (xs : List M) (first : M) → first_member xs ≡ Some first → Mem xs first
+first-mem [] first is = absurd (cc (is))
+first-mem (x ∷ xs) first is = inl (cc (is))
 
 -- a member's standing, whatever its number
 abbrev pub numbered : {M : Type 0} → (M → Standing) → ℕ × M → Standing
@@ -61,11 +65,6 @@ ascends-remaining standing [] xs ascends = ascends
 ascends-remaining standing (step ∷ later) xs ascends =
     ascends-remaining standing later (unbeaten standing step xs) (AllPairs-filter Ascends (λ one. not (list_any (λ other. beats step (standing other) (standing one)) xs)) xs ascends)
 
-pub mem-at : {M : Type 0} (xs : List M) (x : M) → Mem xs x → (k : ℕ) × (k < length xs) × ((d : M) → get_or xs k d ≡ x)
-mem-at [] x h = absurd h
-mem-at (y ∷ ys) x (inl same) = (0, omega arith, λ d. same)
-mem-at (y ∷ ys) x (inr h) = let found = mem-at ys x h in (suc found.0, omega (arith, found.1), found.2)
-
 -- the member of the least number is the first
 first_least : {M : Type 0} (xs : List (ℕ × M)) (x : ℕ × M) → AllPairs Ascends xs → Mem xs x → ((y : ℕ × M) → Mem xs y → x.0 ≤ y.0) → first_member xs ≡ Some x
 first_least [] x ascends h least = absurd h
@@ -90,16 +89,6 @@ unbeaten_pair : {M : Type 0} (standing : M → Standing) (Beats : Standing → S
     ((p : ℕ × M) → InPairs p → In p.1) → (p : ℕ × M) → InPairs p →
     Unbeaten (By standing Beats) In p.1 → Unbeaten (By (numbered standing) Beats) InPairs p
 unbeaten_pair standing Beats InPairs In to p member left = record { member = member; best = λ q h. left.best q.1 (to q h) }
-
-pub mem-slice_get : {M : Type 0} (xs : List M) (k : ℕ) (x : M) → slice_get xs k ≡ Some x → Mem xs x
-mem-slice_get [] k x at = absurd (cc (at))
-mem-slice_get (y ∷ ys) zero x at = inl (cc)
-mem-slice_get (y ∷ ys) (suc k) x at = inr (mem-slice_get ys k x at)
-
-pub slice_get-mem : {M : Type 0} (xs : List M) (x : M) → Mem xs x → (k : ℕ) × (slice_get xs k ≡ Some x)
-slice_get-mem [] x h = absurd h
-slice_get-mem (y ∷ ys) x (inl same) = (0, ap Some same)
-slice_get-mem (y ∷ ys) x (inr h) = let found = slice_get-mem ys x h in (suc found.0, found.1)
 
 module _ {M : Type 0} (standing : M → Standing) (xs : List M) where
   abbrev pairs : List (ℕ × M)

@@ -1,7 +1,7 @@
 -- Going over a list of candidates: the leader, and then the best of those that the first four steps leave.
 -- For `leader`, `best` and `choose` of scan.rt, decision.rt, and `weighing` of clients.rt.
-use Rattle.std.proofs.Common.{◌≡◌, ap, refl, ℕ, ◌+◌, ◌<◌, arith, Bool, false, ◌⊎◌, inl, inr, List, length, Option, Some, None, below_more}
-use Rattle.std.specs.Prelude.{slice_get, IsTrue, ◌↔◌}
+use Rattle.std.proofs.Common.{◌≡◌, ap, refl, ℕ, ◌+◌, ◌<◌, arith, ◌⊎◌, inl, inr, List, length, Option, Some, None, below_more}
+use Rattle.std.specs.Prelude.{slice_get}
 use Rattle.std.specs.Option.{option_map}
 use Rattle.std.proofs.lemmas.Option.{slice_get_within}
 use Rattle.rs_choice.specs.declared.candidate.Candidate.{Candidate}
@@ -11,9 +11,9 @@ use Rattle.rs_choice.specs.Plan.{Plan}
 use Rattle.rs_choice.specs.Decision.{place_of_choice, standing_of_candidate}
 use Rattle.rs_choice.specs.Comparison.{IsAhead, IsLevel, Precedes}
 use Rattle.rs_choice.specs.Scan.{HasNoneAhead, Leads, IsLeader, IsLeftByMed, GoesFirst, Holds, IsBest}
-use Rattle.rs_choice.proofs.decision.Members.{Mem}
+use Rattle.rs_choice.proofs.decision.Members.{Mem, mem-slice_get, slice_get-mem}
 use Rattle.rs_choice.proofs.decision.Eliminations.{LeftByMed, equal_level, follows_level}
-use Rattle.rs_choice.proofs.decision.PlaceLemmas.{mem-slice_get, slice_get-mem, place_of_choice-Some, place_of_choice-None}
+use Rattle.rs_choice.proofs.decision.PlaceLemmas.{place_of_choice-Some, place_of_choice-None}
 
 pub not_ahead_of_itself : (one : Standing) → IsAhead one one → ⊥
 not_ahead_of_itself one h = grind arith
@@ -34,10 +34,6 @@ precedes_cases a b h = grind arith
 -- who precedes the best holds against all that the best holds against
 pub precedes_holds : (one best : Placed) (place : ℕ) (other : Standing) → Precedes one.standing best.standing → Holds best place other → Precedes one.standing other
 precedes_holds one best place other h k = grind arith
-
--- what a test that answered false tells
-pub when_false : (answer : Bool) (P : Type 0) → (IsTrue answer ↔ P) → answer ≡ false → P → ⊥
-when_false answer P means fails holds = absurd (cc (fails, means.1 holds))
 
 same_candidate : (candidates : List Candidate) (k : ℕ) (a b : Candidate) → slice_get candidates k ≡ Some a → slice_get candidates k ≡ Some b → a ≡ b
 same_candidate candidates k a b at_a at_b = cc (at_a, at_b)

@@ -2,13 +2,15 @@
 use Rattle.std.proofs.Common.{◌≡◌, ◌∙◌, sym, ap, refl, arith, Bool, true, false, cond, not, inl, inr, List, [], ◌∷◌, Some}
 use Rattle.std.specs.Prelude.{filter}
 use Rattle.std.specs.List.{list_any}
+use Rattle.std.proofs.lemmas.Bool.{both_ways, cases_Bool}
 use Rattle.std.proofs.lemmas.Bool.Decides.{nat_tests}
 use Rattle.rs_choice.specs.declared.candidate.Standing.{Standing}
 use Rattle.rs_choice.specs.declared.step.Step.{Step}
 use Rattle.rs_choice.specs.declared.step.Step.TheVariants as steps
 use Rattle.rs_choice.specs.Decision.{beats, decision_steps, unbeaten, remaining, first_member, choice}
-use Rattle.rs_choice.proofs.decision.Members.{Mem, mem-filter, mem_of-filter, list_any-none, none-list_any}
-use Rattle.rs_choice.proofs.decision.Eliminations.{not_true, true_not_false, is_false}
+use Rattle.rs_choice.proofs.decision.Members.{Mem, any_found, mem-filter, mem_of-filter, list_any-none, none-list_any}
+use Rattle.rs_choice.proofs.decision.Eliminations.{is_false, unbeaten_means}
+use Rattle.rs_choice.proofs.decision.LawLemmas.{choice_left}
 
 filter_swap_first : {M : Type 0} (kept p q : M → Bool) (x : M) (xs : List M) (stays passes : Bool) → kept x ≡ stays → (stays ≡ true → q x ≡ passes) →
     filter q (filter kept xs) ≡ filter kept (filter p xs) →
@@ -25,20 +27,17 @@ filter_swap kept p q [] alike = refl
 filter_swap kept p q (x ∷ xs) alike =
     filter_swap_first kept p q x xs (kept x) (p x) refl (alike x (inl refl)) (filter_swap kept p q xs (λ y h. alike y (inr h)))
 
-is_true : (b : Bool) → (b ≡ false → ⊥) → b ≡ true
-is_true true h = refl
-is_true false h = absurd (h refl)
-
 -- a test finds the same in some of a list, where for each member that passes it one of these does
 any_of_some : {M : Type 0} (p : M → Bool) (some all : List M) → ((w : M) → Mem some w → Mem all w) →
     ((w : M) → Mem all w → p w ≡ true → (third : M) × Mem some third × (p third ≡ true)) →
     (b : Bool) → list_any p some ≡ b → list_any p all ≡ b
-any_of_some p some all among covered true found =
-    is_true (list_any p all)
-    (λ none. true_not_false (list_any p some) found (none-list_any p some (λ w h. list_any-none p all w none (among w h))))
+any_of_some p some all among covered true found = elim (cases_Bool (list_any p all)) [
+  | inl also ↦ also
+  | inr none ↦ let one = any_found p some found in absurd (both_ways (p one.0) (list_any-none p all one.0 none (among one.0 one.1)) one.2)
+]
 any_of_some p some all among covered false none =
     none-list_any p all
-    (λ w h. is_false (p w) (λ passes. let third = covered w h passes in true_not_false (p third.0) third.2 (list_any-none p some third.0 none third.1)))
+    (λ w h. is_false (p w) (λ passes. let third = covered w h passes in both_ways (p third.0) (list_any-none p some third.0 none third.1) third.2))
 
 -- each member that stays and that a step removes is removed by one that stays
 abbrev pub RemovedByKept : {M : Type 0} → (M → Standing) → (M → Bool) → Step → List M → Type 0
@@ -79,35 +78,11 @@ remaining-filter standing kept (step ∷ later) set removed =
 abbrev Orders : Step → Type 0
 Orders step = (one other chosen : Standing) → beats step other one ≡ true → beats step other chosen ≡ false → beats step chosen one ≡ true
 
-preference_orders : Orders steps.Preference
-preference_orders one other chosen h k = grind (arith, nat_tests)
-
-length_orders : Orders steps.PathLength
-length_orders one other chosen h k = grind (arith, nat_tests)
-
-origin_orders : Orders steps.Origin
-origin_orders one other chosen h k = grind (arith, nat_tests)
-
-identifier_orders : Orders steps.Identifier
-identifier_orders one other chosen h k = grind (arith, nat_tests)
-
-address_orders : Orders steps.Address
-address_orders one other chosen h k = grind (arith, nat_tests)
-
--- what a step leaves is of the set, and none of the set beats it
-left_means : {M : Type 0} (standing : M → Standing) (step : Step) (set : List M) (x : M) → Mem (unbeaten standing step set) x →
-    Mem set x × ((w : M) → Mem set w → beats step (standing w) (standing x) ≡ false)
-unfolding unbeaten
-left_means standing step set x h =
-    let kept = mem-filter (λ one. not (list_any (λ other. beats step (standing other) (standing one)) set)) set x h in
-    let none = not_true (list_any (λ other. beats step (standing other) (standing x)) set) kept.1 in
-    (kept.0, λ w k. list_any-none (λ other. beats step (standing other) (standing x)) set w none k)
-
 -- whom such a step removes, a member that it leaves removes
 removed_by_chosen : {M : Type 0} (standing : M → Standing) (kept : M → Bool) (chosen : M) → kept chosen ≡ true → (step : Step) (set : List M) → Orders step →
     Mem (unbeaten standing step set) chosen → RemovedByKept standing kept step set
 removed_by_chosen standing kept chosen stays step set orders left one other member one_stays other_member beaten =
-    let means = left_means standing step set chosen left in
+    let means = unbeaten_means standing step set chosen left in
     (chosen, means.0, stays, orders (standing one) (standing other) (standing chosen) beaten (means.1 other other_member))
 
 first_of_kept : {M : Type 0} (kept : M → Bool) (xs : List M) (chosen : M) → first_member xs ≡ Some chosen → kept chosen ≡ true →
@@ -117,10 +92,6 @@ first_of_kept kept (x ∷ xs) chosen first stays =
     let same : x ≡ chosen = cc (first) in
     let x_stays : kept x ≡ true = ap kept same ∙ stays in
     rw x_stays first
-
-first_is_member : {M : Type 0} (xs : List M) (chosen : M) → first_member xs ≡ Some chosen → Mem xs chosen
-first_is_member [] chosen first = absurd (cc (first))
-first_is_member (x ∷ xs) chosen first = inl (cc (first))
 
 -- what the steps before MED leave
 abbrev pub reaching_med : {M : Type 0} → (M → Standing) → List M → List M
@@ -136,19 +107,19 @@ removed_at_all standing kept set chosen stays left6 by_med =
     let s3 = unbeaten standing steps.Origin s2 in
     let s4 = unbeaten standing steps.Med s3 in
     let s5 = unbeaten standing steps.Identifier s4 in
-    let left5 = (left_means standing steps.Address s5 chosen left6).0 in
-    let left4 = (left_means standing steps.Identifier s4 chosen left5).0 in
-    let left3 = (left_means standing steps.Med s3 chosen left4).0 in
-    let left2 = (left_means standing steps.Origin s2 chosen left3).0 in
-    let left1 = (left_means standing steps.PathLength s1 chosen left2).0 in
+    let left5 = (unbeaten_means standing steps.Address s5 chosen left6).0 in
+    let left4 = (unbeaten_means standing steps.Identifier s4 chosen left5).0 in
+    let left3 = (unbeaten_means standing steps.Med s3 chosen left4).0 in
+    let left2 = (unbeaten_means standing steps.Origin s2 chosen left3).0 in
+    let left1 = (unbeaten_means standing steps.PathLength s1 chosen left2).0 in
     let after_med : RemovedByKeptAt standing kept (steps.Identifier ∷ steps.Address ∷ []) s4 = (
-      removed_by_chosen standing kept chosen stays steps.Identifier s4 identifier_orders left5,
-      (removed_by_chosen standing kept chosen stays steps.Address s5 address_orders left6, tt),
+      removed_by_chosen standing kept chosen stays steps.Identifier s4 (λ one other chosen h k. grind (arith, nat_tests)) left5,
+      (removed_by_chosen standing kept chosen stays steps.Address s5 (λ one other chosen h k. grind (arith, nat_tests)) left6, tt),
     ) in (
-      removed_by_chosen standing kept chosen stays steps.Preference set preference_orders left1,
+      removed_by_chosen standing kept chosen stays steps.Preference set (λ one other chosen h k. grind (arith, nat_tests)) left1,
       (
-        removed_by_chosen standing kept chosen stays steps.PathLength s1 length_orders left2,
-        (removed_by_chosen standing kept chosen stays steps.Origin s2 origin_orders left3, (by_med, after_med)),
+        removed_by_chosen standing kept chosen stays steps.PathLength s1 (λ one other chosen h k. grind (arith, nat_tests)) left2,
+        (removed_by_chosen standing kept chosen stays steps.Origin s2 (λ one other chosen h k. grind (arith, nat_tests)) left3, (by_med, after_med)),
       ),
     )
 
@@ -158,6 +129,6 @@ pub choice_stays : {M : Type 0} (standing : M → Standing) (set : List M) (kept
     choice standing (filter kept set) ≡ Some chosen
 unfolding choice
 choice_stays standing set kept chosen first stays by_med =
-    let left = first_is_member (remaining standing decision_steps set) chosen first in
+    let left = choice_left standing set chosen first in
     ap first_member (remaining-filter standing kept decision_steps set (removed_at_all standing kept set chosen stays left by_med))
     ∙ first_of_kept kept (remaining standing decision_steps set) chosen first stays

@@ -1,18 +1,11 @@
 -- Routes in ascending order of their peers: for `place_of_peer` of held_order.rt.
-use Rattle.std.proofs.Common.{◌≡◌, ◌∙◌, ap, arith, inl, inr, ℕ, ◌<◌, ◌≤◌, true, false, List, length, get_or}
-use Rattle.std.specs.Prelude.{nat_lt}
+use Rattle.std.proofs.Common.{◌≡◌, ◌∙◌, ap, arith, inl, inr, ℕ, ◌<◌, ◌≤◌, List, length, get_or}
 use Rattle.std.specs.List.Sorted.{IsNonDecreasingBy, IsPartitionPoint}
-use Rattle.std.proofs.lemmas.Bool.Decides.{eqb_tells, nat_tests}
+use Rattle.std.proofs.lemmas.Bool.Decides.{eqb_tells}
 use Rattle.std.proofs.lemmas.Option.{get_or_from_slice_get, slice_get_within}
 use Rattle.rs_choice.specs.declared.held_route.HeldRoute.{HeldRoute}
 use Rattle.rs_choice.specs.Held.{AscendByPeer}
 use Rattle.rs_choice.specs.RouteChanges.{IsAt}
-
-pub tells_below : (a b : ℕ) → nat_lt a b ≡ true → a < b
-tells_below a b e = grind (arith, nat_tests)
-
-pub tells_above : (a b : ℕ) → nat_lt a b ≡ false → b ≤ a
-tells_above a b e = grind (arith, nat_tests)
 
 -- the numbers don't fall
 pub rising : (held : List HeldRoute) → AscendByPeer held → IsNonDecreasingBy (λ (one : HeldRoute). one.peer) held

@@ -3,13 +3,14 @@
 use Rattle.std.proofs.Common.{◌≡◌, ◌∙◌, sym, refl, ℕ, ◌+◌, ◌<◌, arith, inl, inr, List, [], ◌∷◌, ◌++◌, length, Some, below_more, length-append}
 use Rattle.std.specs.Prelude.{slice_get, slice_set}
 use Rattle.std.proofs.lemmas.Option.{slice_get_within}
-use Rattle.std.proofs.lemmas.Bool.{cases_order}
+use Rattle.std.proofs.lemmas.Bool.{cases_eq}
+use Rattle.std.proofs.lemmas.List.{length-set}
 use Rattle.rs_choice.specs.declared.candidate.Standing.{Standing}
 use Rattle.rs_choice.specs.Comparison.{IsAhead, IsLevel}
 use Rattle.rs_choice.specs.Grouping.{BeatsInGroup, StandsFor, IsGrouping, IsLevelWithSome}
 use Rattle.rs_choice.proofs.decision.Eliminations.{equal_level, follows_level}
 use Rattle.rs_choice.proofs.decision.ScanLemmas.{not_ahead_of_itself, ahead_then}
-use Rattle.rs_choice.proofs.neighbour_groups.GroupLists.{level_ahead, level_back, level_then, stands_for_itself, beats_stands, held_stands, single, push_cases, push_old, push_new, set_cases, set_same, set_other, length_set}
+use Rattle.rs_choice.proofs.neighbour_groups.GroupLists.{level_ahead, level_back, level_then, stands_for_itself, beats_stands, held_stands, single, push_cases, push_old, push_new, set_cases, set_same, set_other}
 
 module _ (S : ℕ → Standing) where
   -- all groups are level with one another
@@ -113,7 +114,7 @@ module _ (S : ℕ → Standing) where
   another_place n groups is level g q at_q same beats =
       let known = slice_get_within groups g q at_q in
       record {
-        few = omega (arith, is.few, length_set groups g n);
+        few = omega (arith, is.few, length-set groups g n);
         within = λ group place at. elim (set_cases groups g n group place at) [
           | inl new ↦ omega (arith, new.1)
           | inr old ↦ omega (arith, is.within group place old.1)
@@ -145,9 +146,9 @@ module _ (S : ℕ → Standing) where
 
       go : (k : ℕ) → ((group : ℕ) × (place : ℕ) × (slice_get groups group ≡ Some place) × StandsFor (S place) place (S k) k) →
           (group : ℕ) × (place : ℕ) × (slice_get (slice_set groups g n) group ≡ Some place) × StandsFor (S place) place (S k) k
-      go k found = elim (cases_order found.0 g) [
+      go k found = elim (cases_eq found.0 g) [
         | inl equal ↦ (g, n, set_same groups g n (slice_get_within groups g q at_q), new_stands k found.1 (rw equal at found.2) found.3)
-        | inr differ ↦ (found.0, found.1, set_other groups g n found.0 found.1 (λ e. elim differ [ inl less ↦ absurd (omega (arith, e)) | inr more ↦ absurd (omega (arith, e)) ]) found.2, found.3)
+        | inr differ ↦ (found.0, found.1, set_other groups g n found.0 found.1 differ found.2, found.3)
       ]
 
   pub same_place : (n : ℕ) (groups : List ℕ) → IsGrouping S n groups → IsLevelWithSome S n groups → (g q : ℕ) → slice_get groups g ≡ Some q →

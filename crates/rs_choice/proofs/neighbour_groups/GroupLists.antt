@@ -2,6 +2,8 @@
 use Rattle.std.proofs.Common.{◌≡◌, ◌≢◌, ◌∙◌, sym, ap, refl, ℕ, ◌<◌, suc, zero, arith, ◌⊎◌, inl, inr, List, [], ◌∷◌, ◌++◌, length, Some}
 use Rattle.std.specs.Prelude.{slice_get, slice_set}
 use Rattle.std.proofs.lemmas.Bool.{cases_order}
+use Rattle.std.proofs.lemmas.List.{get_or-set_other, get_or-set_same, length-set}
+use Rattle.std.proofs.lemmas.Option.{get_or_from_slice_get, slice_get-get_or, slice_get_within}
 use Rattle.rs_choice.specs.declared.candidate.Standing.{Standing}
 use Rattle.rs_choice.specs.Comparison.{IsAhead, IsLevel, Precedes}
 use Rattle.rs_choice.specs.Grouping.{BeatsInGroup, StandsFor}
@@ -15,9 +17,6 @@ level_back a b h = (sym h.0, sym h.1, sym h.2)
 
 pub level_then : (a b c : Standing) → IsLevel a b → IsLevel b c → IsLevel a c
 level_then a b c h k = (h.0 ∙ k.0, h.1 ∙ k.1, h.2 ∙ k.2)
-
-pub level : (a b : Standing) → (IsAhead a b → ⊥) → (IsAhead b a → ⊥) → IsLevel a b
-level a b h k = grind arith
 
 pub stands_for_itself : (a : Standing) (place : ℕ) → StandsFor a place a place
 stands_for_itself a place = inr ((refl, refl, refl), refl, inr (refl, inr (refl, refl, omega arith)))
@@ -110,18 +109,10 @@ set_cases (g ∷ groups) (suc at) n (suc group) place here = elim (set_cases gro
 ]
 
 pub set_same : {X : Type 0} (groups : List X) (at : ℕ) (n : X) → at < length groups → slice_get (slice_set groups at n) at ≡ Some n
-set_same [] at n within = absurd (omega arith)
-set_same (g ∷ groups) zero n within = refl
-set_same (g ∷ groups) (suc at) n within = set_same groups at n (omega arith)
+set_same groups at n within =
+    slice_get-get_or (slice_set groups at n) at n (omega (arith, within, length-set groups at n)) ∙ ap Some (get_or-set_same groups at n n within)
 
 pub set_other : {X : Type 0} (groups : List X) (at : ℕ) (n : X) (group : ℕ) (place : X) → group ≢ at → slice_get groups group ≡ Some place → slice_get (slice_set groups at n) group ≡ Some place
-set_other [] at n group place differ here = absurd (cc (here))
-set_other (g ∷ groups) zero n zero place differ here = absurd (differ refl)
-set_other (g ∷ groups) zero n (suc group) place differ here = here
-set_other (g ∷ groups) (suc at) n zero place differ here = here
-set_other (g ∷ groups) (suc at) n (suc group) place differ here = set_other groups at n group place (λ e. differ (ap suc e)) here
-
-pub length_set : {X : Type 0} (groups : List X) (at : ℕ) (n : X) → length (slice_set groups at n) ≡ length groups
-length_set [] at n = refl
-length_set (g ∷ groups) zero n = refl
-length_set (g ∷ groups) (suc at) n = ap suc (length_set groups at n)
+set_other groups at n group place differ here =
+    slice_get-get_or (slice_set groups at n) group place (omega (arith, slice_get_within groups group place here, length-set groups at n))
+    ∙ ap Some (get_or-set_other groups at group n place differ ∙ get_or_from_slice_get groups group place place here)

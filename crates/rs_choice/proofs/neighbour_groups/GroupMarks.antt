@@ -3,14 +3,15 @@
 use Rattle.std.proofs.Common.{◌≡◌, ◌≢◌, ◌∙◌, sym, ap, refl, ℕ, suc, zero, ◌+◌, ◌<◌, arith, false, inl, inr, List, [], ◌∷◌, ◌++◌, length, Some, None, below_more}
 use Rattle.std.specs.Prelude.{slice_get, slice_set, IsTrue}
 use Rattle.std.specs.Option.{option_map}
-use Rattle.std.proofs.lemmas.List.{length-map, map-append, map-set}
-use Rattle.std.proofs.lemmas.Option.{slice_get_within, slice_get-map}
-use Rattle.std.proofs.lemmas.Bool.{cases_order}
+use Rattle.std.proofs.lemmas.List.{length-map, map-append, map-set, set-get_or}
+use Rattle.std.proofs.lemmas.Option.{get_or_from_slice_get, slice_get_within, slice_get-map}
+use Rattle.std.proofs.lemmas.Bool.{cases_eq}
 use Rattle.rs_choice.specs.declared.candidate.Standing.{Standing}
 use Rattle.rs_choice.specs.declared.neighbour_groups.Group.{Group}
 use Rattle.rs_choice.specs.Comparison.{IsAhead, IsLevel, HasLowerMed}
 use Rattle.rs_choice.specs.Grouping.{places_of, AreGroups, IsGrouping, IsJoined, IsLevelWithSome, IsNeighboursGroup, LeadsAll}
 use Rattle.rs_choice.proofs.decision.Eliminations.{equal_level, follows_level}
+use Rattle.rs_choice.proofs.decision.Members.{some_at}
 use Rattle.rs_choice.proofs.neighbour_groups.GroupLists.{level_ahead, level_back, level_then, single, push_cases, set_cases}
 use Rattle.rs_choice.proofs.neighbour_groups.GroupLemmas.{ahead_of_all, ahead_of_none, level_itself, alone, left_behind, one_more_group, another_place, same_place, level_with_all}
 
@@ -21,9 +22,13 @@ pub places_none : (groups : List Group) → length groups ≡ 0 → length (plac
 places_none groups none = length-map groups (λ (group : Group). group.place) ∙ none
 
 set_itself : (places : List ℕ) (g place : ℕ) → slice_get places g ≡ Some place → slice_set places g place ≡ places
-set_itself [] g place at = refl
-set_itself (first ∷ later) zero place at = let e : first ≡ place = cc (at) in ap (λ p. p ∷ later) (sym e)
-set_itself (first ∷ later) (suc g) place at = ap (λ rest. first ∷ rest) (set_itself later g place at)
+set_itself places g place at = ap (slice_set places g) (sym (get_or_from_slice_get places g place place at)) ∙ set-get_or places g place
+
+-- the group whose place stands at a number
+pub group_at : (groups : List Group) (i place : ℕ) → slice_get (places_of groups) i ≡ Some place → (group : Group) × (slice_get groups i ≡ Some group) × (group.place ≡ place)
+group_at [] i place at = absurd (cc (at))
+group_at (group ∷ later) zero place at = (group, refl, cc (at))
+group_at (group ∷ later) (suc i) place at = group_at later i place at
 
 not_level : (a b : Standing) → IsAhead a b → IsLevel b a → ⊥
 not_level a b ahead level = grind (arith, ahead, level)
@@ -66,11 +71,6 @@ module _ (S : ℕ → Standing) where
   no_place_of groups n are neighbour none i place at same =
       let found = group_at groups i place at in
       none i found.0 found.1 (are.neighbours i found.0 found.1 ∙ ap (λ p. (S p).neighbour) found.2 ∙ same)
-    where
-      group_at : (groups : List Group) (i place : ℕ) → slice_get (places_of groups) i ≡ Some place → (group : Group) × (slice_get groups i ≡ Some group) × (group.place ≡ place)
-      group_at [] i place at = absurd (cc (at))
-      group_at (group ∷ later) zero place at = (group, refl, cc (at))
-      group_at (group ∷ later) (suc i) place at = group_at later i place at
 
   -- one of a neighbour AS that no group is of adds a group
   pub one_more_marked : (n : ℕ) (groups : List Group) → AreGroups S n groups → IsLevelWithSome S n (places_of groups) →
@@ -118,9 +118,9 @@ module _ (S : ℕ → Standing) where
       slice_get groups g ≡ Some held → held.neighbour ≡ (S n).neighbour → IsJoined held (S held.place) n (S n) joined →
       (k : ℕ) → k < n + 1 → IsLevel (S k) (S joined.place) → HasLowerMed (S joined.place) (S k) → IsTrue joined.keeps_out
   joined_keeps n groups are level g held joined at_g same is k below level_k lower =
-      elim (cases_order (S n).med (S held.place).med) [
+      elim (cases_eq (S n).med (S held.place).med) [
         | inl equal ↦ is.keeps_out.1 (inl (old equal k below level_k lower))
-        | inr differ ↦ is.keeps_out.1 (inr (λ e. elim differ [ inl less ↦ absurd (omega (arith, e)) | inr more ↦ absurd (omega (arith, e)) ]))
+        | inr differ ↦ is.keeps_out.1 (inr differ)
       ]
     where
       at_place : slice_get (places_of groups) g ≡ Some held.place
@@ -193,17 +193,13 @@ module _ (S : ℕ → Standing) where
 
   -- ---- the leader
 
-  some_group : (groups : List Group) → 0 < length groups → (group : Group) × (slice_get groups 0 ≡ Some group)
-  some_group [] none = absurd (omega (arith, none))
-  some_group (group ∷ later) some = (group, refl)
-
   pub leads_alone : (n : ℕ) → LeadsAll S (group_of n ∷ []) (Some (S n))
   leads_alone n = (omega arith, λ i group at. rw (single (group_of n) i group at).1 (refl, refl, refl))
 
   -- who is level with the leader is level with some group
   pub level_with_leader : (n : ℕ) (groups : List Group) (leader : Standing) → LeadsAll S groups (Some leader) → IsLevel (S n) leader → IsLevelWithSome S n (places_of groups)
   level_with_leader n groups leader leads level =
-      let found = some_group groups leads.0 in
+      let found = some_at groups 0 leads.0 in
       (0, found.0.place, place_at groups 0 found.0 found.1, level_then (S n) leader (S found.0.place) level (leads.1 0 found.0 found.1))
 
   -- and leads the groups that it has come to
@@ -225,7 +221,7 @@ module _ (S : ℕ → Standing) where
   pub ahead_of_leader : (n : ℕ) (groups : List Group) (leader : Standing) → AreGroups S n groups → LeadsAll S groups (Some leader) → IsAhead (S n) leader →
       (k : ℕ) → k < n → IsAhead (S n) (S k)
   ahead_of_leader n groups leader are leads ahead =
-      let found = some_group groups leads.0 in
+      let found = some_at groups 0 leads.0 in
       ahead_of_all S n (places_of groups) are.grouping 0 found.0.place (place_at groups 0 found.0 found.1)
       (follows_level (S n) leader (S found.0.place) (leads.1 0 found.0 found.1) ahead)
 
@@ -235,6 +231,6 @@ module _ (S : ℕ → Standing) where
   -- who is behind the leader is left out
   pub behind_leader : (n : ℕ) (groups : List Group) (leader : Standing) → AreGroups S n groups → LeadsAll S groups (Some leader) → IsAhead leader (S n) → AreGroups S (n + 1) groups
   behind_leader n groups leader are leads ahead =
-      let found = some_group groups leads.0 in
+      let found = some_at groups 0 leads.0 in
       behind_marked n groups are 0 found.0 found.1
       (level_ahead (S found.0.place) leader (S n) (level_back leader (S found.0.place) (leads.1 0 found.0 found.1)) ahead)

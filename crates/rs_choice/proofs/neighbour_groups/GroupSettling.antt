@@ -1,6 +1,6 @@
 -- On which groups a choice rests: while what stands for them stays, it stays.
 -- For ClientLemmas.
-use Rattle.std.proofs.Common.{◌≡◌, ◌∙◌, sym, ap, refl, ℕ, ◌<◌, suc, zero, arith, Bool, true, ◌⊎◌, inl, inr, List, [], ◌∷◌, length, get_or, Option, Some, None}
+use Rattle.std.proofs.Common.{◌≡◌, ◌∙◌, sym, ap, ℕ, arith, Bool, true, ◌⊎◌, inl, inr, List, length, get_or, Some}
 use Rattle.std.specs.Prelude.{IsTrue, filter, map, slice_get}
 use Rattle.std.specs.Option.{option_map}
 use Rattle.std.proofs.lemmas.Option.{slice_get-map, get_or_from_slice_get, slice_get-get_or, slice_get_within}
@@ -12,20 +12,10 @@ use Rattle.rs_choice.specs.Decision.{remaining, choice, place_of_choice, member_
 use Rattle.rs_choice.specs.Comparison.{IsAhead, IsLevel, HasLowerMed}
 use Rattle.rs_choice.specs.Grouping.{standing_in, StandsFor, AreGroups, places_of}
 use Rattle.rs_choice.specs.Naturality.{member_at-place_of_choice}
-use Rattle.rs_choice.proofs.decision.Members.{Mem}
-use Rattle.rs_choice.proofs.decision.Eliminations.{Unbeaten, By, equal_level, means_lower_med, holds_lower_med, same3}
-use Rattle.rs_choice.proofs.decision.PlaceLemmas.{mem-slice_get, slice_get-mem}
+use Rattle.rs_choice.proofs.decision.Members.{Mem, mem-slice_get, slice_get-mem, some_at}
+use Rattle.rs_choice.proofs.decision.Eliminations.{Unbeaten, By, beats_tells, equal_level, same3}
+use Rattle.rs_choice.proofs.neighbour_groups.GroupMarks.{group_at, place_at}
 use Rattle.rs_choice.proofs.decision.ShareLemmas.{RemovedByKept, reaching_med, choice_stays}
-
-group_of_place : (found : Option Group) (place : ℕ) → option_map (λ (group : Group). group.place) found ≡ Some place →
-    (group : Group) × (found ≡ Some group) × (group.place ≡ place)
-group_of_place None place at = absurd (cc (at))
-group_of_place (Some group) place at = (group, refl, cc (at))
-
--- the group whose place stands at a number
-pub group_at : (groups : List Group) (i place : ℕ) → slice_get (places_of groups) i ≡ Some place →
-    (group : Group) × (slice_get groups i ≡ Some group) × (group.place ≡ place)
-group_at groups i place at = group_of_place (slice_get groups i) place (sym (slice_get-map (λ (group : Group). group.place) groups i) ∙ at)
 
 standing_in-map : {M : Type 0} (standing : M → Standing) (set : List M) (place : ℕ) (x : M) → slice_get set place ≡ Some x →
     standing_in (map standing set) place ≡ standing x
@@ -85,13 +75,8 @@ module _ {M : Type 0} (standing : M → Standing) (set : List M) (S : ℕ → St
     unfolding remaining
     groups_remove one other member stays other_member beaten =
         let front = same3 standing set in
-        let found = removed_by_group one other (front.to one member) (front.to other other_member) (means_lower_med (standing other) (standing one) beaten) in
-        (found.0, front.from found.0 found.1, found.2, holds_lower_med (standing found.0) (standing one) found.3)
-
-some_at : {M : Type 0} (xs : List M) (k : ℕ) → k < length xs → (x : M) × (slice_get xs k ≡ Some x)
-some_at [] k within = absurd (omega arith)
-some_at (x ∷ xs) zero within = (x, refl)
-some_at (x ∷ xs) (suc k) within = some_at xs k (omega arith)
+        let found = removed_by_group one other (front.to one member) (front.to other other_member) ((beats_tells steps.Med (standing other) (standing one)).0 beaten) in
+        (found.0, front.from found.0 found.1, found.2, (beats_tells steps.Med (standing found.0) (standing one)).1 found.3)
 
 -- The choice stays where those members stay that stand for groups that keep out others, and for the group of the choice.
 pub groups_settle : {M : Type 0} (standing : M → Standing) (set : List M) (groups : List Group) (first : Placed) →
@@ -103,7 +88,7 @@ pub groups_settle : {M : Type 0} (standing : M → Standing) (set : List M) (gro
 groups_settle standing set groups first are place known kept stay =
     let i = known.0 in
     let group = known.1 in
-    let at_place = slice_get-map (λ (group : Group). group.place) groups i ∙ ap (option_map (λ (group : Group). group.place)) known.2 ∙ ap Some known.3 in
+    let at_place = place_at groups i group known.2 ∙ ap Some known.3 in
     let chosen = some_at set first.place (are.grouping.within i first.place at_place) in
     let is_chosen : choice standing set ≡ Some chosen.0 = sym (member_at-place_of_choice standing set) ∙ ap (member_at set) place ∙ chosen.1 in
     let at_chosen : slice_get set group.place ≡ Some chosen.0 = ap (slice_get set) known.3 ∙ chosen.1 in

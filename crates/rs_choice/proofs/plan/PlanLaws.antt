@@ -10,7 +10,7 @@ use Rattle.rs_choice.specs.declared.fault.PlanFault.TheVariants.{RepeatedAddress
 use Rattle.rs_choice.specs.Laws.{FaultIsFirst, PeersHaveOwnAddresses}
 use Rattle.rs_choice.specs.Plan.{Peer, Test, has_address, peer_tests, peers_tests, names_tests, whole_tests, plan_tests, plan_fault}
 use Rattle.rs_update.specs.Fault.{first_fault}
-use Rattle.rs_choice.proofs.decision.Members.{Mem, list_any-none}
+use Rattle.rs_choice.proofs.decision.Members.{Mem, list_any-none, mem-append_left, mem-append_right}
 use Rattle.rs_choice.proofs.decision.PlaceLemmas.{enumerate-at}
 
 later_match : (o : Option PlanFault) (P P' : Type 0) (Q Q' : PlanFault → Type 0) → (P → P') → ((fault : PlanFault) → Q fault → Q' fault) → MatchOption o P Q → MatchOption o P' Q'
@@ -47,15 +47,6 @@ all_false [] test none h = absurd h
 all_false ((true, fault) ∷ later) test none h = absurd (cc (none))
 all_false ((false, fault) ∷ later) test none (inl same) = ap (λ (t : Test). t.0) (sym same)
 all_false ((false, fault) ∷ later) test none (inr h) = all_false later test none h
-
-mem-append_left : {A : Type 0} (xs ys : List A) (x : A) → Mem xs x → Mem (xs ++ ys) x
-mem-append_left [] ys x h = absurd h
-mem-append_left (y ∷ xs) ys x (inl same) = inl same
-mem-append_left (y ∷ xs) ys x (inr h) = inr (mem-append_left xs ys x h)
-
-mem-append_right : {A : Type 0} (xs ys : List A) (x : A) → Mem ys x → Mem (xs ++ ys) x
-mem-append_right [] ys x h = h
-mem-append_right (y ∷ xs) ys x h = inr (mem-append_right xs ys x h)
 
 mem-flat_map : {A B : Type 0} (f : A → List B) (xs : List A) (x : A) (y : B) → Mem xs x → Mem (f x) y → Mem (flat_map f xs) y
 mem-flat_map f [] x y h k = absurd h

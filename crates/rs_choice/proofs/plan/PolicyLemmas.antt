@@ -1,13 +1,14 @@
 -- Refusals by name, as an exchange keeps them, the policy at two known peers, and routes whose communities refuse nothing.
 -- For `refusals` and `refuses` of exchange.rt, and `permits` and `permits_other` of policy.rt.
-use Rattle.std.proofs.Common.{◌≡◌, ◌∙◌, sym, ap, arith, ℕ, ◌<◌, ◌/◌, ◌*◌, ◌+◌, ◌==◌, Bool, true, false, not, ◌&&◌, ◌||◌, ◌≢◌, List, [], ◌∷◌, length, map, get_or, Option, None, Some, refl}
+use mathlib.Core.List.{map-map}
+use Rattle.std.proofs.Common.{◌≡◌, ◌∙◌, sym, ap, arith, ℕ, ◌<◌, ◌/◌, ◌*◌, ◌+◌, ◌==◌, Bool, true, false, not, ◌&&◌, ◌≢◌, List, [], ◌∷◌, length, map, get_or, Option, None, Some, refl}
 use Rattle.std.specs.Prelude.{slice_get, string_bytes, nat_lt, if◌then◌else◌}
 use Rattle.std.specs.List.{list_any}
 use Rattle.std.specs.Str.{bytes_eq}
 use Rattle.std.specs.Option.{option_map}
 use Rattle.std.proofs.lemmas.Option.{slice_get-map, slice_get-get_or, get_or_from_slice_get, slice_get_read, slice_get_within}
 use Rattle.std.proofs.lemmas.List.{length-map}
-use Rattle.std.proofs.lemmas.Bool.{ltb-true}
+use Rattle.std.proofs.lemmas.Bool.{ltb-true, or_parts}
 use Rattle.std.proofs.lemmas.Bool.Decides.{nat_tests}
 use Rattle.rs_update.specs.PathAttributes.{PathAttributes, CommunityList}
 use Rattle.rs_update.specs.Community.{has_community_in, has_community_of_in, has_value_of}
@@ -72,20 +73,11 @@ is_permitted-not-refused plan client number attributes one refused answer at_one
 no_value_of_0 : (value low : ℕ) → low < 65536 → (value / 65536 == 0) ≡ false → (value == 0 * 65536 + low) ≡ false
 no_value_of_0 value low small other = grind (arith, nat_tests)
 
-none_in_front : (a b : Bool) → (a || b) ≡ false → a ≡ false
-none_in_front true b none = none
-none_in_front false b none = refl
-
-none_behind : (a b : Bool) → (a || b) ≡ false → b ≡ false
-none_behind true b none = absurd (grind (arith, none))
-none_behind false b none = none
-
 no_values_of_0 : (values : List ℕ) (low : ℕ) → low < 65536 → has_value_of values 0 ≡ false → list_any (λ value. value == 0 * 65536 + low) values ≡ false
 no_values_of_0 [] low small none = refl
 no_values_of_0 (value ∷ values) low small none =
-    let front = no_value_of_0 value low small (none_in_front (value / 65536 == 0) (has_value_of values 0) none) in
-    let behind = no_values_of_0 values low small (none_behind (value / 65536 == 0) (has_value_of values 0) none) in
-    rw (front, behind) refl
+    let parts = or_parts (value / 65536 == 0) (has_value_of values 0) none in
+    rw (no_value_of_0 value low small parts.0, no_values_of_0 values low small parts.1) refl
 
 none_of_both : (a b : Bool) → (a ≡ true → b ≡ false) → (a && b) ≡ false
 none_of_both true b none = none refl
@@ -128,19 +120,15 @@ map_alike : {A B : Type 0} (f g : A → B) (xs : List A) → ((x : A) → f x �
 map_alike f g [] same = refl
 map_alike f g (x ∷ xs) same = rw (same x, map_alike f g xs same) refl
 
-map_twice : {A B C : Type 0} (f : A → B) (g : B → C) (xs : List A) → map g (map f xs) ≡ map (λ x. g (f x)) xs
-map_twice f g [] = refl
-map_twice f g (x ∷ xs) = ap (λ rest. g (f x) ∷ rest) (map_twice f g xs)
-
 refuses-map : (client sender : PeerSpec) → refuses (peer_of client) (peer_of sender) ≡ refuses_spec client sender
 refuses-map client sender = list_any-map (λ name. string_bytes name) (λ name. bytes_eq name (string_bytes sender.name)) client.refuse_from.items
 
 refusal_row-map : (client : PeerSpec) (peers : List PeerSpec) → map (refuses (peer_of client)) (map peer_of peers) ≡ map (refuses_spec client) peers
 refusal_row-map client peers =
-    map_twice peer_of (refuses (peer_of client)) peers ∙ map_alike (λ sender. refuses (peer_of client) (peer_of sender)) (refuses_spec client) peers (refuses-map client)
+    map-map (refuses (peer_of client)) peer_of peers ∙ map_alike (λ sender. refuses (peer_of client) (peer_of sender)) (refuses_spec client) peers (refuses-map client)
 
 -- refusals by the peers as they are configured
 pub refusals_of-map : (peers : List PeerSpec) → refusals_of (map peer_of peers) ≡ map (λ client. map (refuses_spec client) peers) peers
 refusals_of-map peers =
-    map_twice peer_of (λ client. map (refuses client) (map peer_of peers)) peers
+    map-map (λ client. map (refuses client) (map peer_of peers)) peer_of peers
     ∙ map_alike (λ client. map (refuses (peer_of client)) (map peer_of peers)) (λ client. map (refuses_spec client) peers) peers (λ client. refusal_row-map client peers)

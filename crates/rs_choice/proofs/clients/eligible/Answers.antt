@@ -1,9 +1,11 @@
-use Rattle.std.proofs.Common.{◌≡◌, ◌∙◌, sym, ap, arith, filter, length, take, ◌++◌, ◌∷◌, [], Some, rules}
+use Rattle.std.proofs.Common.{◌≡◌, ◌∙◌, ◌<◌, sym, ap, arith, filter, length, take, ◌++◌, ◌∷◌, [], Some, rules}
 use Rattle.std.specs.Prelude.{slice_get}
+use Rattle.std.proofs.lemmas.List.{length_push}
+use Rattle.std.proofs.lemmas.List.Elements.{All-push}
 use Rattle.std.proofs.lemmas.Option.{slice_get_read}
 use Rattle.rs_choice.specs.declared.held_route.HeldRoute.{HeldRoute}
 use Rattle.rs_choice.specs.Candidacy.{is_candidate}
-use Rattle.rs_choice.proofs.clients.ChosenLemmas.{chosen_push, filter_push, filter_skip, length_push, places_push, take_more}
+use Rattle.rs_choice.proofs.clients.ChosenLemmas.{chosen_push, filter_push, filter_skip, take_more}
 use Rattle.rs_choice.proofs.clients.eligible.Goals as goal
 use Rattle.rs_choice.proofs.clients.eligible.Goals.{then-is_eligible, else-is_eligible}
 
@@ -20,7 +22,7 @@ loop-place-preserved c =
           let passes = ap (λ (one : HeldRoute). is_candidate one.candidacy) c.index-held-place.is ∙ sym c.is_eligible.ensures ∙ w.if-is_eligible.true in
           rw (w.eligible-is, w.push.ensures) (record {
             few = omega (arith, length_push so_far i, c.loop-place.invariant.few);
-            places = places_push held so_far i c.loop-place.invariant.places (omega arith);
+            places = All-push (λ place. place < length held) so_far i c.loop-place.invariant.places (omega arith);
             eligible = chosen_push held so_far i one at ∙ ap (λ list. list ++ one ∷ []) c.loop-place.invariant.eligible
                 ∙ sym (ap (filter (λ (held : HeldRoute). is_candidate held.candidacy)) more ∙ filter_push (λ (held : HeldRoute). is_candidate held.candidacy) (take i held) one passes);
           })

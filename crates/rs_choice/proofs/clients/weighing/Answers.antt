@@ -1,20 +1,18 @@
 use Rattle.std.proofs.Common.{◌≡◌, ◌∙◌, ap, arith, inl, inr, ℕ, List, length, ◌++◌, ◌∷◌, [], Some, below_more}
 use Rattle.std.specs.List.{Contains}
 use Rattle.std.specs.Prelude.{slice_get}
-use Rattle.std.proofs.lemmas.List.Elements.{Contains-append_left, Contains-append_right}
-use Rattle.std.proofs.lemmas.Option.{get_or_from_slice_get, slice_get_within}
+use Rattle.std.proofs.lemmas.List.{length_push}
+use Rattle.std.proofs.lemmas.List.Elements.{All-push, Contains-append_left, Contains-append_right}
+use Rattle.std.proofs.lemmas.Option.{slice_get_within}
 use Rattle.rs_choice.specs.declared.neighbour_groups.Group.{Group}
-use Rattle.rs_choice.specs.Sharing.{IsFirst, Weighs}
-use Rattle.rs_choice.proofs.clients.ChosenLemmas.{all_push, length_push}
-use Rattle.rs_choice.proofs.decision.ScanLemmas.{when_false}
+use Rattle.rs_choice.specs.Sharing.{Weighs}
+use Rattle.rs_choice.proofs.decision.Members.{contains_at}
+use Rattle.std.proofs.lemmas.Bool.{iff_false}
 use Rattle.rs_choice.proofs.clients.weighing.Goals as goal
-use Rattle.rs_choice.proofs.clients.weighing.Goals.{then-group, then-group-via-then-group, then-group-via-else-group+then-is_first, else-group+else-is_first}
+use Rattle.rs_choice.proofs.clients.weighing.Goals.{then-group, else-group+else-is_first}
 
 contains_last : (xs : List ℕ) (last x : ℕ) → last ≡ x → Contains (xs ++ last ∷ []) x
 contains_last xs last x same = Contains-append_right xs (last ∷ []) x (0, omega arith, same)
-
-contains_at : (xs : List ℕ) (i x : ℕ) → slice_get xs i ≡ Some x → Contains xs x
-contains_at xs i x at = (i, slice_get_within xs i x at, get_or_from_slice_get xs i x x at)
 
 pub loop-number-preserved : goal.loop-number-preserved
 loop-number-preserved c =
@@ -30,7 +28,7 @@ loop-number-preserved c =
           let at : slice_get eligible one.place ≡ Some place = rw w.from.ensures at w.place.ensures.value in
           rw (w.weighing-is, w.push.ensures) (record {
             few = omega (arith, length_push so_far place, c.loop-number.invariant.few);
-            among = all_push (λ place. Contains eligible place) so_far place c.loop-number.invariant.among (contains_at eligible one.place place at);
+            among = All-push (λ place. Contains eligible place) so_far place c.loop-number.invariant.among (contains_at eligible one.place place at);
             all = below_more (λ i. (group : Group) → slice_get groups i ≡ Some group → Weighs group first → (p : ℕ) → slice_get eligible group.place ≡ Some p → Contains (so_far ++ place ∷ []) p) n
                 (λ i below group at_group weighs p at_p. Contains-append_left so_far (place ∷ []) p (c.loop-number.invariant.all i below group at_group weighs p at_p))
                 (λ group at_group weighs p at_p.
@@ -49,7 +47,7 @@ loop-number-preserved c =
                 let weighs_one : Weighs one first = rw (← same) at weighs in
                 absurd (elim weighs_one [
                   | inl keeps ↦ cc (keeps, w.if-group.false)
-                  | inr is ↦ when_false w.is_first.result (IsFirst one first) w.is_first.ensures w.if-is_first.false is
+                  | inr is ↦ iff_false w.is_first.ensures w.if-is_first.false is
                 ]));
           })
     ]

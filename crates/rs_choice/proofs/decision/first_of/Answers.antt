@@ -3,7 +3,7 @@ use Rattle.rs_choice.specs.declared.candidate.Standing.{Standing}
 use Rattle.rs_choice.specs.Grouping.{places_of, standing_in, GoesBeforeSome}
 use Rattle.rs_choice.proofs.neighbour_groups.GroupChoice.{first_changes, first_stays}
 use Rattle.rs_choice.proofs.neighbour_groups.GroupMarks.{place_at, place_within}
-use Rattle.rs_choice.proofs.decision.ScanLemmas.{when_false}
+use Rattle.std.proofs.lemmas.Bool.{iff_false}
 use Rattle.rs_choice.proofs.decision.first_of.Goals as goal
 use Rattle.rs_choice.proofs.decision.first_of.Goals.{then-goes_before, else-goes_before}
 
@@ -27,6 +27,6 @@ loop-number-preserved g c =
       | else-goes_before w ↦
           let before_not : GoesBeforeSome (record { place = place; standing = S place }) c.loop-number.first → ⊥ =
           rw (c.standing.ensures, c.from-place.ensures) at
-          (when_false c.goes_before.result (GoesBeforeSome (record { place = c.from-place.result; standing = c.standing.result }) c.loop-number.first) c.goes_before.ensures w.if-goes_before.false) in
+          (iff_false c.goes_before.ensures w.if-goes_before.false) in
           rw w.first-is (first_stays S places c.loop-number.number place c.loop-number.first at c.loop-number.invariant before_not)
     ]

@@ -2,9 +2,9 @@ use Rattle.std.proofs.Common.{ℕ, None, Some, rules}
 use Rattle.rs_choice.specs.declared.candidate.Standing.{Standing}
 use Rattle.rs_choice.specs.Comparison.{IsAhead}
 use Rattle.rs_choice.specs.Grouping.{standing_in, LeadsAll}
-use Rattle.rs_choice.proofs.neighbour_groups.GroupLists.{level}
+use Rattle.rs_choice.proofs.decision.Eliminations.{equal_level}
 use Rattle.rs_choice.proofs.neighbour_groups.GroupMarks.{ahead_of_leader, ahead_of_no_leader, alone_marked, behind_leader, leads_alone, leads_joined, level_with_leader}
-use Rattle.rs_choice.proofs.decision.ScanLemmas.{when_false}
+use Rattle.std.proofs.lemmas.Bool.{iff_false}
 use Rattle.rs_choice.proofs.decision.take_in.Goals as goal
 
 pub join-requires-clause-level : goal.join-requires-clause-level
@@ -12,20 +12,20 @@ join-requires-clause-level g c =
     let S : ℕ → Standing = standing_in (g.E.Entrants.standings c.args.entrants.now) in
     let leader = c.in-Some.leader in
     let leads : LeadsAll S c.args.groups.now (Some leader) = rw c.in-Some.is at c.requires.leads in
-    let behind_not : IsAhead leader (S c.args.place) → ⊥ = when_false c.is_behind.result (IsAhead leader (S c.args.place)) c.is_behind.ensures c.if-is_behind.false in
+    let behind_not : IsAhead leader (S c.args.place) → ⊥ = iff_false c.is_behind.ensures c.if-is_behind.false in
     let ahead_not : IsAhead (S c.args.place) leader → ⊥ =
-    rw c.standing-standing-2.ensures at (when_false c.is_ahead_of.result (IsAhead c.standing-standing-2.result leader) c.is_ahead_of.ensures c.if-is_ahead_of.false) in
-    level_with_leader S c.args.place c.args.groups.now leader leads (level (S c.args.place) leader ahead_not behind_not)
+    rw c.standing-standing-2.ensures at (iff_false c.is_ahead_of.ensures c.if-is_ahead_of.false) in
+    level_with_leader S c.args.place c.args.groups.now leader leads (equal_level (S c.args.place) leader ahead_not behind_not)
 
 pub returns-clause-leads : goal.returns-clause-leads
 returns-clause-leads g c =
     let S : ℕ → Standing = standing_in (g.E.Entrants.standings c.args.entrants.now) in
     let leader = c.in-Some.leader in
     let leads : LeadsAll S c.args.groups.now (Some leader) = rw c.in-Some.is at c.requires.leads in
-    let behind_not : IsAhead leader (S c.args.place) → ⊥ = when_false c.is_behind.result (IsAhead leader (S c.args.place)) c.is_behind.ensures c.if-is_behind.false in
+    let behind_not : IsAhead leader (S c.args.place) → ⊥ = iff_false c.is_behind.ensures c.if-is_behind.false in
     let ahead_not : IsAhead (S c.args.place) leader → ⊥ =
-    rw c.standing-standing-2.ensures at (when_false c.is_ahead_of.result (IsAhead c.standing-standing-2.result leader) c.is_ahead_of.ensures c.if-is_ahead_of.false) in
-    leads_joined S c.args.place c.args.groups.now c.join.new.groups leader c.requires.grouped leads (level (S c.args.place) leader ahead_not behind_not) c.join.ensures
+    rw c.standing-standing-2.ensures at (iff_false c.is_ahead_of.ensures c.if-is_ahead_of.false) in
+    leads_joined S c.args.place c.args.groups.now c.join.new.groups leader c.requires.grouped leads (equal_level (S c.args.place) leader ahead_not behind_not) c.join.ensures
 
 pub returns-then-is_behind-clause-grouped : goal.returns-then-is_behind-clause-grouped
 returns-then-is_behind-clause-grouped g c =

@@ -2,12 +2,13 @@ use Rattle.std.proofs.Common.{◌≡◌, ◌∙◌, sym, ap, arith, ℕ, List, l
 use Rattle.std.specs.List.{All}
 use Rattle.std.specs.Prelude.{slice_get, IsTrue}
 use Rattle.std.proofs.Math.Seq.{take-length}
+use Rattle.std.proofs.lemmas.List.Elements.{All-push}
 use Rattle.std.proofs.lemmas.Option.{slice_get_read}
 use Rattle.rs_choice.specs.Clients.{is_sent_to}
 use Rattle.rs_choice.specs.Decision.{SentRoute}
 use Rattle.rs_choice.specs.Held.{sent_of_held}
 use Rattle.rs_choice.specs.Sharing.{sents_at}
-use Rattle.rs_choice.proofs.clients.ChosenLemmas.{all_push, sents_more, within_at}
+use Rattle.rs_choice.proofs.clients.ChosenLemmas.{sents_more, within_at}
 use Rattle.rs_choice.proofs.exchange.Exchange.are_permitted.Goals as goal
 
 pub loop-number-preserved : goal.loop-number-preserved
@@ -22,7 +23,7 @@ loop-number-preserved c =
     let permitted : IsTrue (is_sent_to c.args.self.now c.args.client (sent_of_held one)) = sym c.permits_held.ensures ∙ c.if-not-permits_held.false in
     let test = λ (sent : SentRoute). IsTrue (is_sent_to c.args.self.now c.args.client sent) in
     subst (All test) (sym (sents_more held places i place one c.place.ensures.value at))
-    (all_push test (sents_at held (take i places)) (sent_of_held one) c.loop-number.invariant permitted)
+    (All-push test (sents_at held (take i places)) (sent_of_held one) c.loop-number.invariant permitted)
 
 pub returns : goal.returns
 returns c =

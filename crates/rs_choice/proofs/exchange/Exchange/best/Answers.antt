@@ -1,9 +1,10 @@
 use Rattle.std.proofs.Common.{refl, length, rules}
+use Rattle.std.proofs.lemmas.Bool.{iff_false}
 use Rattle.std.proofs.lemmas.Option.{slice_get_read}
 use Rattle.rs_choice.specs.Comparison.{IsLevel}
 use Rattle.rs_choice.specs.Decision.{standing_of_candidate}
 use Rattle.rs_choice.specs.Scan.{HasLeastMed, GoesFirst, IsLeftByMed}
-use Rattle.rs_choice.proofs.decision.ScanLemmas.{level_has_none_ahead, none_ahead_is_level, best_skips, best_changes, best_stays, when_false}
+use Rattle.rs_choice.proofs.decision.ScanLemmas.{level_has_none_ahead, none_ahead_is_level, best_skips, best_changes, best_stays}
 use Rattle.rs_choice.proofs.exchange.Exchange.best.Goals as goal
 use Rattle.rs_choice.proofs.exchange.Exchange.best.Goals.{then-is_level_with+then-has_least_med+then-goes_first, else-is_level_with, else-is_level_with-via-then-is_level_with+then-has_least_med+else-goes_first, else-is_level_with-via-then-is_level_with+else-has_least_med, else-is_level_with-via-else-is_level_with}
 
@@ -27,15 +28,15 @@ loop-place-preserved c =
           rw w.best-is (elim w.else-is_level_with.branch [
             | else-is_level_with-via-then-is_level_with+then-has_least_med+else-goes_first w' ↦
                 let first_not : GoesFirst one c.loop-place.best → ⊥ =
-                rw c.standing-standing.ensures at (when_false w'.goes_first.result (GoesFirst c.standing-standing.result c.loop-place.best) w'.goes_first.ensures w'.if-goes_first.false) in
+                rw c.standing-standing.ensures at (iff_false w'.goes_first.ensures w'.if-goes_first.false) in
                 best_stays plan candidates i c.loop-place.best candidate at c.loop-place.invariant first_not
             | else-is_level_with-via-then-is_level_with+else-has_least_med w' ↦
                 let least_not : HasLeastMed plan candidates one → ⊥ =
-                rw c.standing-standing.ensures at (when_false w'.has_least_med.result (HasLeastMed plan candidates c.standing-standing.result) w'.has_least_med.ensures w'.if-has_least_med.false) in
+                rw c.standing-standing.ensures at (iff_false w'.has_least_med.ensures w'.if-has_least_med.false) in
                 best_skips plan candidates i c.loop-place.best candidate at c.loop-place.invariant (λ left. least_not left.1)
             | else-is_level_with-via-else-is_level_with w' ↦
                 let level_not : IsLevel one leader → ⊥ =
-                rw c.standing-standing.ensures at (when_false c.is_level_with.result (IsLevel c.standing-standing.result leader) c.is_level_with.ensures w'.if-is_level_with.false) in
+                rw c.standing-standing.ensures at (iff_false c.is_level_with.ensures w'.if-is_level_with.false) in
                 best_skips plan candidates i c.loop-place.best candidate at c.loop-place.invariant
                 (λ left. level_not (none_ahead_is_level plan candidates leader one i candidate at refl c.in_ok-leader.ensures left.0))
           ])

@@ -1,7 +1,8 @@
-use Rattle.std.proofs.Common.{◌≡◌, ◌∙◌, sym, ap, subst, arith, length, map, take, ◌++◌, ◌+◌, ◌∷◌, [], Some, None}
+use Rattle.std.proofs.Common.{◌≡◌, ◌∙◌, ◌<◌, sym, ap, subst, refl, arith, inl, length, map, take, ◌++◌, ◌+◌, ◌∷◌, [], Some, None}
 use Rattle.std.specs.Prelude.{slice_get, IsTrue}
 use Rattle.std.proofs.Math.Seq.{take-length}
-use Rattle.std.proofs.lemmas.List.{append-nil, map-append}
+use Rattle.std.proofs.lemmas.List.{append-nil, length_push, map-append}
+use Rattle.std.proofs.lemmas.List.Elements.{All-push}
 use Rattle.std.proofs.lemmas.Option.{slice_get_read}
 use Rattle.rs_choice.specs.Clients.{candidates_among}
 use Rattle.rs_choice.specs.Contenders.{Contends}
@@ -9,8 +10,9 @@ use Rattle.rs_choice.specs.Decision.{SentRoute, choice, standing_of}
 use Rattle.rs_choice.specs.Eligibility.{is_eligible}
 use Rattle.rs_choice.specs.Held.{sent_of_held}
 use Rattle.rs_choice.specs.Sharing.{sents_at}
-use Rattle.rs_choice.proofs.clients.ChosenLemmas.{all_push, length_push, places_push, sents_push, take_more}
-use Rattle.rs_choice.proofs.clients.ContenderLemmas.{mem_last, with_one, without_one}
+use Rattle.rs_choice.proofs.clients.ChosenLemmas.{sents_push, take_more}
+use Rattle.rs_choice.proofs.clients.ContenderLemmas.{with_one, without_one}
+use Rattle.rs_choice.proofs.decision.Members.{mem-append_right}
 use Rattle.rs_choice.proofs.exchange.Exchange.contenders.Goals as goal
 use Rattle.rs_choice.proofs.exchange.Exchange.contenders.Goals.{in-Some, in_default}
 
@@ -33,9 +35,9 @@ loop-place-preserved c =
           let pushed = sents_push held so_far i one at in
           rw (w.contenders-is, w.last-is, w.push.ensures) (record {
             few = omega (arith, length_push so_far i, c.loop-place.invariant.few);
-            places = places_push held so_far i c.loop-place.invariant.places (omega arith);
-            eligible = rw pushed (all_push (λ (sent : SentRoute). IsTrue (is_eligible plan sent.peer sent.attributes)) (sents_at held so_far) (sent_of_held one) c.loop-place.invariant.eligible contends.0);
-            has_last = rw pushed (sent_of_held one, mem_last (sents_at held so_far) (sent_of_held one), contends.2);
+            places = All-push (λ place. place < length held) so_far i c.loop-place.invariant.places (omega arith);
+            eligible = rw pushed (All-push (λ (sent : SentRoute). IsTrue (is_eligible plan sent.peer sent.attributes)) (sents_at held so_far) (sent_of_held one) c.loop-place.invariant.eligible contends.0);
+            has_last = rw pushed (sent_of_held one, mem-append_right (sents_at held so_far) (sent_of_held one ∷ []) (sent_of_held one) (inl refl), contends.2);
             same = rw (pushed, more) (with_one plan client routes (sent_of_held one) (sents_at held so_far) c.loop-place.invariant.same contends.0 contends.1);
           })
       | in_default w ↦

@@ -1,14 +1,11 @@
-use Rattle.std.proofs.Common.{◌≡◌, ◌∙◌, subst, refl, Bool, true, false, not, inr, rules}
+use Rattle.std.proofs.Common.{◌≡◌, ◌∙◌, subst, inr, rules}
+use Rattle.std.proofs.lemmas.Bool.{not-false}
 use Rattle.rs_choice.specs.RouteChanges.{AreBehind}
 use Rattle.rs_choice.proofs.exchange.Exchange.is_touched.Goals as goal
 
-not_false : (b : Bool) → not b ≡ false → b ≡ true
-not_false true e = refl
-not_false false e = absurd (cc (e))
-
 pub returns-else-best-client-clause-untouched : goal.returns-else-best-client-clause-untouched
 returns-else-best-client-clause-untouched c = λ untouched.
-    let known = c.know.ensures.knows (not_false c.know.result.outdoes untouched) in
+    let known = c.know.ensures.knows (not-false c.know.result.outdoes untouched) in
     let peer : c.know.result.peer ≡ c.args.best = c.know.ensures.peer ∙ c.from-best.ensures in
     inr (
       (λ same. c.if-best-client.false (c.from-best.ensures ∙ same)),

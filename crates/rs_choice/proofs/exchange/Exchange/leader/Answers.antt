@@ -1,8 +1,9 @@
 use Rattle.std.proofs.Common.{refl, length}
+use Rattle.std.proofs.lemmas.Bool.{iff_false}
 use Rattle.std.proofs.lemmas.Option.{slice_get_read}
 use Rattle.rs_choice.specs.Decision.{standing_of_candidate}
 use Rattle.rs_choice.specs.Scan.{Leads}
-use Rattle.rs_choice.proofs.decision.ScanLemmas.{leader_more, leader_stays, when_false}
+use Rattle.rs_choice.proofs.decision.ScanLemmas.{leader_more, leader_stays}
 use Rattle.rs_choice.proofs.exchange.Exchange.leader.Goals as goal
 use Rattle.rs_choice.proofs.exchange.Exchange.leader.Goals.{then-leads, else-leads}
 
@@ -19,6 +20,6 @@ loop-candidate-preserved c =
           rw (w.leader-is, c.standing-standing.ensures) (leader_more plan candidates i c.loop-candidate.leader candidate at c.loop-candidate.invariant leads)
       | else-leads w ↦
           let leads_not : Leads (standing_of_candidate plan candidate) c.loop-candidate.leader → ⊥ =
-          rw c.standing-standing.ensures at (when_false c.leads.result (Leads c.standing-standing.result c.loop-candidate.leader) c.leads.ensures w.if-leads.false) in
+          rw c.standing-standing.ensures at (iff_false c.leads.ensures w.if-leads.false) in
           rw w.leader-is (leader_stays plan candidates i c.loop-candidate.leader candidate at c.loop-candidate.invariant leads_not)
     ]

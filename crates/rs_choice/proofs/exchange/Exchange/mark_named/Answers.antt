@@ -1,8 +1,8 @@
 use Rattle.std.proofs.Common.{◌∙◌, sym, ap, inl, inr, List, ℕ, rules}
+use Rattle.std.proofs.lemmas.Bool.{both_ways}
 use Rattle.rs_update.specs.Community.{has_value}
 use Rattle.rs_choice.specs.declared.plan.Local.{Local}
 use Rattle.rs_choice.proofs.plan.CommunityLemmas.{first_or_later}
-use Rattle.rs_choice.proofs.decision.Eliminations.{true_not_false}
 use Rattle.rs_choice.proofs.clients.RecipientLemmas.{none_of_none}
 use Rattle.rs_choice.proofs.exchange.Exchange.mark_named.Goals as goal
 
@@ -39,7 +39,7 @@ returns-clause-named c = λ client one at named. elim (c.loop-value.invariant.na
   | inl marked ↦ marked
   | inr listed ↦
       let server = c.args.self.now.local.asn in
-      absurd (true_not_false _ listed (ap (λ (list : List ℕ). has_value list server one.asn) c.in_default.ensures.steps.0 ∙ none_of_none server one.asn))
+      absurd (both_ways _ (ap (λ (list : List ℕ). has_value list server one.asn) c.in_default.ensures.steps.0 ∙ none_of_none server one.asn) listed)
 ]
 
 pub loop-value-init : goal.loop-value-init
