@@ -1,1 +1,3 @@
+pub mod Members
+pub mod Eliminations
 pub mod Examples

@@ -19,7 +19,7 @@ use Rattle.rs_choice.specs.Naturality.{choice-map, member_at-place_of_choice, pl
 use Rattle.rs_choice.specs.Plan.{Plan}
 use Rattle.rs_choice.specs.Sharing.{sents_at, ArePlaces}
 use Rattle.rs_choice.proofs.neighbour_groups.GroupChoice.{first_is_choice}
-use Rattle.rs_choice.proofs.decision.Members.{Mem, some_at}
+use Rattle.rs_choice.proofs.Members.{Mem, some_at}
 
 chosen_first : (held : List HeldRoute) (place : ℕ) (places : List ℕ) (one : HeldRoute) → slice_get held place ≡ Some one →
     chosen_of held (place ∷ places) ≡ one ∷ chosen_of held places

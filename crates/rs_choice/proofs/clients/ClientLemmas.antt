@@ -22,7 +22,7 @@ use Rattle.rs_choice.specs.Plan.{Plan}
 use Rattle.rs_choice.specs.Sharing.{sents_at, ArePlaces, AreWeighing, RestsOn, Weighs}
 use Rattle.rs_choice.proofs.clients.ChosenLemmas.{chosen_at, chosen_length, mem_chosen, place_by_groups, peer_of_choice}
 use Rattle.rs_choice.proofs.neighbour_groups.GroupMarks.{group_at, place_within}
-use Rattle.rs_choice.proofs.decision.Members.{contains-mem, mem-contains, mem_map}
+use Rattle.rs_choice.proofs.Members.{contains-mem, mem-contains, mem_map}
 use Rattle.rs_choice.proofs.neighbour_groups.GroupSettling.{groups_settle}
 
 pub view_length : (plan : Plan) (held : List HeldRoute) (places : List ℕ) → ArePlaces held places →

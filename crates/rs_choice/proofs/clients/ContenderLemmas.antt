@@ -9,7 +9,7 @@ use Rattle.rs_choice.specs.Decision.{SentRoute, choice, standing_of}
 use Rattle.rs_choice.specs.Eligibility.{is_eligible}
 use Rattle.rs_choice.specs.Plan.{Plan}
 use Rattle.rs_choice.proofs.decision.BehindLemmas.{candidates_with, no_candidate, outdone}
-use Rattle.rs_choice.proofs.decision.Members.{Mem, mem-append_left}
+use Rattle.rs_choice.proofs.Members.{Mem, mem-append_left}
 
 -- the last of some routes has a standing, where there is one
 abbrev pub HasLast : Plan → List SentRoute → Option Standing → Type 0

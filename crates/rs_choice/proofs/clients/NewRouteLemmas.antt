@@ -17,9 +17,9 @@ use Rattle.rs_choice.specs.Held.{held_standing, sent_of_held, IsJudged}
 use Rattle.rs_choice.specs.Plan.{Plan}
 use Rattle.rs_choice.specs.RouteChanges.{new_route, GoesAhead, IsChange, IsFormerBest}
 use Rattle.rs_choice.proofs.decision.BehindLemmas.{is_ahead}
-use Rattle.rs_choice.proofs.decision.Eliminations.{equal_level, follows_level, Left}
+use Rattle.rs_choice.proofs.Eliminations.{equal_level, follows_level, Left}
 use Rattle.rs_choice.proofs.decision.LawLemmas.{some_choice}
-use Rattle.rs_choice.proofs.decision.Members.{Mem, all_mem, contains-mem, mem-contains, mem-slice_get, mem_map, mem_of-filter}
+use Rattle.rs_choice.proofs.Members.{Mem, all_mem, contains-mem, mem-contains, mem-slice_get, mem_map, mem_of-filter}
 use Rattle.rs_choice.proofs.decision.ScanLemmas.{ahead_then}
 use Rattle.rs_choice.proofs.clients.RecipientLemmas.{same_some}
 use Rattle.rs_choice.proofs.clients.StayLemmas.{held_candidate, was_held}

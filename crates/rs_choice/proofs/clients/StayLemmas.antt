@@ -21,7 +21,7 @@ use Rattle.rs_choice.specs.Plan.{Plan}
 use Rattle.rs_choice.specs.RouteChanges.{IsChange, IsOneOf, IsUntouched}
 use Rattle.rs_choice.proofs.decision.BehindLemmas.{others_are_no_matter}
 use Rattle.rs_choice.proofs.decision.LawLemmas.{choice_cases}
-use Rattle.rs_choice.proofs.decision.Members.{Mem, all_mem, contains-mem, mem-contains, mem-filter, mem_map, mem_of-filter, mem_of-map, mem_widen}
+use Rattle.rs_choice.proofs.Members.{Mem, all_mem, contains-mem, mem-contains, mem-filter, mem_map, mem_of-filter, mem_of-map, mem_widen}
 
 -- as the first of numbers are found, and the later ones stay
 pub found_more : (items : List ℕ) (is : ℕ → ℕ) (n x : ℕ) → n < length items → x ≡ is n → ((k : ℕ) → k < n → slice_index_or items k 0 ≡ is k) →

@@ -16,8 +16,8 @@ use Rattle.rs_choice.specs.Decision.{SentRoute, beats, remaining, choice, standi
 use Rattle.rs_update.specs.Spelling.{origin_code}
 use Rattle.rs_choice.specs.Eligibility.{is_eligible}
 use Rattle.rs_choice.specs.Laws.{RemovedIsNoMatter, BehindIsNoMatter, OthersAreNoMatter, OutdoneIsNoMatter}
-use Rattle.rs_choice.proofs.decision.Members.{Mem, any_found, contains-mem, list_any-none, mem-append_right, mem-contains, mem_of-filter, mem_widen}
-use Rattle.rs_choice.proofs.decision.Eliminations.{Same, Unbeaten, Left, By, same3, beats_tells, follows_level, is_false}
+use Rattle.rs_choice.proofs.Members.{Mem, any_found, contains-mem, list_any-none, mem-append_right, mem-contains, mem_of-filter, mem_widen}
+use Rattle.rs_choice.proofs.Eliminations.{Same, Unbeaten, Left, By, same3, beats_tells, follows_level, is_false}
 use Rattle.rs_choice.proofs.decision.LawLemmas.{some_choice}
 use Rattle.rs_choice.proofs.decision.ScanLemmas.{not_ahead_of_itself}
 use Rattle.rs_choice.proofs.decision.ShareLemmas.{reaching_med, choice_stays}

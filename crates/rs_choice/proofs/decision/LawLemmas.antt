@@ -1,6 +1,6 @@
 -- Laws of the decision process: some member is left, and who is left is so at each step.
 -- For laws.rt, BehindLemmas, and the lemmas of clients.
-use Rattle.std.proofs.Common.{◌≡◌, ◌∙◌, sym, ap, subst, refl, ◌<◌, arith, Bool, true, false, ◌⊎◌, inl, inr, List, [], ◌∷◌, ◌++◌, Some, None}
+use Rattle.std.proofs.Common.{◌≡◌, ◌∙◌, sym, ap, subst, refl, ◌<◌, arith, Bool, true, false, ◌⊎◌, inl, inr, List, [], ◌∷◌, Some, None}
 use Rattle.std.specs.Prelude.{filter}
 use Rattle.std.specs.List.{list_any, Contains}
 use Rattle.std.proofs.lemmas.Bool.{both_ways}
@@ -12,10 +12,9 @@ use Rattle.rs_choice.specs.Policy.{is_permitted}
 use Rattle.rs_choice.specs.Comparison.{Precedes, IsAheadByMed}
 use Rattle.rs_choice.specs.Decision.{SentRoute, beats, decision_steps, unbeaten, remaining, choice, standing_of}
 use Rattle.rs_choice.specs.Laws.{SameMembers, ChoiceIsMember, ChoiceIsUnbeaten, ChoiceIgnoresOrder, MedDecidesWithinNeighbour, OpenPolicySharesChoice}
-use Rattle.rs_choice.proofs.decision.Members.{Mem, any_found, contains-mem, mem-contains, none-list_any}
-use Rattle.rs_choice.proofs.decision.Eliminations.{Same, same_unbeaten, Left, LeftByMed, By, same_remaining, beats_tells, is_false, means_unbeaten, unbeaten_means}
-use Rattle.rs_choice.proofs.decision.PlaceLemmas.{first_cases, first-mem}
-use Rattle.rs_choice.proofs.decision.ScanLemmas.{precedes_cases}
+use Rattle.rs_choice.proofs.Members.{Mem, any_found, contains-mem, mem-contains, none-list_any}
+use Rattle.rs_choice.proofs.Eliminations.{Same, same_unbeaten, Left, LeftByMed, By, same_remaining, beats_tells, choice_left, is_false, means_unbeaten, one_address, remaining-append, remaining_among, unbeaten_means}
+use Rattle.rs_choice.proofs.decision.PlaceLemmas.{first_cases}
 
 no_one_beats_itself : (step : Step) (one : Standing) → beats step one one ≡ false
 no_one_beats_itself steps.Preference one = grind (arith, nat_tests)
@@ -78,12 +77,6 @@ pub empty_or_member : {M : Type 0} (xs : List M) → (xs ≡ []) ⊎ ((x : M) ×
 empty_or_member [] = inl refl
 empty_or_member (x ∷ xs) = inr (x, inl refl)
 
--- who is chosen is left by all steps
-pub choice_left : {M : Type 0} (standing : M → Standing) (set : List M) (chosen : M) → choice standing set ≡ Some chosen →
-    Mem (remaining standing decision_steps set) chosen
-unfolding choice
-choice_left standing set chosen e = first-mem (remaining standing decision_steps set) chosen e
-
 pub choice_cases : {M : Type 0} (standing : M → Standing) (set : List M) →
     ((choice standing set ≡ None) × (set ≡ [])) ⊎ ((chosen : M) × (choice standing set ≡ Some chosen) × Left standing (Mem set) chosen)
 unfolding choice
@@ -110,19 +103,6 @@ choice_is_member plan set = elim (choice_cases (standing_of plan) set) [
   | inr found ↦ rw found.1 (mem-contains set found.0 found.2.member.member)
 ]
 
--- later steps only remove
-pub remaining_among : {M : Type 0} (standing : M → Standing) (steps : List Step) (set : List M) (x : M) → Mem (remaining standing steps set) x → Mem set x
-unfolding remaining
-remaining_among standing [] set x h = h
-remaining_among standing (step ∷ later) set x h =
-    (unbeaten_means standing step set x (remaining_among standing later (unbeaten standing step set) x h)).0
-
-pub remaining-append : {M : Type 0} (standing : M → Standing) (before after : List Step) (set : List M) →
-    remaining standing (before ++ after) set ≡ remaining standing after (remaining standing before set)
-unfolding remaining
-remaining-append standing [] after set = refl
-remaining-append standing (step ∷ before) after set = remaining-append standing before after (unbeaten standing step set)
-
 left_at_step : {M : Type 0} (standing : M → Standing) (step : Step) (after : List Step) (reached : List M) (x : M) →
     Mem (remaining standing (step ∷ after) reached) x → Mem reached x × ((w : M) → Mem reached w → beats step (standing w) (standing x) ≡ false)
 unfolding remaining
@@ -145,15 +125,6 @@ same_members some others same = record {
   to = λ x h. contains-mem others x ((same x).0 (mem-contains some x h));
   from = λ x h. contains-mem some x ((same x).1 (mem-contains others x h));
 }
-
--- two members that all steps leave are from one address
-pub one_address : {M : Type 0} (standing : M → Standing) (set : List M) (one other : M) → Left standing (Mem set) one → Left standing (Mem set) other →
-    (standing one).address ≡ (standing other).address
-one_address standing set one other left_one left_other =
-    elim (precedes_cases (standing one) (standing other) (λ before. left_other.best one left_one.member before)) [
-      | inl before ↦ absurd (left_one.best other left_other.member before)
-      | inr same ↦ sym same.1
-    ]
 
 pub choice_ignores_order : ChoiceIgnoresOrder
 choice_ignores_order plan some others same own =

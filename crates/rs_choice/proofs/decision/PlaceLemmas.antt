@@ -9,8 +9,8 @@ use Rattle.rs_choice.specs.declared.candidate.Standing.{Standing}
 use Rattle.rs_choice.specs.declared.step.Step.{Step}
 use Rattle.rs_choice.specs.Decision.{beats, decision_steps, unbeaten, remaining, first_member, choice, place_of_choice}
 use Rattle.rs_choice.specs.Comparison.{IsAheadByMed, Precedes}
-use Rattle.rs_choice.proofs.decision.Members.{Mem, mem-at, mem-slice_get, slice_get-mem}
-use Rattle.rs_choice.proofs.decision.Eliminations.{Unbeaten, Left, LeftByMed, By, same_remaining}
+use Rattle.rs_choice.proofs.Members.{Mem, mem-at, mem-slice_get, slice_get-mem}
+use Rattle.rs_choice.proofs.Eliminations.{Unbeaten, Left, LeftByMed, By, same_remaining}
 
 -- the numbered members of a list are those at their numbers
 pub at-enumerate : {M : Type 0} (n : ℕ) (xs : List M) (numbered : ℕ × M) → Mem (enumerate_from n xs) numbered →
@@ -30,10 +30,6 @@ enumerate-at n (y ∷ ys) (suc j) x at = inr (let e : n + suc j ≡ n + 1 + j = 
 pub first_cases : {M : Type 0} (xs : List M) → ((first_member xs ≡ None) × ((x : M) → Mem xs x → ⊥)) ⊎ ((x : M) × (first_member xs ≡ Some x) × Mem xs x)
 first_cases [] = inl (refl, λ x h. h)
 first_cases (x ∷ xs) = inr (x, refl, inl refl)
-
-pub first-mem : {M : Type 0} (xs : List M) (first : M) → first_member xs ≡ Some first → Mem xs first
-first-mem [] first is = absurd (cc (is))
-first-mem (x ∷ xs) first is = inl (cc (is))
 
 -- a member's standing, whatever its number
 abbrev pub numbered : {M : Type 0} → (M → Standing) → ℕ × M → Standing

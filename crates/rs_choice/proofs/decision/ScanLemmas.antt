@@ -11,8 +11,8 @@ use Rattle.rs_choice.specs.Plan.{Plan}
 use Rattle.rs_choice.specs.Decision.{place_of_choice, standing_of_candidate}
 use Rattle.rs_choice.specs.Comparison.{IsAhead, IsLevel, Precedes}
 use Rattle.rs_choice.specs.Scan.{HasNoneAhead, Leads, IsLeader, IsLeftByMed, GoesFirst, Holds, IsBest}
-use Rattle.rs_choice.proofs.decision.Members.{Mem, mem-slice_get, slice_get-mem}
-use Rattle.rs_choice.proofs.decision.Eliminations.{LeftByMed, equal_level, follows_level}
+use Rattle.rs_choice.proofs.Members.{Mem, mem-slice_get, slice_get-mem}
+use Rattle.rs_choice.proofs.Eliminations.{LeftByMed, equal_level, follows_level}
 use Rattle.rs_choice.proofs.decision.PlaceLemmas.{place_of_choice-Some, place_of_choice-None}
 
 pub not_ahead_of_itself : (one : Standing) → IsAhead one one → ⊥

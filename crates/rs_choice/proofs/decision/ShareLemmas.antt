@@ -8,9 +8,8 @@ use Rattle.rs_choice.specs.declared.candidate.Standing.{Standing}
 use Rattle.rs_choice.specs.declared.step.Step.{Step}
 use Rattle.rs_choice.specs.declared.step.Step.TheVariants as steps
 use Rattle.rs_choice.specs.Decision.{beats, decision_steps, unbeaten, remaining, first_member, choice}
-use Rattle.rs_choice.proofs.decision.Members.{Mem, any_found, mem-filter, mem_of-filter, list_any-none, none-list_any}
-use Rattle.rs_choice.proofs.decision.Eliminations.{is_false, unbeaten_means}
-use Rattle.rs_choice.proofs.decision.LawLemmas.{choice_left}
+use Rattle.rs_choice.proofs.Members.{Mem, any_found, mem-filter, mem_of-filter, list_any-none, none-list_any}
+use Rattle.rs_choice.proofs.Eliminations.{choice_left, is_false, unbeaten_means}
 
 filter_swap_first : {M : Type 0} (kept p q : M → Bool) (x : M) (xs : List M) (stays passes : Bool) → kept x ≡ stays → (stays ≡ true → q x ≡ passes) →
     filter q (filter kept xs) ≡ filter kept (filter p xs) →

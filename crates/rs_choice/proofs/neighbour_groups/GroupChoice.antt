@@ -10,8 +10,8 @@ use Rattle.rs_choice.specs.Comparison.{IsAhead, IsLevel, HasLowerMed, Precedes}
 use Rattle.rs_choice.specs.Decision.{no_standing, place_of_choice}
 use Rattle.rs_choice.specs.Scan.{Holds}
 use Rattle.rs_choice.specs.Grouping.{standing_in, GoesBefore, IsGrouping, GoesBeforeSome, IsFirstOf}
-use Rattle.rs_choice.proofs.decision.Eliminations.{LeftByMed, follows_level}
-use Rattle.rs_choice.proofs.decision.Members.{Mem, mem-slice_get, slice_get-mem}
+use Rattle.rs_choice.proofs.Eliminations.{LeftByMed, follows_level}
+use Rattle.rs_choice.proofs.Members.{Mem, mem-slice_get, slice_get-mem}
 use Rattle.rs_choice.proofs.decision.PlaceLemmas.{place_of_choice-Some, place_of_choice-None}
 use Rattle.rs_choice.proofs.decision.ScanLemmas.{precedes_cases, not_both_precede}
 

@@ -8,7 +8,7 @@ use Rattle.std.proofs.lemmas.List.{length-set}
 use Rattle.rs_choice.specs.declared.candidate.Standing.{Standing}
 use Rattle.rs_choice.specs.Comparison.{IsAhead, IsLevel}
 use Rattle.rs_choice.specs.Grouping.{BeatsInGroup, StandsFor, IsGrouping, IsLevelWithSome}
-use Rattle.rs_choice.proofs.decision.Eliminations.{equal_level, follows_level}
+use Rattle.rs_choice.proofs.Eliminations.{equal_level, follows_level}
 use Rattle.rs_choice.proofs.decision.ScanLemmas.{not_ahead_of_itself, ahead_then}
 use Rattle.rs_choice.proofs.neighbour_groups.GroupLists.{level_ahead, level_back, level_then, stands_for_itself, beats_stands, held_stands, single, push_cases, push_old, push_new, set_cases, set_same, set_other}
 

@@ -10,8 +10,8 @@ use Rattle.rs_choice.specs.declared.candidate.Standing.{Standing}
 use Rattle.rs_choice.specs.declared.neighbour_groups.Group.{Group}
 use Rattle.rs_choice.specs.Comparison.{IsAhead, IsLevel, HasLowerMed}
 use Rattle.rs_choice.specs.Grouping.{places_of, AreGroups, IsGrouping, IsJoined, IsLevelWithSome, IsNeighboursGroup, LeadsAll}
-use Rattle.rs_choice.proofs.decision.Eliminations.{equal_level, follows_level}
-use Rattle.rs_choice.proofs.decision.Members.{some_at}
+use Rattle.rs_choice.proofs.Eliminations.{equal_level, follows_level}
+use Rattle.rs_choice.proofs.Members.{some_at}
 use Rattle.rs_choice.proofs.neighbour_groups.GroupLists.{level_ahead, level_back, level_then, single, push_cases, set_cases}
 use Rattle.rs_choice.proofs.neighbour_groups.GroupLemmas.{ahead_of_all, ahead_of_none, level_itself, alone, left_behind, one_more_group, another_place, same_place, level_with_all}
 

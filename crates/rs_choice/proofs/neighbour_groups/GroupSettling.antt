@@ -12,8 +12,8 @@ use Rattle.rs_choice.specs.Decision.{remaining, choice, place_of_choice, member_
 use Rattle.rs_choice.specs.Comparison.{IsAhead, IsLevel, HasLowerMed}
 use Rattle.rs_choice.specs.Grouping.{standing_in, StandsFor, AreGroups, places_of}
 use Rattle.rs_choice.specs.Naturality.{member_at-place_of_choice}
-use Rattle.rs_choice.proofs.decision.Members.{Mem, mem-slice_get, slice_get-mem, some_at}
-use Rattle.rs_choice.proofs.decision.Eliminations.{Unbeaten, By, beats_tells, equal_level, same3}
+use Rattle.rs_choice.proofs.Members.{Mem, mem-slice_get, slice_get-mem, some_at}
+use Rattle.rs_choice.proofs.Eliminations.{Unbeaten, By, beats_tells, equal_level, same3}
 use Rattle.rs_choice.proofs.neighbour_groups.GroupMarks.{group_at, place_at}
 use Rattle.rs_choice.proofs.decision.ShareLemmas.{RemovedByKept, reaching_med, choice_stays}
 

@@ -10,7 +10,7 @@ use Rattle.rs_choice.specs.declared.fault.PlanFault.TheVariants.{RepeatedAddress
 use Rattle.rs_choice.specs.Laws.{FaultIsFirst, PeersHaveOwnAddresses}
 use Rattle.rs_choice.specs.Plan.{Peer, Test, has_address, peer_tests, peers_tests, names_tests, whole_tests, plan_tests, plan_fault}
 use Rattle.rs_update.specs.Fault.{first_fault}
-use Rattle.rs_choice.proofs.decision.Members.{Mem, list_any-none, mem-append_left, mem-append_right}
+use Rattle.rs_choice.proofs.Members.{Mem, list_any-none, mem-append_left, mem-append_right}
 use Rattle.rs_choice.proofs.decision.PlaceLemmas.{enumerate-at}
 
 later_match : (o : Option PlanFault) (P P' : Type 0) (Q Q' : PlanFault → Type 0) → (P → P') → ((fault : PlanFault) → Q fault → Q' fault) → MatchOption o P Q → MatchOption o P' Q'

@@ -6,7 +6,7 @@ use Rattle.std.proofs.lemmas.List.Elements.{All-push, Contains-append_left, Cont
 use Rattle.std.proofs.lemmas.Option.{slice_get_within}
 use Rattle.rs_choice.specs.declared.neighbour_groups.Group.{Group}
 use Rattle.rs_choice.specs.Sharing.{Weighs}
-use Rattle.rs_choice.proofs.decision.Members.{contains_at}
+use Rattle.rs_choice.proofs.Members.{contains_at}
 use Rattle.std.proofs.lemmas.Bool.{iff_false}
 use Rattle.rs_choice.proofs.clients.weighing.Goals as goal
 use Rattle.rs_choice.proofs.clients.weighing.Goals.{then-group, else-group+else-is_first}

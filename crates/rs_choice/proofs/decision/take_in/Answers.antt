@@ -2,7 +2,7 @@ use Rattle.std.proofs.Common.{ℕ, None, Some, rules}
 use Rattle.rs_choice.specs.declared.candidate.Standing.{Standing}
 use Rattle.rs_choice.specs.Comparison.{IsAhead}
 use Rattle.rs_choice.specs.Grouping.{standing_in, LeadsAll}
-use Rattle.rs_choice.proofs.decision.Eliminations.{equal_level}
+use Rattle.rs_choice.proofs.Eliminations.{equal_level}
 use Rattle.rs_choice.proofs.neighbour_groups.GroupMarks.{ahead_of_leader, ahead_of_no_leader, alone_marked, behind_leader, leads_alone, leads_joined, level_with_leader}
 use Rattle.std.proofs.lemmas.Bool.{iff_false}
 use Rattle.rs_choice.proofs.decision.take_in.Goals as goal

@@ -1,6 +1,6 @@
 use Rattle.rs_choice.specs.Decision.{standing_of}
 use Rattle.rs_choice.specs.Laws.{reaching_med, ChoiceStays}
-use Rattle.rs_choice.proofs.decision.Members.{contains-mem, mem-contains}
+use Rattle.rs_choice.proofs.Members.{contains-mem, mem-contains}
 use Rattle.rs_choice.proofs.decision.ShareLemmas.{choice_stays}
 use Rattle.rs_choice.proofs.laws.the_choice_stays_without_those_of_no_weight.Goals as goal
 

@@ -12,7 +12,7 @@ use Rattle.rs_choice.specs.Held.{sent_of_held}
 use Rattle.rs_choice.specs.Sharing.{sents_at}
 use Rattle.rs_choice.proofs.clients.ChosenLemmas.{sents_push, take_more}
 use Rattle.rs_choice.proofs.clients.ContenderLemmas.{with_one, without_one}
-use Rattle.rs_choice.proofs.decision.Members.{mem-append_right}
+use Rattle.rs_choice.proofs.Members.{mem-append_right}
 use Rattle.rs_choice.proofs.exchange.Exchange.contenders.Goals as goal
 use Rattle.rs_choice.proofs.exchange.Exchange.contenders.Goals.{in-Some, in_default}
 

@@ -4,7 +4,7 @@ use Rattle.std.proofs.lemmas.Option.{slice_get_read, slice_get_within}
 use Rattle.rs_choice.specs.declared.candidate.Standing.{Standing}
 use Rattle.rs_choice.specs.Comparison.{Outdoes}
 use Rattle.rs_choice.specs.Held.{held_standing}
-use Rattle.rs_choice.proofs.decision.Members.{contains_at}
+use Rattle.rs_choice.proofs.Members.{contains_at}
 use Rattle.rs_choice.proofs.exchange.Exchange.outdoes_both.Goals as goal
 
 pub returns : goal.returns

@@ -1,6 +1,6 @@
 -- What eliminations leave, by members: two in a row are one by both.
 -- For the lemmas of choices, clients and groups, and those of rs_explain.
-use Rattle.std.proofs.Common.{◌≡◌, ap, refl, arith, Bool, true, false, not, inl, inr, List}
+use Rattle.std.proofs.Common.{◌≡◌, ap, refl, arith, Bool, true, false, not, inl, inr, List, [], ◌∷◌, ◌++◌, Some}
 use Rattle.std.specs.Prelude.{◌==◌, nat_lt}
 use Rattle.std.specs.Bool.{Decides}
 use Rattle.std.specs.List.{list_any}
@@ -10,9 +10,9 @@ use Rattle.rs_choice.specs.declared.candidate.Standing.{Standing}
 use Rattle.rs_choice.specs.declared.step.Step.{Step}
 use Rattle.rs_choice.specs.declared.step.Step.TheVariants as steps
 use Rattle.rs_update.specs.Spelling.{origin_code}
-use Rattle.rs_choice.specs.Decision.{beats, decision_steps, unbeaten, remaining}
+use Rattle.rs_choice.specs.Decision.{beats, decision_steps, unbeaten, remaining, first_member, choice}
 use Rattle.rs_choice.specs.Comparison.{FirstOrSecond, IsPreferred, IsAsPreferred, IsShorter, IsPreferredOrShorter, IsAsLong, HasLowerOrigin, IsAhead, IsLevel, HasLowerMed, IsAheadByMed, HasLowerId, HasSameId, HasLowerAddress, Precedes}
-use Rattle.rs_choice.proofs.decision.Members.{Mem, mem-filter, mem_of-filter, list_any-none, none-list_any}
+use Rattle.rs_choice.proofs.Members.{Mem, mem-filter, mem_of-filter, list_any-none, none-list_any}
 
 -- x is in a set, and no member of the set beats it
 pub record Unbeaten {M : Type 0} (Beats : M → M → Type 0) (In : M → Type 0) (x : M) : Type 0 where
@@ -167,7 +167,40 @@ module _ {M : Type 0} (standing : M → Standing) where
         (step_after HasLowerId HasSameId steps.Address s4 s5 (same_step steps.Identifier s4) (λ w x a b. omega arith) (λ u w x e h. omega arith))
         (same_unbeaten (By standing Precedes) (Mem s4) (LeftByMed standing (Mem set)) same4)
 
+-- later steps only remove
+pub remaining_among : {M : Type 0} (standing : M → Standing) (steps : List Step) (set : List M) (x : M) → Mem (remaining standing steps set) x → Mem set x
+unfolding remaining
+remaining_among standing [] set x h = h
+remaining_among standing (step ∷ later) set x h =
+    (unbeaten_means standing step set x (remaining_among standing later (unbeaten standing step set) x h)).0
+
+-- steps after others remove of what those leave
+pub remaining-append : {M : Type 0} (standing : M → Standing) (before after : List Step) (set : List M) →
+    remaining standing (before ++ after) set ≡ remaining standing after (remaining standing before set)
+unfolding remaining
+remaining-append standing [] after set = refl
+remaining-append standing (step ∷ before) after set = remaining-append standing before after (unbeaten standing step set)
+
 -- what all six steps leave
 pub same_remaining : {M : Type 0} (standing : M → Standing) (set : List M) → Same (Mem (remaining standing decision_steps set)) (Left standing (Mem set))
 unfolding remaining
 same_remaining standing set = same6 standing set
+
+pub first-mem : {M : Type 0} (xs : List M) (first : M) → first_member xs ≡ Some first → Mem xs first
+first-mem [] first is = absurd (cc (is))
+first-mem (x ∷ xs) first is = inl (cc (is))
+
+-- who is chosen is left by all steps
+pub choice_left : {M : Type 0} (standing : M → Standing) (set : List M) (chosen : M) → choice standing set ≡ Some chosen →
+    Mem (remaining standing decision_steps set) chosen
+unfolding choice
+choice_left standing set chosen e = first-mem (remaining standing decision_steps set) chosen e
+
+-- two members that all steps leave are from one address
+pub one_address : {M : Type 0} (standing : M → Standing) (set : List M) (one other : M) → Left standing (Mem set) one → Left standing (Mem set) other →
+    (standing one).address ≡ (standing other).address
+one_address standing set one other left_one left_other =
+    neither_first (standing one) (standing other) (left_other.best one left_one.member) (left_one.best other left_other.member)
+  where
+    neither_first : (a b : Standing) → (Precedes a b → ⊥) → (Precedes b a → ⊥) → a.address ≡ b.address
+    neither_first a b h k = grind arith
