@@ -1,10 +1,9 @@
 -- Explanations and answers.
-use Rattle.std.proofs.Common.{◌≡◌, ap, refl, ℕ, ◌<◌, ◌==◌, Bool, true, false, not, cond, [], ◌∷◌, length, get_or, inl, inr}
-use Rattle.std.specs.Prelude.{Option, None, Some, MatchOption, slice_get, ◌&&◌}
+use Rattle.std.proofs.Common.{◌≡◌, ap, refl, ℕ, ◌<◌, ◌==◌, Bool, true, false, not, cond, [], ◌∷◌, length, inl, inr}
+use Rattle.std.specs.Prelude.{Option, None, Some, MatchOption, is_none, ◌&&◌}
 use Rattle.std.specs.Option.{option_map, option_or, option_and_then}
 use Rattle.std.specs.FinMap.{get}
 use Rattle.std.proofs.lemmas.Bool.{cases_Bool}
-use Rattle.std.proofs.lemmas.Option.{slice_get-get_or}
 use Rattle.rs_update.specs.IpPrefix.{IpPrefix}
 use Rattle.rs_update.specs.AsPath.{holds_as_in}
 use Rattle.rs_update.specs.Community.{has_community_in}
@@ -25,11 +24,7 @@ use Rattle.rs_explain.specs.declared.explanation.Explanation.{Explanation}
 use Rattle.rs_explain.specs.declared.explanation.Explanation.TheVariants.{Own, Absent, Ineligible, Refused, Best, Lost}
 use Rattle.rs_explain.specs.Reasons.{first_answer, failed_condition, refusal_of}
 use Rattle.rs_explain.specs.Explanations.{answer_of, reason_of, IsDecided, IsExplanation}
-use Rattle.rs_explain.proofs.ReasonLemmas.{nobody}
-
-abbrev pub is_none : {A : Type 0} → Option A → Bool
-is_none None = true
-is_none (Some a) = false
+use Rattle.rs_choice.proofs.Members.{some_at}
 
 by_conditions : {C : Type 0} (h n o : Bool) (a b c : C) → (not h && (not n && o)) ≡ is_none (first_answer ((h, a) ∷ (n, b) ∷ (not o, c) ∷ []))
 by_conditions true n o a b c = refl
@@ -41,10 +36,9 @@ by_conditions false false false a b c = refl
 pub eligible_unless : (plan : Plan) (number : ℕ) (attributes : PathAttributes) → number < length plan.peers →
     is_eligible plan number attributes ≡ is_none (failed_condition plan number attributes)
 eligible_unless plan number attributes known =
-    let sender = get_or plan.peers number nobody in
-    let at_sender : slice_get plan.peers number ≡ Some sender = slice_get-get_or plan.peers number nobody known in
-    rw at_sender (by_conditions (holds_as_in attributes.path plan.local.asn) (attributes.next_hop == plan.local.address)
-    (is_on_exchange plan.local.subnet sender.address attributes.next_hop) _ _ _)
+    let sender = some_at plan.peers number known in
+    rw sender.1 (by_conditions (holds_as_in attributes.path plan.local.asn) (attributes.next_hop == plan.local.address)
+    (is_on_exchange plan.local.subnet sender.0.address attributes.next_hop) _ _ _)
 
 by_rules : {C : Type 0} (n a b c : Bool) (x y z : C) →
     cond n false (cond a false (cond b true (cond c false true)))
@@ -59,20 +53,18 @@ by_rules false false false false x y z = refl
 pub permitted_unless : (plan : Plan) (client number : ℕ) (attributes : PathAttributes) → client < length plan.peers → number < length plan.peers →
     (client == number) ≡ false → is_permitted plan client number attributes ≡ is_none (refusal_of plan client number attributes)
 permitted_unless plan client number attributes client_known known differ =
-    let receiver = get_or plan.peers client nobody in
-    let sender = get_or plan.peers number nobody in
-    let at_receiver : slice_get plan.peers client ≡ Some receiver = slice_get-get_or plan.peers client nobody client_known in
-    let at_sender : slice_get plan.peers number ≡ Some sender = slice_get-get_or plan.peers number nobody known in
-    rw (at_receiver, at_sender, differ) (by_rules (refuses receiver sender) (has_community_in attributes.communities 0 receiver.asn)
-    (has_community_in attributes.communities plan.local.asn receiver.asn) (has_community_in attributes.communities 0 plan.local.asn) _ _ _)
+    let receiver = some_at plan.peers client client_known in
+    let sender = some_at plan.peers number known in
+    rw (receiver.1, sender.1, differ) (by_rules (refuses receiver.0 sender.0) (has_community_in attributes.communities 0 receiver.0.asn)
+    (has_community_in attributes.communities plan.local.asn receiver.0.asn) (has_community_in attributes.communities 0 plan.local.asn) _ _ _)
 
-agree_left : (explanation : Explanation) (decided : Type 0) (last : Why) (f : Option Condition) (r : Option Refusal) (eligible permitted : Bool) →
-    eligible ≡ is_none f → permitted ≡ is_none r → (decided → answer_of explanation ≡ last) →
+agree_left : (explanation : Explanation) (decided : Type 0) (otherwise : Why) (f : Option Condition) (r : Option Refusal) (eligible permitted : Bool) →
+    eligible ≡ is_none f → permitted ≡ is_none r → (decided → answer_of explanation ≡ otherwise) →
     MatchOption (option_or (option_map (λ condition. Ineligible condition) f) (option_map (λ refusal. Refused refusal) r)) decided (λ reason. explanation ≡ reason) →
-    answer_of explanation ≡ cond (not eligible) answers.Ineligible (cond (not permitted) answers.Refused last)
-agree_left explanation decided last (Some condition) r eligible permitted e p says h = rw e (ap answer_of h)
-agree_left explanation decided last None (Some refusal) eligible permitted e p says h = rw (e, p) (ap answer_of h)
-agree_left explanation decided last None None eligible permitted e p says h = rw (e, p) (says h)
+    answer_of explanation ≡ cond (not eligible) answers.Ineligible (cond (not permitted) answers.Refused otherwise)
+agree_left explanation decided otherwise (Some condition) r eligible permitted e p says h = rw e (ap answer_of h)
+agree_left explanation decided otherwise None (Some refusal) eligible permitted e p says h = rw (e, p) (ap answer_of h)
+agree_left explanation decided otherwise None None eligible permitted e p says h = rw (e, p) (says h)
 
 agree_decided : (tables : TablesContent) (client peer : ℕ) (prefix : IpPrefix) (explanation : Explanation) → IsDecided tables client peer prefix explanation →
     answer_of explanation ≡ cond (is_from peer (best_of tables client prefix)) answers.Best answers.Lost

@@ -1,4 +1,3 @@
-pub mod Members
 pub mod ReasonLemmas
 pub mod RemovalLemmas
 pub mod ContenderLemmas

@@ -1,9 +1,10 @@
 -- The rival that is named is a candidate, and beats the loser.
-use Rattle.std.proofs.Common.{◌≡◌, ◌∙◌, ap, ℕ, Bool, true, false, List, ◌∷◌, inl, inr}
+use Rattle.std.proofs.Common.{◌≡◌, ◌∙◌, sym, ap, ℕ, Bool, true, false, List, [], ◌∷◌, inl, inr}
 use Rattle.std.specs.Prelude.{Option, None, Some, MatchOption, IsTrue, ◌==◌, if◌then◌else◌}
-use Rattle.std.specs.List.{Contains}
+use Rattle.std.specs.List.{find, Contains}
 use Rattle.std.specs.Option.{option_map, option_or}
 use Rattle.std.specs.FinMap.{get}
+use Rattle.std.proofs.lemmas.Bool.{cond_both}
 use Rattle.rs_update.specs.IpPrefix.{IpPrefix}
 use Rattle.rs_choice.specs.declared.step.Step.{Step}
 use Rattle.rs_choice.specs.Decision.{beats, remaining, SentRoute}
@@ -18,9 +19,18 @@ use Rattle.rs_explain.specs.declared.explanation.Explanation.TheVariants.{Own, I
 use Rattle.rs_explain.specs.Contenders.{contender_of, contenders_of, standing_in}
 use Rattle.rs_explain.specs.Explanations.{reason_of, IsLoss, IsExplanation}
 use Rattle.rs_explain.specs.Reasons.{failed_condition, refusal_of}
-use Rattle.rs_explain.proofs.Members.{Mem, contains-mem, mem-contains, mem-find, mem-map}
-use Rattle.rs_explain.proofs.RemovalLemmas.{mem-remaining, beaten_by}
+use Rattle.rs_choice.proofs.Eliminations.{remaining_among}
+use Rattle.rs_choice.proofs.Members.{Mem, contains-mem, mem-contains, mem_of-map}
+use Rattle.rs_explain.proofs.RemovalLemmas.{beaten_by}
 use Rattle.rs_explain.proofs.BestLemmas.{best_contender}
+
+-- what is found is a member that passes
+mem-find : {M : Type 0} (p : M → Bool) (xs : List M) (x : M) → find p xs ≡ Some x → Mem xs x × (p x ≡ true)
+mem-find p [] x found = absurd (cc (found))
+mem-find p (y ∷ ys) x found = cond_both (p y) (Some y) (find p ys) (λ found. found ≡ Some x → Mem (y ∷ ys) x × (p x ≡ true))
+    (λ passes here. let same : y ≡ x = cc (here) in (inl same, ap p (sym same) ∙ passes))
+    (λ fails later. let found = mem-find p ys x later in (inr found.0, found.1))
+    found
 
 loss_reasons : (decided : Type 0) (removal : Removal) (f : Option Condition) (r : Option Refusal) →
     MatchOption (option_or (option_map (λ condition. Ineligible condition) f) (option_map (λ refusal. Refused refusal) r)) decided (λ reason. Lost removal ≡ reason) → decided
@@ -47,7 +57,7 @@ module _ (tables : TablesContent) (client peer : ℕ) (prefix : IpPrefix) (remov
   rival_among before best is (inl same) =
       rw (← same) (contains-mem (contenders_of tables client prefix) (contender_of tables.plan best)
       (choice-Contains standing_in (contenders_of tables client prefix) (contender_of tables.plan best) (best_contender tables client prefix ∙ ap (option_map (contender_of tables.plan)) is)))
-  rival_among before best is (inr later) = mem-remaining before (contenders_of tables client prefix) removal.rival later
+  rival_among before best is (inr later) = remaining_among standing_in before (contenders_of tables client prefix) removal.rival later
 
   pub rival_is_candidate : IsExplanation tables client peer prefix (Lost removal) →
       ((route : SentRoute) × Contains (candidates_of tables client prefix) route × (contender_of tables.plan route ≡ removal.rival))
@@ -57,6 +67,6 @@ module _ (tables : TablesContent) (client peer : ℕ) (prefix : IpPrefix) (remov
       let steps = loss.steps in
       let found = mem-find (beaten_by removal.step loss.loser) (contender_of tables.plan loss.best ∷ remaining standing_in steps.before (contenders_of tables client prefix)) removal.rival steps.rival in
       let among : Mem (contenders_of tables client prefix) removal.rival = rival_among steps.before loss.best loss.gets found.0 in
-      let made = mem-map (contender_of tables.plan) (candidates_of tables client prefix) removal.rival among in
+      let made = mem_of-map (contender_of tables.plan) (candidates_of tables client prefix) removal.rival among in
       let removed = steps.removed in
       ((made.0, mem-contains (candidates_of tables client prefix) made.0 made.1, made.2), rw removed found.1)

@@ -1,55 +1,27 @@
 -- What is said last of a prefix agrees with the routes that are left.
 use Rattle.std.proofs.Common.{◌≡◌, ◌∙◌, sym, ap, refl, ℕ, Bool, true, false, cond, List, [], ◌∷◌, ◌++◌, inl, inr}
-use Rattle.std.specs.Prelude.{Some, None, ◌||◌}
+use Rattle.std.specs.Prelude.{Some, None}
 use Rattle.std.specs.List.{list_any}
 use Rattle.std.specs.Option.{is_some}
-use Rattle.std.specs.Ordering.{is_eq, nat_cmp, ordering_then}
-use Rattle.std.specs.Cmp.{Equal-is, IsTotalOrder, nat_cmp_total, on_total, then_total, tied_itself}
-use Rattle.std.specs.FinMap.{nat_cmp-IsAntisymmetric}
-use Rattle.std.specs.declared.cmp.Ordering.{Ordering}
-use Rattle.std.specs.declared.cmp.Ordering.TheVariants.{Less, Equal, Greater}
+use Rattle.std.proofs.lemmas.Bool.{both_ways, or_parts}
+use Rattle.std.proofs.lemmas.Option.{cond_some}
 use Rattle.rs_update.specs.IpPrefix.{IpPrefix}
 use Rattle.rs_update.specs.PathAttributes.{PathAttributes}
-use Rattle.rs_update.specs.PrefixOrder.{prefix_cmp}
 use Rattle.rs_session.specs.Change.{Change, ChangeBody, Announced, Withdrawn, Lost, Closed}
 use Rattle.rs_table.specs.Left.{announcement, drops_routes, is_loss, is_on, reason_drops, same_prefix, Leaves, RouteLeft}
 use Rattle.rs_explain.specs.declared.last_said.Ending.{Ending}
 use Rattle.rs_explain.specs.declared.last_said.EndedBy.{EndedBy}
 use Rattle.rs_explain.specs.declared.last_said.EndedBy.TheVariants as by
 use Rattle.rs_explain.specs.LastSaid.{announces, body_announces, body_ends_by, ends, EndRoute, IsAnnouncedLast, KeepRoute}
-use Rattle.rs_explain.proofs.Members.{Mem, list_any-none}
-
--- ---- one test of two prefixes says that they are equal
-
-then_first : (r s : Ordering) → ordering_then r s ≡ Equal → r ≡ Equal
-then_first Less s e = cc e
-then_first Equal s e = refl
-then_first Greater s e = cc e
-
-then_second : (r s : Ordering) → ordering_then r s ≡ Equal → s ≡ Equal
-then_second Less s e = cc e
-then_second Equal s e = e
-then_second Greater s e = cc e
-
-prefix_total : IsTotalOrder prefix_cmp
-prefix_total = then_total (on_total (λ (p : IpPrefix). p.address) nat_cmp_total) (on_total (λ (p : IpPrefix). p.len) nat_cmp_total)
-
-same_prefix-is : (x y : IpPrefix) → same_prefix x y ≡ true → x ≡ y
-same_prefix-is x y e =
-    let tied : prefix_cmp x y ≡ Equal = (Equal-is (prefix_cmp x y)).0 e in
-    let address : x.address ≡ y.address = nat_cmp-IsAntisymmetric x.address y.address (then_first _ _ tied) in
-    let len : x.len ≡ y.len = nat_cmp-IsAntisymmetric x.len y.len (then_second (nat_cmp x.address y.address) _ tied) in
-    λ i. record { address = address i; len = len i }
-
-same_prefix-itself : (x : IpPrefix) → same_prefix x x ≡ true
-same_prefix-itself x = ap is_eq (tied_itself prefix_total x)
+use Rattle.rs_table.proofs.PrefixLemmas.{same_prefix-itself, same_prefix-true}
+use Rattle.rs_choice.proofs.Members.{Mem, list_any-none, mem-append_right}
 
 -- ---- one change
 
 module _ (prefix : IpPrefix) where
   body_of_announcement : (body : ChangeBody) → body_announces prefix body ≡ true → (attributes : PathAttributes) × (body ≡ Announced prefix attributes)
   body_of_announcement (Announced announced attributes) is =
-      (attributes, ap (λ (announced : IpPrefix). Announced announced attributes) (sym (same_prefix-is prefix announced is)))
+      (attributes, ap (λ (announced : IpPrefix). Announced announced attributes) (sym (same_prefix-true prefix announced is)))
   body_of_announcement (Withdrawn withdrawn) is = absurd (cc)
   body_of_announcement Lost is = absurd (cc)
   body_of_announcement (Closed reason) is = absurd (cc)
@@ -74,35 +46,23 @@ module _ (prefix : IpPrefix) where
   body_ends : (time : ℕ) (body : ChangeBody) (ended : EndedBy) → body_ends_by prefix body ≡ Some ended → is_on prefix (record { time = time; body = body }) ≡ false →
       is_loss (record { time = time; body = body }) ≡ false → drops_routes (record { time = time; body = body }) ≡ false → ⊥
   body_ends time (Announced announced attributes) ended is off up keeps = absurd (cc)
-  body_ends time (Withdrawn withdrawn) ended is off up keeps = some_if (same_prefix prefix withdrawn) by.Withdrawal is off
-    where
-      some_if : (b : Bool) (by : EndedBy) → cond b (Some by) None ≡ Some ended → b ≡ false → ⊥
-      some_if true by is off = absurd (cc)
-      some_if false by is off = absurd (cc)
+  body_ends time (Withdrawn withdrawn) ended is off up keeps = both_ways (same_prefix prefix withdrawn) off (cond_some (same_prefix prefix withdrawn) by.Withdrawal ended is).0
   body_ends time Lost ended is off up keeps = absurd (cc)
-  body_ends time (Closed reason) ended is off up keeps = some_if (reason_drops reason) (by.Close reason) is keeps
-    where
-      some_if : (b : Bool) (by : EndedBy) → cond b (Some by) None ≡ Some ended → b ≡ false → ⊥
-      some_if true by is off = absurd (cc)
-      some_if false by is off = absurd (cc)
+  body_ends time (Closed reason) ended is off up keeps = both_ways (reason_drops reason) keeps (cond_some (reason_drops reason) (by.Close reason) ended is).0
 
   -- ---- lists
-
-  or_none : (a b : Bool) → (a || b) ≡ false → (a ≡ false) × (b ≡ false)
-  or_none true b h = absurd (cc)
-  or_none false b h = (refl, h)
 
   none_on : (later : List Change) → list_any (announces prefix) later ≡ false → KeepRoute prefix later → list_any (is_on prefix) later ≡ false
   none_on [] other keeps = refl
   none_on (change ∷ later) other keeps =
-      let others = or_none (announces prefix change) (list_any (announces prefix) later) other in
-      let kept = or_none (ends prefix change) (list_any (ends prefix) later) keeps in
+      let others = or_parts (announces prefix change) (list_any (announces prefix) later) other in
+      let kept = or_parts (ends prefix change) (list_any (ends prefix) later) keeps in
       rw (body_off change.time change.body others.0 kept.0, none_on later others.1 kept.1) refl
 
   none_lost : (later : List Change) → KeepRoute prefix later → list_any is_loss later ≡ false
   none_lost [] keeps = refl
   none_lost (change ∷ later) keeps =
-      let kept = or_none (ends prefix change) (list_any (ends prefix) later) keeps in
+      let kept = or_parts (ends prefix change) (list_any (ends prefix) later) keeps in
       rw (body_up change.time change.body kept.0, none_lost later kept.1) refl
 
   -- what is announced last and not taken away is left
@@ -125,14 +85,6 @@ module _ (prefix : IpPrefix) where
       )
 
 module _ {M : Type 0} (p : M → Bool) where
-  mem-behind : (xs : List M) (x : M) (ys : List M) → Mem (xs ++ x ∷ ys) x
-  mem-behind [] x ys = inl refl
-  mem-behind (z ∷ xs) x ys = inr (mem-behind xs x ys)
-
-  mem-append_right : (xs ys : List M) (y : M) → Mem ys y → Mem (xs ++ ys) y
-  mem-append_right [] ys y h = h
-  mem-append_right (x ∷ xs) ys y h = inr (mem-append_right xs ys y h)
-
   head_tail : (x y : M) (xs ys : List M) → x ∷ xs ≡ y ∷ ys → (x ≡ y) × (xs ≡ ys)
   head_tail x y xs ys e = (cc, cc)
 
@@ -142,7 +94,7 @@ module _ {M : Type 0} (p : M → Bool) where
   follows_too [] [] a a' later later' same is none x h = rw (← (head_tail a a' later later' same).1) h
   follows_too [] (y ∷ e') a a' later later' same is none x h =
       let tail : later ≡ e' ++ a' ∷ later' = (head_tail a y later (e' ++ a' ∷ later') same).1 in
-      let other : p a' ≡ false = list_any-none p later a' none (rw tail (mem-behind e' a' later')) in
+      let other : p a' ≡ false = list_any-none p later a' none (rw tail (mem-append_right e' (a' ∷ later') a' (inl refl))) in
       absurd (cc (is, other))
   follows_too (y ∷ e) [] a a' later later' same is none x h =
       rw (← (head_tail y a' (e ++ a ∷ later) later' same).1) (mem-append_right e (a ∷ later) x (inr h))
@@ -156,7 +108,7 @@ module _ (prefix : IpPrefix) where
 
   pub never_announced : (changes : List Change) → list_any (announces prefix) changes ≡ false → (route : RouteLeft) → Leaves changes prefix route → ⊥
   never_announced changes none route leaves =
-      let there : Mem changes (announcement prefix route) = rw leaves.is_announced (mem-behind (announces prefix) leaves.earlier (announcement prefix route) leaves.later) in
+      let there : Mem changes (announcement prefix route) = rw leaves.is_announced (mem-append_right leaves.earlier (announcement prefix route ∷ leaves.later) (announcement prefix route) (inl refl)) in
       let other : announces prefix (announcement prefix route) ≡ false = list_any-none (announces prefix) changes (announcement prefix route) none there in
       absurd (cc (announced_itself route, other))
 
@@ -165,10 +117,10 @@ module _ (prefix : IpPrefix) where
   ended_is_gone changes time ending said route leaves =
       let ended = said.after in
       let change = ended.change in
-      let in_later : Mem said.later change = rw ended.splits (mem-behind (announces prefix) ended.before change ended.after) in
+      let in_later : Mem said.later change = rw ended.splits (mem-append_right ended.before (change ∷ ended.after) change (inl refl)) in
       let follows : Mem leaves.later change =
       follows_too (announces prefix) said.earlier leaves.earlier said.announcement (announcement prefix route) said.later leaves.later
       (sym said.splits ∙ leaves.is_announced) (announced_itself route) said.last change in_later in
-      let in_all : Mem changes change = rw leaves.is_announced (mem-append_right (announces prefix) leaves.earlier (announcement prefix route ∷ leaves.later) change (inr follows)) in
+      let in_all : Mem changes change = rw leaves.is_announced (mem-append_right leaves.earlier (announcement prefix route ∷ leaves.later) change (inr follows)) in
       body_ends prefix change.time change.body ending.by ended.ends.by (list_any-none (is_on prefix) leaves.later change leaves.is_last follows)
       (list_any-none is_loss leaves.later change leaves.stays_up follows) (list_any-none drops_routes changes change leaves.keeps_routes in_all)

@@ -1,7 +1,8 @@
 -- What is said last of a prefix with one change more.
 use Rattle.std.proofs.Common.{◌≡◌, ◌∙◌, ap, refl, ℕ, Bool, true, false, List, [], ◌∷◌, ◌++◌, append_assoc}
-use Rattle.std.specs.Prelude.{◌||◌}
 use Rattle.std.specs.List.{list_any}
+use Rattle.std.proofs.lemmas.Bool.{or_from}
+use Rattle.std.proofs.lemmas.List.Folds.{list_any-append}
 use Rattle.rs_update.specs.IpPrefix.{IpPrefix}
 use Rattle.rs_session.specs.Change.{Change}
 use Rattle.rs_explain.specs.declared.last_said.Ending.{Ending}
@@ -9,12 +10,7 @@ use Rattle.rs_explain.specs.LastSaid.{announces, ends, EndRoute, IsAnnouncedLast
 
 -- no member of two lists passes a test
 pub none-append : {M : Type 0} (p : M → Bool) (xs ys : List M) → list_any p xs ≡ false → list_any p ys ≡ false → list_any p (xs ++ ys) ≡ false
-none-append p [] ys none later = later
-none-append p (x ∷ xs) ys none later = both (p x) (list_any p xs) (list_any p (xs ++ ys)) none (λ rest. none-append p xs ys rest later)
-  where
-    both : (a b c : Bool) → (a || b) ≡ false → (b ≡ false → c ≡ false) → (a || c) ≡ false
-    both true b c h k = h
-    both false b c h k = k h
+none-append p xs ys none later = list_any-append p xs ys ∙ or_from (list_any p xs) (list_any p ys) none later
 
 pub none-one : {M : Type 0} (p : M → Bool) (x : M) → p x ≡ false → list_any p (x ∷ []) ≡ false
 none-one p x none = rw none refl

@@ -1,5 +1,5 @@
 use Rattle.std.proofs.Common.{◌≡◌, ◌∙◌, ◌==◌, ap, sym, arith, false, true}
-use Rattle.std.specs.Prelude.{None}
+use Rattle.std.specs.Prelude.{None, is_none}
 use Rattle.std.proofs.lemmas.Result.{IfOk-weaker}
 use Rattle.std.specs.FinMap.{get}
 use Rattle.std.proofs.lemmas.Bool.Decides.{nat_tests}
@@ -11,7 +11,7 @@ use Rattle.rs_table.specs.RouteView.{sent_route_of}
 use Rattle.rs_explain.specs.declared.contender.Contender.{Contender}
 use Rattle.rs_explain.specs.Contenders.{contender_of}
 use Rattle.rs_explain.specs.Reasons.{failed_condition, refusal_of}
-use Rattle.rs_explain.proofs.AgreementLemmas.{agrees, eligible_unless, explained, is_none, no_reason, permitted_unless}
+use Rattle.rs_explain.proofs.AgreementLemmas.{agrees, eligible_unless, explained, no_reason, permitted_unless}
 use Rattle.rs_explain.proofs.ContenderLemmas.{made_from, route_peer, some_permitted}
 use Rattle.rs_explain.proofs.explanation.explain.Goals as goal
 
