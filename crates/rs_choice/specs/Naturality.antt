@@ -1,12 +1,11 @@
 -- What holds of the choice whatever else its members carry: it looks at standings alone.
 use Rattle.std.specs.Prelude.{◌≡◌, ℕ, ◌+◌, Bool, true, false, cond, not, ◌||◌, refl, List, [], ◌∷◌, length, map}
-use Rattle.std.specs.Prelude.{filter, Option, None, Some, MatchOption, slice_get, slice_index_or, unwrap_or}
+use Rattle.std.specs.Prelude.{filter, Option, None, Some, MatchOption, slice_get, unwrap_or}
 use Rattle.std.specs.List.{All, Contains, list_any, enumerate_from}
 use Rattle.std.specs.Option.{option_map}
 use Rattle.std.proofs.Common.{◌∙◌, sym, ap, subst, ◌<◌}
 use Rattle.std.proofs.Math.Nat.{zero-add, zero-lt-suc}
-use Rattle.std.proofs.lemmas.List.{get_or_default}
-use Rattle.std.proofs.lemmas.List.Elements.{All-filter}
+use Rattle.std.proofs.lemmas.List.Elements.{All-contains_itself, All-filter, filter_agree}
 use Rattle.std.proofs.lemmas.List.FromFn.{get_or-enumerate_from, length-enumerate_from}
 use Rattle.std.proofs.lemmas.Option.{slice_get-get_or}
 use Rattle.rs_choice.specs.declared.candidate.Standing.{Standing}
@@ -29,20 +28,14 @@ pub filter-map : {A B : Type 0} (f : A → B) (p : B → Bool) (xs : List A)
 filter-map f p [] = refl
 filter-map f p (x ∷ xs) = map_cond f (p (f x)) x (filter (λ x. p (f x)) xs) (filter p (map f xs)) (filter-map f p xs)
 
-filter_alike : {A : Type 0} (p q : A → Bool) (xs : List A) → ((x : A) → p x ≡ q x) → filter p xs ≡ filter q xs
-filter_alike p q [] same = refl
-filter_alike p q (x ∷ xs) same =
-    ap (λ test. cond test (x ∷ filter p xs) (filter p xs)) (same x)
-    ∙ ap (λ rest. cond (q x) (x ∷ rest) rest) (filter_alike p q xs same)
-
 pub unbeaten-map : {A B : Type 0} (f : A → B) (standing : B → Standing) (step : Step) (xs : List A) →
     unbeaten standing step (map f xs) ≡ map f (unbeaten (λ x. standing (f x)) step xs)
 unfolding unbeaten
 unbeaten-map f standing step xs =
     filter-map f (λ one. not (list_any (λ other. beats step (standing other) (standing one)) (map f xs))) xs
-    ∙ ap (map f) (filter_alike (λ x. not (list_any (λ other. beats step (standing other) (standing (f x))) (map f xs)))
-    (λ x. not (list_any (λ other. beats step (standing (f other)) (standing (f x))) xs)) xs
-    (λ x. ap not (list_any-map f (λ other. beats step (standing other) (standing (f x))) xs)))
+    ∙ ap (map f) (filter_agree (λ x. not (list_any (λ other. beats step (standing other) (standing (f x))) (map f xs)))
+    (λ x. not (list_any (λ other. beats step (standing (f other)) (standing (f x))) xs))
+    (λ x. ap not (list_any-map f (λ other. beats step (standing other) (standing (f x))) xs)) xs)
 
 pub remaining-map : {A B : Type 0} (f : A → B) (standing : B → Standing) (steps : List Step) (xs : List A) →
     remaining standing steps (map f xs) ≡ map f (remaining (λ x. standing (f x)) steps xs)
@@ -113,16 +106,13 @@ choice-All P standing set chosen all e =
     first_member-All P (remaining standing decision_steps set) chosen
     (remaining-All P standing decision_steps set all) e
 
-contains_each : {M : Type 0} (xs : List M) → All (Contains xs) xs
-contains_each xs k d within = (k, within, get_or_default xs k (slice_index_or xs k d) d within)
-
 -- the choice is a member
 pub choice-Contains : {M : Type 0} (standing : M → Standing) (set : List M) (chosen : M)
     → choice standing set ≡ Some chosen → Contains set chosen
-choice-Contains standing set chosen e = choice-All (Contains set) standing set chosen (contains_each set) e
+choice-Contains standing set chosen e = choice-All (Contains set) standing set chosen (All-contains_itself set) e
 
 -- numbered members are those at their numbers
-numbered_at : {M : Type 0} (xs : List M)
+pub numbered_at : {M : Type 0} (xs : List M)
     → All (λ numbered. slice_get xs numbered.0 ≡ Some numbered.1) (enumerate_from 0 xs)
 numbered_at xs k d within =
     let within_xs = subst (λ n. k < n) (length-enumerate_from 0 xs) within in

@@ -29,14 +29,6 @@ pub view_length : (plan : Plan) (held : List HeldRoute) (places : List ℕ) → 
     length (map (standing_of_held plan) (chosen_of held places)) ≡ length places
 view_length plan held places all = length-map (chosen_of held places) (standing_of_held plan) ∙ chosen_length held places all
 
-pub first_within : (S : ℕ → Standing) (n m : ℕ) (groups : List Group) (first : Option Placed) → AreGroups S n groups → IsFirstOf S (places_of groups) m first →
-    IfSome first (λ first. first.place < n)
-first_within S n m groups None are is = tt
-first_within S n m groups (Some first) are is = are.grouping.within is.0.0 first.place is.0.1
-
-pub groups_within : (S : ℕ → Standing) (n : ℕ) (groups : List Group) → AreGroups S n groups → All (λ group. group.place < n) groups
-groups_within S n groups are k d within = place_within S n groups are k (get_or groups k d) (slice_get-get_or groups k d within)
-
 -- the eligible routes, by what is held of each one
 eligible_alike : (plan : Plan) (held : List HeldRoute) → All (IsJudged plan) held →
     filter (λ (one : HeldRoute). is_candidate one.candidacy) held ≡ filter (λ (one : HeldRoute). is_eligible plan one.peer one.attributes.value) held
@@ -68,6 +60,16 @@ module _ (plan : Plan) (held : List HeldRoute) (places : List ℕ) (groups : Lis
 
   abbrev view : List Standing
   view = map (standing_of_held plan) chosen
+
+  -- all groups, and the first of them, stand at places of the list
+  pub groups_within : ArePlaces held places → AreGroups (standing_in view) (length view) groups → All (λ group. group.place < length places) groups
+  groups_within all are k d within =
+      omega (arith, place_within (standing_in view) (length view) groups are k (get_or groups k d) (slice_get-get_or groups k d within), view_length plan held places all)
+
+  pub first_within : (n : ℕ) (first : Option Placed) → ArePlaces held places → AreGroups (standing_in view) (length view) groups → IsFirstOf (standing_in view) (places_of groups) n first →
+      IfSome first (λ first. first.place < length places)
+  first_within n None all are is = tt
+  first_within n (Some first) all are is = omega (arith, are.grouping.within is.0.0 first.place is.0.1, view_length plan held places all)
 
   -- the peer of the first of the groups is the choice's
   pub chosen_is : (first : Option Placed) → AreGroups (standing_in view) (length view) groups → IsFirstOf (standing_in view) (places_of groups) (length (places_of groups)) first →

@@ -1,7 +1,9 @@
 -- Marks of clients, and the clients that a route for named clients alone doesn't reach: for recipients.rt and route_change.rt.
-use Rattle.std.proofs.Common.{◌≡◌, ◌∙◌, ◌<◌, sym, subst, refl, length, ℕ, Bool, true, false, ◌&&◌, ◌⊎◌, inl, inr, List, [], Option, Some, None}
-use Rattle.std.specs.Prelude.{slice_index_or, nat_lt}
+use Rattle.std.proofs.Common.{◌≡◌, ◌∙◌, ◌<◌, sym, ap, subst, refl, get_or, length, ℕ, Bool, true, false, ◌&&◌, ◌⊎◌, inl, inr, List, [], Option, Some}
+use Rattle.std.specs.Prelude.{slice_get, slice_index_or, nat_lt, IfSome}
+use Rattle.std.specs.Option.{option_and_then}
 use Rattle.std.proofs.lemmas.Bool.{and_right, both_ways}
+use Rattle.std.proofs.lemmas.Option.{slice_get_read}
 use Rattle.rs_update.specs.Community.{has_value}
 use Rattle.rs_choice.specs.declared.held_route.HeldRoute.{HeldRoute}
 use Rattle.rs_choice.specs.declared.route_change.KnownBest.{KnownBest}
@@ -52,10 +54,12 @@ pub still : (before after : List Bool) (plan : Plan) (client : ℕ) (one : HeldR
 still before after plan client one kept (inl marked) = inl (kept marked)
 still before after plan client one kept (inr none) = inr none
 
--- an option holds one thing
-pub none_is_no_some : {X : Type 0} (found : Option X) (one : X) → found ≡ None → found ≡ Some one → ⊥
-none_is_no_some None one none some = absurd (cc (some))
-none_is_no_some (Some x) one none some = absurd (cc (none))
+-- the new route of a change stands at its place
+pub new_at : (held : List HeldRoute) (change : RouteChange) (place : ℕ) (one : HeldRoute) → change.new ≡ Some place → IfSome change.new (λ place. place < length held) →
+    one ≡ get_or held place one → new_route held change ≡ Some one
+new_at held change place one at known read =
+    ap (option_and_then (slice_get held)) at ∙ slice_get_read held (length held) place one refl (subst (λ new. IfSome new (λ place. place < length held)) at known) read
 
+-- an option holds one thing
 pub same_some : {X : Type 0} (found : Option X) (one other : X) → found ≡ Some one → found ≡ Some other → one ≡ other
 same_some found one other h k = let e : Some one ≡ Some other = sym h ∙ k in cc (e)

@@ -1,30 +1,30 @@
 -- The choice by its place in a list: for ScanLemmas, GroupChoice, GroupSettling, LawLemmas and PlanLaws.
-use Rattle.std.proofs.Common.{◌≡◌, ◌∙◌, sym, ap, refl, ℕ, ◌+◌, ◌<◌, ◌≤◌, suc, zero, arith, not, ◌⊎◌, inl, inr, List, [], ◌∷◌, length, Some, None}
+use Rattle.std.proofs.Common.{◌≡◌, ◌∙◌, ap, refl, ℕ, ◌<◌, ◌≤◌, suc, arith, not, ◌⊎◌, inl, inr, List, [], ◌∷◌, length, get_or, Some, None}
 use Rattle.std.specs.Prelude.{slice_get}
 use Rattle.std.specs.List.{list_any, enumerate_from, AllPairs}
 use Rattle.std.specs.Option.{option_map}
 use Rattle.std.proofs.lemmas.List.Kept.{AllPairs-filter}
 use Rattle.std.proofs.lemmas.List.FromFn.{get_or-enumerate_from, length-enumerate_from}
+use Rattle.std.proofs.lemmas.Option.{get_or_from_slice_get, slice_get_within}
+use Rattle.std.proofs.Math.Nat.{zero-add}
 use Rattle.rs_choice.specs.declared.candidate.Standing.{Standing}
 use Rattle.rs_choice.specs.declared.step.Step.{Step}
 use Rattle.rs_choice.specs.Decision.{beats, decision_steps, unbeaten, remaining, first_member, choice, place_of_choice}
 use Rattle.rs_choice.specs.Comparison.{IsAheadByMed, Precedes}
-use Rattle.rs_choice.proofs.Members.{Mem, mem-at, mem-slice_get, slice_get-mem}
+use Rattle.rs_choice.specs.Naturality.{numbered_at}
+use Rattle.rs_choice.proofs.Members.{Mem, all_mem, contains-mem, mem-at, mem-slice_get, slice_get-mem}
 use Rattle.rs_choice.proofs.Eliminations.{Unbeaten, Left, LeftByMed, By, same_remaining}
 
 -- the numbered members of a list are those at their numbers
-pub at-enumerate : {M : Type 0} (n : ℕ) (xs : List M) (numbered : ℕ × M) → Mem (enumerate_from n xs) numbered →
-    (j : ℕ) × (numbered.0 ≡ n + j) × (slice_get xs j ≡ Some numbered.1)
-at-enumerate n [] numbered h = absurd h
-at-enumerate n (x ∷ xs) numbered (inl same) = (0, ap (λ (p : ℕ × _). p.0) (sym same) ∙ omega arith, ap (λ (p : ℕ × _). Some p.1) same)
-at-enumerate n (x ∷ xs) numbered (inr h) =
-    let found = at-enumerate (n + 1) xs numbered h in
-    (suc found.0, omega (arith, found.1), found.2)
+pub enumerate-at : {M : Type 0} (xs : List M) (j : ℕ) (x : M) → slice_get xs j ≡ Some x → Mem (enumerate_from 0 xs) (j, x)
+enumerate-at xs j x at =
+    let within = slice_get_within xs j x at in
+    let read = get_or_from_slice_get xs j x x at in
+    contains-mem (enumerate_from 0 xs) (j, x)
+    (j, omega (arith, within, length-enumerate_from 0 xs), get_or-enumerate_from 0 xs j (j, x) within ∙ ap (λ k. (k, get_or xs j x)) (zero-add j) ∙ ap (λ x. (j, x)) read)
 
-pub enumerate-at : {M : Type 0} (n : ℕ) (xs : List M) (j : ℕ) (x : M) → slice_get xs j ≡ Some x → Mem (enumerate_from n xs) (n + j, x)
-enumerate-at n [] j x at = absurd (cc (at))
-enumerate-at n (y ∷ ys) zero x at = inl (let e : n + 0 ≡ n = omega arith in rw e (cc))
-enumerate-at n (y ∷ ys) (suc j) x at = inr (let e : n + suc j ≡ n + 1 + j = omega arith in rw e (enumerate-at (n + 1) ys j x at))
+at-enumerate : {M : Type 0} (xs : List M) (numbered : ℕ × M) → Mem (enumerate_from 0 xs) numbered → slice_get xs numbered.0 ≡ Some numbered.1
+at-enumerate xs numbered = all_mem (λ numbered. slice_get xs numbered.0 ≡ Some numbered.1) (enumerate_from 0 xs) numbered (numbered_at xs)
 
 -- the first of a list, where there is one, is a member
 pub first_cases : {M : Type 0} (xs : List M) → ((first_member xs ≡ None) × ((x : M) → Mem xs x → ⊥)) ⊎ ((x : M) × (first_member xs ≡ Some x) × Mem xs x)
@@ -34,14 +34,6 @@ first_cases (x ∷ xs) = inr (x, refl, inl refl)
 -- a member's standing, whatever its number
 abbrev pub numbered : {M : Type 0} → (M → Standing) → ℕ × M → Standing
 numbered standing (place, member) = standing member
-
-at_place : {M : Type 0} (standing : M → Standing) (xs : List M) (p : ℕ × M) →
-    Mem (remaining (numbered standing) decision_steps (enumerate_from 0 xs)) p → slice_get xs p.0 ≡ Some p.1
-at_place standing xs p h =
-    let left = (same_remaining (numbered standing) (enumerate_from 0 xs)).to p h in
-    let found = at-enumerate 0 xs p left.member.member in
-    let e : p.0 ≡ found.0 = omega (arith, found.1) in
-    rw e found.2
 
 -- numbers ascend
 abbrev pub Ascends : {M : Type 0} → ℕ × M → ℕ × M → Type 0
@@ -91,10 +83,10 @@ module _ {M : Type 0} (standing : M → Standing) (xs : List M) where
   pairs = enumerate_from 0 xs
 
   pair_to : (p : ℕ × M) → Mem pairs p → Mem xs p.1
-  pair_to p h = let found = at-enumerate 0 xs p h in mem-slice_get xs found.0 p.1 found.2
+  pair_to p h = mem-slice_get xs p.0 p.1 (at-enumerate xs p h)
 
   pair_from : (x : M) → Mem xs x → (k : ℕ) × Mem pairs (k, x)
-  pair_from x h = let found = slice_get-mem xs x h in (0 + found.0, enumerate-at 0 xs found.0 x found.1)
+  pair_from x h = let found = slice_get-mem xs x h in (found.0, enumerate-at xs found.0 x found.1)
 
   by_med_to : (p : ℕ × M) → LeftByMed (numbered standing) (Mem pairs) p → LeftByMed standing (Mem xs) p.1
   by_med_to p left = unbeaten_member standing IsAheadByMed (Mem pairs) (Mem xs) pair_to pair_from p left
@@ -119,13 +111,9 @@ unfolding place_of_choice choice
 place_of_choice-Some standing xs place x at left least =
     let all = remaining (numbered standing) decision_steps (enumerate_from 0 xs) in
     let same = same_remaining (numbered standing) (enumerate_from 0 xs) in
-    let numbered_x = enumerate-at 0 xs place x at in
-    let e : 0 + place ≡ place = omega arith in
-    let member : Mem (enumerate_from 0 xs) (place, x) = rw e at numbered_x in
-    let kept = same.from (place, x) (left_from standing xs (place, x) member left) in
+    let kept = same.from (place, x) (left_from standing xs (place, x) (enumerate-at xs place x at) left) in
     let first = first_least all (place, x) (ascends-remaining (numbered standing) decision_steps (enumerate_from 0 xs) (ascends-enumerate 0 xs)) kept
-    (λ y h.
-    least y.0 y.1 (at_place standing xs y h) (left_to standing xs y (same.to y h))) in
+    (λ y h. let left = same.to y h in least y.0 y.1 (at-enumerate xs y left.member.member) (left_to standing xs y left)) in
     ap (option_map (λ ((place, member) : ℕ × _). place)) first
 
 -- where no member is left, there is no choice

@@ -1,6 +1,6 @@
 -- Going over a list of candidates: the leader, and then the best of those that the first four steps leave.
 -- For `leader`, `best` and `choose` of scan.rt, decision.rt, and `weighing` of clients.rt.
-use Rattle.std.proofs.Common.{◌≡◌, ap, refl, ℕ, ◌+◌, ◌<◌, arith, ◌⊎◌, inl, inr, List, length, Option, Some, None, below_more}
+use Rattle.std.proofs.Common.{◌≡◌, subst, refl, ℕ, ◌+◌, ◌<◌, arith, ◌⊎◌, inl, inr, List, length, Option, Some, None, below_more}
 use Rattle.std.specs.Prelude.{slice_get}
 use Rattle.std.specs.Option.{option_map}
 use Rattle.std.proofs.lemmas.Option.{slice_get_within}
@@ -35,42 +35,38 @@ precedes_cases a b h = grind arith
 pub precedes_holds : (one best : Placed) (place : ℕ) (other : Standing) → Precedes one.standing best.standing → Holds best place other → Precedes one.standing other
 precedes_holds one best place other h k = grind arith
 
-same_candidate : (candidates : List Candidate) (k : ℕ) (a b : Candidate) → slice_get candidates k ≡ Some a → slice_get candidates k ≡ Some b → a ≡ b
-same_candidate candidates k a b at_a at_b = cc (at_a, at_b)
+-- who stands before another one that doesn't go first holds against it
+holds_later : (best : Placed) (i : ℕ) (one : Standing) → best.place < i → (Precedes one best.standing → ⊥) → Holds best i one
+holds_later best i one before first_not = grind arith
 
 module _ (plan : Plan) (candidates : List Candidate) where
   abbrev st : Candidate → Standing
   st = standing_of_candidate plan
 
+  -- what holds of the first candidates and of one more
+  one_more : (i : ℕ) (candidate : Candidate) → slice_get candidates i ≡ Some candidate → (P : ℕ → Standing → Type 0) →
+      ((k : ℕ) → k < i → (other : Candidate) → slice_get candidates k ≡ Some other → P k (st other)) → P i (st candidate) →
+      (k : ℕ) → k < i + 1 → (other : Candidate) → slice_get candidates k ≡ Some other → P k (st other)
+  one_more i candidate at P before here =
+      below_more (λ k. (other : Candidate) → slice_get candidates k ≡ Some other → P k (st other)) i before
+      (λ other at_other. let same : candidate ≡ other = cc (at, at_other) in subst (λ other. P i (st other)) same here)
+
   pub leader_more : (i : ℕ) (leader : Option Standing) (candidate : Candidate) → slice_get candidates i ≡ Some candidate →
       IsLeader plan candidates i leader → Leads (st candidate) leader → IsLeader plan candidates (i + 1) (Some (st candidate))
-  leader_more i None candidate at none leads = (
+  leader_more i leader candidate at is leads = (
     (i, (candidate, at, refl)),
-    below_more (λ k. (other : Candidate) → slice_get candidates k ≡ Some other → IsAhead (st other) (st candidate) → ⊥) i
-        (λ k below other at_other ahead. none k below other at_other)
-        (λ other at_other ahead.
-        let same = same_candidate candidates i other candidate at_other at in
-        not_ahead_of_itself (st candidate) (rw (ap st same) at ahead)),
+    one_more i candidate at (λ k other. IsAhead other (st candidate) → ⊥) (earlier leader is leads) (not_ahead_of_itself (st candidate)),
   )
-  leader_more i (Some leader) candidate at is leads = (
-    (i, (candidate, at, refl)),
-    below_more (λ k. (other : Candidate) → slice_get candidates k ≡ Some other → IsAhead (st other) (st candidate) → ⊥) i
-        (λ k below other at_other ahead. is.1 k below other at_other (ahead_then (st other) (st candidate) leader ahead leads))
-        (λ other at_other ahead.
-        let same = same_candidate candidates i other candidate at_other at in
-        not_ahead_of_itself (st candidate) (rw (ap st same) at ahead)),
-  )
+    where
+      earlier : (leader : Option Standing) → IsLeader plan candidates i leader → Leads (st candidate) leader →
+          (k : ℕ) → k < i → (other : Candidate) → slice_get candidates k ≡ Some other → IsAhead (st other) (st candidate) → ⊥
+      earlier None none leads k below other at_other ahead = none k below other at_other
+      earlier (Some leader) is leads k below other at_other ahead = is.1 k below other at_other (ahead_then (st other) (st candidate) leader ahead leads)
 
   pub leader_stays : (i : ℕ) (leader : Option Standing) (candidate : Candidate) → slice_get candidates i ≡ Some candidate →
       IsLeader plan candidates i leader → (Leads (st candidate) leader → ⊥) → IsLeader plan candidates (i + 1) leader
   leader_stays i None candidate at none leads_not = absurd (leads_not tt)
-  leader_stays i (Some leader) candidate at is leads_not = (
-    is.0,
-    below_more (λ k. (other : Candidate) → slice_get candidates k ≡ Some other → IsAhead (st other) leader → ⊥) i is.1
-        (λ other at_other ahead.
-        let same = same_candidate candidates i other candidate at_other at in
-        leads_not (rw (ap st same) at ahead)),
-  )
+  leader_stays i (Some leader) candidate at is leads_not = (is.0, one_more i candidate at (λ k other. IsAhead other leader → ⊥) is.1 leads_not)
 
   -- who is level with a leader of all has none ahead
   pub level_has_none_ahead : (leader one : Standing) → IsLeader plan candidates (length candidates) (Some leader) → IsLevel one leader → HasNoneAhead plan candidates one
@@ -87,52 +83,30 @@ module _ (plan : Plan) (candidates : List Candidate) where
 
   pub best_skips : (i : ℕ) (best : Option Placed) (candidate : Candidate) → slice_get candidates i ≡ Some candidate →
       IsBest plan candidates i best → (IsLeftByMed plan candidates (st candidate) → ⊥) → IsBest plan candidates (i + 1) best
-  best_skips i None candidate at none left_not =
-      below_more (λ k. (other : Candidate) → slice_get candidates k ≡ Some other → IsLeftByMed plan candidates (st other) → ⊥) i none
-      (λ other at_other left.
-      let same = same_candidate candidates i other candidate at_other at in
-      left_not (rw (ap st same) at left))
+  best_skips i None candidate at none left_not = one_more i candidate at (λ k other. IsLeftByMed plan candidates other → ⊥) none left_not
   best_skips i (Some best) candidate at is left_not = (
     omega (arith, is.0),
     is.1,
     is.2,
-    below_more (λ k. (other : Candidate) → slice_get candidates k ≡ Some other → IsLeftByMed plan candidates (st other) → Holds best k (st other)) i is.3
-        (λ other at_other left.
-        let same = same_candidate candidates i other candidate at_other at in
-        absurd (left_not (rw (ap st same) at left))),
+    one_more i candidate at (λ k other. IsLeftByMed plan candidates other → Holds best k other) is.3 (λ left. absurd (left_not left)),
   )
 
   pub best_changes : (i : ℕ) (best : Option Placed) (candidate : Candidate) → slice_get candidates i ≡ Some candidate →
       IsBest plan candidates i best → IsLeftByMed plan candidates (st candidate) → GoesFirst (st candidate) best →
       IsBest plan candidates (i + 1) (Some (record { place = i; standing = st candidate }))
-  best_changes i None candidate at none left first = (
+  best_changes i best candidate at is left first = (
     omega arith,
     (candidate, at, refl),
     left,
-    below_more (λ k. (other : Candidate) → slice_get candidates k ≡ Some other → IsLeftByMed plan candidates (st other) → Holds (record { place = i; standing = st candidate }) k (st other)) i
-        (λ k below other at_other left_other. absurd (none k below other at_other left_other))
-        (λ other at_other left_other.
-        let same = ap st (same_candidate candidates i other candidate at_other at) in
-        rw same (inr (refl, refl, omega arith))),
+    one_more i candidate at (λ k other. IsLeftByMed plan candidates other → Holds (record { place = i; standing = st candidate }) k other)
+        (earlier best is first) (λ left. inr (refl, refl, omega arith)),
   )
-  best_changes i (Some best) candidate at is left first = (
-    omega arith,
-    (candidate, at, refl),
-    left,
-    below_more (λ k. (other : Candidate) → slice_get candidates k ≡ Some other → IsLeftByMed plan candidates (st other) → Holds (record { place = i; standing = st candidate }) k (st other)) i
-        (λ k below other at_other left_other.
-        inl (precedes_holds (record { place = i; standing = st candidate }) best k (st other) first (is.3 k below other at_other left_other)))
-        (λ other at_other left_other.
-        let same = ap st (same_candidate candidates i other candidate at_other at) in
-        rw same (inr (refl, refl, omega arith))),
-  )
-
-  holds_later : (best : Placed) (i : ℕ) (one : Standing) → best.place < i → (Precedes one best.standing → ⊥) → Holds best i one
-  holds_later best i one before first_not =
-      elim (precedes_cases one best.standing first_not) [
-        | inl first ↦ inl first
-        | inr same ↦ inr (same.0, same.1, omega arith)
-      ]
+    where
+      earlier : (best : Option Placed) → IsBest plan candidates i best → GoesFirst (st candidate) best → (k : ℕ) → k < i → (other : Candidate) →
+          slice_get candidates k ≡ Some other → IsLeftByMed plan candidates (st other) → Holds (record { place = i; standing = st candidate }) k (st other)
+      earlier None none first k below other at_other left_other = absurd (none k below other at_other left_other)
+      earlier (Some best) is first k below other at_other left_other =
+          inl (precedes_holds (record { place = i; standing = st candidate }) best k (st other) first (is.3 k below other at_other left_other))
 
   pub best_stays : (i : ℕ) (best : Option Placed) (candidate : Candidate) → slice_get candidates i ≡ Some candidate →
       IsBest plan candidates i best → (GoesFirst (st candidate) best → ⊥) → IsBest plan candidates (i + 1) best
@@ -141,10 +115,7 @@ module _ (plan : Plan) (candidates : List Candidate) where
     omega (arith, is.0),
     is.1,
     is.2,
-    below_more (λ k. (other : Candidate) → slice_get candidates k ≡ Some other → IsLeftByMed plan candidates (st other) → Holds best k (st other)) i is.3
-        (λ other at_other left_other.
-        let same = ap st (same_candidate candidates i other candidate at_other at) in
-        rw same (holds_later best i (st candidate) is.0 first_not)),
+    one_more i candidate at (λ k other. IsLeftByMed plan candidates other → Holds best k other) is.3 (λ left. holds_later best i (st candidate) is.0 first_not),
   )
 
   left_candidate : (k : ℕ) (candidate : Candidate) → slice_get candidates k ≡ Some candidate → IsLeftByMed plan candidates (st candidate) → LeftByMed st (Mem candidates) candidate

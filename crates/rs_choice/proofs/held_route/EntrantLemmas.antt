@@ -1,33 +1,51 @@
--- The standing of an entrant among chosen routes is what is held of its route: for entrants.rt.
-use Rattle.std.proofs.Common.{◌≡◌, ◌∙◌, sym, ap, length, map, Some, subst, ℕ, List}
-use Rattle.std.specs.List.{All}
+-- The entrants of chosen routes: how many there are, and that the standing of each is what is held of its route. For entrants.rt.
+use Rattle.std.proofs.Common.{◌≡◌, ◌∙◌, sym, ap, ◌<◌, length, map, Some, ℕ, List, get_or}
 use Rattle.std.specs.Option.{option_map}
-use Rattle.std.specs.Prelude.{slice_get, IsTrue, ◌<◌}
-use Rattle.std.proofs.lemmas.Option.{get_or_from_slice_get, slice_get-map, slice_get_within}
+use Rattle.std.specs.Prelude.{slice_get, IsTrue}
+use Rattle.std.proofs.lemmas.List.{length-map}
+use Rattle.std.proofs.lemmas.List.Elements.{All-contains}
+use Rattle.std.proofs.lemmas.Option.{get_or_from_slice_get, slice_get-get_or, slice_get-map}
+use Rattle.rs_choice.specs.declared.candidate.Standing.{Standing}
+use Rattle.rs_choice.specs.declared.entrants.Chosen.TheInside.{Inside}
 use Rattle.rs_choice.specs.declared.held_route.HeldRoute.{HeldRoute}
-use Rattle.rs_choice.specs.Candidacy.{is_candidate}
 use Rattle.rs_choice.specs.Decision.{SentRoute, no_standing}
 use Rattle.rs_choice.specs.Eligibility.{is_eligible}
-use Rattle.rs_choice.specs.Entrants.{chosen_of, standing_of_held}
+use Rattle.rs_choice.specs.Entrants.{chosen_of, chosen_view, standing_of_held, AreHeld}
 use Rattle.rs_choice.specs.Grouping.{standing_in}
-use Rattle.rs_choice.specs.Held.{held_standing, sent_of_held, AreEligible, IsJudged}
+use Rattle.rs_choice.specs.Held.{held_standing, sent_of_held, IsJudged}
 use Rattle.rs_choice.specs.Plan.{Plan}
-use Rattle.rs_choice.specs.Sharing.{ArePlaces}
-use Rattle.rs_choice.proofs.clients.ChosenLemmas.{chosen_at}
+use Rattle.rs_choice.proofs.Members.{contains_at}
+use Rattle.rs_choice.proofs.clients.ChosenLemmas.{chosen_at, chosen_length, within_at}
 
-pub standing_at : (plan : Plan) (held : List HeldRoute) (places : List ℕ) → ArePlaces held places → All (IsJudged plan) held → AreEligible plan (map sent_of_held (chosen_of held places)) →
-    (k place : ℕ) (one : HeldRoute) → slice_get places k ≡ Some place → place < length held → slice_get held place ≡ Some one →
-    held_standing plan one ≡ standing_in (map (standing_of_held plan) (chosen_of held places)) k
-standing_at plan held places are_places all eligible k place one at within at_held =
-    let is_at = get_or_from_slice_get held place one one at_held in
-    let judged : IsJudged plan one = subst (IsJudged plan) is_at (all place one within) in
-    let at_chosen : slice_get (chosen_of held places) k ≡ Some one = chosen_at held places are_places k place at ∙ at_held in
-    let sents = map sent_of_held (chosen_of held places) in
-    let at_sents : slice_get sents k ≡ Some (sent_of_held one) = slice_get-map sent_of_held (chosen_of held places) k ∙ ap (option_map sent_of_held) at_chosen in
-    let is_sent = get_or_from_slice_get sents k (sent_of_held one) (sent_of_held one) at_sents in
-    let is_of_plan : IsTrue (is_eligible plan one.peer one.attributes.value) = subst (λ (sent : SentRoute). IsTrue (is_eligible plan sent.peer sent.attributes)) is_sent
-    (eligible k (sent_of_held one) (slice_get_within sents k (sent_of_held one) at_sents)) in
-    let candidate : IsTrue (is_candidate one.candidacy) = judged.eligible ∙ is_of_plan in
-    let at_view : slice_get (map (standing_of_held plan) (chosen_of held places)) k ≡ Some (standing_of_held plan one) =
-    slice_get-map (standing_of_held plan) (chosen_of held places) k ∙ ap (option_map (standing_of_held plan)) at_chosen in
-    judged.standing candidate ∙ sym (get_or_from_slice_get (map (standing_of_held plan) (chosen_of held places)) k (standing_of_held plan one) no_standing at_view)
+module _ (fields : Inside) (standings : List Standing) (are : AreHeld fields) (view : chosen_view fields ≡ standings) where
+  abbrev plan : Plan
+  plan = fields.plan.now
+
+  abbrev held : List HeldRoute
+  held = fields.held.now
+
+  abbrev chosen : List HeldRoute
+  chosen = chosen_of held fields.places.now
+
+  pub counted : length standings ≡ length fields.places.now
+  counted = ap length (sym view) ∙ length-map chosen (standing_of_held plan) ∙ chosen_length held fields.places.now are.within
+
+  -- the route of an entrant, at its place
+  module _ (k place : ℕ) (at : slice_get fields.places.now k ≡ Some place) where
+    pub held_there : place < length held
+    held_there = within_at held fields.places.now are.within k place at
+
+    pub judged_there : (d : HeldRoute) → IsJudged plan (get_or held place d)
+    judged_there d = are.judged place d held_there
+
+    pub standing_there : (d : HeldRoute) → held_standing plan (get_or held place d) ≡ standing_in standings k
+    standing_there d =
+        let one = get_or held place d in
+        let judged = judged_there d in
+        let at_chosen : slice_get chosen k ≡ Some one = chosen_at held fields.places.now are.within k place at ∙ slice_get-get_or held place d held_there in
+        let at_sents : slice_get (map sent_of_held chosen) k ≡ Some (sent_of_held one) = slice_get-map sent_of_held chosen k ∙ ap (option_map sent_of_held) at_chosen in
+        let eligible = All-contains (λ (sent : SentRoute). IsTrue (is_eligible plan sent.peer sent.attributes)) (map sent_of_held chosen) (sent_of_held one) are.eligible
+        (contains_at (map sent_of_held chosen) k (sent_of_held one) at_sents) in
+        let at_view : slice_get (chosen_view fields) k ≡ Some (standing_of_held plan one) = slice_get-map (standing_of_held plan) chosen k ∙ ap (option_map (standing_of_held plan)) at_chosen in
+        judged.standing (judged.eligible ∙ eligible)
+        ∙ sym (ap (λ view. standing_in view k) (sym view) ∙ get_or_from_slice_get (chosen_view fields) k (standing_of_held plan one) no_standing at_view)

@@ -3,7 +3,6 @@ use Rattle.std.proofs.Common.{◌≡◌, ◌∙◌, sym, refl, ℕ, ◌+◌, ◌
 use Rattle.std.specs.Prelude.{slice_get}
 use Rattle.std.specs.Option.{option_map}
 use Rattle.std.proofs.lemmas.Option.{get_or_from_slice_get, slice_get-get_or, slice_get_within}
-use Rattle.std.proofs.lemmas.Bool.{cases_order}
 use Rattle.rs_choice.specs.declared.candidate.Standing.{Standing}
 use Rattle.rs_choice.specs.declared.candidate.Placed.{Placed}
 use Rattle.rs_choice.specs.Comparison.{IsAhead, IsLevel, HasLowerMed, Precedes}
@@ -13,7 +12,7 @@ use Rattle.rs_choice.specs.Grouping.{standing_in, GoesBefore, IsGrouping, GoesBe
 use Rattle.rs_choice.proofs.Eliminations.{LeftByMed, follows_level}
 use Rattle.rs_choice.proofs.Members.{Mem, mem-slice_get, slice_get-mem}
 use Rattle.rs_choice.proofs.decision.PlaceLemmas.{place_of_choice-Some, place_of_choice-None}
-use Rattle.rs_choice.proofs.decision.ScanLemmas.{precedes_cases, not_both_precede}
+use Rattle.rs_choice.proofs.decision.ScanLemmas.{not_both_precede}
 
 module _ (S : ℕ → Standing) where
   before_then : (a b c : Placed) → GoesBefore a.standing a.place b.standing b.place → GoesBefore b.standing b.place c.standing c.place → GoesBefore a.standing a.place c.standing c.place
@@ -76,21 +75,7 @@ module _ (S : ℕ → Standing) where
       ]
 
   not_before_cases : (a : Standing) (p : ℕ) (b : Standing) (q : ℕ) → (GoesBefore b q a p → ⊥) → Precedes a b ⊎ ((a.id ≡ b.id) × (a.address ≡ b.address) × (p ≤ q))
-  not_before_cases a p b q not_before =
-      elim (precedes_cases b a (λ before. not_before (inl before))) [
-        | inl before ↦ inl before
-        | inr tie ↦ inr (
-          tie.0,
-          tie.1,
-          elim (cases_order p q) [
-            | inl same ↦ omega (arith, same)
-            | inr differ ↦ elim differ [
-              | inl less ↦ omega (arith, less)
-              | inr more ↦ absurd (not_before (inr (sym tie.0, sym tie.1, more)))
-            ]
-          ],
-        )
-      ]
+  not_before_cases a p b q not_before = grind arith
 
   tie_then : (a b c : Standing) (p q k : ℕ) → (Precedes a b ⊎ ((a.id ≡ b.id) × (a.address ≡ b.address) × (p ≤ q))) →
       (Precedes b c ⊎ ((b.id ≡ c.id) × (b.address ≡ c.address) × (q ≤ k))) → Precedes a c ⊎ ((a.id ≡ c.id) × (a.address ≡ c.address) × (p ≤ k))

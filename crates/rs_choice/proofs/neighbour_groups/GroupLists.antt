@@ -1,13 +1,11 @@
 -- Lists of places as they change, and who stands for whom: for `take_in` of decision.rt, GroupLemmas and GroupMarks.
 use Rattle.std.proofs.Common.{◌≡◌, ◌≢◌, ◌∙◌, sym, ap, refl, ℕ, ◌<◌, suc, zero, arith, ◌⊎◌, inl, inr, List, [], ◌∷◌, ◌++◌, length, Some}
 use Rattle.std.specs.Prelude.{slice_get, slice_set}
-use Rattle.std.proofs.lemmas.Bool.{cases_order}
 use Rattle.std.proofs.lemmas.List.{get_or-set_other, get_or-set_same, length-set}
 use Rattle.std.proofs.lemmas.Option.{get_or_from_slice_get, slice_get-get_or, slice_get_within}
 use Rattle.rs_choice.specs.declared.candidate.Standing.{Standing}
-use Rattle.rs_choice.specs.Comparison.{IsAhead, IsLevel, Precedes}
+use Rattle.rs_choice.specs.Comparison.{IsAhead, IsLevel}
 use Rattle.rs_choice.specs.Grouping.{BeatsInGroup, StandsFor}
-use Rattle.rs_choice.proofs.decision.ScanLemmas.{precedes_then, precedes_cases}
 
 pub level_ahead : (a b c : Standing) → IsLevel a b → IsAhead b c → IsAhead a c
 level_ahead a b c h k = grind arith
@@ -24,56 +22,12 @@ stands_for_itself a place = inr ((refl, refl, refl), refl, inr (refl, inr (refl,
 -- who beats the one that stands for another stands for it too
 pub beats_stands : (one held other : Standing) (place held_place other_place : ℕ) → IsLevel one held → one.neighbour ≡ held.neighbour → BeatsInGroup one held →
     StandsFor held held_place other other_place → StandsFor one place other other_place
-beats_stands one held other place held_place other_place level same beats (inl ahead) = inl (level_ahead one held other level ahead)
-beats_stands one held other place held_place other_place level same beats (inr (level_other, same_other, inl lower)) =
-    inr (
-      level_then one held other level level_other,
-      same ∙ same_other,
-      elim beats [
-        | inl less ↦ inl (omega arith)
-        | inr equal ↦ inl (omega (arith, equal.0))
-      ],
-    )
-beats_stands one held other place held_place other_place level same beats (inr (level_other, same_other, inr (med, later))) =
-    inr (
-      level_then one held other level level_other,
-      same ∙ same_other,
-      elim beats [
-        | inl less ↦ inl (omega (arith, med))
-        | inr equal ↦ inr (
-          equal.0 ∙ med,
-          inl (elim later [
-            | inl before ↦ precedes_then one held other equal.1 before
-            | inr tie ↦ precedes_alike one held other equal.1 tie.0 tie.1
-          ]),
-        )
-      ],
-    )
-  where
-    precedes_alike : (a b c : Standing) → Precedes a b → b.id ≡ c.id → b.address ≡ c.address → Precedes a c
-    precedes_alike a b c h e f = grind arith
+beats_stands one held other place held_place other_place level same beats stands = grind arith
 
 -- who isn't beaten by a later one stands for it
 pub held_stands : (held one : Standing) (held_place place : ℕ) → IsLevel held one → held.neighbour ≡ one.neighbour → (BeatsInGroup one held → ⊥) → held_place < place →
     StandsFor held held_place one place
-held_stands held one held_place place level same beats_not earlier =
-    inr (
-      level,
-      same,
-      elim (cases_order held.med one.med) [
-        | inl med ↦ inr (
-          med,
-          elim (precedes_cases one held (λ before. beats_not (inr (sym med, before)))) [
-            | inl before ↦ inl before
-            | inr tie ↦ inr (tie.0, tie.1, omega arith)
-          ],
-        )
-        | inr differ ↦ elim differ [
-          | inl less ↦ inl less
-          | inr more ↦ absurd (beats_not (inl more))
-        ]
-      ],
-    )
+held_stands held one held_place place level same beats_not earlier = grind arith
 
 pub single : {X : Type 0} (n : X) (group : ℕ) (place : X) → slice_get (n ∷ []) group ≡ Some place → (group ≡ 0) × (place ≡ n)
 single n zero place at = (refl, cc)

@@ -65,8 +65,7 @@ later_address : (local : Local) (peers : List Peer) → plan_fault local peers �
 later_address local peers none i j one other below at_one at_other same =
     let tests : ℕ × Peer → List Test = λ (number, peer). peer_tests (take number peers) number peer in
     let test : Test = (has_address (take j peers) other.address, RepeatedAddress j) in
-    let e : 0 + j ≡ j = omega arith in
-    let numbered : Mem (enumerate_from 0 peers) (j, other) = rw e at (enumerate-at 0 peers j other at_other) in
+    let numbered = enumerate-at peers j other at_other in
     let in_peers : Mem (peers_tests peers) test = mem-flat_map tests (enumerate_from 0 peers) (j, other) test numbered (inr (inr (inl refl))) in
     let in_all : Mem (plan_tests local peers) test =
     mem-append_left (whole_tests local peers ++ peers_tests peers) (names_tests peers) test (mem-append_right (whole_tests local peers) (peers_tests peers) test in_peers) in

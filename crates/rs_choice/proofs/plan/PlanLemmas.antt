@@ -1,17 +1,17 @@
 -- The first fault of a list of tests: of two lists in a row, and of the tests of one peer after another.
 -- For checks.rt.
-use Rattle.std.proofs.Common.{◌≡◌, ◌∙◌, ap, refl, ℕ, ◌+◌, ◌<◌, Bool, true, false, List, [], ◌∷◌, ◌++◌, length, map, drop, get_or, Some, None}
+use Rattle.std.proofs.Common.{◌≡◌, ◌∙◌, sym, ap, refl, ℕ, ◌+◌, ◌<◌, Bool, true, false, List, [], ◌∷◌, ◌++◌, length, map, drop, take, get_or, Some, None}
 use Rattle.std.specs.List.{flat_map, enumerate_from, list_all}
 use Rattle.std.proofs.lemmas.List.Folds.{list_all-map}
-use Rattle.std.proofs.lemmas.List.{drop_more}
+use Rattle.std.proofs.lemmas.List.{drop_more, drop-map, take-map}
 use Rattle.std.specs.Prelude.{◌==◌, not, string_bytes}
 use Rattle.std.specs.Str.{bytes_eq}
 use Rattle.rs_choice.specs.declared.plan.PeerSpec.{PeerSpec}
 use Rattle.rs_choice.specs.declared.fault.PlanFault.{PlanFault}
-use Rattle.rs_choice.specs.declared.fault.PlanFault.TheVariants.{InvalidName, RepeatedName, RepeatedAddress, ZeroAs}
+use Rattle.rs_choice.specs.declared.fault.PlanFault.TheVariants.{InvalidName, RepeatedName, RepeatedAddress, UnknownName, ZeroAs}
 use Rattle.rs_choice.specs.Naturality.{list_any-map}
 use Rattle.rs_choice.specs.Checks.{has_name_among, has_address_among}
-use Rattle.rs_choice.specs.Plan.{Test, is_name, has_name, has_names, has_address, peer_tests, peer_of}
+use Rattle.rs_choice.specs.Plan.{Peer, Test, is_name, has_name, has_names, has_address, name_tests, peer_tests, peer_of}
 use Rattle.rs_update.specs.Fault.{first_fault}
 
 -- a fault in the first list is the first
@@ -27,27 +27,23 @@ first_fault-None ((true, one) ∷ first) later none = absurd (cc (none))
 first_fault-None ((false, one) ∷ first) later none = first_fault-None first later none
 
 -- the tests of the peers from a number on
-abbrev pub tests_from : {P : Type 0} → (ℕ × P → List Test) → List P → ℕ → List Test
-tests_from tests peers number = flat_map tests (enumerate_from number (drop number peers))
+abbrev pub tests_from : (ℕ × Peer → List Test) → List PeerSpec → ℕ → List Test
+tests_from tests peers number = flat_map tests (enumerate_from number (drop number (map peer_of peers)))
 
-tests_from-step : {P : Type 0} (tests : ℕ × P → List Test) (peers : List P) (number : ℕ) (peer : P) → number < length peers →
-    get_or peers number peer ≡ peer → tests_from tests peers number ≡ tests (number, peer) ++ tests_from tests peers (number + 1)
-tests_from-step tests peers number peer within is =
-    rw (drop_more peers number peer within, is) refl
+module _ (tests : ℕ × Peer → List Test) (peers : List PeerSpec) (number : ℕ) (peer : PeerSpec) (within : number < length peers) (is : peer ≡ get_or peers number peer)
+    (before : first_fault (tests_from tests peers 0) ≡ first_fault (tests_from tests peers number)) where
+  all_tests : first_fault (tests_from tests peers 0) ≡ first_fault (tests (number, peer_of peer) ++ tests_from tests peers (number + 1))
+  all_tests =
+      before ∙ ap (λ rest. first_fault (flat_map tests (enumerate_from number rest)))
+      (drop-map peer_of number peers ∙ ap (map peer_of) (drop_more peers number peer within ∙ ap (λ one. one ∷ drop (number + 1) peers) (sym is)) ∙ ap (λ rest. peer_of peer ∷ rest) (sym (drop-map peer_of (number + 1) peers)))
 
--- the fault of one peer, where no earlier one has a fault, is the first of all
-pub first_fault-here : {P : Type 0} (tests : ℕ × P → List Test) (peers : List P) (number : ℕ) (peer : P) (fault : PlanFault) →
-    number < length peers → get_or peers number peer ≡ peer → first_fault (tests_from tests peers 0) ≡ first_fault (tests_from tests peers number) →
-    first_fault (tests (number, peer)) ≡ Some fault → first_fault (tests_from tests peers 0) ≡ Some fault
-first_fault-here tests peers number peer fault within is before here =
-    before ∙ ap first_fault (tests_from-step tests peers number peer within is) ∙ first_fault-Some (tests (number, peer)) (tests_from tests peers (number + 1)) fault here
+  -- the fault of one peer, where no earlier one has a fault, is the first of all
+  pub first_fault-here : (fault : PlanFault) → first_fault (tests (number, peer_of peer)) ≡ Some fault → first_fault (tests_from tests peers 0) ≡ Some fault
+  first_fault-here fault here = all_tests ∙ first_fault-Some (tests (number, peer_of peer)) (tests_from tests peers (number + 1)) fault here
 
--- where it has none either, the first of all is later
-pub first_fault-later : {P : Type 0} (tests : ℕ × P → List Test) (peers : List P) (number : ℕ) (peer : P) →
-    number < length peers → get_or peers number peer ≡ peer → first_fault (tests_from tests peers 0) ≡ first_fault (tests_from tests peers number) →
-    first_fault (tests (number, peer)) ≡ None → first_fault (tests_from tests peers 0) ≡ first_fault (tests_from tests peers (number + 1))
-first_fault-later tests peers number peer within is before here =
-    before ∙ ap first_fault (tests_from-step tests peers number peer within is) ∙ first_fault-None (tests (number, peer)) (tests_from tests peers (number + 1)) here
+  -- where it has none either, the first of all is later
+  pub first_fault-later : first_fault (tests (number, peer_of peer)) ≡ None → first_fault (tests_from tests peers 0) ≡ first_fault (tests_from tests peers (number + 1))
+  first_fault-later here = all_tests ∙ first_fault-None (tests (number, peer_of peer)) (tests_from tests peers (number + 1)) here
 
 list_all_alike : {A : Type 0} (p q : A → Bool) (xs : List A) → ((x : A) → p x ≡ q x) → list_all p xs ≡ list_all q xs
 list_all_alike p q [] same = refl
@@ -74,3 +70,20 @@ has_names-map peers client =
     list_all-map (has_name (map peer_of peers)) (λ name. string_bytes name) client.refuse_from.items
     ∙ list_all_alike (λ name. has_name (map peer_of peers) (string_bytes name)) (λ name. has_name_among peers (string_bytes name)) client.refuse_from.items
     (λ name. has_name-map peers (string_bytes name))
+
+-- the tests of each peer beside those before it, and of the names that it refuses
+abbrev pub own_tests : List PeerSpec → ℕ × Peer → List Test
+own_tests peers (number, peer) = peer_tests (take number (map peer_of peers)) number peer
+
+abbrev pub refused_tests : List PeerSpec → ℕ × Peer → List Test
+refused_tests peers (number, peer) = name_tests (map peer_of peers) number peer
+
+-- their faults, by what the functions that test one peer answer
+pub own_fault : (peers : List PeerSpec) (number : ℕ) (peer : Peer) →
+    first_fault (own_tests peers (number, peer)) ≡ first_fault (peer_tests (map peer_of (take number peers)) number peer)
+own_fault peers number peer = ap (λ earlier. first_fault (peer_tests earlier number peer)) (take-map peer_of number peers)
+
+pub refused_fault : (peers : List PeerSpec) (number : ℕ) (peer : PeerSpec) (known : Bool) →
+    known ≡ list_all (λ name. has_name_among peers (string_bytes name)) peer.refuse_from.items →
+    first_fault (refused_tests peers (number, peer_of peer)) ≡ first_fault ((not known, UnknownName number) ∷ [])
+refused_fault peers number peer known says = ap (λ known. first_fault ((not known, UnknownName number) ∷ [])) (has_names-map peers peer ∙ sym says)

@@ -6,9 +6,9 @@ use Rattle.std.specs.Prelude.{slice_get, string_bytes, nat_lt, if◌then◌else�
 use Rattle.std.specs.List.{list_any}
 use Rattle.std.specs.Str.{bytes_eq}
 use Rattle.std.specs.Option.{option_map}
-use Rattle.std.proofs.lemmas.Option.{slice_get-map, slice_get-get_or, get_or_from_slice_get, slice_get_read, slice_get_within}
+use Rattle.std.proofs.lemmas.Option.{slice_get-map, get_or_from_slice_get, slice_get_read, slice_get_within}
 use Rattle.std.proofs.lemmas.List.{length-map}
-use Rattle.std.proofs.lemmas.Bool.{ltb-true, or_parts}
+use Rattle.std.proofs.lemmas.Bool.{ltb-true, ne_eqb, or_parts}
 use Rattle.std.proofs.lemmas.Bool.Decides.{nat_tests}
 use Rattle.rs_update.specs.PathAttributes.{PathAttributes, CommunityList}
 use Rattle.rs_update.specs.Community.{has_community_in, has_community_of_in, has_value_of}
@@ -18,6 +18,7 @@ use Rattle.rs_choice.specs.Checks.{refuses_spec}
 use Rattle.rs_choice.specs.Plan.{Peer, Plan, peer_of}
 use Rattle.rs_choice.specs.Refusal.{refuses, refusals_of, IsRefusal}
 use Rattle.rs_choice.specs.Policy.{is_permitted, is_permitted_from, permits_by_communities}
+use Rattle.rs_choice.proofs.Members.{some_at}
 
 -- the row of a client says of each peer whether the client refuses it
 pub row_of_client : {R : Type 0} (f : R → List Bool) (rows : List R) (peers : List Peer) (client : ℕ) (row : R) (one : Peer) →
@@ -32,16 +33,12 @@ row_of_client f rows peers client row one agree at_one at_row =
     let same : Some (f row) ≡ Some (map (refuses one) peers) = sym row_is ∙ ap (λ (all : List (List Bool)). slice_get all client) agree ∙ said_is in
     cc
 
-abbrev nobody : Peer
-nobody = record { name = []; asn = 0; address = 0; id = 0; preference = 0; refuse_from = [] }
-
 -- such a row has a place for each peer
 pub length_of_row : {R : Type 0} (f : R → List Bool) (rows : List R) (peers : List Peer) (client : ℕ) (row : R) →
     map f rows ≡ refusals_of peers → client < length peers → row ≡ get_or rows client row → length (f row) ≡ length peers
 length_of_row f rows peers client row agree known at_row =
-    let one = get_or peers client nobody in
-    let at_one = slice_get-get_or peers client nobody known in
-    ap length (row_of_client f rows peers client row one agree at_one at_row) ∙ length-map peers (refuses one)
+    let one = some_at peers client known in
+    ap length (row_of_client f rows peers client row one.0 agree one.1 at_row) ∙ length-map peers (refuses one.0)
 
 -- and at each place it has the answer
 pub answer_of_row : {R : Type 0} (f : R → List Bool) (rows : List R) (peers : List Peer) (client sender : ℕ) (row : R) (answer : Bool) →
@@ -63,11 +60,9 @@ pub is_permitted-not-refused : (plan : Plan) (client number : ℕ) (attributes :
     slice_get plan.peers client ≡ Some one → number < length plan.peers → client ≢ number → IsRefusal plan.peers client number refused → refused ≡ false →
     answer ≡ permits_by_communities plan.local.asn one.asn attributes.communities → answer ≡ is_permitted plan client number attributes
 is_permitted-not-refused plan client number attributes one refused answer at_one known differ refusal refuses_not at_answer =
-    let other = get_or plan.peers number nobody in
-    let at_other : slice_get plan.peers number ≡ Some other = slice_get-get_or plan.peers number nobody known in
-    let says : refuses one other ≡ false = sym (refusal one other at_one at_other) ∙ refuses_not in
-    let others : (client == number) ≡ false = grind (arith, nat_tests) in
-    at_answer ∙ sym (is_permitted-known plan client number attributes one other at_one at_other ∙ rw (others, says) refl)
+    let other = some_at plan.peers number known in
+    let says : refuses one other.0 ≡ false = sym (refusal one other.0 at_one other.1) ∙ refuses_not in
+    at_answer ∙ sym (is_permitted-known plan client number attributes one other.0 at_one other.1 ∙ rw (ne_eqb client number differ, says) refl)
 
 -- where no value has the high half 0, none is that of (0, low)
 no_value_of_0 : (value low : ℕ) → low < 65536 → (value / 65536 == 0) ≡ false → (value == 0 * 65536 + low) ≡ false
@@ -107,14 +102,11 @@ pub is_permitted-without_0 : (plan : Plan) (client number : ℕ) (attributes : P
     client < length plan.peers → number < length plan.peers → client ≢ number → IsRefusal plan.peers client number refused →
     has_community_of_in attributes.communities 0 ≡ false → not refused ≡ is_permitted plan client number attributes
 is_permitted-without_0 plan client number attributes refused known sender_known differ refusal none =
-    let one = get_or plan.peers client nobody in
-    let other = get_or plan.peers number nobody in
-    let at_one : slice_get plan.peers client ≡ Some one = slice_get-get_or plan.peers client nobody known in
-    let at_other : slice_get plan.peers number ≡ Some other = slice_get-get_or plan.peers number nobody sender_known in
-    let says : refuses one other ≡ refused = sym (refusal one other at_one at_other) in
-    let others : (client == number) ≡ false = grind (arith, nat_tests) in
-    let permits = permits_without_0 plan.local.asn one.asn attributes.communities none in
-    sym (is_permitted-known plan client number attributes one other at_one at_other ∙ rw (others, says, permits) (turned refused))
+    let one = some_at plan.peers client known in
+    let other = some_at plan.peers number sender_known in
+    let says : refuses one.0 other.0 ≡ refused = sym (refusal one.0 other.0 one.1 other.1) in
+    let permits = permits_without_0 plan.local.asn one.0.asn attributes.communities none in
+    sym (is_permitted-known plan client number attributes one.0 other.0 one.1 other.1 ∙ rw (ne_eqb client number differ, says, permits) (turned refused))
 
 map_alike : {A B : Type 0} (f g : A → B) (xs : List A) → ((x : A) → f x ≡ g x) → map f xs ≡ map g xs
 map_alike f g [] same = refl

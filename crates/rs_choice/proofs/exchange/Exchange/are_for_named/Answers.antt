@@ -1,9 +1,9 @@
-use Rattle.std.proofs.Common.{◌≡◌, ◌∙◌, sym, ap, subst, inl, inr, arith, length, Some, rules}
+use Rattle.std.proofs.Common.{◌∙◌, sym, ap, subst, inl, inr, rules}
 use Rattle.std.specs.Option.{option_and_then}
-use Rattle.std.specs.Prelude.{IfSome, slice_get, ◌<◌}
-use Rattle.std.proofs.lemmas.Option.{slice_get_read}
+use Rattle.std.specs.Prelude.{slice_get}
+use Rattle.rs_choice.specs.RouteChanges.{new_route}
 use Rattle.rs_choice.specs.Recipients.{IsForNamed}
-use Rattle.rs_choice.proofs.clients.RecipientLemmas.{none_is_no_some, same_some}
+use Rattle.rs_choice.proofs.clients.RecipientLemmas.{new_at, same_some}
 use Rattle.rs_choice.proofs.exchange.Exchange.are_for_named.Goals as goal
 use Rattle.rs_choice.proofs.exchange.Exchange.are_for_named.Goals.{in-None, in-Some, in-None-new, in-Some-new}
 
@@ -13,17 +13,14 @@ returns-then-old_is_for_named c = λ new_true one is_one.
     let named = IsForNamed c.args.self.now in
     elim is_one [
       | inl old ↦ elim c.match-change.branch [
-        | in-None w ↦ absurd (none_is_no_some c.args.change.now.old one w.in-None.is old)
+        | in-None w ↦ absurd (cc (w.in-None.is, old))
         | in-Some w ↦ subst named (same_some c.args.change.now.old _ one w.in-Some.is old) (w.is_for_named-old_is_for_named.ensures (sym w.old_is_for_named-is ∙ c.if-old_is_for_named.true))
       ]
       | inr new ↦ elim c.match-change-2.branch [
-        | in-None-new w ↦ absurd (none_is_no_some (option_and_then (slice_get held) c.args.change.now.new) one (ap (option_and_then (slice_get held)) w.in-None-new.is) new)
+        | in-None-new w ↦ absurd (cc (ap (option_and_then (slice_get held)) w.in-None-new.is, new))
         | in-Some-new w ↦
-            let other = w.index-held-place.result in
-            let within : w.in-Some-new.place < length held = subst (λ place. IfSome place (λ place. place < length held)) w.in-Some-new.is c.requires.new in
-            let at : slice_get held w.in-Some-new.place ≡ Some other = slice_get_read held (length held) w.in-Some-new.place other (omega arith) within w.index-held-place.is in
-            let is : slice_get held w.in-Some-new.place ≡ Some one = sym (ap (option_and_then (slice_get held)) w.in-Some-new.is) ∙ new in
-            subst named (same_some (slice_get held w.in-Some-new.place) other one at is) (w.is_for_named-new_is_for_named.ensures (sym w.new_is_for_named-is ∙ new_true))
+            let other = new_at held c.args.change.now w.in-Some-new.place w.index-held-place.result w.in-Some-new.is c.requires.new w.index-held-place.is in
+            subst named (same_some (new_route held c.args.change.now) _ one other new) (w.is_for_named-new_is_for_named.ensures (sym w.new_is_for_named-is ∙ new_true))
       ]
     ]
 

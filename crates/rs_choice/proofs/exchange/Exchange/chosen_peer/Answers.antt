@@ -1,6 +1,4 @@
-use Rattle.std.proofs.Common.{◌∙◌, arith, length, map}
-use Rattle.rs_choice.specs.Entrants.{chosen_of, standing_of_held}
-use Rattle.rs_choice.specs.Grouping.{places_of, standing_in}
+use Rattle.std.proofs.Common.{◌∙◌, arith}
 use Rattle.rs_choice.proofs.clients.ClientLemmas.{chosen_is, first_within, view_length}
 use Rattle.rs_choice.proofs.exchange.Exchange.chosen_peer.Goals as goal
 
@@ -11,9 +9,7 @@ group_all-requires c =
 
 pub first_peer-requires-clause-first : goal.first_peer-requires-clause-first
 first_peer-requires-clause-first c =
-    let view = map (standing_of_held c.args.self.now) (chosen_of c.args.held.now c.args.places.now) in
-    let n = view_length c.args.self.now c.args.held.now c.args.places.now c.requires.places in
-    rw n at (first_within (standing_in view) (length view) (length (places_of c.group_all.new.groups)) c.group_all.new.groups c.first_of-first.result c.group_all.ensures c.first_of-first.ensures)
+    first_within c.args.self.now c.args.held.now c.args.places.now c.group_all.new.groups _ c.first_of-first.result c.requires.places c.group_all.ensures c.first_of-first.ensures
 
 pub returns : goal.returns
 returns c =

@@ -1,8 +1,6 @@
-use Rattle.std.proofs.Common.{◌∙◌, ap, sym, subst, arith, length, map}
+use Rattle.std.proofs.Common.{◌∙◌, ap, sym, subst, arith, map}
 use Rattle.std.specs.Option.{option_map}
 use Rattle.rs_choice.specs.Decision.{SentRoute, choice, standing_of}
-use Rattle.rs_choice.specs.Entrants.{chosen_of, standing_of_held}
-use Rattle.rs_choice.specs.Grouping.{places_of, standing_in}
 use Rattle.rs_choice.specs.Held.{sent_of_held, AreEligible}
 use Rattle.rs_choice.specs.Sharing.{sents_at, RestsOn}
 use Rattle.rs_choice.proofs.clients.ClientLemmas.{chosen_is, eligible_all, eligible_sents, first_within, groups_within, rests, view_length, weighing_places}
@@ -26,15 +24,12 @@ group_all-requires c =
 
 pub weighing-weighing-requires : goal.weighing-weighing-requires
 weighing-weighing-requires c =
-    let view = map (standing_of_held c.args.self.now) (chosen_of c.args.held.now c.eligible-eligible.result) in
-    let n = view_length c.args.self.now c.args.held.now c.eligible-eligible.result c.eligible-eligible.ensures.places in
-    rw n at (groups_within (standing_in view) (length view) c.group_all.new.groups c.group_all.ensures)
+    groups_within c.args.self.now c.args.held.now c.eligible-eligible.result c.group_all.new.groups c.eligible-eligible.ensures.places c.group_all.ensures
 
 pub first_peer-peer-requires-clause-first : goal.first_peer-peer-requires-clause-first
 first_peer-peer-requires-clause-first c =
-    let view = map (standing_of_held c.args.self.now) (chosen_of c.args.held.now c.eligible-eligible.result) in
-    let n = view_length c.args.self.now c.args.held.now c.eligible-eligible.result c.eligible-eligible.ensures.places in
-    rw n at (first_within (standing_in view) (length view) (length (places_of c.group_all.new.groups)) c.group_all.new.groups c.first_of-first.result c.group_all.ensures c.first_of-first.ensures)
+    first_within c.args.self.now c.args.held.now c.eligible-eligible.result c.group_all.new.groups _ c.first_of-first.result
+    c.eligible-eligible.ensures.places c.group_all.ensures c.first_of-first.ensures
 
 pub returns : goal.returns
 returns c =
