@@ -85,6 +85,35 @@ const PATH_64503_65010: &str = "40020A 0202 0000FBF7 0000FDF2";
 
 const NEXT_HOP_A: &str = "400304 C000020B";
 
+const MED_5: &str = "800404 00000005";
+
+const MED_10: &str = "800404 0000000A";
+
+// A route by its peer's number, and its attributes, spelled.
+type Sent = (usize, &'static [&'static str]);
+
+const MED_10_OF_A: Sent = (0, &[IGP, PATH_64501_65010, NEXT_HOP_A, MED_10]);
+
+const MED_5_OF_B: Sent = (1, &[IGP, PATH_64501_65010, NEXT_HOP_A, MED_5]);
+
+const OTHER_AS_OF_C: Sent = (2, &[IGP, PATH_64502_65010, NEXT_HOP_A]);
+
+// Of AS 64501 and 64501, with a lower identifier and a higher one than that of AS 64502 (c); d is another client.
+const TWO_OF_ONE_AS: &[Row] = &[
+    Row { id: 1, ..A },
+    Row {
+        asn: 64501,
+        id: 9,
+        ..B
+    },
+    Row {
+        asn: 64502,
+        id: 5,
+        ..C
+    },
+    D,
+];
+
 // The server, with the subnet or without.
 fn server(subnet: bool) -> Local {
     Local {

@@ -3,9 +3,6 @@
 
 use super::*;
 
-// A route by its peer's number, and its attributes, spelled.
-type Sent = (usize, &'static [&'static str]);
-
 // The time at which each route came.
 const TIME: u32 = 1_700_000_000;
 
@@ -67,22 +64,6 @@ struct Worked {
 // Identifiers are in the order of the peers, so that of routes alike in all else the first is chosen.
 const FOUR: &[Row] = &[A, B, C, D];
 
-// Of AS 64501 and 64501, with a lower identifier and a higher one than that of AS 64502 (c); d is another client.
-const TWO_OF_ONE_AS: &[Row] = &[
-    Row { id: 1, ..A },
-    Row {
-        asn: 64501,
-        id: 9,
-        ..B
-    },
-    Row {
-        asn: 64502,
-        id: 5,
-        ..C
-    },
-    D,
-];
-
 // Three of AS 64501, and d of AS 64502, whose identifier is the second.
 const THREE_OF_ONE_AS: &[Row] = &[
     Row { id: 1, ..A },
@@ -131,23 +112,13 @@ const NOT_TO_A_STRANGER: &str = "C00804 0000FDE7";
 // The path of the server's own AS.
 const PATH_64500: &str = "400206 0201 0000FBF4";
 
-const MED_5: &str = "800404 00000005";
-
-const MED_10: &str = "800404 0000000A";
-
 const OF_A: Sent = (0, &[IGP, PATH_64501_65010, NEXT_HOP_A]);
 
 const OF_B: Sent = (1, &[IGP, PATH_64502_65010, NEXT_HOP_A]);
 
 const OF_C: Sent = (2, &[IGP, PATH_64503_65010, NEXT_HOP_A]);
 
-const MED_10_OF_A: Sent = (0, &[IGP, PATH_64501_65010, NEXT_HOP_A, MED_10]);
-
-const MED_5_OF_B: Sent = (1, &[IGP, PATH_64501_65010, NEXT_HOP_A, MED_5]);
-
 const MED_5_OF_C: Sent = (2, &[IGP, PATH_64501_65010, NEXT_HOP_A, MED_5]);
-
-const OTHER_AS_OF_C: Sent = (2, &[IGP, PATH_64502_65010, NEXT_HOP_A]);
 
 const OTHER_AS_OF_D: Sent = (3, &[IGP, PATH_64502_65010, NEXT_HOP_A]);
 

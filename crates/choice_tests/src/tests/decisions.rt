@@ -1,9 +1,8 @@
 //! Worked decisions of both bodies.
 
 use super::*;
-
-// A candidate by its peer's number, and its attributes, spelled.
-type Sent = (usize, &'static [&'static str]);
+// From a and b, both of AS 64501, and c, of AS 64502.
+use super::{MED_5_OF_B as OF_B, MED_10_OF_A as OF_A, OTHER_AS_OF_C as OF_C};
 
 // The attributes of candidates.
 fn all_attributes(alloc: Global, sent: &[Sent]) -> Result<Vec<Attributes>, Fail> {
@@ -59,17 +58,6 @@ const MED_0: &str = "800404 00000000";
 
 const MED_1: &str = "800404 00000001";
 
-const MED_5: &str = "800404 00000005";
-
-const MED_10: &str = "800404 0000000A";
-
-// From a and b, both of AS 64501, and c, of AS 64502.
-const OF_A: Sent = (0, &[IGP, PATH_64501_65010, NEXT_HOP_A, MED_10]);
-
-const OF_B: Sent = (1, &[IGP, PATH_64501_65010, NEXT_HOP_A, MED_5]);
-
-const OF_C: Sent = (2, &[IGP, PATH_64502_65010, NEXT_HOP_A]);
-
 // No member is ahead of all others by pairs: b of a by MED, c of b and a of c by identifier.
 const ORDERS: &[(&[Sent], Option<usize>, &str)] = &[
     (&[OF_A, OF_B, OF_C], Some(2), "a, b, c"),
@@ -84,20 +72,7 @@ const ORDERS: &[(&[Sent], Option<usize>, &str)] = &[
 
 #[test]
 fn med_is_not_transitive(rt: HostRuntime) -> Result<(), Fail> {
-    let rows = [
-        Row { id: 1, ..A },
-        Row {
-            asn: 64501,
-            id: 9,
-            ..B
-        },
-        Row {
-            asn: 64502,
-            id: 5,
-            ..C
-        },
-    ];
-    let exchange = exchange(rt.alloc(), true, &rows)?;
+    let exchange = exchange(rt.alloc(), true, TWO_OF_ONE_AS)?;
     for (sent, want, what) in ORDERS {
         check_chosen(&rt, rt.alloc(), &exchange, sent, *want, what)?;
     }
