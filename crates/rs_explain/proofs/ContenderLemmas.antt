@@ -1,7 +1,8 @@
 -- The candidates of a client for a prefix, peer after peer.
-use Rattle.std.proofs.Common.{◌≡◌, ◌∙◌, sym, ap, subst, refl, ℕ, ◌<◌, ◌+◌, true, false, cond, List, [], ◌∷◌, ◌++◌, length, map, drop, drop-cons, add-one, append_assoc, below_more}
+use Rattle.std.proofs.Common.{◌≡◌, ◌∙◌, sym, ap, subst, refl, ℕ, ◌<◌, ◌+◌, true, false, inl, inr, List, [], ◌∷◌, ◌++◌, length, map, drop, drop-cons, add-one, append_assoc, below_more}
+use Rattle.std.proofs.lemmas.Bool.{and_right, cases_Bool}
 use Rattle.std.proofs.lemmas.List.Elements.{Contains-append_left, Contains-push}
-use Rattle.std.specs.Prelude.{filter, Option, None, Some, ◌&&◌}
+use Rattle.std.specs.Prelude.{filter, Option, None, Some}
 use Rattle.std.specs.List.{cons_option, enumerate_from, filter_map, Contains}
 use Rattle.std.specs.Option.{option_map}
 use Rattle.std.specs.FinMap.{get}
@@ -33,23 +34,13 @@ one_more : (plan : Plan) (client : ℕ) (first : ℕ) (left : Option RouteLeft) 
     (filter (λ route. is_permitted plan client route.peer route.attributes)
     (filter (λ route. is_eligible plan route.peer route.attributes) later)))
 one_more plan client first None later = refl
-one_more plan client first (Some route) later =
-    elim (is_eligible plan first route.attributes) as (λ e. map (contender_of plan)
-    (filter (λ route. is_permitted plan client route.peer route.attributes)
-    (cond e (sent_by first route ∷ filter (λ route. is_eligible plan route.peer route.attributes) later) (filter (λ route. is_eligible plan route.peer route.attributes) later)))
-    ≡ cons_option (cond (e && is_permitted plan client first route.attributes) (Some (contender_of plan (sent_by first route))) None)
-    (map (contender_of plan)
-    (filter (λ route. is_permitted plan client route.peer route.attributes)
-    (filter (λ route. is_eligible plan route.peer route.attributes) later)))) [
-      | true ↦ elim (is_permitted plan client first route.attributes) as (λ p. map (contender_of plan)
-          (cond p (sent_by first route ∷ filter (λ route. is_permitted plan client route.peer route.attributes) (filter (λ route. is_eligible plan route.peer route.attributes) later))
-          (filter (λ route. is_permitted plan client route.peer route.attributes) (filter (λ route. is_eligible plan route.peer route.attributes) later)))
-          ≡ cons_option (cond p (Some (contender_of plan (sent_by first route))) None)
-          (map (contender_of plan)
-          (filter (λ route. is_permitted plan client route.peer route.attributes)
-          (filter (λ route. is_eligible plan route.peer route.attributes) later)))) [ true ↦ refl | false ↦ refl ]
-      | false ↦ refl
-    ]
+one_more plan client first (Some route) later = elim (cases_Bool (is_eligible plan first route.attributes)) [
+  | inr ineligible ↦ rw ineligible refl
+  | inl eligible ↦ elim (cases_Bool (is_permitted plan client first route.attributes)) [
+    | inl permitted ↦ rw (eligible, permitted) refl
+    | inr refused ↦ rw (eligible, refused) refl
+  ]
+]
 
 -- the peer at a number comes first of the rest
 pub contenders_in-more : (tables : TablesContent) (client : ℕ) (prefix : IpPrefix) (peer : ℕ) → peer < length tables.ribs →
@@ -68,7 +59,7 @@ none_refused plan client peer None route is refuses = absurd (cc)
 none_refused plan client peer (Some left) route is refuses =
     let same : route ≡ sent_by peer left = cc in
     let refused : is_permitted plan client peer left.attributes ≡ false = rw same at refuses in
-    rw refused (elim (is_eligible plan peer left.attributes) as (λ e. None ≡ cond (e && false) (Some (contender_of plan (sent_by peer left))) None) [ true ↦ refl | false ↦ refl ])
+    rw (refused, and_right (is_eligible plan peer left.attributes) false refl) refl
 
 -- and one that is eligible and permitted is
 pub some_permitted : (plan : Plan) (client peer : ℕ) (left : Option RouteLeft) (route : SentRoute) → Some route ≡ option_map (sent_by peer) left →

@@ -1,5 +1,6 @@
 -- A client's candidates, gone over one after another, without those that one before them outdoes: for `contenders` of clients.rt.
-use Rattle.std.proofs.Common.{◌≡◌, ◌∙◌, sym, ap, refl, Bool, true, false, ◌⊎◌, inl, inr, List, [], ◌∷◌, ◌++◌, Option, Some, None, ℕ}
+use Rattle.std.proofs.Common.{◌≡◌, ◌∙◌, sym, ap, Bool, true, false, ◌⊎◌, inl, inr, List, [], ◌∷◌, ◌++◌, Option, Some, None, ℕ}
+use Rattle.std.proofs.lemmas.Bool.{cases_Bool}
 use Rattle.std.proofs.lemmas.List.{append-nil, append_assoc}
 use Rattle.rs_choice.specs.declared.candidate.Standing.{Standing}
 use Rattle.rs_choice.specs.Clients.{candidates_among, is_sent_to}
@@ -52,13 +53,14 @@ module _ (plan : Plan) (client : ℕ) (routes : List SentRoute) (one : SentRoute
     -- one that the last one outdoes is left out, whether it is a candidate or not
     without_outdone : (other : SentRoute) → Mem some other → Outdoes (standing_of plan other) (standing_of plan one) →
         ChooseSame plan some (candidates_among plan client (routes ++ one ∷ []))
-    without_outdone other member outdoes = go (is_fit one) refl (is_sent_to plan client one) refl
-      where
-        go : (b : Bool) → is_fit one ≡ b → (c : Bool) → is_sent_to plan client one ≡ c → ChooseSame plan some (candidates_among plan client (routes ++ one ∷ []))
-        go true eligible true permitted = λ later.
+    without_outdone other member outdoes = elim (cases_Bool (is_fit one)) [
+      | inr ineligible ↦ as_before (inl ineligible)
+      | inl eligible ↦ elim (cases_Bool (is_sent_to plan client one)) [
+        | inr refused ↦ as_before (inr refused)
+        | inl permitted ↦ λ later.
             sym (outdone (standing_of plan) some later one other (mem-append_left some later other member) outdoes) ∙ with_later eligible permitted later
-        go false ineligible c e = as_before (inl ineligible)
-        go true e false refused = as_before (inr refused)
+      ]
+    ]
 
     -- one that doesn't contend is left out
     pub without_one : (last : Option Standing) → HasLast plan some last → Contends plan client one last None → ChooseSame plan some (candidates_among plan client (routes ++ one ∷ []))

@@ -2,9 +2,9 @@
 -- For `next_touched`, `choose_for_touched` and `outdoes_both` of route_change.rt.
 use Rattle.std.proofs.Common.{◌≡◌, ◌≢◌, ◌∙◌, sym, ap, subst, refl, ℕ, ◌+◌, ◌<◌, ◌≤◌, arith, below_more, set, Bool, true, false, not, ◌==◌, inl, inr, List, [], ◌∷◌, ◌++◌, length, map, Option}
 use Rattle.std.specs.Prelude.{filter, IsTrue, slice_index_or}
-use Rattle.std.specs.List.{All}
+use Rattle.std.specs.List.{All, Contains}
 use Rattle.std.specs.Option.{option_map}
-use Rattle.std.proofs.lemmas.Bool.{cases_lt, cond_both}
+use Rattle.std.proofs.lemmas.Bool.{cases_Bool, cases_lt, cond_both}
 use Rattle.std.proofs.lemmas.Bool.Decides.{eqb_tells}
 use Rattle.std.proofs.lemmas.List.{append_assoc, get_or-set_other, get_or-set_same}
 use Rattle.rs_choice.specs.declared.held_route.HeldRoute.{HeldRoute}
@@ -122,40 +122,40 @@ module _ (plan : Plan) (held : List HeldRoute) (change : RouteChange) (bests : L
     | inl ineligible ↦ inl (sym judged.eligible ∙ ineligible)
     | inr refused ↦ inr (inl refused)
   ]
-  no_matter one all judged is_one (inr behind) = go (is_candidate one.candidacy) refl
-    where
-      go : (b : Bool) → is_candidate one.candidacy ≡ b → IsNoMatterTo plan client kept (sent_of_held one)
-      go false e = inl (sym judged.eligible ∙ e)
-      go true e =
-          let r = got behind.0 in
-          let found = behind.2 one is_one e in
-          let other = found.0 in
-          let judged_other = all_mem (IsJudged plan) held other all (contains-mem held other found.1) in
-          let apart : other.peer ≢ change.peer = λ same. behind.1 (sym found.2 ∙ same) in
-          let was = was_held other apart (contains-mem held other found.1) in
-          let same : r.0 ≡ other = is.apart r.0 other (mem-contains is.before r.0 r.1) (mem-contains is.before other was) (r.2 ∙ sym found.2) in
-          let eligible : IsTrue (is_eligible plan other.peer other.attributes.value) = subst (λ (o : HeldRoute). IsTrue (is_eligible plan o.peer o.attributes.value)) same r.3 in
-          let permitted : IsTrue (is_sent_to plan client (sent_of_held other)) = subst (λ (o : HeldRoute). IsTrue (is_sent_to plan client (sent_of_held o))) same r.4 in
-          let candidate : IsTrue (is_candidate other.candidacy) = judged_other.eligible ∙ eligible in
-          let outdoes : Outdoes (standing_of plan (sent_of_held other)) (standing_of plan (sent_of_held one)) =
-          rw (← judged_other.standing candidate, ← judged.standing e) found.3 in
-          let kept_other = mem_of-filter of_other (map sent_of_held is.before) (sent_of_held other) (is_other other.peer apart) (mem_map sent_of_held is.before other was) in
-          inr (inr (sent_of_held other, mem-contains kept (sent_of_held other) kept_other, eligible, permitted, outdoes))
+  no_matter one all judged is_one (inr behind) = elim (cases_Bool (is_candidate one.candidacy)) [
+    | inr ineligible ↦ inl (sym judged.eligible ∙ ineligible)
+    | inl candidate ↦
+        let r = got behind.0 in
+        let found = behind.2 one is_one candidate in
+        let other = found.0 in
+        let judged_other = all_mem (IsJudged plan) held other all (contains-mem held other found.1) in
+        let apart : other.peer ≢ change.peer = λ same. behind.1 (sym found.2 ∙ same) in
+        let was = was_held other apart (contains-mem held other found.1) in
+        let same : r.0 ≡ other = is.apart r.0 other (mem-contains is.before r.0 r.1) (mem-contains is.before other was) (r.2 ∙ sym found.2) in
+        let eligible = subst (λ (o : HeldRoute). IsTrue (is_eligible plan o.peer o.attributes.value)) same r.3 in
+        let permitted = subst (λ (o : HeldRoute). IsTrue (is_sent_to plan client (sent_of_held o))) same r.4 in
+        let outdoes : Outdoes (standing_of plan (sent_of_held other)) (standing_of plan (sent_of_held one)) =
+        rw (← judged_other.standing (judged_other.eligible ∙ eligible), ← judged.standing candidate) found.3 in
+        let kept_other = mem_of-filter of_other (map sent_of_held is.before) (sent_of_held other) (is_other other.peer apart) (mem_map sent_of_held is.before other was) in
+        inr (inr (sent_of_held other, mem-contains kept (sent_of_held other) kept_other, eligible, permitted, outdoes))
+  ]
+
+  -- a client gets the same without the peer's own route, before and after
+  without_own : (routes : List HeldRoute) → All (IsJudged plan) routes → filter of_other (map sent_of_held routes) ≡ kept →
+      ((r : HeldRoute) → Contains routes r → r.peer ≡ change.peer → IsOneOf held change r) → All (IsJudged plan) held → IsUntouched plan held change client best →
+      best_peer_for plan client (map sent_of_held routes) ≡ best_peer_for plan client kept
+  without_own routes judged others own all untouched =
+      without_those plan client of_other [] (map sent_of_held routes) (λ sent member out.
+      let from = mem_of-map sent_of_held routes sent member in
+      let peer : from.0.peer ≡ change.peer = ap (λ (sent : SentRoute). sent.peer) from.2 ∙ of_no_other sent out in
+      subst (λ list. IsNoMatterTo plan client list sent) (sym others) (subst (IsNoMatterTo plan client kept) from.2
+      (no_matter from.0 all (all_mem (IsJudged plan) routes from.0 judged from.1) (own from.0 (mem-contains routes from.0 from.1) peer) untouched)))
+      ∙ ap (best_peer_for plan client) others
 
   pub stays : All (IsJudged plan) held → IsUntouched plan held change client best → best ≡ best_peer_for plan client (map sent_of_held held)
   stays all untouched =
-      without_those plan client of_other [] (map sent_of_held is.before) (λ sent member out.
-      let from = mem_of-map sent_of_held is.before sent member in
-      let peer : from.0.peer ≡ change.peer = ap (λ (sent : SentRoute). sent.peer) from.2 ∙ of_no_other sent out in
-      subst (IsNoMatterTo plan client kept) from.2
-      (no_matter from.0 all (all_mem (IsJudged plan) is.before from.0 is.judged from.1) (inl (is.old from.0 (mem-contains is.before from.0 from.1) peer)) untouched))
-      ∙ ap (best_peer_for plan client) (sym same_others)
-      ∙ sym (without_those plan client of_other [] (map sent_of_held held) (λ sent member out.
-      let from = mem_of-map sent_of_held held sent member in
-      let peer : from.0.peer ≡ change.peer = ap (λ (sent : SentRoute). sent.peer) from.2 ∙ of_no_other sent out in
-      subst (λ list. IsNoMatterTo plan client list sent) (sym same_others)
-      (subst (IsNoMatterTo plan client kept) from.2
-      (no_matter from.0 all (all_mem (IsJudged plan) held from.0 all from.1) (inr (is.new from.0 (mem-contains held from.0 from.1) peer)) untouched))))
+      without_own is.before is.judged refl (λ r member same. inl (is.old r member same)) all untouched
+      ∙ sym (without_own held all same_others (λ r member same. inr (is.new r member same)) all untouched)
 
   pub stays_there : All (IsJudged plan) held → IsUntouched plan held change client (slice_index_or bests client 0) →
       slice_index_or bests client 0 ≡ best_peer_for plan client (map sent_of_held held)

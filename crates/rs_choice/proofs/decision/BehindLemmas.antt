@@ -6,6 +6,7 @@ use Rattle.std.specs.Prelude.{◌==◌, nat_lt, filter, ◌||◌, ◌&&◌}
 use Rattle.std.specs.Bool.{Decides}
 use Rattle.std.specs.List.{list_any}
 use Rattle.std.specs.Option.{option_map}
+use Rattle.std.proofs.lemmas.Bool.{cases_Bool}
 use Rattle.std.proofs.lemmas.Bool.Decides.{not_from_Decides, Decides-and, Decides-eqb, Decides-like, Decides-ltb, Decides-or}
 use Rattle.std.proofs.lemmas.List.Elements.{filter-append}
 use Rattle.rs_choice.specs.declared.candidate.Standing.{Standing}
@@ -163,24 +164,25 @@ module _ {M : Type 0} (standing : M → Standing) where
 
   pub removed : (before after : List M) (one : M) → (Mem (reaching_med standing (before ++ one ∷ after)) one → ⊥) →
       choice standing (before ++ one ∷ after) ≡ choice standing (before ++ after)
-  removed before after one gone = go (list_any (λ w. (is_ahead (standing w) (standing one)).0) (before ++ one ∷ after)) refl
-    where
-      go : (b : Bool) → list_any (λ w. (is_ahead (standing w) (standing one)).0) (before ++ one ∷ after) ≡ b →
-          choice standing (before ++ one ∷ after) ≡ choice standing (before ++ after)
-      go true e =
-          let found = any_found (λ w. (is_ahead (standing w) (standing one)).0) (before ++ one ∷ after) e in
-          let ahead = (is_ahead (standing found.0) (standing one)).1.0 found.2 in
-          elim (mem_fewer before after one found.0 found.1) [
-            | inl same ↦ let itself : IsAhead (standing one) (standing one) = rw (← same) at ahead in absurd (not_ahead_of_itself (standing one) itself)
-            | inr member ↦ behind before after one found.0 member ahead
-          ]
-      go false e =
-          absurd (gone ((reaching (before ++ one ∷ after)).from one (record {
-            member = mem-append_right before (one ∷ after) one (inl refl);
-            best = λ w member.
-                let test = is_ahead (standing w) (standing one) in
-                not_from_Decides test.0 test.1 (list_any-none (λ w. (is_ahead (standing w) (standing one)).0) (before ++ one ∷ after) w e member);
-          })))
+  removed before after one gone =
+      let set = before ++ one ∷ after in
+      let is_ahead_of = λ (w : M). (is_ahead (standing w) (standing one)).0 in
+      elim (cases_Bool (list_any is_ahead_of set)) [
+        | inl some ↦
+            let found = any_found is_ahead_of set some in
+            let ahead = (is_ahead (standing found.0) (standing one)).1.0 found.2 in
+            elim (mem_fewer before after one found.0 found.1) [
+              | inl same ↦ absurd (not_ahead_of_itself (standing one) (rw (← same) at ahead))
+              | inr member ↦ behind before after one found.0 member ahead
+            ]
+        | inr none ↦
+            absurd (gone ((reaching set).from one (record {
+              member = mem-append_right before (one ∷ after) one (inl refl);
+              best = λ w member.
+                  let test = is_ahead (standing w) (standing one) in
+                  not_from_Decides test.0 test.1 (list_any-none is_ahead_of set w none member);
+            })))
+      ]
 
 pub behind_is_no_matter : BehindIsNoMatter
 behind_is_no_matter plan before after one other among ahead =
@@ -201,14 +203,13 @@ removed_is_no_matter plan before after one gone =
 pub no_candidate : {M : Type 0} (p q : M → Bool) (before after : List M) (one : M) → (p one ≡ false) ⊎ (q one ≡ false) →
     filter q (filter p (before ++ one ∷ after)) ≡ filter q (filter p (before ++ after))
 no_candidate p q before after one (inl fails) = ap (filter q) (filter_without p before after one fails)
-no_candidate p q before after one (inr fails) = go (p one) refl
-  where
-    go : (b : Bool) → p one ≡ b → filter q (filter p (before ++ one ∷ after)) ≡ filter q (filter p (before ++ after))
-    go true e =
-        ap (filter q) (filter_with p before after one e)
-        ∙ filter_without q (filter p before) (filter p after) one fails
-        ∙ ap (filter q) (sym (filter-append p before after))
-    go false e = ap (filter q) (filter_without p before after one e)
+no_candidate p q before after one (inr fails) = elim (cases_Bool (p one)) [
+  | inl passes ↦
+      ap (filter q) (filter_with p before after one passes)
+      ∙ filter_without q (filter p before) (filter p after) one fails
+      ∙ ap (filter q) (sym (filter-append p before after))
+  | inr also ↦ ap (filter q) (filter_without p before after one also)
+]
 
 pub candidates_with : {M : Type 0} (p q : M → Bool) (before after : List M) (one : M) → p one ≡ true → q one ≡ true →
     filter q (filter p (before ++ one ∷ after)) ≡ filter q (filter p before) ++ one ∷ filter q (filter p after)
@@ -223,19 +224,18 @@ candidates_apart p q before after = ap (filter q) (filter-append p before after)
 outdone_candidate : {M : Type 0} (standing : M → Standing) (p q : M → Bool) (before after : List M) (one other : M) →
     Mem (before ++ after) other → p other ≡ true → q other ≡ true → Outdoes (standing other) (standing one) →
     choice standing (filter q (filter p (before ++ one ∷ after))) ≡ choice standing (filter q (filter p (before ++ after)))
-outdone_candidate standing p q before after one other among eligible permitted outdoes = go (p one) refl (q one) refl
-  where
-    go : (b : Bool) → p one ≡ b → (c : Bool) → q one ≡ c →
-        choice standing (filter q (filter p (before ++ one ∷ after))) ≡ choice standing (filter q (filter p (before ++ after)))
-    go true one_eligible true one_permitted =
-        let candidate : Mem (filter q (filter p (before ++ after))) other =
-        mem_of-filter q (filter p (before ++ after)) other permitted (mem_of-filter p (before ++ after) other eligible among) in
+outdone_candidate standing p q before after one other among eligible permitted outdoes = elim (cases_Bool (p one)) [
+  | inr fails ↦ ap (choice standing) (no_candidate p q before after one (inl fails))
+  | inl one_eligible ↦ elim (cases_Bool (q one)) [
+    | inr fails ↦ ap (choice standing) (no_candidate p q before after one (inr fails))
+    | inl one_permitted ↦
+        let candidate = mem_of-filter q (filter p (before ++ after)) other permitted (mem_of-filter p (before ++ after) other eligible among) in
         let apart = candidates_apart p q before after in
         ap (choice standing) (candidates_with p q before after one one_eligible one_permitted)
         ∙ outdone standing (filter q (filter p before)) (filter q (filter p after)) one other (subst (λ list. Mem list other) apart candidate) outdoes
         ∙ ap (choice standing) (sym apart)
-    go false fails c e = ap (choice standing) (no_candidate p q before after one (inl fails))
-    go true e false fails = ap (choice standing) (no_candidate p q before after one (inr fails))
+  ]
+]
 
 pub others_are_no_matter : OthersAreNoMatter
 others_are_no_matter plan client before after one nothing =

@@ -1,9 +1,9 @@
 -- Laws of the decision process: some member is left, and who is left is so at each step.
 -- For laws.rt, BehindLemmas, and the lemmas of clients.
-use Rattle.std.proofs.Common.{◌≡◌, ◌∙◌, sym, ap, subst, refl, ◌<◌, arith, Bool, true, false, ◌⊎◌, inl, inr, List, [], ◌∷◌, Some, None}
+use Rattle.std.proofs.Common.{◌≡◌, ◌∙◌, sym, ap, subst, refl, arith, Bool, true, false, ◌⊎◌, inl, inr, List, [], ◌∷◌, Some, None}
 use Rattle.std.specs.Prelude.{filter}
-use Rattle.std.specs.List.{list_any, Contains}
-use Rattle.std.proofs.lemmas.Bool.{both_ways}
+use Rattle.std.specs.List.{list_any}
+use Rattle.std.proofs.lemmas.Bool.{both_ways, cases_Bool}
 use Rattle.std.proofs.lemmas.Bool.Decides.{nat_tests}
 use Rattle.rs_choice.specs.declared.candidate.Standing.{Standing}
 use Rattle.rs_choice.specs.declared.step.Step.{Step}
@@ -36,27 +36,19 @@ module _ {M : Type 0} (standing : M → Standing) (step : Step) where
   abbrev pub beat : M → M → Bool
   beat w x = beats step (standing w) (standing x)
 
-  -- of the best of a list and another one, one is unbeaten by all
-  best_of_two : (x : M) (xs : List M) (z : M) → Mem xs z → ((w : M) → Mem xs w → beat w z ≡ false) → (b : Bool) → beat x z ≡ b →
-      (best : M) × Mem (x ∷ xs) best × ((w : M) → Mem (x ∷ xs) w → beat w best ≡ false)
-  best_of_two x xs z member best true wins = (
-    x,
-    inl refl,
-    λ w h. elim h [
-      | inl same ↦ rw (← same) (no_one_beats_itself step (standing x))
-      | inr later ↦
-          is_false (beat w x)
-          (λ beats. both_ways (beat w z) (best w later) (beats_then step (standing w) (standing x) (standing z) beats wins))
-    ],
-  )
-  best_of_two x xs z member best false loses =
-      (z, inr member, λ w h. elim h [ inl same ↦ rw (← same) loses | inr later ↦ best w later ])
-
-  pub some_unbeaten : (x : M) (xs : List M) → (best : M) × Mem (x ∷ xs) best × ((w : M) → Mem (x ∷ xs) w → beat w best ≡ false)
+  some_unbeaten : (x : M) (xs : List M) → (best : M) × Mem (x ∷ xs) best × ((w : M) → Mem (x ∷ xs) w → beat w best ≡ false)
   some_unbeaten x [] = (x, inl refl, λ w h. elim h [ inl same ↦ rw (← same) (no_one_beats_itself step (standing x)) | inr none ↦ absurd none ])
   some_unbeaten x (y ∷ ys) =
-      let found = some_unbeaten y ys in
-      best_of_two x (y ∷ ys) found.0 found.1 found.2 (beat x found.0) refl
+      let best = some_unbeaten y ys in
+      elim (cases_Bool (beat x best.0)) [
+        | inl wins ↦ (x, inl refl, λ w h. elim h [
+          | inl same ↦ rw (← same) (no_one_beats_itself step (standing x))
+          | inr later ↦
+              is_false (beat w x)
+              (λ beats. both_ways (beat w best.0) (best.2 w later) (beats_then step (standing w) (standing x) (standing best.0) beats wins))
+        ])
+        | inr loses ↦ (best.0, inr best.1, λ w h. elim h [ inl same ↦ rw (← same) loses | inr later ↦ best.2 w later ])
+      ]
 
   some_left : (x : M) (xs : List M) → (best : M) × Mem (unbeaten standing step (x ∷ xs)) best
   some_left x xs =
@@ -73,21 +65,14 @@ some_remaining standing (step ∷ later) (y ∷ ys) x h =
     let left = some_left standing step y ys in
     some_remaining standing later (unbeaten standing step (y ∷ ys)) left.0 left.1
 
-pub empty_or_member : {M : Type 0} (xs : List M) → (xs ≡ []) ⊎ ((x : M) × Mem xs x)
-empty_or_member [] = inl refl
-empty_or_member (x ∷ xs) = inr (x, inl refl)
-
 pub choice_cases : {M : Type 0} (standing : M → Standing) (set : List M) →
     ((choice standing set ≡ None) × (set ≡ [])) ⊎ ((chosen : M) × (choice standing set ≡ Some chosen) × Left standing (Mem set) chosen)
-unfolding choice
-choice_cases standing set =
-    elim (first_cases (remaining standing decision_steps set)) [
-      | inl none ↦ elim (empty_or_member set) [
-        | inl empty ↦ inl (none.0, empty)
-        | inr member ↦ let left = some_remaining standing decision_steps set member.0 member.1 in absurd (none.1 left.0 left.1)
-      ]
-      | inr found ↦ inr (found.0, found.1, (same_remaining standing set).to found.0 found.2)
-    ]
+unfolding choice remaining unbeaten
+choice_cases standing [] = inl (refl, refl)
+choice_cases standing (x ∷ xs) = elim (first_cases (remaining standing decision_steps (x ∷ xs))) [
+  | inl none ↦ let left = some_remaining standing decision_steps (x ∷ xs) x (inl refl) in absurd (none.1 left.0 left.1)
+  | inr found ↦ inr (found.0, found.1, (same_remaining standing (x ∷ xs)).to found.0 found.2)
+]
 
 -- where the set has a member, there is a choice
 pub some_choice : {M : Type 0} (standing : M → Standing) (set : List M) (x : M) → Mem set x →
@@ -144,19 +129,17 @@ choice_ignores_order plan some others same own =
     ]
 
 pub med_decides : MedDecidesWithinNeighbour
-med_decides plan set removed member gone = go (list_any (λ other. beats steps.Med (standing_of plan other) (standing_of plan removed)) set) refl
-  where
-    go : (b : Bool) → list_any (λ other. beats steps.Med (standing_of plan other) (standing_of plan removed)) set ≡ b →
-        (other : SentRoute) × Contains set other
-        × ((standing_of plan other).neighbour ≡ (standing_of plan removed).neighbour)
-        × ((standing_of plan other).med < (standing_of plan removed).med)
-    go true e =
-        let found = any_found (λ other. beats steps.Med (standing_of plan other) (standing_of plan removed)) set e in
-        let lower = (beats_tells steps.Med (standing_of plan found.0) (standing_of plan removed)).0 found.2 in
-        (found.0, mem-contains set found.0 found.1, lower.0, lower.1)
-    go false e =
-        let left = means_unbeaten (standing_of plan) steps.Med set removed (contains-mem set removed member) e in
-        absurd (gone (mem-contains (unbeaten (standing_of plan) steps.Med set) removed left))
+med_decides plan set removed member gone =
+    let beats_it = λ (other : SentRoute). beats steps.Med (standing_of plan other) (standing_of plan removed) in
+    elim (cases_Bool (list_any beats_it set)) [
+      | inl some ↦
+          let found = any_found beats_it set some in
+          let lower = (beats_tells steps.Med (standing_of plan found.0) (standing_of plan removed)).0 found.2 in
+          (found.0, mem-contains set found.0 found.1, lower.0, lower.1)
+      | inr none ↦
+          let left = means_unbeaten (standing_of plan) steps.Med set removed (contains-mem set removed member) none in
+          absurd (gone (mem-contains (unbeaten (standing_of plan) steps.Med set) removed left))
+    ]
 
 filter_all : {M : Type 0} (p : M → Bool) (xs : List M) → ((x : M) → Mem xs x → p x ≡ true) → filter p xs ≡ xs
 filter_all p [] all = refl

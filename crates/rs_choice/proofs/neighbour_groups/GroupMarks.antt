@@ -102,94 +102,67 @@ module _ (S : ℕ → Standing) where
         ];
       }
 
-  -- the other groups don't keep out one of this neighbour AS
-  others_keep : (n : ℕ) (groups : List Group) → AreGroups S n groups → (g : ℕ) (held : Group) → slice_get groups g ≡ Some held → held.neighbour ≡ (S n).neighbour →
-      (i : ℕ) (group : Group) → i ≢ g → slice_get groups i ≡ Some group →
-      (k : ℕ) → k < n + 1 → IsLevel (S k) (S group.place) → HasLowerMed (S group.place) (S k) → IsTrue group.keeps_out
-  others_keep n groups are g held at_g same i group differ at =
-      below_more (λ k. IsLevel (S k) (S group.place) → HasLowerMed (S group.place) (S k) → IsTrue group.keeps_out) n
-      (are.keeps_out i group at)
-      (λ level lower.
-      let equal : (S group.place).neighbour ≡ (S held.place).neighbour = lower.0 ∙ sym same ∙ are.neighbours g held at_g in
-      absurd (differ (are.grouping.apart i g group.place held.place (place_at groups i group at) (place_at groups g held at_g) equal)))
-
-  -- what the group keeps out that the new entrant came to
-  joined_keeps : (n : ℕ) (groups : List Group) → AreGroups S n groups → IsLevelWithSome S n (places_of groups) → (g : ℕ) (held joined : Group) →
-      slice_get groups g ≡ Some held → held.neighbour ≡ (S n).neighbour → IsJoined held (S held.place) n (S n) joined →
-      (k : ℕ) → k < n + 1 → IsLevel (S k) (S joined.place) → HasLowerMed (S joined.place) (S k) → IsTrue joined.keeps_out
-  joined_keeps n groups are level g held joined at_g same is k below level_k lower =
-      elim (cases_eq (S n).med (S held.place).med) [
-        | inl equal ↦ is.keeps_out.1 (inl (old equal k below level_k lower))
-        | inr differ ↦ is.keeps_out.1 (inr differ)
-      ]
-    where
-      at_place : slice_get (places_of groups) g ≡ Some held.place
-      at_place = place_at groups g held at_g
-
-      level_held : IsLevel (S n) (S held.place)
-      level_held = level_with_all S n (places_of groups) are.grouping level g held.place at_place
-
-      same_held : (S held.place).neighbour ≡ (S n).neighbour
-      same_held = sym (are.neighbours g held at_g) ∙ same
-
-      level_joined : IsLevel (S joined.place) (S held.place)
-      level_joined = elim is.place [
-        | inl beats ↦ rw beats.1 level_held
-        | inr stays ↦ rw stays.1 (refl, refl, refl)
-      ]
-
-      med_joined : (S n).med ≡ (S held.place).med → (S joined.place).med ≡ (S held.place).med
-      med_joined equal = elim is.place [
-        | inl beats ↦ rw beats.1 equal
-        | inr stays ↦ rw stays.1 refl
-      ]
-
-      neighbour_joined : (S joined.place).neighbour ≡ (S held.place).neighbour
-      neighbour_joined = elim is.place [
-        | inl beats ↦ rw beats.1 (sym same_held)
-        | inr stays ↦ rw stays.1 refl
-      ]
-
-      old : (S n).med ≡ (S held.place).med → (k : ℕ) → k < n + 1 → IsLevel (S k) (S joined.place) → HasLowerMed (S joined.place) (S k) → IsTrue held.keeps_out
-      old equal =
-          below_more (λ k. IsLevel (S k) (S joined.place) → HasLowerMed (S joined.place) (S k) → IsTrue held.keeps_out) n
-          (λ k below level_k lower.
-          are.keeps_out g held at_g k below (level_then (S k) (S joined.place) (S held.place) level_k level_joined)
-          (sym neighbour_joined ∙ lower.0, omega (arith, lower.1, med_joined equal)))
-          (λ level_n lower. absurd (omega (arith, lower.1, med_joined equal, equal)))
-
   -- one of the neighbour AS of a group joins it
-  pub joined_marked : (n : ℕ) (groups : List Group) → AreGroups S n groups → IsLevelWithSome S n (places_of groups) → (g : ℕ) (held joined : Group) →
-      slice_get groups g ≡ Some held → held.neighbour ≡ (S n).neighbour → IsJoined held (S held.place) n (S n) joined → AreGroups S (n + 1) (slice_set groups g joined)
-  joined_marked n groups are level g held joined at_g same is = record {
-    grouping = rw (map-set (λ (group : Group). group.place) groups g joined) places;
-    neighbours = λ i group at. elim (set_cases groups g joined i group at) [
-      | inl new ↦ rw new.1 joined_neighbour
-      | inr old ↦ are.neighbours i group old.1
-    ];
-    keeps_out = λ i group at. elim (set_cases groups g joined i group at) [
-      | inl new ↦ rw new.1 (joined_keeps n groups are level g held joined at_g same is)
-      | inr old ↦ others_keep n groups are g held at_g same i group old.0 old.1
-    ];
-  }
-    where
-      at_place : slice_get (places_of groups) g ≡ Some held.place
-      at_place = place_at groups g held at_g
+  module _ (n : ℕ) (groups : List Group) (are : AreGroups S n groups) (level : IsLevelWithSome S n (places_of groups)) (g : ℕ) (held joined : Group)
+      (at_g : slice_get groups g ≡ Some held) (same : held.neighbour ≡ (S n).neighbour) (is : IsJoined held (S held.place) n (S n) joined) where
+    at_place : slice_get (places_of groups) g ≡ Some held.place
+    at_place = place_at groups g held at_g
 
-      same_held : (S held.place).neighbour ≡ (S n).neighbour
-      same_held = sym (are.neighbours g held at_g) ∙ same
+    same_held : (S held.place).neighbour ≡ (S n).neighbour
+    same_held = sym (are.neighbours g held at_g) ∙ same
 
-      places : IsGrouping S (n + 1) (slice_set (places_of groups) g joined.place)
-      places = elim is.place [
-        | inl beats ↦ rw beats.1 (another_place S n (places_of groups) are.grouping level g held.place at_place same_held beats.0)
-        | inr stays ↦ rw (stays.1, set_itself (places_of groups) g held.place at_place) (same_place S n (places_of groups) are.grouping level g held.place at_place same_held stays.0)
-      ]
+    level_held : IsLevel (S n) (S held.place)
+    level_held = level_with_all S n (places_of groups) are.grouping level g held.place at_place
 
-      joined_neighbour : joined.neighbour ≡ (S joined.place).neighbour
-      joined_neighbour = is.neighbour ∙ elim is.place [
-        | inl beats ↦ rw beats.1 same
-        | inr stays ↦ rw stays.1 (are.neighbours g held at_g)
-      ]
+    -- what holds of both holds of the one that stands for both
+    of_both : (P : ℕ → Type 0) → P n → P held.place → P joined.place
+    of_both P now before = elim is.place [ inl beats ↦ rw beats.1 now | inr stays ↦ rw stays.1 before ]
+
+    -- the other groups don't keep out one of this neighbour AS
+    others_keep : (i : ℕ) (group : Group) → i ≢ g → slice_get groups i ≡ Some group →
+        (k : ℕ) → k < n + 1 → IsLevel (S k) (S group.place) → HasLowerMed (S group.place) (S k) → IsTrue group.keeps_out
+    others_keep i group differ at =
+        below_more (λ k. IsLevel (S k) (S group.place) → HasLowerMed (S group.place) (S k) → IsTrue group.keeps_out) n
+        (are.keeps_out i group at)
+        (λ level lower. absurd (differ (are.grouping.apart i g group.place held.place (place_at groups i group at) at_place (lower.0 ∙ sym same_held))))
+
+    -- what the group keeps out that the new entrant came to
+    joined_keeps : (k : ℕ) → k < n + 1 → IsLevel (S k) (S joined.place) → HasLowerMed (S joined.place) (S k) → IsTrue joined.keeps_out
+    joined_keeps k below level_k lower =
+        elim (cases_eq (S n).med (S held.place).med) [
+          | inl equal ↦ is.keeps_out.1 (inl (as_held equal k below level_k lower))
+          | inr differ ↦ is.keeps_out.1 (inr differ)
+        ]
+      where
+        as_held : (S n).med ≡ (S held.place).med → (k : ℕ) → k < n + 1 → IsLevel (S k) (S joined.place) → HasLowerMed (S joined.place) (S k) → IsTrue held.keeps_out
+        as_held equal =
+            let level_joined = of_both (λ p. IsLevel (S p) (S held.place)) level_held (refl, refl, refl) in
+            let med_joined = of_both (λ p. (S p).med ≡ (S held.place).med) equal refl in
+            let neighbour_joined = of_both (λ p. (S p).neighbour ≡ (S held.place).neighbour) (sym same_held) refl in
+            below_more (λ k. IsLevel (S k) (S joined.place) → HasLowerMed (S joined.place) (S k) → IsTrue held.keeps_out) n
+            (λ k below level_k lower.
+            are.keeps_out g held at_g k below (level_then (S k) (S joined.place) (S held.place) level_k level_joined)
+            (sym neighbour_joined ∙ lower.0, omega (arith, lower.1, med_joined)))
+            (λ level_n lower. absurd (omega (arith, lower.1, med_joined, equal)))
+
+    pub joined_marked : AreGroups S (n + 1) (slice_set groups g joined)
+    joined_marked = record {
+      grouping = rw (map-set (λ (group : Group). group.place) groups g joined) places;
+      neighbours = λ i group at. elim (set_cases groups g joined i group at) [
+        | inl new ↦ rw new.1 (is.neighbour ∙ of_both (λ p. held.neighbour ≡ (S p).neighbour) same (are.neighbours g held at_g))
+        | inr old ↦ are.neighbours i group old.1
+      ];
+      keeps_out = λ i group at. elim (set_cases groups g joined i group at) [
+        | inl new ↦ rw new.1 joined_keeps
+        | inr old ↦ others_keep i group old.0 old.1
+      ];
+    }
+      where
+        places : IsGrouping S (n + 1) (slice_set (places_of groups) g joined.place)
+        places = elim is.place [
+          | inl beats ↦ rw beats.1 (another_place S n (places_of groups) are.grouping level g held.place at_place same_held beats.0)
+          | inr stays ↦ rw (stays.1, set_itself (places_of groups) g held.place at_place) (same_place S n (places_of groups) are.grouping level g held.place at_place same_held stays.0)
+        ]
 
   -- ---- the leader
 

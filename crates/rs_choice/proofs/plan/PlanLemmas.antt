@@ -45,10 +45,6 @@ module _ (tests : ℕ × Peer → List Test) (peers : List PeerSpec) (number : �
   pub first_fault-later : first_fault (tests (number, peer_of peer)) ≡ None → first_fault (tests_from tests peers 0) ≡ first_fault (tests_from tests peers (number + 1))
   first_fault-later here = all_tests ∙ first_fault-None (tests (number, peer_of peer)) (tests_from tests peers (number + 1)) here
 
-list_all_alike : {A : Type 0} (p q : A → Bool) (xs : List A) → ((x : A) → p x ≡ q x) → list_all p xs ≡ list_all q xs
-list_all_alike p q [] same = refl
-list_all_alike p q (x ∷ xs) same = rw (same x, list_all_alike p q xs same) refl
-
 -- the tests of peers by their values are those of the peers as configured
 pub has_name-map : (peers : List PeerSpec) (name : List ℕ) → has_name (map peer_of peers) name ≡ has_name_among peers name
 has_name-map peers name = list_any-map peer_of (λ peer. bytes_eq peer.name name) peers
@@ -68,8 +64,7 @@ pub has_names-map : (peers : List PeerSpec) (client : PeerSpec) →
     has_names (map peer_of peers) (peer_of client).refuse_from ≡ list_all (λ name. has_name_among peers (string_bytes name)) client.refuse_from.items
 has_names-map peers client =
     list_all-map (has_name (map peer_of peers)) (λ name. string_bytes name) client.refuse_from.items
-    ∙ list_all_alike (λ name. has_name (map peer_of peers) (string_bytes name)) (λ name. has_name_among peers (string_bytes name)) client.refuse_from.items
-    (λ name. has_name-map peers (string_bytes name))
+    ∙ (λ i. list_all (λ name. has_name-map peers (string_bytes name) i) client.refuse_from.items)
 
 -- the tests of each peer beside those before it, and of the names that it refuses
 abbrev pub own_tests : List PeerSpec → ℕ × Peer → List Test

@@ -108,19 +108,16 @@ is_permitted-without_0 plan client number attributes refused known sender_known 
     let permits = permits_without_0 plan.local.asn one.0.asn attributes.communities none in
     sym (is_permitted-known plan client number attributes one.0 other.0 one.1 other.1 ∙ rw (ne_eqb client number differ, says, permits) (turned refused))
 
-map_alike : {A B : Type 0} (f g : A → B) (xs : List A) → ((x : A) → f x ≡ g x) → map f xs ≡ map g xs
-map_alike f g [] same = refl
-map_alike f g (x ∷ xs) same = rw (same x, map_alike f g xs same) refl
-
 refuses-map : (client sender : PeerSpec) → refuses (peer_of client) (peer_of sender) ≡ refuses_spec client sender
 refuses-map client sender = list_any-map (λ name. string_bytes name) (λ name. bytes_eq name (string_bytes sender.name)) client.refuse_from.items
-
-refusal_row-map : (client : PeerSpec) (peers : List PeerSpec) → map (refuses (peer_of client)) (map peer_of peers) ≡ map (refuses_spec client) peers
-refusal_row-map client peers =
-    map-map (refuses (peer_of client)) peer_of peers ∙ map_alike (λ sender. refuses (peer_of client) (peer_of sender)) (refuses_spec client) peers (refuses-map client)
 
 -- refusals by the peers as they are configured
 pub refusals_of-map : (peers : List PeerSpec) → refusals_of (map peer_of peers) ≡ map (λ client. map (refuses_spec client) peers) peers
 refusals_of-map peers =
     map-map (λ client. map (refuses client) (map peer_of peers)) peer_of peers
-    ∙ map_alike (λ client. map (refuses (peer_of client)) (map peer_of peers)) (λ client. map (refuses_spec client) peers) peers (λ client. refusal_row-map client peers)
+    ∙ (λ i. map (λ client. row client i) peers)
+  where
+    row : (client : PeerSpec) → map (refuses (peer_of client)) (map peer_of peers) ≡ map (refuses_spec client) peers
+    row client =
+        map-map (refuses (peer_of client)) peer_of peers
+        ∙ (λ i. map (λ sender. refuses-map client sender i) peers)
