@@ -30,14 +30,10 @@ StandsFor one place other other_place =
     ⊎ ((one.med ≡ other.med)
     × (Precedes one other ⊎ ((one.id ≡ other.id) × (one.address ≡ other.address) × (place ≤ other_place))))))
 
--- all groups have a place below n
-abbrev pub AreWithin : ℕ → List ℕ → Type 0
-AreWithin n groups = (group place : ℕ) → slice_get groups group ≡ Some place → place < n
-
 -- of the first n places, some stand for all: none of the n is ahead of them, and each has a neighbour AS of its own
 pub record IsGrouping (standing : ℕ → Standing) (n : ℕ) (groups : List ℕ) : Type 0 where
   pub few : length groups ≤ n
-  pub within : AreWithin n groups
+  pub within : (group place : ℕ) → slice_get groups group ≡ Some place → place < n
   pub front : (group place : ℕ) → slice_get groups group ≡ Some place → (k : ℕ) → k < n
       → IsAhead (standing k) (standing place) → ⊥
   pub all : (k : ℕ) → k < n

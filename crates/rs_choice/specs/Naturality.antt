@@ -67,7 +67,7 @@ enumerate_from-map : {A B : Type 0} (f : A → B) (n : ℕ) (xs : List A) →
 enumerate_from-map f n [] = refl
 enumerate_from-map f n (x ∷ xs) = ap (λ rest. (n, f x) ∷ rest) (enumerate_from-map f (n + 1) xs)
 
-option_map-option_map : {A B C : Type 0} (f : A → B) (g : B → C) (x : Option A)
+pub option_map-option_map : {A B C : Type 0} (f : A → B) (g : B → C) (x : Option A)
     → option_map g (option_map f x) ≡ option_map (λ a. g (f a)) x
 option_map-option_map f g None = refl
 option_map-option_map f g (Some x) = refl

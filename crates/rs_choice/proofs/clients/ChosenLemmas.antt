@@ -1,11 +1,10 @@
 -- The routes that stand at some places of a list, and the choice among them by neighbour groups.
 -- For clients.rt, `choose_by_groups` of decision.rt, and entrants.rt.
-use Rattle.std.proofs.Common.{◌≡◌, ◌∙◌, sym, ap, refl, ℕ, suc, zero, ◌+◌, ◌<◌, arith, Bool, true, false, cond, inl, inr, List, [], ◌∷◌, ◌++◌, length, map, take, get_or, Option, Some, None}
-use Rattle.std.specs.Prelude.{slice_get, filter}
+use Rattle.std.proofs.Common.{◌≡◌, ◌∙◌, sym, ap, refl, ℕ, suc, zero, ◌+◌, ◌<◌, arith, inl, inr, List, [], ◌∷◌, ◌++◌, length, map, take, get_or, Option, Some}
+use Rattle.std.specs.Prelude.{slice_get}
 use Rattle.std.specs.Option.{option_map}
-use Rattle.std.proofs.Math.Seq.{take-suc}
-use Rattle.std.proofs.lemmas.List.{append-nil, map-append}
-use Rattle.std.proofs.lemmas.List.Elements.{All-tail, filter-append, filter_map-append}
+use Rattle.std.proofs.lemmas.List.{map-append, take_more}
+use Rattle.std.proofs.lemmas.List.Elements.{All-tail, filter_map-append}
 use Rattle.std.proofs.lemmas.Option.{get_or_from_slice_get, slice_get_within}
 use Rattle.rs_choice.specs.declared.candidate.Standing.{Standing}
 use Rattle.rs_choice.specs.declared.candidate.Placed.{Placed}
@@ -15,7 +14,7 @@ use Rattle.rs_choice.specs.Decision.{SentRoute, choice, member_at, place_of_choi
 use Rattle.rs_choice.specs.Entrants.{chosen_of, standing_of_held}
 use Rattle.rs_choice.specs.Grouping.{places_of, standing_in, AreGroups, IsFirstOf}
 use Rattle.rs_choice.specs.Held.{sent_of_held}
-use Rattle.rs_choice.specs.Naturality.{choice-map, member_at-place_of_choice, place_of_choice-map}
+use Rattle.rs_choice.specs.Naturality.{choice-map, member_at-place_of_choice, option_map-option_map, place_of_choice-map}
 use Rattle.rs_choice.specs.Plan.{Plan}
 use Rattle.rs_choice.specs.Sharing.{sents_at, ArePlaces}
 use Rattle.rs_choice.proofs.neighbour_groups.GroupChoice.{first_is_choice}
@@ -56,12 +55,8 @@ within_at held places all i place at =
     let found : get_or places i 0 < length held = all i 0 within in
     omega (arith, found, is)
 
-pub take_more : {X : Type 0} (xs : List X) (i : ℕ) (x : X) → slice_get xs i ≡ Some x → take (i + 1) xs ≡ take i xs ++ x ∷ []
-take_more xs i x at =
-    let is = get_or_from_slice_get xs i x x at in
-    let more : take (suc i) xs ≡ take i xs ++ get_or xs i x ∷ [] = take-suc xs i x (slice_get_within xs i x at) in
-    let e : i + 1 ≡ suc i = omega arith in
-    ap (λ n. take n xs) e ∙ more ∙ ap (λ y. take i xs ++ y ∷ []) is
+pub take_one_more : {X : Type 0} (xs : List X) (i : ℕ) (x : X) → slice_get xs i ≡ Some x → take (i + 1) xs ≡ take i xs ++ x ∷ []
+take_one_more xs i x at = take_more xs i x (slice_get_within xs i x at) ∙ ap (λ y. take i xs ++ y ∷ []) (get_or_from_slice_get xs i x x at)
 
 -- ---- as a list of places grows
 
@@ -71,13 +66,7 @@ sents_push held places place one at = ap (map sent_of_held) (chosen_push held pl
 
 pub sents_more : (held : List HeldRoute) (places : List ℕ) (i place : ℕ) (one : HeldRoute) → slice_get places i ≡ Some place → slice_get held place ≡ Some one →
     sents_at held (take (i + 1) places) ≡ sents_at held (take i places) ++ sent_of_held one ∷ []
-sents_more held places i place one at_places at = ap (sents_at held) (take_more places i place at_places) ∙ sents_push held (take i places) place one at
-
-pub filter_push : {X : Type 0} (p : X → Bool) (xs : List X) (x : X) → p x ≡ true → filter p (xs ++ x ∷ []) ≡ filter p xs ++ x ∷ []
-filter_push p xs x passes = filter-append p xs (x ∷ []) ∙ ap (λ b. filter p xs ++ cond b (x ∷ []) []) passes
-
-pub filter_skip : {X : Type 0} (p : X → Bool) (xs : List X) (x : X) → p x ≡ false → filter p (xs ++ x ∷ []) ≡ filter p xs
-filter_skip p xs x fails = filter-append p xs (x ∷ []) ∙ ap (λ b. filter p xs ++ cond b (x ∷ []) []) fails ∙ append-nil (filter p xs)
+sents_more held places i place one at_places at = ap (sents_at held) (take_one_more places i place at_places) ∙ sents_push held (take i places) place one at
 
 -- who stands at one of the places is one of the chosen
 pub mem_chosen : (held : List HeldRoute) (places : List ℕ) → ArePlaces held places → (place : ℕ) (one : HeldRoute) → Mem places place → slice_get held place ≡ Some one →
@@ -104,8 +93,4 @@ pub peer_of_choice : (plan : Plan) (held : List HeldRoute) (place : Option ℕ) 
 peer_of_choice plan held place is =
     ap (λ place. option_map (λ (one : HeldRoute). one.peer) (member_at held place)) (sym is)
     ∙ ap (option_map (λ (one : HeldRoute). one.peer)) (member_at-place_of_choice (standing_of_held plan) held)
-    ∙ sym (ap (option_map (λ (sent : SentRoute). sent.peer)) (choice-map sent_of_held (standing_of plan) held) ∙ twice (choice (standing_of_held plan) held))
-  where
-    twice : (found : Option HeldRoute) → option_map (λ (sent : SentRoute). sent.peer) (option_map sent_of_held found) ≡ option_map (λ (one : HeldRoute). one.peer) found
-    twice None = refl
-    twice (Some one) = refl
+    ∙ sym (ap (option_map (λ (sent : SentRoute). sent.peer)) (choice-map sent_of_held (standing_of plan) held) ∙ option_map-option_map sent_of_held (λ (sent : SentRoute). sent.peer) (choice (standing_of_held plan) held))

@@ -3,8 +3,8 @@ use Rattle.std.proofs.Common.{◌≡◌, ◌∙◌, sym, ap, subst, refl, ℕ, �
 use Rattle.std.specs.Prelude.{IsTrue, slice_get}
 use Rattle.std.specs.List.{All}
 use Rattle.std.specs.Option.{option_and_then, option_map}
-use Rattle.std.proofs.lemmas.Bool.{both_ways, cases_Bool, cases_eq}
-use Rattle.std.proofs.lemmas.Bool.Decides.{eqb_tells, not_from_Decides}
+use Rattle.std.proofs.lemmas.Bool.{both_ways, cases_Bool, cases_eq, eq-eqb}
+use Rattle.std.proofs.lemmas.Bool.Decides.{not_from_Decides}
 use Rattle.rs_choice.specs.declared.candidate.Standing.{Standing}
 use Rattle.rs_choice.specs.declared.held_route.HeldRoute.{HeldRoute}
 use Rattle.rs_choice.specs.declared.route_change.RouteChange.{RouteChange}
@@ -71,10 +71,7 @@ module _ (plan : Plan) (held : List HeldRoute) (change : RouteChange) (bests : L
       is.apart r was (mem-contains is.before r member) (mem-contains is.before was before) (of_best ∙ sym stays.2)
 
   own_is_refused : (sent : SentRoute) → sent.peer ≡ client → is_sent_to plan client sent ≡ false
-  own_is_refused sent own = elim (eqb_tells client sent.peer) [
-    | inl same ↦ rw same.0 refl
-    | inr apart ↦ absurd (apart.1 (sym own))
-  ]
+  own_is_refused sent own = rw (eq-eqb client sent.peer (sym own)) refl
 
   module _ (one : HeldRoute) (came : new_route held change ≡ Some one) (candidate : IsTrue (is_candidate one.candidacy))
       (permitted : IsTrue (is_sent_to plan client (sent_of_held one))) (ahead : GoesAhead plan held change client got one) where

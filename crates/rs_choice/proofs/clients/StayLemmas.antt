@@ -4,8 +4,7 @@ use Rattle.std.proofs.Common.{◌≡◌, ◌≢◌, ◌∙◌, sym, ap, subst, r
 use Rattle.std.specs.Prelude.{filter, IsTrue, slice_index_or}
 use Rattle.std.specs.List.{All, Contains}
 use Rattle.std.specs.Option.{option_map}
-use Rattle.std.proofs.lemmas.Bool.{cases_Bool, cases_lt, cond_both}
-use Rattle.std.proofs.lemmas.Bool.Decides.{eqb_tells}
+use Rattle.std.proofs.lemmas.Bool.{cases_Bool, cases_eq, cases_lt, cond_both, eqb-true, ne_eqb, not-false}
 use Rattle.std.proofs.lemmas.List.{append_assoc, get_or-set_other, get_or-set_same}
 use Rattle.rs_choice.specs.declared.held_route.HeldRoute.{HeldRoute}
 use Rattle.rs_choice.specs.declared.route_change.RouteChange.{RouteChange}
@@ -94,10 +93,10 @@ module _ (plan : Plan) (held : List HeldRoute) (change : RouteChange) (bests : L
       filter-map sent_of_held of_other held ∙ sym (ap (map sent_of_held) is.others) ∙ sym (filter-map sent_of_held of_other is.before)
 
   of_no_other : (sent : SentRoute) → of_other sent ≡ false → sent.peer ≡ change.peer
-  of_no_other sent e = elim (eqb_tells sent.peer change.peer) [ inl same ↦ same.1 | inr apart ↦ absurd (cc (e, apart.0)) ]
+  of_no_other sent e = eqb-true sent.peer change.peer (not-false (sent.peer == change.peer) e)
 
   is_other : (peer : ℕ) → peer ≢ change.peer → not (peer == change.peer) ≡ true
-  is_other peer apart = elim (eqb_tells peer change.peer) [ inl same ↦ absurd (apart same.1) | inr other ↦ ap not other.0 ]
+  is_other peer apart = ap not (ne_eqb peer change.peer apart)
 
   -- a route of another peer was held before
   pub was_held : (r : HeldRoute) → r.peer ≢ change.peer → Mem held r → Mem is.before r
@@ -182,8 +181,8 @@ pub of_all_below : (P : ℕ → Type 0) (client next : ℕ) → ((k : ℕ) → k
 of_all_below P client next before here after k below =
     elim (cases_lt k client) [
       | inl less ↦ before k less
-      | inr above ↦ elim (eqb_tells k client) [
-        | inl same ↦ subst P (sym same.1) here
-        | inr apart ↦ after k below (omega (arith, above, apart.1))
+      | inr above ↦ elim (cases_eq k client) [
+        | inl same ↦ subst P (sym same) here
+        | inr apart ↦ after k below (omega (arith, above, apart))
       ]
     ]

@@ -11,7 +11,7 @@ use Rattle.std.proofs.lemmas.Bool.Decides.{not_from_Decides, Decides-and, Decide
 use Rattle.std.proofs.lemmas.List.Elements.{filter-append}
 use Rattle.rs_choice.specs.declared.candidate.Standing.{Standing}
 use Rattle.rs_choice.specs.declared.step.Step.TheVariants as steps
-use Rattle.rs_choice.specs.Clients.{is_sent_to, eligible_among, peer_or_own}
+use Rattle.rs_choice.specs.Clients.{is_sent_to, chosen_for, peer_or_own}
 use Rattle.rs_choice.specs.Comparison.{HasLowerMed, HasSameMed, IsAhead, IsAheadByMed, IsLevel, Outdoes, OutdoesByMed, Precedes}
 use Rattle.rs_choice.specs.Decision.{SentRoute, beats, remaining, choice, standing_of}
 use Rattle.rs_update.specs.Spelling.{origin_code}
@@ -84,12 +84,12 @@ mem_fewer [] after one x h = h
 mem_fewer (y ∷ ys) after one x (inl same) = inr (inl same)
 mem_fewer (y ∷ ys) after one x (inr h) = elim (mem_fewer ys after one x h) [ inl same ↦ inl same | inr member ↦ inr (inr member) ]
 
-filter_with : {M : Type 0} (p : M → Bool) (before after : List M) (one : M) → p one ≡ true →
+pub filter_with : {M : Type 0} (p : M → Bool) (before after : List M) (one : M) → p one ≡ true →
     filter p (before ++ one ∷ after) ≡ filter p before ++ one ∷ filter p after
 filter_with p before after one passes =
     filter-append p before (one ∷ after) ∙ ap (λ b. filter p before ++ cond b (one ∷ filter p after) (filter p after)) passes
 
-filter_without : {M : Type 0} (p : M → Bool) (before after : List M) (one : M) → p one ≡ false →
+pub filter_without : {M : Type 0} (p : M → Bool) (before after : List M) (one : M) → p one ≡ false →
     filter p (before ++ one ∷ after) ≡ filter p (before ++ after)
 filter_without p before after one fails =
     filter-append p before (one ∷ after) ∙ ap (λ b. filter p before ++ cond b (one ∷ filter p after) (filter p after)) fails
@@ -239,21 +239,12 @@ outdone_candidate standing p q before after one other among eligible permitted o
 
 pub others_are_no_matter : OthersAreNoMatter
 others_are_no_matter plan client before after one nothing =
-    ap (λ (found : Option SentRoute). peer_or_own (option_map (λ (sent : SentRoute). sent.peer) found) client) same
-  where
-    p : SentRoute → Bool
-    p sent = is_eligible plan sent.peer sent.attributes
-
-    q : SentRoute → Bool
-    q = is_sent_to plan client
-
-    same : choice (standing_of plan) (filter (is_sent_to plan client) (eligible_among plan (before ++ one ∷ after)))
-        ≡ choice (standing_of plan) (filter (is_sent_to plan client) (eligible_among plan (before ++ after)))
-    same = elim nothing [
+    let p = λ (sent : SentRoute). is_eligible plan sent.peer sent.attributes in
+    let q = is_sent_to plan client in
+    let same : chosen_for plan client (before ++ one ∷ after) ≡ chosen_for plan client (before ++ after) = elim nothing [
       | inl ineligible ↦ ap (choice (standing_of plan)) (no_candidate p q before after one (inl ineligible))
-      | inr others ↦ elim others [
-        | inl refused ↦ ap (choice (standing_of plan)) (no_candidate p q before after one (inr refused))
-        | inr found ↦
-            outdone_candidate (standing_of plan) p q before after one found.0 (contains-mem (before ++ after) found.0 found.1) found.2 found.3 found.4
-      ]
-    ]
+      | inr (inl refused) ↦ ap (choice (standing_of plan)) (no_candidate p q before after one (inr refused))
+      | inr (inr found) ↦
+          outdone_candidate (standing_of plan) p q before after one found.0 (contains-mem (before ++ after) found.0 found.1) found.2 found.3 found.4
+    ] in
+    ap (λ (found : Option SentRoute). peer_or_own (option_map (λ (sent : SentRoute). sent.peer) found) client) same

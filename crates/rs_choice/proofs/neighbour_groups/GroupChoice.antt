@@ -1,5 +1,5 @@
 -- The first of the neighbour groups is the choice: for `first_of` of decision.rt and ChosenLemmas.
-use Rattle.std.proofs.Common.{◌≡◌, ◌∙◌, sym, refl, ℕ, ◌+◌, ◌<◌, ◌≤◌, arith, ◌⊎◌, inl, inr, List, length, Option, Some, None, below_more}
+use Rattle.std.proofs.Common.{◌≡◌, ◌∙◌, sym, ap, subst, refl, ℕ, ◌+◌, ◌<◌, ◌≤◌, arith, ◌⊎◌, inl, inr, List, length, Option, Some, None, below_more}
 use Rattle.std.specs.Prelude.{slice_get}
 use Rattle.std.specs.Option.{option_map}
 use Rattle.std.proofs.lemmas.Option.{get_or_from_slice_get, slice_get-get_or, slice_get_within}
@@ -18,40 +18,36 @@ module _ (S : ℕ → Standing) where
   before_then : (a b c : Placed) → GoesBefore a.standing a.place b.standing b.place → GoesBefore b.standing b.place c.standing c.place → GoesBefore a.standing a.place c.standing c.place
   before_then a b c h k = grind arith
 
+  -- what holds of the first groups and of one more
+  one_more : (groups : List ℕ) (i place : ℕ) → slice_get groups i ≡ Some place → (P : ℕ → Type 0) → ((g other : ℕ) → g < i → slice_get groups g ≡ Some other → P other) → P place →
+      (g other : ℕ) → g < i + 1 → slice_get groups g ≡ Some other → P other
+  one_more groups i place at P before here g other below =
+      below_more (λ g. (other : ℕ) → slice_get groups g ≡ Some other → P other) i (λ g below other. before g other below)
+      (λ other at_other. let same : place ≡ other = cc (at, at_other) in subst P same here) g below other
+
   pub first_changes : (groups : List ℕ) (i place : ℕ) (best : Option Placed) → slice_get groups i ≡ Some place → IsFirstOf S groups i best →
       GoesBeforeSome (record { place = place; standing = S place }) best → IsFirstOf S groups (i + 1) (Some (record { place = place; standing = S place }))
   first_changes groups i place best at is before = (
     (i, at),
     refl,
-    λ group other below at_other goes.
-        below_more (λ g. (other : ℕ) → slice_get groups g ≡ Some other → GoesBefore (S other) other (S place) place → ⊥) i
-        (earlier best is before)
-        (λ other at_other goes. let e : other ≡ place = cc (at, at_other) in not_before_itself (S place) place (rw e at goes))
-        group below other at_other goes,
+    one_more groups i place at (λ other. GoesBefore (S other) other (S place) place → ⊥) (earlier best is before) (not_before_itself (S place) place),
   )
     where
       not_before_itself : (a : Standing) (p : ℕ) → GoesBefore a p a p → ⊥
       not_before_itself a p h = grind arith
 
       earlier : (best : Option Placed) → IsFirstOf S groups i best → GoesBeforeSome (record { place = place; standing = S place }) best →
-          (g : ℕ) → g < i → (other : ℕ) → slice_get groups g ≡ Some other → GoesBefore (S other) other (S place) place → ⊥
-      earlier None none before g below other at_other goes = absurd (omega (arith, none))
-      earlier (Some first) is before g below other at_other goes =
+          (g other : ℕ) → g < i → slice_get groups g ≡ Some other → GoesBefore (S other) other (S place) place → ⊥
+      earlier None none before g other below at_other goes = absurd (omega (arith, none))
+      earlier (Some first) is before g other below at_other goes =
           is.2 g other below at_other
           (before_then (record { place = other; standing = S other }) (record { place = place; standing = S place }) first goes before)
 
   pub first_stays : (groups : List ℕ) (i place : ℕ) (best : Option Placed) → slice_get groups i ≡ Some place → IsFirstOf S groups i best →
       (GoesBeforeSome (record { place = place; standing = S place }) best → ⊥) → IsFirstOf S groups (i + 1) best
   first_stays groups i place None at is before_not = absurd (before_not tt)
-  first_stays groups i place (Some first) at is before_not = (
-    is.0,
-    is.1,
-    λ group other below at_other goes.
-        below_more (λ g. (other : ℕ) → slice_get groups g ≡ Some other → GoesBefore (S other) other first.standing first.place → ⊥) i
-        (λ g below other at_other goes. is.2 g other below at_other goes)
-        (λ other at_other goes. let e : other ≡ place = cc (at, at_other) in before_not (rw e at goes))
-        group below other at_other goes,
-  )
+  first_stays groups i place (Some first) at is before_not =
+      (is.0, is.1, one_more groups i place at (λ other. GoesBefore (S other) other first.standing first.place → ⊥) is.2 before_not)
 
   -- and none that is level with it has a lower MED from the same neighbour AS
   first_least_med : (n : ℕ) (groups : List ℕ) → IsGrouping S n groups → (g p : ℕ) → slice_get groups g ≡ Some p → (k : ℕ) → k < n →
@@ -64,13 +60,10 @@ module _ (S : ℕ → Standing) where
             let h_is_g : found.0 ≡ g = is.apart found.0 g found.1 p found.2 at (stands.1 ∙ lower.1.0) in
             let at_g : slice_get groups g ≡ Some found.1 = rw h_is_g at found.2 in
             let q_is_p : found.1 ≡ p = cc (at_g, at) in
+            let med = ap (λ p. (S p).med) q_is_p in
             elim stands.2 [
-              | inl less ↦
-                  let less_p : (S p).med < (S k).med = rw q_is_p at less in
-                  absurd (omega (arith, less_p, lower.1.1))
-              | inr equal ↦
-                  let equal_p : (S p).med ≡ (S k).med = rw q_is_p at equal.0 in
-                  absurd (omega (arith, equal_p, lower.1.1))
+              | inl less ↦ absurd (omega (arith, less, med, lower.1.1))
+              | inr equal ↦ absurd (omega (arith, equal.0, med, lower.1.1))
             ]
       ]
 

@@ -1,16 +1,18 @@
 -- Laws of the faults of a plan: for `a_plan_is_refused_by_its_first_fault` and `peers_have_addresses_of_their_own` of laws.rt.
-use Rattle.std.proofs.Common.{◌≡◌, sym, ap, refl, ℕ, suc, zero, ◌+◌, ◌<◌, ◌==◌, arith, true, false, inl, inr, List, [], ◌∷◌, ◌++◌, take, Option, Some, None}
+use Rattle.std.proofs.Common.{◌≡◌, ◌∙◌, sym, ap, refl, ℕ, suc, zero, ◌+◌, ◌<◌, ◌==◌, arith, true, false, inl, inr, List, [], ◌∷◌, ◌++◌, take, Option, Some, None}
 use Rattle.std.specs.Prelude.{slice_get, MatchOption}
 use Rattle.std.specs.List.{flat_map, enumerate_from}
 use Rattle.std.proofs.lemmas.Bool.{cases_order}
 use Rattle.std.proofs.lemmas.Bool.Decides.{nat_tests}
+use Rattle.std.proofs.lemmas.List.{get_or-take, length-take}
+use Rattle.std.proofs.lemmas.Option.{get_or_from_slice_get, slice_get_within}
 use Rattle.rs_choice.specs.declared.plan.Local.{Local}
 use Rattle.rs_choice.specs.declared.fault.PlanFault.{PlanFault}
 use Rattle.rs_choice.specs.declared.fault.PlanFault.TheVariants.{RepeatedAddress}
 use Rattle.rs_choice.specs.Laws.{FaultIsFirst, PeersHaveOwnAddresses}
 use Rattle.rs_choice.specs.Plan.{Peer, Test, has_address, peer_tests, peers_tests, names_tests, whole_tests, plan_tests, plan_fault}
 use Rattle.rs_update.specs.Fault.{first_fault}
-use Rattle.rs_choice.proofs.Members.{Mem, list_any-none, mem-append_left, mem-append_right}
+use Rattle.rs_choice.proofs.Members.{Mem, contains-mem, list_any-none, mem-append_left, mem-append_right}
 use Rattle.rs_choice.proofs.decision.PlaceLemmas.{enumerate-at}
 
 later_match : (o : Option PlanFault) (P P' : Type 0) (Q Q' : PlanFault → Type 0) → (P → P') → ((fault : PlanFault) → Q fault → Q' fault) → MatchOption o P Q → MatchOption o P' Q'
@@ -54,10 +56,9 @@ mem-flat_map f (z ∷ xs) x y (inl same) k = mem-append_left (f z) (flat_map f x
 mem-flat_map f (z ∷ xs) x y (inr h) k = mem-append_right (f z) (flat_map f xs) y (mem-flat_map f xs x y h k)
 
 slice_get-before : {A : Type 0} (n : ℕ) (xs : List A) (k : ℕ) (x : A) → k < n → slice_get xs k ≡ Some x → Mem (take n xs) x
-slice_get-before n [] k x below at = absurd (cc (at))
-slice_get-before zero (y ∷ ys) k x below at = absurd (omega arith)
-slice_get-before (suc n) (y ∷ ys) zero x below at = inl (cc)
-slice_get-before (suc n) (y ∷ ys) (suc k) x below at = inr (slice_get-before n ys k x (omega arith) at)
+slice_get-before n xs k x below at =
+    contains-mem (take n xs) x
+    (k, omega (arith, below, slice_get_within xs k x at, length-take n xs), get_or-take n xs k x below ∙ get_or_from_slice_get xs k x x at)
 
 -- a later peer has another address
 later_address : (local : Local) (peers : List Peer) → plan_fault local peers ≡ None → (i j : ℕ) (one other : Peer) → i < j →

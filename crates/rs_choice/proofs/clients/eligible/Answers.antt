@@ -1,11 +1,12 @@
 use Rattle.std.proofs.Common.{◌≡◌, ◌∙◌, ◌<◌, sym, ap, arith, filter, length, take, ◌++◌, ◌∷◌, [], Some, rules}
 use Rattle.std.specs.Prelude.{slice_get}
-use Rattle.std.proofs.lemmas.List.{length_push}
+use Rattle.std.proofs.lemmas.List.{append-nil, length_push}
 use Rattle.std.proofs.lemmas.List.Elements.{All-push}
 use Rattle.std.proofs.lemmas.Option.{slice_get_read}
 use Rattle.rs_choice.specs.declared.held_route.HeldRoute.{HeldRoute}
 use Rattle.rs_choice.specs.Candidacy.{is_candidate}
-use Rattle.rs_choice.proofs.clients.ChosenLemmas.{chosen_push, filter_push, filter_skip, take_more}
+use Rattle.rs_choice.proofs.clients.ChosenLemmas.{chosen_push, take_one_more}
+use Rattle.rs_choice.proofs.decision.BehindLemmas.{filter_with, filter_without}
 use Rattle.rs_choice.proofs.clients.eligible.Goals as goal
 use Rattle.rs_choice.proofs.clients.eligible.Goals.{then-is_eligible, else-is_eligible}
 
@@ -16,7 +17,7 @@ loop-place-preserved c =
     let i = c.loop-place.place in
     let so_far = c.loop-place.eligible in
     let at : slice_get held i ≡ Some one = slice_get_read held (length held) i one (omega arith) (omega arith) c.index-held-place.is in
-    let more = take_more held i one at in
+    let more = take_one_more held i one at in
     elim c.if-is_eligible.branch [
       | then-is_eligible w ↦
           let passes = ap (λ (one : HeldRoute). is_candidate one.candidacy) c.index-held-place.is ∙ sym c.is_eligible.ensures ∙ w.if-is_eligible.true in
@@ -24,7 +25,7 @@ loop-place-preserved c =
             few = omega (arith, length_push so_far i, c.loop-place.invariant.few);
             places = All-push (λ place. place < length held) so_far i c.loop-place.invariant.places (omega arith);
             eligible = chosen_push held so_far i one at ∙ ap (λ list. list ++ one ∷ []) c.loop-place.invariant.eligible
-                ∙ sym (ap (filter (λ (held : HeldRoute). is_candidate held.candidacy)) more ∙ filter_push (λ (held : HeldRoute). is_candidate held.candidacy) (take i held) one passes);
+                ∙ sym (ap (filter (λ (held : HeldRoute). is_candidate held.candidacy)) more ∙ filter_with (λ (held : HeldRoute). is_candidate held.candidacy) (take i held) [] one passes);
           })
       | else-is_eligible w ↦
           let fails = ap (λ (one : HeldRoute). is_candidate one.candidacy) c.index-held-place.is ∙ sym c.is_eligible.ensures ∙ w.if-is_eligible.false in
@@ -32,7 +33,8 @@ loop-place-preserved c =
             few = omega (arith, c.loop-place.invariant.few);
             places = c.loop-place.invariant.places;
             eligible = c.loop-place.invariant.eligible
-                ∙ sym (ap (filter (λ (held : HeldRoute). is_candidate held.candidacy)) more ∙ filter_skip (λ (held : HeldRoute). is_candidate held.candidacy) (take i held) one fails);
+                ∙ sym (ap (filter (λ (held : HeldRoute). is_candidate held.candidacy)) more ∙ filter_without (λ (held : HeldRoute). is_candidate held.candidacy) (take i held) [] one fails
+                ∙ ap (filter (λ (held : HeldRoute). is_candidate held.candidacy)) (append-nil (take i held)));
           })
     ]
 

@@ -10,7 +10,7 @@ use Rattle.rs_choice.specs.Decision.{SentRoute, choice, standing_of}
 use Rattle.rs_choice.specs.Eligibility.{is_eligible}
 use Rattle.rs_choice.specs.Held.{sent_of_held}
 use Rattle.rs_choice.specs.Sharing.{sents_at}
-use Rattle.rs_choice.proofs.clients.ChosenLemmas.{sents_push, take_more}
+use Rattle.rs_choice.proofs.clients.ChosenLemmas.{sents_push, take_one_more}
 use Rattle.rs_choice.proofs.clients.ContenderLemmas.{with_one, without_one}
 use Rattle.rs_choice.proofs.Members.{mem-append_right}
 use Rattle.rs_choice.proofs.exchange.Exchange.contenders.Goals as goal
@@ -27,7 +27,7 @@ loop-place-preserved c =
     let routes = map sent_of_held (take i held) in
     let at : slice_get held i ≡ Some one = slice_get_read held (length held) i one (omega arith) (omega arith) c.index-held-place.is in
     let more : map sent_of_held (take (i + 1) held) ≡ routes ++ sent_of_held one ∷ [] =
-    ap (map sent_of_held) (take_more held i one at) ∙ map-append sent_of_held (take i held) (one ∷ []) in
+    ap (map sent_of_held) (take_one_more held i one at) ∙ map-append sent_of_held (take i held) (one ∷ []) in
     elim c.match-contends.branch [
       | in-Some w ↦
           let contends : Contends plan client (sent_of_held one) c.loop-place.last (Some w.in-Some.standing) =
