@@ -1,14 +1,14 @@
 -- Refusals by name, as an exchange keeps them, the policy at two known peers, and routes whose communities refuse nothing.
 -- For `refusals` and `refuses` of exchange.rt, and `permits` and `permits_other` of policy.rt.
 use mathlib.Core.List.{map-map}
-use Rattle.std.proofs.Common.{◌≡◌, ◌∙◌, sym, ap, arith, ℕ, ◌<◌, ◌/◌, ◌*◌, ◌+◌, ◌==◌, Bool, true, false, not, ◌&&◌, ◌≢◌, List, [], ◌∷◌, length, map, get_or, Option, None, Some, refl}
+use Rattle.std.proofs.Common.{◌≡◌, ◌∙◌, sym, ap, arith, ℕ, ◌<◌, ◌/◌, ◌*◌, ◌+◌, ◌==◌, Bool, true, false, not, ◌&&◌, ◌≢◌, inl, inr, List, [], ◌∷◌, length, map, get_or, Option, None, Some, refl}
 use Rattle.std.specs.Prelude.{slice_get, string_bytes, nat_lt, if◌then◌else◌}
 use Rattle.std.specs.List.{list_any}
 use Rattle.std.specs.Str.{bytes_eq}
 use Rattle.std.specs.Option.{option_map}
 use Rattle.std.proofs.lemmas.Option.{slice_get-map, get_or_from_slice_get, slice_get_read, slice_get_within}
 use Rattle.std.proofs.lemmas.List.{length-map}
-use Rattle.std.proofs.lemmas.Bool.{ltb-true, ne_eqb, or_parts}
+use Rattle.std.proofs.lemmas.Bool.{and_left, and_right, cases_Bool, ltb-true, ne_eqb, or_parts}
 use Rattle.std.proofs.lemmas.Bool.Decides.{nat_tests}
 use Rattle.rs_update.specs.PathAttributes.{PathAttributes, CommunityList}
 use Rattle.rs_update.specs.Community.{has_community_in, has_community_of_in, has_value_of}
@@ -74,15 +74,14 @@ no_values_of_0 (value ∷ values) low small none =
     let parts = or_parts (value / 65536 == 0) (has_value_of values 0) none in
     rw (no_value_of_0 value low small parts.0, no_values_of_0 values low small parts.1) refl
 
-none_of_both : (a b : Bool) → (a ≡ true → b ≡ false) → (a && b) ≡ false
-none_of_both true b none = none refl
-none_of_both false b none = refl
-
 -- a route without a community (0, AS) has none that refuses it to an AS
 pub no_community_of_0 : (communities : Option CommunityList) (low : ℕ) → has_community_of_in communities 0 ≡ false → has_community_in communities 0 low ≡ false
 no_community_of_0 None low none = refl
 no_community_of_0 (Some list) low none =
-    none_of_both (nat_lt low 65536) (list_any (λ value. value == 0 * 65536 + low) list.values) (λ small. no_values_of_0 list.values low (ltb-true low 65536 small) none)
+    elim (cases_Bool (nat_lt low 65536)) [
+      | inl small ↦ and_right (nat_lt low 65536) (list_any (λ value. value == 0 * 65536 + low) list.values) (no_values_of_0 list.values low (ltb-true low 65536 small) none)
+      | inr large ↦ and_left (nat_lt low 65536) (list_any (λ value. value == 0 * 65536 + low) list.values) large
+    ]
 
 any_way : (b : Bool) → (if b then true else true) ≡ true
 any_way true = refl

@@ -17,24 +17,25 @@ loop-place-preserved c =
     let i = c.loop-place.place in
     let so_far = c.loop-place.eligible in
     let at : slice_get held i ≡ Some one = slice_get_read held (length held) i one (omega arith) (omega arith) c.index-held-place.is in
-    let more = take_one_more held i one at in
+    let fit = λ (one : HeldRoute). is_candidate one.candidacy in
+    let more = ap (filter fit) (take_one_more held i one at) in
     elim c.if-is_eligible.branch [
       | then-is_eligible w ↦
-          let passes = ap (λ (one : HeldRoute). is_candidate one.candidacy) c.index-held-place.is ∙ sym c.is_eligible.ensures ∙ w.if-is_eligible.true in
+          let passes = ap fit c.index-held-place.is ∙ sym c.is_eligible.ensures ∙ w.if-is_eligible.true in
           rw (w.eligible-is, w.push.ensures) (record {
             few = omega (arith, length_push so_far i, c.loop-place.invariant.few);
             places = All-push (λ place. place < length held) so_far i c.loop-place.invariant.places (omega arith);
             eligible = chosen_push held so_far i one at ∙ ap (λ list. list ++ one ∷ []) c.loop-place.invariant.eligible
-                ∙ sym (ap (filter (λ (held : HeldRoute). is_candidate held.candidacy)) more ∙ filter_with (λ (held : HeldRoute). is_candidate held.candidacy) (take i held) [] one passes);
+                ∙ sym (more ∙ filter_with fit (take i held) [] one passes);
           })
       | else-is_eligible w ↦
-          let fails = ap (λ (one : HeldRoute). is_candidate one.candidacy) c.index-held-place.is ∙ sym c.is_eligible.ensures ∙ w.if-is_eligible.false in
+          let fails = ap fit c.index-held-place.is ∙ sym c.is_eligible.ensures ∙ w.if-is_eligible.false in
           rw w.eligible-is (record {
             few = omega (arith, c.loop-place.invariant.few);
             places = c.loop-place.invariant.places;
             eligible = c.loop-place.invariant.eligible
-                ∙ sym (ap (filter (λ (held : HeldRoute). is_candidate held.candidacy)) more ∙ filter_without (λ (held : HeldRoute). is_candidate held.candidacy) (take i held) [] one fails
-                ∙ ap (filter (λ (held : HeldRoute). is_candidate held.candidacy)) (append-nil (take i held)));
+                ∙ sym (more ∙ filter_without fit (take i held) [] one fails
+                ∙ ap (filter fit) (append-nil (take i held)));
           })
     ]
 

@@ -2,4 +2,4 @@ use Rattle.rs_explain.proofs.AgreementLemmas.{agrees}
 use Rattle.rs_explain.proofs.laws.an_explanation_agrees_with_why.Goals as goal
 
 pub returns : goal.returns
-returns c tables client peer prefix explanation client_known known says = agrees tables client peer prefix explanation client_known known says
+returns c = agrees

@@ -2,4 +2,4 @@ use Rattle.rs_explain.proofs.RivalLemmas.{rival_is_candidate}
 use Rattle.rs_explain.proofs.laws.the_rival_is_a_candidate.Goals as goal
 
 pub returns : goal.returns
-returns c tables client peer prefix removal says = rival_is_candidate tables client peer prefix removal says
+returns c = rival_is_candidate
