@@ -98,12 +98,7 @@ module _ (tables : TablesContent) (client peer : ℕ) (prefix : IpPrefix) (expla
 pub no_reason : (plan : Plan) (client peer : ℕ) (left : Option RouteLeft) (route : SentRoute) → Some route ≡ option_map (sent_by peer) left →
     failed_condition plan peer route.attributes ≡ None → refusal_of plan client peer route.attributes ≡ None →
     reason_of plan client peer (option_map (sent_by peer) left) ≡ None
-no_reason plan client peer None route is fails refuses = absurd (cc)
-no_reason plan client peer (Some left) route is fails refuses =
-    let same : route ≡ sent_by peer left = cc in
-    let fails_none : failed_condition plan peer left.attributes ≡ None = rw same at fails in
-    let refuses_none : refusal_of plan client peer left.attributes ≡ None = rw same at refuses in
-    rw (fails_none, refuses_none) refl
+no_reason plan client peer left route is fails refuses = rw (← is, fails, refuses) refl
 
 pub explained : (tables : TablesContent) (client peer one : ℕ) (prefix : IpPrefix) (explanation : Explanation) → (client == peer) ≡ false → one ≡ peer →
     reason_of tables.plan client peer (option_map (sent_by peer) (get (rib_of tables peer).routes prefix)) ≡ None →

@@ -1,6 +1,7 @@
 -- The candidates of a client for a prefix, peer after peer.
 use Rattle.std.proofs.Common.{◌≡◌, ◌∙◌, sym, ap, subst, refl, ℕ, ◌<◌, ◌+◌, true, false, inl, inr, List, [], ◌∷◌, ◌++◌, length, map, drop, drop-cons, add-one, append_assoc, below_more}
 use Rattle.std.proofs.lemmas.Bool.{and_right, cases_Bool}
+use Rattle.std.proofs.lemmas.Option.{none-some, same_Some}
 use Rattle.std.proofs.lemmas.List.Elements.{Contains-append_left, Contains-push}
 use Rattle.std.specs.Prelude.{filter, Option, None, Some}
 use Rattle.std.specs.List.{cons_option, enumerate_from, filter_map, Contains}
@@ -52,25 +53,24 @@ contenders_in-more tables client prefix peer within =
     ∙ one_more tables.plan client peer (get (rib_of tables peer).routes prefix)
     (filter_map (λ (peer, rib). option_map (sent_by peer) (get rib.routes prefix)) (enumerate_from (peer + 1) (drop (peer + 1) tables.ribs)))
 
--- a route that policy refuses is no candidate
+-- the route that a peer has left is the peer's
+pub route_peer : (peer : ℕ) (left : Option RouteLeft) (route : SentRoute) → Some route ≡ option_map (sent_by peer) left → route.peer ≡ peer
+route_peer peer None route is = absurd (cc)
+route_peer peer (Some left) route is = let same : route ≡ sent_by peer left = cc in ap (λ (route : SentRoute). route.peer) same
+
+-- one that policy refuses is no candidate
 pub none_refused : (plan : Plan) (client peer : ℕ) (left : Option RouteLeft) (route : SentRoute) → Some route ≡ option_map (sent_by peer) left →
     is_permitted plan client peer route.attributes ≡ false → None ≡ contender_if plan client (option_map (sent_by peer) left)
-none_refused plan client peer None route is refuses = absurd (cc)
-none_refused plan client peer (Some left) route is refuses =
-    let same : route ≡ sent_by peer left = cc in
-    let refused : is_permitted plan client peer left.attributes ≡ false = rw same at refuses in
-    rw (refused, and_right (is_eligible plan peer left.attributes) false refl) refl
+none_refused plan client peer left route is refuses =
+    rw (← is, route_peer peer left route is, refuses, and_right (is_eligible plan peer route.attributes) false refl) refl
 
 -- and one that is eligible and permitted is
 pub some_permitted : (plan : Plan) (client peer : ℕ) (left : Option RouteLeft) (route : SentRoute) → Some route ≡ option_map (sent_by peer) left →
     is_eligible plan peer route.attributes ≡ true → is_permitted plan client peer route.attributes ≡ true →
     (route.peer ≡ peer) × (contender_if plan client (option_map (sent_by peer) left) ≡ Some (contender_of plan route))
-some_permitted plan client peer None route is eligible permitted = absurd (cc)
-some_permitted plan client peer (Some left) route is eligible permitted =
-    let same : route ≡ sent_by peer left = cc in
-    let yes : is_eligible plan peer left.attributes ≡ true = rw same at eligible in
-    let sent : is_permitted plan client peer left.attributes ≡ true = rw same at permitted in
-    (ap (λ (route : SentRoute). route.peer) same, rw (yes, sent) (ap (λ (route : SentRoute). Some (contender_of plan route)) (sym same)))
+some_permitted plan client peer left route is eligible permitted =
+    let own = route_peer peer left route is in
+    (own, rw (← is, own, eligible, permitted) refl)
 
 -- one that is made of a peer's route is found from that peer
 pub made_from : (tables : TablesContent) (client : ℕ) (prefix : IpPrefix) (peer : ℕ) (one made : Contender) → one ≡ made → made.peer ≡ peer →
@@ -91,19 +91,8 @@ module _ (tables : TablesContent) (client : ℕ) (prefix : IpPrefix) where
   next_has items i one found has =
       below_more (λ peer. (x : Contender) → contender_from tables client prefix peer ≡ Some x → Contains (items ++ one ∷ []) x) i
       (λ peer below x is. Contains-append_left items (one ∷ []) x (has peer below x is))
-      (λ x is. let same : one ≡ x = some_same one x (sym found ∙ is) in subst (λ (x : Contender). Contains (items ++ one ∷ []) x) same (Contains-push items one))
-    where
-      some_same : (one x : Contender) → Some one ≡ Some x → one ≡ x
-      some_same one x e = cc
+      (λ x is. subst (λ (x : Contender). Contains (items ++ one ∷ []) x) (same_Some one x (sym found ∙ is)) (Contains-push items one))
 
   pub same_has : (items : List Contender) (i : ℕ) → contender_from tables client prefix i ≡ None → HasBelow i items → HasBelow (i + 1) items
   same_has items i none has =
-      below_more (λ peer. (x : Contender) → contender_from tables client prefix peer ≡ Some x → Contains items x) i has (λ x is. absurd (never x (sym none ∙ is)))
-    where
-      never : (x : Contender) → None ≡ Some x → ⊥
-      never x e = absurd (cc)
-
--- the route that a peer has left is the peer's
-pub route_peer : (peer : ℕ) (left : Option RouteLeft) (route : SentRoute) → Some route ≡ option_map (sent_by peer) left → route.peer ≡ peer
-route_peer peer None route is = absurd (cc)
-route_peer peer (Some left) route is = let same : route ≡ sent_by peer left = cc in ap (λ (route : SentRoute). route.peer) same
+      below_more (λ peer. (x : Contender) → contender_from tables client prefix peer ≡ Some x → Contains items x) i has (λ x is. absurd (none-some x (sym none ∙ is)))
