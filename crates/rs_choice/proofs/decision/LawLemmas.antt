@@ -41,12 +41,16 @@ module _ {M : Type 0} (standing : M → Standing) (step : Step) where
   some_unbeaten x (y ∷ ys) =
       let best = some_unbeaten y ys in
       elim (cases_Bool (beat x best.0)) [
-        | inl wins ↦ (x, inl refl, λ w h. elim h [
-          | inl same ↦ rw (← same) (no_one_beats_itself step (standing x))
-          | inr later ↦
-              is_false (beat w x)
-              (λ beats. both_ways (beat w best.0) (best.2 w later) (beats_then step (standing w) (standing x) (standing best.0) beats wins))
-        ])
+        | inl wins ↦ (
+          x,
+          inl refl,
+          λ w h. elim h [
+            | inl same ↦ rw (← same) (no_one_beats_itself step (standing x))
+            | inr later ↦
+                is_false (beat w x)
+                (λ beats. both_ways (beat w best.0) (best.2 w later) (beats_then step (standing w) (standing x) (standing best.0) beats wins))
+          ],
+        )
         | inr loses ↦ (best.0, inr best.1, λ w h. elim h [ inl same ↦ rw (← same) loses | inr later ↦ best.2 w later ])
       ]
 
