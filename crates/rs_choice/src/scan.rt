@@ -16,8 +16,8 @@ impl Exchange {
     /// leave, each step looking at the whole set that the one before left. Where several candidates of one
     /// peer are left it is the least place; None for an empty list. It takes no memory.
     ///
-    /// No decision of a server calls it, since those are among held routes (`choose_for_all`): it is for callers
-    /// with a list of candidates, of any length.
+    /// The program itself doesn't call it, since it decides among held routes (`choose_for_all`): callers with a
+    /// list of candidates may.
     pub fn choose(&self, candidates: &[Candidate]) -> Option<usize>
         requires { All (λ candidate. candidate.peer < length self.now.peers) candidates.now }
         ensures place { result ≡ place_of_choice (standing_of_candidate self.now) candidates.now }

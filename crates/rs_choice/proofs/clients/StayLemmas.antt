@@ -17,7 +17,7 @@ use Rattle.rs_choice.specs.Held.{sent_of_held, IsJudged}
 use Rattle.rs_choice.specs.Laws.{IsNoMatterTo}
 use Rattle.rs_choice.specs.Naturality.{filter-map}
 use Rattle.rs_choice.specs.Plan.{Plan}
-use Rattle.rs_choice.specs.RouteChanges.{IsChange, IsOneOf, IsUntouched}
+use Rattle.rs_choice.specs.RouteChanges.{IsChange, IsNextTouched, IsOneOf, IsUntouched}
 use Rattle.rs_choice.proofs.decision.BehindLemmas.{others_are_no_matter}
 use Rattle.rs_choice.proofs.decision.LawLemmas.{choice_cases}
 use Rattle.rs_choice.proofs.Members.{Mem, all_mem, contains-mem, mem-contains, mem-filter, mem_map, mem_of-filter, mem_of-map, mem_widen}
@@ -162,17 +162,17 @@ module _ (plan : Plan) (held : List HeldRoute) (change : RouteChange) (bests : L
 
 -- where the clients below one are decided, and those up to another one are untouched, all below that one are
 pub further : (plan : Plan) (held : List HeldRoute) (change : RouteChange) (bests : List ℕ) → IsChange plan held change bests → All (IsJudged plan) held →
-    (items : List ℕ) (from next : ℕ) → next ≤ length plan.peers →
+    (items : List ℕ) (from next : ℕ) → IsNextTouched plan held change items from next →
     ((k : ℕ) → k < from → slice_index_or items k 0 ≡ best_peer_for plan k (map sent_of_held held)) →
     ((k : ℕ) → from ≤ k → slice_index_or items k 0 ≡ slice_index_or bests k 0) →
-    ((k : ℕ) → k < next → from ≤ k → IsUntouched plan held change k (slice_index_or items k 0)) →
     (k : ℕ) → k < next → slice_index_or items k 0 ≡ best_peer_for plan k (map sent_of_held held)
-further plan held change bests is all items from next within first later untouched k below =
+further plan held change bests is all items from next touched first later k below =
     elim (cases_lt k from) [
       | inl less ↦ first k less
       | inr above ↦
           later k above
-          ∙ stays_there plan held change bests is k (omega (arith, below, within)) all (subst (IsUntouched plan held change k) (later k above) (untouched k below above))
+          ∙ stays_there plan held change bests is k (omega (arith, below, touched.within)) all
+          (subst (IsUntouched plan held change k) (later k above) (touched.untouched k below above))
     ]
 
 -- what holds below a client, of it, and of those from the next on, holds of all

@@ -10,9 +10,8 @@ returns-then-client-count-clause-best c = λ k known.
     let held = c.args.held.now in
     let bests = c.args.bests.now.items in
     let next : IsNextTouched plan held c.args.change.now bests 0 c.next_touched-client.result = subst (λ list. IsNextTouched plan held c.args.change.now list 0 c.next_touched-client.result) c.deref.ensures.value c.next_touched-client.ensures.next in
-    further plan held c.args.change.now bests c.requires.change c.requires.judged bests 0 c.next_touched-client.result next.within
-    (λ k below. absurd (omega (arith, below))) (λ k above. refl) next.untouched
-    k (omega (arith, known, c.if-client-count.true, c.count-count.ensures.value))
+    further plan held c.args.change.now bests c.requires.change c.requires.judged bests 0 c.next_touched-client.result next
+    (λ k below. absurd (omega (arith, below))) (λ k above. refl) k (omega (arith, known, c.if-client-count.true, c.count-count.ensures.value))
 
 pub loop-client-init : goal.loop-client-init
 loop-client-init c =
@@ -23,8 +22,8 @@ loop-client-init c =
     record {
       count = c.requires.count;
       within = next.within;
-      best = further plan held c.args.change.now bests c.requires.change c.requires.judged bests 0 c.next_touched-client.result next.within
-          (λ k below. absurd (omega (arith, below))) (λ k above. refl) next.untouched;
+      best = further plan held c.args.change.now bests c.requires.change c.requires.judged bests 0 c.next_touched-client.result next
+          (λ k below. absurd (omega (arith, below))) (λ k above. refl);
       later = λ k above. refl;
       knows = c.next_touched-client.ensures.knows;
     }
@@ -44,8 +43,8 @@ loop-client-preserved c =
     record {
       count = length-set items client c.choose_again.result ∙ c.loop-client.invariant.count;
       within = next.within;
-      best = further plan held c.args.change.now bests c.requires.change c.requires.judged more (client + 1) c.next_touched-client-in-loop-client.result next.within
-          (found_more items _ client c.choose_again.result within c.choose_again.ensures c.loop-client.invariant.best) later next.untouched;
+      best = further plan held c.args.change.now bests c.requires.change c.requires.judged more (client + 1) c.next_touched-client-in-loop-client.result next
+          (found_more items _ client c.choose_again.result within c.choose_again.ensures c.loop-client.invariant.best) later;
       later = λ k above. later k (omega (arith, above, next.after));
       knows = c.next_touched-client-in-loop-client.ensures.knows;
     }
