@@ -1,5 +1,5 @@
 -- The segments that the value of an AS_PATH spells (RFC 4271, section 4.3; RFC 6793).
-use Rattle.std.specs.Prelude.{◌≡◌, ℕ, ◌*◌, ◌^◌, ◌<◌, ◌≤◌, Bool, ◌||◌, nat_lt, ◌==◌, List, [], ◌∷◌, length, drop}
+use Rattle.std.specs.Prelude.{◌≡◌, ℕ, ◌*◌, ◌^◌, ◌<◌, ◌≤◌, nat_lt, ◌==◌, List, [], ◌∷◌, length, drop}
 use Rattle.std.specs.Prelude.{Option, Some, None, if◌then◌else◌}
 use Rattle.std.specs.List.{flat_map, AllByRecursion}
 use Rattle.byteorder.specs.Endian.{big_bytes}
@@ -16,10 +16,6 @@ AS_SEQUENCE = 2
 -- AS numbers, four octets each
 abbrev pub spelled_numbers : List ℕ → List ℕ
 spelled_numbers numbers = flat_map (big_bytes 4) numbers
-
--- the two types of segments
-abbrev pub is_segment_type : ℕ → Bool
-is_segment_type kind = (kind == AS_SET) || (kind == AS_SEQUENCE)
 
 -- a segment is spelled as its type, the count of its AS numbers, and these
 abbrev pub spelled_segment : PathSegment → List ℕ
