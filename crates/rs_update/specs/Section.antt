@@ -125,11 +125,13 @@ first_item_fault earlier [] = None
 first_item_fault earlier (item ∷ later) =
     or_else (fault_behind earlier item) (first_item_fault (earlier ++ item ∷ []) later)
 
+-- octets that are left over are at fault
+abbrev pub fault_of_rest : List ℕ → Option UpdateFault
+fault_of_rest rest = if length rest == 0 then None else Some MalformedAttributeList
+
 -- the first fault of a section: of its attributes front to back, or else that octets are left over
 abbrev pub section_fault : List ℕ → Option UpdateFault
-section_fault section =
-    or_else (first_item_fault [] (items_of section))
-    (if length (rest_of section) == 0 then None else Some MalformedAttributeList)
+section_fault section = or_else (first_item_fault [] (items_of section)) (fault_of_rest (rest_of section))
 
 -- ---- the same by the places of attributes
 

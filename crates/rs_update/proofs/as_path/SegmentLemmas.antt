@@ -1,16 +1,18 @@
 -- What a segment of an AS_PATH is spelled as is read as that segment, and what is read is spelled so.
 -- For as_path.rt, number_list.rt, and `a_path_is_one_list_of_segments` of laws.rt.
-use Rattle.std.proofs.Common.{◌≡◌, ℕ, zero, suc, ◌+◌, ◌-◌, ◌*◌, ◌/◌, ◌%◌, ◌^◌, ◌<◌, ◌≤◌, Bool, true, false, cond, ltb, eqb, List, [], ◌∷◌, ◌++◌, length, take, drop, Option, Some, None, refl, sym, ap, ◌∙◌, arith, inl, inr, ◌⊎◌}
+use Rattle.std.proofs.Common.{◌≡◌, ℕ, zero, suc, ◌+◌, ◌-◌, ◌*◌, ◌/◌, ◌%◌, ◌^◌, ◌<◌, ◌≤◌, false, ltb, eqb, List, [], ◌∷◌, ◌++◌, length, take, drop, Some, refl, sym, ap, ◌∙◌, arith, inl, inr, ◌⊎◌, take-add}
 use Rattle.std.specs.List.{AllByRecursion}
 use Rattle.std.proofs.lemmas.Bool.{cases_Bool, ltb-false, le-ltb, ne_eqb, eqb-true, eqb-false}
-use Rattle.std.proofs.lemmas.List.{drop_at, take-append-drop, get_or-drop, length-append, length-drop}
+use Rattle.std.proofs.lemmas.List.{drop_at, take_all, take-append-drop, length-append, length-drop}
+use Rattle.std.proofs.lemmas.Option.{same_Some}
 use Rattle.byteorder.specs.Endian.{big_number, big_bytes}
 use Rattle.byteorder.specs.Numbers.{big_number-reads_back, big_from-lt}
 use Rattle.rs_update.specs.Numbers.{numbers_at}
 use Rattle.rs_update.specs.PathAttributes.{PathSegment, AsSet, AsSequence}
 use Rattle.rs_update.specs.Parts.{AreOctets}
 use Rattle.rs_update.specs.PathSegments.{AreAsNumbers, SpellsSegment, IsSegment, spelled_numbers, spelled_segment, segment_at}
-use Rattle.rs_update.proofs.fields.PartsLemmas.{Shrinks, Reads}
+use Rattle.rs_update.proofs.fields.OctetLemmas.{big_bytes-big_number}
+use Rattle.rs_update.proofs.fields.PartsLemmas.{Shrinks, Reads, unless_some, AreOctets-drop}
 
 -- ---- read from its spelling
 
@@ -42,11 +44,6 @@ segment_at-spelled (AsSequence numbers) rest is =
 
 -- ---- what is read
 
--- an answer behind a test
-guard_else : {A : Type 0} (b : Bool) (later : Option A) (y : A) → cond b None later ≡ Some y → (b ≡ false) × (later ≡ Some y)
-guard_else true later y e = absurd cc
-guard_else false later y e = (refl, e)
-
 -- a segment is the numbers that its count asks for, of one of the two types
 pub record IsRead (kind count : ℕ) (octets : List ℕ) (split : PathSegment × List ℕ) : Type 0 where
   pub some : 0 < count
@@ -54,25 +51,22 @@ pub record IsRead (kind count : ℕ) (octets : List ℕ) (split : PathSegment ×
   pub behind : split.1 ≡ drop (4 * count) octets
   pub what : ((kind ≡ 1) × (split.0 ≡ AsSet (numbers_at count octets))) ⊎ ((kind ≡ 2) × (split.0 ≡ AsSequence (numbers_at count octets)))
 
-some_is : {A : Type 0} (x y : A) → Some x ≡ Some y → x ≡ y
-some_is x y e = cc
-
 pub segment_at-is : (kind count : ℕ) (octets : List ℕ) (split : PathSegment × List ℕ) → segment_at (kind ∷ count ∷ octets) ≡ Some split → IsRead kind count octets split
 unfolding segment_at
 segment_at-is kind count octets split e =
-    let not_none = guard_else (eqb count 0) _ split e in
-    let long_enough = guard_else (ltb (length octets) (4 * count)) _ split not_none.1 in
+    let not_none = unless_some (eqb count 0) _ split e in
+    let long_enough = unless_some (ltb (length octets) (4 * count)) _ split not_none.1 in
     let nonzero : count ≡ 0 → ⊥ = eqb-false count 0 not_none.0 in
     let long : 4 * count ≤ length octets = ltb-false _ _ long_enough.0 in
     elim (cases_Bool (eqb kind 1)) [
       | inl set ↦
-          let is : (AsSet (numbers_at count octets), drop (4 * count) octets) ≡ split = some_is _ _ (rw set at long_enough.1) in
+          let is : (AsSet (numbers_at count octets), drop (4 * count) octets) ≡ split = same_Some _ _ (rw set at long_enough.1) in
           record { some = omega arith; long = long; behind = sym (ap (λ (s : PathSegment × List ℕ). s.1) is); what = inl (eqb-true kind 1 set, sym (ap (λ (s : PathSegment × List ℕ). s.0) is)) }
       | inr not_set ↦
           let other = rw not_set at long_enough.1 in
           elim (cases_Bool (eqb kind 2)) [
             | inl sequence ↦
-                let is : (AsSequence (numbers_at count octets), drop (4 * count) octets) ≡ split = some_is _ _ (rw sequence at other) in
+                let is : (AsSequence (numbers_at count octets), drop (4 * count) octets) ≡ split = same_Some _ _ (rw sequence at other) in
                 record { some = omega arith; long = long; behind = sym (ap (λ (s : PathSegment × List ℕ). s.1) is); what = inr (eqb-true kind 2 sequence, sym (ap (λ (s : PathSegment × List ℕ). s.0) is)) }
             | inr neither ↦ let none = rw neither at other in absurd cc
           ]
@@ -95,37 +89,26 @@ unfolding numbers_at
 length-numbers_at zero octets = refl
 length-numbers_at (suc count) octets = ap suc (length-numbers_at count (drop 4 octets))
 
-AreOctets-drop : (n : ℕ) (octets : List ℕ) → AreOctets octets → AreOctets (drop n octets)
-AreOctets-drop n octets are i = rw get_or-drop (are (n + i))
-
 -- each number is of four octets
 pub numbers_at-below : (count : ℕ) (octets : List ℕ) → AreOctets octets → AllByRecursion (λ number. number < 2 ^ 32) (numbers_at count octets)
 unfolding numbers_at
 numbers_at-below zero octets are = tt
 numbers_at-below (suc count) octets are = (big_from-lt 0 4 octets are, numbers_at-below count (drop 4 octets) (AreOctets-drop 4 octets are))
 
-four_octets : (a b c d : ℕ) (rest : List ℕ) → a < 256 → b < 256 → c < 256 → d < 256 → big_bytes 4 (big_number 4 (a ∷ b ∷ c ∷ d ∷ rest)) ≡ a ∷ b ∷ c ∷ d ∷ []
-four_octets a b c d rest ha hb hc hd =
-    let number = big_number 4 (a ∷ b ∷ c ∷ d ∷ rest) in
-    let first : number / 16777216 % 256 ≡ a = omega arith in
-    let second : number / 65536 % 256 ≡ b = omega arith in
-    let third : number / 256 % 256 ≡ c = omega arith in
-    let fourth : number % 256 ≡ d = omega arith in
-    cc
-
 -- numbers that are read from octets are spelled by a front of them
-pub spelled-numbers_at : (count : ℕ) (octets : List ℕ) → AreOctets octets → 4 * count ≤ length octets → spelled_numbers (numbers_at count octets) ≡ take (4 * count) octets
+spelled-numbers_at : (count : ℕ) (octets : List ℕ) → AreOctets octets → 4 * count ≤ length octets → spelled_numbers (numbers_at count octets) ≡ take (4 * count) octets
 unfolding numbers_at
 spelled-numbers_at zero octets are long = refl
-spelled-numbers_at (suc count) [] are long = absurd (omega arith)
-spelled-numbers_at (suc count) (a ∷ []) are long = absurd (omega arith)
-spelled-numbers_at (suc count) (a ∷ b ∷ []) are long = absurd (omega arith)
-spelled-numbers_at (suc count) (a ∷ b ∷ c ∷ []) are long = absurd (omega arith)
-spelled-numbers_at (suc count) (a ∷ b ∷ c ∷ d ∷ octets) are long =
-    let four : 4 * suc count ≡ suc (suc (suc (suc (4 * count)))) = omega arith in
-    let first = four_octets a b c d octets (are 0) (are 1) (are 2) (are 3) in
-    let others = spelled-numbers_at count octets (λ i. are (suc (suc (suc (suc i))))) (omega arith) in
-    rw four (ap (λ (front : List ℕ). front ++ spelled_numbers (numbers_at count octets)) first ∙ ap (λ (behind : List ℕ). a ∷ b ∷ c ∷ d ∷ behind) others)
+spelled-numbers_at (suc count) octets are long =
+    let four : 4 * suc count ≡ 4 + 4 * count = omega arith in
+    let first = big_bytes-big_number octets (omega arith) are in
+    let others = spelled-numbers_at count (drop 4 octets) (AreOctets-drop 4 octets are) (omega (arith, length-drop 4 octets)) in
+    rw four (ap (λ (front : List ℕ). front ++ spelled_numbers (numbers_at count (drop 4 octets))) first ∙ ap (λ (behind : List ℕ). take 4 octets ++ behind) others ∙ sym (take-add 4 (4 * count) octets))
+
+-- a whole field of numbers
+pub spelled_numbers-all : (octets : List ℕ) → length octets % 4 ≡ 0 → AreOctets octets → spelled_numbers (numbers_at (length octets / 4) octets) ≡ octets
+spelled_numbers-all octets whole are =
+    spelled-numbers_at (length octets / 4) octets are (omega arith) ∙ take_all (4 * (length octets / 4)) octets (omega arith)
 
 are_as_numbers : (kind count : ℕ) (octets : List ℕ) (split : PathSegment × List ℕ) → AreOctets (kind ∷ count ∷ octets) → IsRead kind count octets split → AreAsNumbers (numbers_at count octets)
 are_as_numbers kind count octets split are is =

@@ -15,7 +15,7 @@ use Rattle.rs_update.proofs.attributes.FoundLemmas.{items_of-step, items_of-end}
 use Rattle.rs_update.proofs.attributes.KindLemmas.{cases_Option, All-range, filter_map-none}
 use Rattle.rs_update.proofs.attributes.OthersLemmas.{none_of_type, look-push}
 use Rattle.rs_update.proofs.attributes.PlaceLemmas.{item_there, item_from-past}
-use Rattle.rs_update.proofs.section.ReceivedLemmas.{item_at-reads, Reads-is}
+use Rattle.rs_update.proofs.section.ReceivedLemmas.{item_at-reads}
 use Rattle.rs_update.proofs.section.SoundLemmas.{section_without, later_without}
 
 -- ---- the places of the attributes that were read so far
@@ -68,7 +68,7 @@ finds_one section rest places end next split faultless short there after behind 
     let item = split.0 in
     let kind = item.kind in
     let place = length section - length rest in
-    let reads = Reads-is rest split (item_at-reads rest split so_far.rest_octets there) in
+    let reads = item_at-reads rest split so_far.rest_octets there in
     let later = items_of split.1 in
     let all : items_of section ≡ so_far.earlier ++ item ∷ later = so_far.items ∙ ap (λ (behind : List Item). so_far.earlier ++ behind) (items_of-step rest split there) in
     let fresh : has_type kind so_far.earlier ≡ false = later_without [] so_far.earlier item later (subst (λ (items : List Item). first_item_fault [] items ≡ None) all (section_without section faultless).0) in

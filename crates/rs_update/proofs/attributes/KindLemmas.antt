@@ -1,17 +1,24 @@
 -- Attributes by their types: look-ups, and lists that have one of each type at most.
 -- For the lemmas of what is found and written by type.
 use Rattle.std.proofs.Common.{◌≡◌, ℕ, zero, suc, ◌+◌, ◌<◌, ◌≤◌, ◌==◌, ◌⊎◌, true, false, eqb, List, [], ◌∷◌, Option, Some, None, refl, sym, ap, subst, ◌∙◌, arith, inl, inr}
-use Rattle.std.specs.Prelude.{find}
+use Rattle.std.specs.Prelude.{find, is_some}
 use Rattle.std.specs.List.{filter_map, range_with_len, list_any, AllByRecursion}
 use Rattle.std.proofs.lemmas.Bool.{cases_Bool, cases_eq, eqb-true, eq-eqb, ne_eqb}
+use Rattle.std.proofs.lemmas.Option.{same_Some}
 
 -- nothing, or something
 pub cases_Option : {X : Type 0} (found : Option X) → (found ≡ None) ⊎ ((x : X) × (found ≡ Some x))
 cases_Option None = inl refl
 cases_Option (Some x) = inr (x, refl)
 
-pub some_same : {X : Type 0} (x y : X) → Some x ≡ Some y → x ≡ y
-some_same x y e = cc
+-- a look-up that finds something, and one that finds nothing
+pub some_there : {X : Type 0} (found : Option X) → is_some found ≡ true → (x : X) × (found ≡ Some x)
+some_there None e = absurd cc
+some_there (Some x) e = (x, refl)
+
+pub none_there : {X : Type 0} (found : Option X) → is_some found ≡ false → found ≡ None
+none_there None e = refl
+none_there (Some x) e = absurd cc
 
 -- what holds of each number from one on holds of a range
 pub All-range : (P : ℕ → Type 0) (a n b : ℕ) → a + n ≡ b → ((k : ℕ) → a ≤ k → k < b → P k) → AllByRecursion P (range_with_len a n)
@@ -32,7 +39,7 @@ pub kind_of_found : {X : Type 0} (kind : X → ℕ) (k : ℕ) (xs : List X) (x :
 kind_of_found kind k [] x e = absurd cc
 kind_of_found kind k (y ∷ ys) x e =
     elim (cases_Bool (eqb (kind y) k)) [
-      | inl first ↦ let same : Some y ≡ Some x = rw first at e in subst (λ z. kind z ≡ k) (some_same y x same) (eqb-true (kind y) k first)
+      | inl first ↦ let same : Some y ≡ Some x = rw first at e in subst (λ z. kind z ≡ k) (same_Some y x same) (eqb-true (kind y) k first)
       | inr later ↦ kind_of_found kind k ys x (rw later at e)
     ]
 

@@ -1,23 +1,28 @@
--- Look-ups by type, and the attributes that are passed on: for FindLemmas and KeptLemmas.
+-- Look-ups by type, and the attributes that are passed on: for FindLemmas, KeptLemmas and ConcernLemmas.
 use Rattle.std.proofs.Common.{◌≡◌, ℕ, ◌==◌, false, eqb, List, [], ◌∷◌, ◌++◌, Option, Some, None, refl, sym, ap, ◌∙◌, inl, inr}
-use Rattle.std.specs.Prelude.{option_and_then, if◌then◌else◌}
+use Rattle.std.specs.Prelude.{option_and_then, is_some, if◌then◌else◌}
 use Rattle.std.specs.Option.{option_or}
 use Rattle.std.proofs.lemmas.Bool.{cases_Bool}
 use Rattle.std.proofs.lemmas.List.Folds.{find-append}
+use Rattle.std.proofs.lemmas.Option.{same_Some}
 use Rattle.rs_update.specs.Gathered.{look, is_passed_on, passed_on_of, passed_on_in}
 use Rattle.rs_update.specs.PathAttributes.{PassedOn}
 use Rattle.rs_update.specs.Section.{Item, has_type}
-use Rattle.rs_update.proofs.attributes.KindLemmas.{some_same, kind_of_found}
+use Rattle.rs_update.proofs.attributes.KindLemmas.{none_there, kind_of_found}
 
 -- ---- one attribute more
 
-pub none_of_type : (kind : ℕ) (items : List Item) → has_type kind items ≡ false → look kind items ≡ None
-none_of_type kind [] none = refl
-none_of_type kind (item ∷ items) none =
+-- a type stands among attributes where it is found
+pub has_look : (kind : ℕ) (items : List Item) → has_type kind items ≡ is_some (look kind items)
+has_look kind [] = refl
+has_look kind (item ∷ items) =
     elim (cases_Bool (eqb item.kind kind)) [
-      | inl same ↦ let e = rw same at none in absurd cc
-      | inr other ↦ rw other (none_of_type kind items (rw other at none))
+      | inl same ↦ rw same refl
+      | inr other ↦ rw other (has_look kind items)
     ]
+
+pub none_of_type : (kind : ℕ) (items : List Item) → has_type kind items ≡ false → look kind items ≡ None
+none_of_type kind items none = none_there (look kind items) (sym (has_look kind items) ∙ none)
 
 pub look-push : (kind : ℕ) (earlier : List Item) (item : Item) → look kind (earlier ++ item ∷ []) ≡ option_or (look kind earlier) (look kind (item ∷ []))
 look-push kind earlier item = find-append (λ i. i.kind == kind) earlier (item ∷ [])
@@ -37,7 +42,7 @@ passed_on_kind items kind other e = by_found (look kind items) refl e
     by_found (Some item) is made =
         elim (cases_Bool (is_passed_on item)) [
           | inl passed ↦
-              let same : passed_on_of item ≡ other = some_same _ _ (rw passed at made) in
+              let same : passed_on_of item ≡ other = same_Some _ _ (rw passed at made) in
               ap (λ (o : PassedOn). o.kind) (sym same) ∙ kind_of_found (λ (i : Item). i.kind) kind items item is
           | inr dropped ↦ let none = rw dropped at made in absurd cc
         ]

@@ -1,7 +1,6 @@
 -- What is read of the written form of attributes is these attributes: for `whole` of gather.rt, and attributes.rt.
 use Rattle.std.proofs.Common.{◌≡◌, ℕ, ◌≤◌, true, List, length, Option, Some, None, refl, sym, ap, ◌∙◌, arith}
 use Rattle.std.specs.Prelude.{slice_index}
-use Rattle.std.proofs.lemmas.Bool.{eqb-true}
 use Rattle.byteorder.specs.Endian.{big_number}
 use Rattle.rs_update.specs.declared.found.Found.{Found}
 use Rattle.rs_update.specs.AttributesView.{value_of, looked_up_in}
@@ -14,8 +13,9 @@ use Rattle.rs_update.specs.Section.{Item, items_of, section_fault}
 use Rattle.rs_update.specs.Shapes.{passed_on_from}
 use Rattle.rs_update.specs.Spelling.{written}
 use Rattle.rs_update.proofs.spelling.AgainLemmas.{written_is_read, written-others}
-use Rattle.rs_update.proofs.section.SoundLemmas.{sound_section, look_suits}
-use Rattle.rs_update.proofs.attributes.WholeLemmas.{some_there, attributes_of-found, written-found, same_attributes, made_of}
+use Rattle.rs_update.proofs.section.SoundLemmas.{sound_section, look_exact}
+use Rattle.rs_update.proofs.attributes.KindLemmas.{some_there}
+use Rattle.rs_update.proofs.attributes.WholeLemmas.{attributes_of-found, written-found, same_attributes, made_of}
 
 -- a written form says the attributes that it gives a route, where it passes them on in order
 pub looked_up : (octets : List ℕ) (attributes : PathAttributes) → attributes_of (items_of octets) ≡ Some attributes → passed_on_from octets ≡ attributes.others → looked_up_in octets ≡ attributes
@@ -65,17 +65,9 @@ module _ (section : List ℕ) (fit : AreOctets section) (faultless : section_fau
       let are = written-found items origin path next_hop.0 (sound_section section fit faultless) has_origin has_path next_hop.1 in
       (next_hop.0, written-says (attributes_from items origin path next_hop.0) octets given (spelled ∙ are))
 
--- ---- the lengths of values in a section without fault
+-- ---- the length of a value that is there in a section without fault
 
-module _ (section : List ℕ) (faultless : section_fault section ≡ None) where
-  pub next_hop-length : (attributes : PathAttributes) → attributes_of (items_of section) ≡ Some attributes → length (value_of (look 3 (items_of section))) ≡ 4
-  next_hop-length attributes given =
-      let made = made_of (items_of section) attributes given in
-      ap (λ (item : Option Item). length (value_of item)) made.has_next_hop
-      ∙ eqb-true _ _ (look_suits section 3 made.next_hop faultless made.has_next_hop)
-
-  pub med-length : (item : Item) → look 4 (items_of section) ≡ Some item → length item.value ≡ 4
-  med-length item there = eqb-true _ _ (look_suits section 4 item faultless there)
-
-  pub aggregator-length : (item : Item) → look 7 (items_of section) ≡ Some item → length item.value ≡ 8
-  aggregator-length item there = eqb-true _ _ (look_suits section 7 item faultless there)
+pub next_hop-length : (section : List ℕ) (attributes : PathAttributes) → section_fault section ≡ None → attributes_of (items_of section) ≡ Some attributes → length (value_of (look 3 (items_of section))) ≡ 4
+next_hop-length section attributes faultless given =
+    let made = made_of (items_of section) attributes given in
+    ap (λ (item : Option Item). length (value_of item)) made.has_next_hop ∙ look_exact section 3 4 made.next_hop refl faultless made.has_next_hop

@@ -1,9 +1,11 @@
--- Attributes out of what is found in a section without fault: for gather.rt, `spell` of spelling.rt, `lacks_mandatory` of update.rt, and attributes.rt.
-use Rattle.std.proofs.Common.{◌≡◌, ℕ, ◌<◌, ◌&&◌, Bool, true, false, List, [], ◌∷◌, length, Option, Some, None}
+-- Attributes out of what is found in a section without fault: for gather.rt, `spell` of spelling.rt, `lacks_mandatory` of update.rt, attributes.rt,
+-- and the lemmas of the written form and of messages.
+use Rattle.std.proofs.Common.{◌≡◌, ℕ, ◌<◌, ◌&&◌, Bool, false, List, [], ◌∷◌, length, Option, Some, None}
 use Rattle.std.proofs.Common.{refl, sym, ap, ◌∙◌, arith, inl, inr}
-use Rattle.std.specs.Prelude.{is_some}
+use Rattle.std.specs.Prelude.{option_and_then, is_some}
 use Rattle.std.specs.List.{filter_map, flat_map, AllByRecursion}
 use Rattle.std.specs.Option.{option_map}
+use Rattle.std.proofs.lemmas.Option.{same_Some}
 use Rattle.rs_update.specs.declared.found.Found.{Found}
 use Rattle.rs_update.specs.declared.item.Item.{Item as ItemThere}
 use Rattle.rs_update.specs.declared.values.Aggregator.{Aggregator}
@@ -15,7 +17,7 @@ use Rattle.rs_update.specs.PathAttributes.{PathAttributes, PathSegment, Communit
 use Rattle.rs_update.specs.Section.{Item, items_of}
 use Rattle.rs_update.specs.Spelling.{written, spelled_item}
 use Rattle.rs_update.proofs.spelling.KeptLemmas.{written_items-kept}
-use Rattle.rs_update.proofs.attributes.KindLemmas.{cases_Option, some_same}
+use Rattle.rs_update.proofs.attributes.KindLemmas.{cases_Option, none_there}
 use Rattle.rs_update.proofs.section.SoundLemmas.{AreSound, look_sound, received_short}
 
 -- what is there is found
@@ -28,15 +30,6 @@ not_there kind items field e none =
       | inl nothing ↦ sym e ∙ ap (option_map item_of) nothing
       | inr some ↦ absurd (none some.0 some.1)
     ]
-
--- a look-up that finds something, and one that finds nothing
-pub some_there : {X : Type 0} (found : Option X) → is_some found ≡ true → (x : X) × (found ≡ Some x)
-some_there None e = absurd cc
-some_there (Some x) e = (x, refl)
-
-pub none_there : {X : Type 0} (found : Option X) → is_some found ≡ false → found ≡ None
-none_there None e = refl
-none_there (Some x) e = absurd cc
 
 pub found_short : (items : List Item) (kind : ℕ) (item : Item) → AreSound items → look kind items ≡ Some item → length item.value < 65536
 found_short items kind item sound e = received_short item (look_sound items kind item sound e).received
@@ -52,34 +45,34 @@ All-filter_map P f (x ∷ xs) each =
 
 -- ---- the attributes as a whole
 
+-- they are made of the three mandatory ones, where none of these misses
+abbrev of_three : List Item → Option Item → Option Item → Option Item → Option PathAttributes
+of_three items origin path next_hop =
+    option_and_then (λ o. option_and_then (λ p. option_map (attributes_from items o p) next_hop) path) origin
+
 pub attributes_of-found : (items : List Item) (origin path next_hop : Item) → look 1 items ≡ Some origin → look 2 items ≡ Some path → look 3 items ≡ Some next_hop → attributes_of items ≡ Some (attributes_from items origin path next_hop)
 unfolding attributes_of
 attributes_of-found items origin path next_hop o p n =
     rw o (rw p (rw n refl))
 
-pub no_origin : (items : List Item) → look 1 items ≡ None → attributes_of items ≡ None
-unfolding attributes_of
-no_origin items none = rw none refl
+all_three : (items : List Item) (origin path next_hop : Option Item) → (is_some origin && is_some path && is_some next_hop) ≡ is_some (of_three items origin path next_hop)
+all_three items None path next_hop = refl
+all_three items (Some o) None next_hop = refl
+all_three items (Some o) (Some p) None = refl
+all_three items (Some o) (Some p) (Some n) = refl
 
-pub no_path : (items : List Item) → look 2 items ≡ None → attributes_of items ≡ None
+-- a section has the mandatory attributes exactly where it gives a route attributes
+pub mandatory_given : {origin path next_hop : Bool} (items : List Item) → origin ≡ is_some (look 1 items) → path ≡ is_some (look 2 items) → next_hop ≡ is_some (look 3 items)
+    → (origin && path && next_hop) ≡ is_some (attributes_of items)
 unfolding attributes_of
-no_path items none =
-    elim (cases_Option (look 1 items)) [
-      | inl missing ↦ rw missing refl
-      | inr some ↦ rw some.1 (rw none refl)
-    ]
+mandatory_given items o p n = rw (o, p, n) (all_three items (look 1 items) (look 2 items) (look 3 items))
 
-pub no_next_hop : (items : List Item) → look 3 items ≡ None → attributes_of items ≡ None
-unfolding attributes_of
-no_next_hop items none =
-    elim (cases_Option (look 1 items)) [
-      | inl missing ↦ rw missing refl
-      | inr first ↦
-          elim (cases_Option (look 2 items)) [
-            | inl missing ↦ rw first.1 (rw missing refl)
-            | inr second ↦ rw first.1 (rw second.1 (rw none refl))
-          ]
-    ]
+pub mandatory-found : (found : Found) (section : List ℕ) → Finds found section → has_mandatory found ≡ is_some (attributes_of (items_of section))
+mandatory-found found section is = mandatory_given (items_of section) (is.at_each 1 (omega arith)) (is.at_each 2 (omega arith)) (is.at_each 3 (omega arith))
+
+-- where one of them misses, there are none
+pub one_missing : (items : List Item) → (is_some (look 1 items) && is_some (look 2 items) && is_some (look 3 items)) ≡ false → attributes_of items ≡ None
+one_missing items e = none_there (attributes_of items) (sym (mandatory_given items refl refl refl) ∙ e)
 
 pub same_attributes : {a a' : Origin} {b b' : List PathSegment} {c c' : ℕ} {d d' : Option ℕ} {e e' : Bool} {f f' : Option Aggregator} {g g' : Option CommunityList} {h h' : List PassedOn}
     → a ≡ a' → b ≡ b' → c ≡ c' → d ≡ d' → e ≡ e' → f ≡ f' → g ≡ g' → h ≡ h'
@@ -93,57 +86,22 @@ unfolding written
 written-found items origin path next_hop sound o p n =
     ap (flat_map spelled_item) (sym (written_items-kept items sound origin path next_hop o p n))
 
--- attributes are made of the three mandatory ones
-pub record AreMade (items : List Item) (attributes : PathAttributes) : Type 0 where
+-- attributes as they are made
+pub record AreMade (items : List Item) (found1 found2 found3 : Option Item) (attributes : PathAttributes) : Type 0 where
   pub origin : Item
   pub path : Item
   pub next_hop : Item
-  pub has_origin : look 1 items ≡ Some origin
-  pub has_path : look 2 items ≡ Some path
-  pub has_next_hop : look 3 items ≡ Some next_hop
+  pub has_origin : found1 ≡ Some origin
+  pub has_path : found2 ≡ Some path
+  pub has_next_hop : found3 ≡ Some next_hop
   pub are : attributes_from items origin path next_hop ≡ attributes
 
-pub made_of : (items : List Item) (attributes : PathAttributes) → attributes_of items ≡ Some attributes → AreMade items attributes
-made_of items attributes e =
-    elim (cases_Option (look 1 items)) [
-      | inl none ↦ let missing = sym (no_origin items none) ∙ e in absurd cc
-      | inr first ↦
-          elim (cases_Option (look 2 items)) [
-            | inl none ↦ let missing = sym (no_path items none) ∙ e in absurd cc
-            | inr second ↦
-                elim (cases_Option (look 3 items)) [
-                  | inl none ↦ let missing = sym (no_next_hop items none) ∙ e in absurd cc
-                  | inr third ↦ record {
-                    origin = first.0;
-                    path = second.0;
-                    next_hop = third.0;
-                    has_origin = first.1;
-                    has_path = second.1;
-                    has_next_hop = third.1;
-                    are = some_same _ _ (sym (attributes_of-found items first.0 second.0 third.0 first.1 second.1 third.1) ∙ e);
-                  }
-                ]
-          ]
-    ]
+made_of_three : (items : List Item) (found1 found2 found3 : Option Item) (attributes : PathAttributes) → of_three items found1 found2 found3 ≡ Some attributes → AreMade items found1 found2 found3 attributes
+made_of_three items None path next_hop attributes e = absurd cc
+made_of_three items (Some o) None next_hop attributes e = absurd cc
+made_of_three items (Some o) (Some p) None attributes e = absurd cc
+made_of_three items (Some o) (Some p) (Some n) attributes e = record { origin = o; path = p; next_hop = n; has_origin = refl; has_path = refl; has_next_hop = refl; are = same_Some _ _ e }
 
--- a section has the mandatory attributes exactly where it gives a route attributes
-pub mandatory-all : (items : List Item) → (is_some (look 1 items) && is_some (look 2 items) && is_some (look 3 items)) ≡ is_some (attributes_of items)
-mandatory-all items =
-    elim (cases_Option (look 1 items)) [
-      | inl none ↦ rw (no_origin items none) (rw none refl)
-      | inr first ↦
-          elim (cases_Option (look 2 items)) [
-            | inl none ↦ rw (no_path items none) (rw (first.1, none) refl)
-            | inr second ↦
-                elim (cases_Option (look 3 items)) [
-                  | inl none ↦ rw (no_next_hop items none) (rw (first.1, second.1, none) refl)
-                  | inr third ↦ rw (attributes_of-found items first.0 second.0 third.0 first.1 second.1 third.1) (rw (first.1, second.1, third.1) refl)
-                ]
-          ]
-    ]
-
-pub mandatory-found : (found : Found) (section : List ℕ) → Finds found section → has_mandatory found ≡ is_some (attributes_of (items_of section))
-mandatory-found found section is = all_three (is.at_each 1 (omega arith)) (is.at_each 2 (omega arith)) (is.at_each 3 (omega arith)) ∙ mandatory-all (items_of section)
-  where
-    all_three : {a b c a' b' c' : Bool} → a ≡ a' → b ≡ b' → c ≡ c' → (a && b && c) ≡ (a' && b' && c')
-    all_three p q r = cc
+pub made_of : (items : List Item) (attributes : PathAttributes) → attributes_of items ≡ Some attributes → AreMade items (look 1 items) (look 2 items) (look 3 items) attributes
+unfolding attributes_of
+made_of items attributes e = made_of_three items (look 1 items) (look 2 items) (look 3 items) attributes e

@@ -1,6 +1,7 @@
 -- Reading parts one after another finds exactly the parts that stand in a field: for the lemmas of prefixes, attributes and segments.
-use Rattle.std.proofs.Common.{◌≡◌, ℕ, zero, suc, ◌+◌, ◌<◌, ◌≤◌, List, [], ◌∷◌, ◌++◌, length, Option, Some, None, refl, sym, ap, ◌∙◌, arith}
-use Rattle.std.proofs.lemmas.List.{get_or-append-add}
+use Rattle.std.proofs.Common.{◌≡◌, ℕ, zero, suc, ◌+◌, ◌<◌, ◌≤◌, Bool, true, false, cond, List, [], ◌∷◌, ◌++◌, length, drop, Option, Some, None, refl, sym, ap, ◌∙◌, arith, inl, inr}
+use Rattle.std.proofs.lemmas.Bool.{cases_lt}
+use Rattle.std.proofs.lemmas.List.{get_or-append-add, get_or-drop, get_or_append_left, get_or_past}
 use Rattle.rs_update.specs.Parts.{AreOctets, IsNoPart, IsWholeFront, parts_within, parts_of}
 
 -- a reader of one part takes at least one octet
@@ -11,6 +12,11 @@ pub record Shrinks {A : Type 0} (read : List ℕ → Option (A × List ℕ)) : T
 pub record Reads {A : Type 0} (read : List ℕ → Option (A × List ℕ)) (Spells : List ℕ → A → Type 0) : Type 0 where
   pub found : (octets : List ℕ) (part : A) (rest : List ℕ) → AreOctets octets → read octets ≡ Some (part, rest) → (front : List ℕ) × (octets ≡ front ++ rest) × Spells front part
   pub only : (front rest : List ℕ) (part : A) → Spells front part → read (front ++ rest) ≡ Some (part, rest)
+
+-- a test that did not end in None
+pub unless_some : {A : Type 0} (b : Bool) (x : Option A) (y : A) → cond b None x ≡ Some y → (b ≡ false) × (x ≡ Some y)
+unless_some true x y e = absurd cc
+unless_some false x y e = (refl, e)
 
 -- ---- one step
 
@@ -67,10 +73,22 @@ parts_of-none read octets e =
       | suc fuel ↦ parts_within-none read fuel octets e
     ]
 
--- ---- what is read, and what stands there
+-- ---- octets of a field are octets
+
+pub AreOctets-drop : (n : ℕ) (octets : List ℕ) → AreOctets octets → AreOctets (drop n octets)
+AreOctets-drop n octets are i = rw get_or-drop (are (n + i))
+
+pub AreOctets-front : (front behind octets : List ℕ) → octets ≡ front ++ behind → AreOctets octets → AreOctets front
+AreOctets-front front behind octets e are i =
+    elim (cases_lt i (length front)) [
+      | inl within ↦ rw (← get_or_append_left front behind 0 i within, ← e) (are i)
+      | inr past ↦ rw (get_or_past front i 0 past) (omega arith)
+    ]
 
 pub AreOctets-behind : (front behind octets : List ℕ) → octets ≡ front ++ behind → AreOctets octets → AreOctets behind
 AreOctets-behind front behind octets e are i = rw (← get_or-append-add front behind i 0, ← e) (are (length front + i))
+
+-- ---- what is read, and what stands there
 
 -- where nothing is read, no front spells a part
 none_spelled : {A : Type 0} (read : List ℕ → Option (A × List ℕ)) (Spells : List ℕ → A → Type 0) → Reads read Spells → (octets : List ℕ) → read octets ≡ None → IsNoPart Spells octets

@@ -1,6 +1,6 @@
 -- A prefix is read exactly where a front of the octets spells it.
 -- For prefix.rt, `field_concerns` of concerns.rt, `a_field_is_one_list_of_prefixes` of laws.rt, and the lemmas of messages.
-use Rattle.std.proofs.Common.{◌≡◌, ℕ, zero, suc, ◌+◌, ◌-◌, ◌*◌, ◌/◌, ◌^◌, ◌%◌, ◌<◌, ◌≤◌, Bool, true, false, cond, ltb, eqb, List, [], ◌∷◌, ◌++◌, length, take, drop, Option, Some, None, refl, sym, ap, subst, ◌∙◌, length-append, length-drop, arith, inl, inr}
+use Rattle.std.proofs.Common.{◌≡◌, ℕ, zero, suc, ◌+◌, ◌-◌, ◌*◌, ◌/◌, ◌^◌, ◌%◌, ◌<◌, ◌≤◌, cond, ltb, eqb, List, [], ◌∷◌, ◌++◌, length, take, drop, Some, None, refl, sym, ap, subst, ◌∙◌, length-append, length-drop, arith, inl, inr}
 use Rattle.std.proofs.lemmas.Bool.{ltb-false, le-ltb, eq-eqb, eqb-true, ne_eqb, cases_eq}
 use Rattle.std.proofs.lemmas.List.{take_at, drop_at, take-append-drop, length-take-le, get_or_past, nil_from_length}
 use Rattle.std.proofs.lemmas.Nat.{pow-add}
@@ -12,14 +12,9 @@ use Rattle.byteorder.specs.Endian.{big_number}
 use Rattle.rs_update.specs.IpPrefix.{IpPrefix}
 use Rattle.rs_update.specs.Prefix.{network_of, octets_for, Spells, IsField, prefix_at, prefixes_of}
 use Rattle.rs_update.specs.Parts.{AreOctets, IsSpelledBy, IsNoPart, parts_within, parts_of}
-use Rattle.rs_update.proofs.fields.PartsLemmas.{Shrinks, Reads, parts_of-some, parts_of-none, parts_of-whole, whole-parts_of}
+use Rattle.rs_update.proofs.fields.PartsLemmas.{Shrinks, Reads, unless_some, parts_of-some, parts_of-none, parts_of-whole, whole-parts_of}
 
 -- ---- numbers
-
--- a test that did not end in None
-unless_some : {A : Type 0} (b : Bool) (x : Option A) (y : A) → cond b None x ≡ Some y → (b ≡ false) × (x ≡ Some y)
-unless_some true x y e = absurd cc
-unless_some false x y e = (refl, e)
 
 two_pos : (n : ℕ) → 0 < 2 ^ n
 two_pos n = let h = one-le-pow n 2 (omega arith) in omega arith

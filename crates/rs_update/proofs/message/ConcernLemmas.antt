@@ -1,9 +1,8 @@
--- Whether a message may concern a prefix, by the types that stand in its section and by its fields: for concerns.rt, and `find_fault` of section.rt.
-use Rattle.std.proofs.Common.{◌≡◌, ℕ, ◌<◌, Bool, true, false, not, ◌==◌, ◌||◌, ◌&&◌, cond, eqb, List, [], ◌∷◌, length, drop, get_or, set, replicate, Option, Some, None, Result, Ok, Err, refl, sym, ap, ◌∙◌, arith, inl, inr, get_or-set_same, get_or-set_other}
+-- Whether a message may concern a prefix, by the types that stand in its section and by its fields: for concerns.rt.
+use Rattle.std.proofs.Common.{◌≡◌, ℕ, ◌<◌, Bool, true, false, not, ◌==◌, ◌||◌, cond, List, [], ◌∷◌, length, drop, get_or, Option, Some, None, Result, Ok, Err, refl, sym, ap, ◌∙◌, arith}
 use Rattle.std.specs.Prelude.{is_err, is_some, if◌then◌else◌}
 use Rattle.std.specs.Option.{option_map_or}
-use Rattle.std.proofs.lemmas.Bool.{cases_Bool, cases_eq, eq-eqb, ne_eqb}
-use Rattle.std.proofs.lemmas.List.{get_or-replicate}
+use mathlib.Core.Bool.{or-true, or_assoc}
 use Rattle.rs_update.specs.declared.errors.Errors.{Errors}
 use Rattle.rs_update.specs.declared.errors.Errors.TheVariants.{Rfc4271, Rfc7606}
 use Rattle.rs_update.specs.declared.fault.HeaderFault.{HeaderFault}
@@ -18,79 +17,22 @@ use Rattle.rs_update.specs.Gathered.{attributes_of, look}
 use Rattle.rs_update.specs.Handling.{strongest_in}
 use Rattle.rs_update.specs.Header.{header_of}
 use Rattle.rs_update.specs.IpPrefix.{IpPrefix}
-use Rattle.rs_update.specs.Message.{UpdateContent, MessageContent, ◌>>=◌, passes, length_tests, announced_attributes, withdrawn_field, section_field, nlri_field, update_message, update_of}
+use Rattle.rs_update.specs.Message.{length_tests, announced_attributes, withdrawn_field, section_field, nlri_field, update_message, update_of}
 use Rattle.rs_update.specs.PathAttributes.{PathAttributes}
 use Rattle.rs_update.specs.Prefix.{prefix_at, prefixes_of}
-use Rattle.rs_update.specs.Section.{Item, has_type, item_at, items_of, section_fault}
-use Rattle.rs_update.specs.Treating.{content_with, reset_of, standing_attributes, treating_message, treating_update_of, update_by, typed_message_by, message_by}
-use Rattle.rs_update.proofs.section.ItemLemmas.{item_shrinks}
-use Rattle.rs_update.proofs.message.MessageLemmas.{announced-missing}
-use Rattle.rs_update.proofs.fields.PartsLemmas.{parts_of-some, parts_of-none}
+use Rattle.rs_update.specs.Section.{Item, items_of, section_fault}
+use Rattle.rs_update.specs.Treating.{reset_of, standing_attributes, treating_message, treating_update_of, update_by, typed_message_by, message_by}
+use Rattle.rs_update.proofs.message.MessageLemmas.{steps, announced-missing}
 use Rattle.rs_update.proofs.fields.PrefixLemmas.{prefixes_more, prefixes_end}
-use Rattle.rs_update.proofs.treating.TreatingLemmas.{message_by-typed}
-use Rattle.rs_update.proofs.attributes.WholeLemmas.{mandatory-all}
-
-or_true : (b : Bool) → (b || true) ≡ true
-or_true true = refl
-or_true false = refl
-
-or_false : (b : Bool) → (b || false) ≡ b
-or_false true = refl
-or_false false = refl
-
-pub not_some : {X : Type 0} (found : Option X) → is_some found ≡ false → found ≡ None
-not_some None none = refl
-not_some (Some x) none = absurd cc
-
--- ---- the types that stand in a section
-
--- a type stands in a section that a table has, or that stands in what is left
-abbrev pub TypesLeft : List Bool → List ℕ → List ℕ → Type 0
-TypesLeft seen rest section = (kind : ℕ) → kind < 256 → (get_or seen kind false || has_type kind (items_of rest)) ≡ has_type kind (items_of section)
-
-pub no_types : (section : List ℕ) → TypesLeft (replicate 256 false) section section
-no_types section kind below = rw (get_or-replicate 256 kind false false below) refl
-
--- one more attribute
-pub one_type : (seen : List Bool) (octets behind section : List ℕ) (item : Item) → length seen ≡ 256 → item.kind < 256 → Some (item, behind) ≡ item_at octets
-    → TypesLeft seen octets section → TypesLeft (set seen item.kind true) behind section
-one_type seen octets behind section item whole octet read left kind below =
-    let parts = parts_of-some item_at item_shrinks octets item behind (sym read) in
-    let all : has_type kind (items_of octets) ≡ ((item.kind == kind) || has_type kind (items_of behind)) = ap (λ p. has_type kind p.0) parts in
-    let held : (get_or seen kind false || ((item.kind == kind) || has_type kind (items_of behind))) ≡ has_type kind (items_of section) = ap (λ (b : Bool). get_or seen kind false || b) (sym all) ∙ left kind below in
-    elim (cases_eq kind item.kind) [
-      | inl same ↦
-          let stands : eqb item.kind kind ≡ true = eq-eqb _ _ (sym same) in
-          let table : get_or (set seen item.kind true) kind false ≡ true = rw same (get_or-set_same seen item.kind true false (omega (arith, whole))) in
-          rw table (sym (or_true (get_or seen kind false)) ∙ (rw stands at held))
-      | inr other ↦
-          let differs : eqb item.kind kind ≡ false = ne_eqb _ _ (λ same. other (sym same)) in
-          rw (get_or-set_other seen item.kind kind true false other) (rw differs at held)
-    ]
-
--- no attribute is left
-pub all_types : (seen : List Bool) (rest section : List ℕ) → None ≡ item_at rest → TypesLeft seen rest section → AreTypesOf seen (items_of section)
-all_types seen rest section none left kind below =
-    let end : has_type kind (items_of rest) ≡ false = ap (λ p. has_type kind p.0) (parts_of-none item_at rest (sym none)) in
-    sym (or_false (get_or seen kind false)) ∙ ap (λ (b : Bool). get_or seen kind false || b) (sym end) ∙ left kind below
-
--- a type stands where it is found
-has_look : (kind : ℕ) (items : List Item) → has_type kind items ≡ is_some (look kind items)
-has_look kind [] = refl
-has_look kind (item ∷ items) =
-    elim (cases_Bool (eqb item.kind kind)) [
-      | inl same ↦ rw same refl
-      | inr other ↦ rw other (has_look kind items)
-    ]
+use Rattle.rs_update.proofs.treating.TreatingLemmas.{message_by-typed, treating_steps}
+use Rattle.rs_update.proofs.attributes.OthersLemmas.{has_look}
+use Rattle.rs_update.proofs.attributes.WholeLemmas.{mandatory_given}
 
 mandatory_types : (seen : List Bool) (items : List Item) → AreTypesOf seen items → has_mandatory seen ≡ is_some (attributes_of items)
-mandatory_types seen items are = all_three (each 1 (omega arith)) (each 2 (omega arith)) (each 3 (omega arith)) ∙ mandatory-all items
+mandatory_types seen items are = mandatory_given items (each 1 (omega arith)) (each 2 (omega arith)) (each 3 (omega arith))
   where
     each : (kind : ℕ) → kind < 256 → get_or seen kind false ≡ is_some (look kind items)
     each kind below = are kind below ∙ has_look kind items
-
-    all_three : {a b c a' b' c' : Bool} → a ≡ a' → b ≡ b' → c ≡ c' → (a && b && c) ≡ (a' && b' && c')
-    all_three p q r = cc
 
 -- a section without fault closes where a mandatory attribute of announced routes misses
 pub lacking_closes : (seen : List Bool) (section nlri : List ℕ) → section_fault section ≡ None → AreTypesOf seen (items_of section) → 0 < length nlri → not (has_mandatory seen) ≡ section_closes Rfc4271 section nlri
@@ -105,7 +47,7 @@ parts_concern prefix parts = option_map_or (lists_cover prefix) (if length parts
 first_concerns : (prefix front : IpPrefix) (prefixes : List IpPrefix) (whole : Bool)
     → option_map_or (lists_cover prefix) (cond whole (Some (front ∷ prefixes)) None) true ≡ (covers front prefix || option_map_or (lists_cover prefix) (cond whole (Some prefixes) None) true)
 first_concerns prefix front prefixes true = refl
-first_concerns prefix front prefixes false = sym (or_true (covers front prefix))
+first_concerns prefix front prefixes false = sym (or-true (covers front prefix))
 
 -- a prefix in front covers it, or what stands behind concerns it
 pub concerns_more : (prefix front : IpPrefix) (octets rest : List ℕ) → Some (front, rest) ≡ prefix_at octets → field_concerns prefix octets ≡ (covers front prefix || field_concerns prefix rest)
@@ -128,36 +70,21 @@ listed found = elim found [ None ↦ Err InvalidNetworkField | Some prefixes ↦
 abbrev concerned : IpPrefix → Option (List IpPrefix) → Bool
 concerned prefix found = option_map_or (lists_cover prefix) found true
 
--- the steps by RFC 4271, over what each of them finds
-abbrev steps : Option UpdateFault → Result (Option PathAttributes) UpdateFault → Result (List IpPrefix) UpdateFault → Result (List IpPrefix) UpdateFault → Result UpdateContent UpdateFault
-steps section announced withdrawn nlri = do
-  _section ← passes section
-  attributes ← announced
-  first ← withdrawn
-  second ← nlri
-  Ok (record { withdrawn = first; attributes = attributes; nlri = second })
-
+-- by RFC 4271
 steps_concern : (prefix : IpPrefix) (section : Option UpdateFault) (announced : Result (Option PathAttributes) UpdateFault) (withdrawn nlri : Option (List IpPrefix))
-    → message_concerns prefix (update_message (steps section announced (listed withdrawn) (listed nlri))) ≡ ((is_some section || is_err announced) || (concerned prefix withdrawn || concerned prefix nlri))
+    → message_concerns prefix (update_message (steps None section announced (listed withdrawn) (listed nlri))) ≡ ((is_some section || is_err announced) || (concerned prefix withdrawn || concerned prefix nlri))
 steps_concern prefix (Some fault) announced withdrawn nlri = refl
 steps_concern prefix None (Err fault) withdrawn nlri = refl
 steps_concern prefix None (Ok attributes) None nlri = refl
-steps_concern prefix None (Ok attributes) (Some first) None = sym (or_true (lists_cover prefix first))
+steps_concern prefix None (Ok attributes) (Some first) None = sym (or-true (lists_cover prefix first))
 steps_concern prefix None (Ok attributes) (Some first) (Some second) = refl
 
--- the same by RFC 7606
-abbrev treating_steps : Option UpdateFault → Result (List IpPrefix) UpdateFault → Result (List IpPrefix) UpdateFault → Option (Option PathAttributes) → Result MessageContent UpdateFault
-treating_steps section withdrawn nlri standing = do
-  _section ← passes section
-  first ← withdrawn
-  second ← nlri
-  Ok (content_with standing first second)
-
+-- by RFC 7606
 treating_steps_concern : (prefix : IpPrefix) (section : Option UpdateFault) (withdrawn nlri : Option (List IpPrefix)) (standing : Option (Option PathAttributes))
-    → message_concerns prefix (treating_message (treating_steps section (listed withdrawn) (listed nlri) standing)) ≡ (is_some section || (concerned prefix withdrawn || concerned prefix nlri))
+    → message_concerns prefix (treating_message (treating_steps None section (listed withdrawn) (listed nlri) standing)) ≡ (is_some section || (concerned prefix withdrawn || concerned prefix nlri))
 treating_steps_concern prefix (Some fault) withdrawn nlri standing = refl
 treating_steps_concern prefix None None nlri standing = refl
-treating_steps_concern prefix None (Some first) None standing = sym (or_true (lists_cover prefix first))
+treating_steps_concern prefix None (Some first) None standing = sym (or-true (lists_cover prefix first))
 treating_steps_concern prefix None (Some first) (Some second) None = refl
 treating_steps_concern prefix None (Some first) (Some second) (Some attributes) = refl
 
@@ -177,10 +104,6 @@ update_concern Rfc7606 prefix body none =
     rw (treating_update_of, none)
     (treating_steps_concern prefix (reset_of (strongest_in (section_field body))) (prefixes_of (withdrawn_field body)) (prefixes_of (nlri_field body))
     (standing_attributes (strongest_in (section_field body)) (section_field body) (nlri_field body)))
-
-or_assoc : (a b c : Bool) → ((a || b) || c) ≡ (a || (b || c))
-or_assoc true b c = refl
-or_assoc false b c = refl
 
 -- the same, by what the code answers of its parts
 pub parts_of_update : (errors : Errors) (prefix : IpPrefix) (body withdrawn section nlri : List ℕ) (value closes : Bool)

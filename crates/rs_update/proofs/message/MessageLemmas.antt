@@ -1,5 +1,5 @@
 -- A message behind its header: for `lacks_mandatory` of update.rt, and two laws of messages in laws.rt.
-use Rattle.std.proofs.Common.{◌≡◌, ℕ, suc, ◌<◌, Bool, true, false, not, ◌&&◌, cond, eqb, ltb, List, [], ◌∷◌, length, drop, Option, Some, None, Result, Ok, Err, refl, sym, ap, ◌∙◌, arith, inl, inr}
+use Rattle.std.proofs.Common.{◌≡◌, ℕ, suc, ◌<◌, true, false, not, ◌&&◌, cond, eqb, ltb, List, [], ◌∷◌, length, drop, Option, Some, None, Result, Ok, Err, refl, sym, ap, ◌∙◌, arith, inl, inr}
 use Rattle.std.specs.Prelude.{◌↔◌, IsOk, IsSome, is_err}
 use Rattle.std.specs.Option.{is_none, is_some, option_map, ok_or}
 use Rattle.std.proofs.lemmas.Bool.{ne_eqb, true≢false}
@@ -12,7 +12,7 @@ use Rattle.rs_update.specs.declared.fault.UpdateFault.{UpdateFault}
 use Rattle.rs_update.specs.declared.fault.UpdateFault.TheVariants.{MissingWellKnown, InvalidNetworkField}
 use Rattle.rs_update.specs.Fault.{first_fault, or_else, of_header, of_update}
 use Rattle.rs_update.specs.Gathered.{attributes_of}
-use Rattle.rs_update.specs.Header.{header_fault, is_marked, has_length, suits_type, type_of, type_field}
+use Rattle.rs_update.specs.Header.{header_fault, is_marked, has_length, type_of, type_field}
 use Rattle.rs_update.specs.Message.{MessageContent, UpdateContent, ◌>>=◌, passes, listed_prefixes, announced_attributes, withdrawn_field, section_field, nlri_field, length_tests, contents_fault, update_fault, update_message, update_of, message_fault, message_of, typed_message}
 use Rattle.rs_update.specs.Prefix.{prefixes_of}
 use Rattle.rs_update.specs.Section.{items_of, section_fault}
@@ -20,6 +20,7 @@ use Rattle.rs_update.specs.IpPrefix.{IpPrefix}
 use Rattle.rs_update.specs.PathAttributes.{PathAttributes}
 use Rattle.rs_update.proofs.attributes.KindLemmas.{cases_Option}
 use Rattle.rs_update.proofs.fields.PrefixLemmas.{no_prefix, some_prefix}
+use Rattle.rs_update.proofs.section.SoundLemmas.{passed}
 
 -- ---- the first fault
 
@@ -29,7 +30,7 @@ err_of (Ok x) = None
 err_of (Err fault) = Some fault
 
 -- the steps of an UPDATE, over what each of them finds
-abbrev steps : Option UpdateFault → Option UpdateFault → Result (Option PathAttributes) UpdateFault → Result (List IpPrefix) UpdateFault → Result (List IpPrefix) UpdateFault → Result UpdateContent UpdateFault
+abbrev pub steps : Option UpdateFault → Option UpdateFault → Result (Option PathAttributes) UpdateFault → Result (List IpPrefix) UpdateFault → Result (List IpPrefix) UpdateFault → Result UpdateContent UpdateFault
 steps lengths section announced withdrawn nlri = do
   _lengths ← passes lengths
   _section ← passes section
@@ -77,17 +78,12 @@ err_of-update_message (Ok content) = refl
 err_of-update_message (Err fault) = refl
 
 -- without a fault of the header its type is known
-fourth : {F : Type 0} (a b c d e : Bool) (v w x y z : F) → first_fault ((a, v) ∷ (b, w) ∷ (c, x) ∷ (d, y) ∷ (e, z) ∷ []) ≡ None → d ≡ false
-fourth true b c d e v w x y z none = absurd cc
-fourth false true c d e v w x y z none = absurd cc
-fourth false false true d e v w x y z none = absurd cc
-fourth false false false true e v w x y z none = absurd cc
-fourth false false false false e v w x y z none = refl
-
 type_is_known : (octets : List ℕ) → header_fault octets ≡ None → is_none (type_of (type_field octets)) ≡ false
 type_is_known octets none =
-    fourth (ltb (length octets) 19) (not (is_marked octets)) (not (has_length octets)) (is_none (type_of (type_field octets))) (not (suits_type (type_of (type_field octets)) (length octets)))
-    BadLength NotSynchronized BadLength BadType BadLength none
+    let short = passed (ltb (length octets) 19) BadLength _ none in
+    let marked = passed (not (is_marked octets)) NotSynchronized _ short.1 in
+    let long = passed (not (has_length octets)) BadLength _ marked.1 in
+    (passed (is_none (type_of (type_field octets))) BadType _ long.1).0
 
 err_of-typed : (header : Option HeaderFault) (kind : Option MessageType) (body : List ℕ) → (header ≡ None → is_none kind ≡ false)
     → err_of (elim (elim header as (λ x. Result MessageType HeaderFault) [ None ↦ ok_or kind BadType | Some fault ↦ Err fault ]) as (λ x. Result MessageContent MessageFault) [ Ok typed ↦ typed_message typed body | Err fault ↦ Err (of_header fault) ])

@@ -1,12 +1,13 @@
 -- The first attribute at fault, by its place among the attributes: for `a_section_is_at_fault_by_its_first_attribute_at_fault` of laws.rt, and SectionExamples.
 use Rattle.std.proofs.Common.{◌≡◌, ◌≢◌, ℕ, false, List, [], ◌∷◌, ◌++◌, length, Option, Some, None, ◌⊎◌, inl, inr, refl, sym, ap, ◌∙◌, append_assoc, eqb, arith}
-use Rattle.std.specs.Prelude.{◌↔◌, ◌==◌, if◌then◌else◌}
+use Rattle.std.specs.Prelude.{◌↔◌}
 use Rattle.std.proofs.lemmas.Bool.{ne_eqb}
 use Rattle.std.proofs.lemmas.List.{append-nil}
 use Rattle.rs_update.specs.declared.fault.UpdateFault.{UpdateFault}
 use Rattle.rs_update.specs.declared.fault.UpdateFault.TheVariants.{MalformedAttributeList}
 use Rattle.rs_update.specs.Fault.{or_else}
-use Rattle.rs_update.specs.Section.{Item, items_of, rest_of, fault_behind, first_item_fault, section_fault, AreFaultless, IsFirstAtFault}
+use Rattle.rs_update.specs.Section.{Item, items_of, rest_of, fault_of_rest, fault_behind, first_item_fault, section_fault, AreFaultless, IsFirstAtFault}
+use Rattle.rs_update.proofs.section.SoundLemmas.{neither}
 
 -- the same of attributes that stand behind others
 abbrev AreFaultlessBehind : List Item → List Item → Type 0
@@ -16,11 +17,6 @@ abbrev IsFirstBehind : List Item → List Item → UpdateFault → Type 0
 IsFirstBehind earlier items fault =
     (before : List Item) × (item : Item) × (after : List Item)
     × (items ≡ before ++ item ∷ after) × (fault_behind (earlier ++ before) item ≡ Some fault) × AreFaultlessBehind earlier before
-
--- both of two answers are none
-none_parts : (here later : Option UpdateFault) → or_else here later ≡ None → (here ≡ None) × (later ≡ None)
-none_parts None later e = (refl, e)
-none_parts (Some fault) later e = absurd cc
 
 -- the attributes before a place, with the one that stands first
 before_one : (earlier before : List Item) (item : Item) → (earlier ++ item ∷ []) ++ before ≡ earlier ++ item ∷ before
@@ -52,7 +48,7 @@ faultless : (earlier items : List Item) → first_item_fault earlier items ≡ N
 unfolding first_item_fault
 faultless earlier [] none = λ before item after e. absurd (nothing_before before item after e)
 faultless earlier (first ∷ items) none =
-    let parts = none_parts (fault_behind earlier first) (first_item_fault (earlier ++ first ∷ []) items) none in
+    let parts = neither (fault_behind earlier first) (first_item_fault (earlier ++ first ∷ []) items) none in
     faultless_cons earlier first items parts.0 (faultless (earlier ++ first ∷ []) items parts.1)
 
 none_found : (earlier items : List Item) → AreFaultlessBehind earlier items → first_item_fault earlier items ≡ None
@@ -90,38 +86,35 @@ found_of earlier items fault is = ap (first_item_fault earlier) is.3 ∙ found_a
 
 -- ---- a section
 
-abbrev rest_fault : List ℕ → Option UpdateFault
-rest_fault rest = if length rest == 0 then None else Some MalformedAttributeList
-
-left_over : (octet : ℕ) (rest : List ℕ) → rest_fault (octet ∷ rest) ≡ Some MalformedAttributeList
+left_over : (octet : ℕ) (rest : List ℕ) → fault_of_rest (octet ∷ rest) ≡ Some MalformedAttributeList
 left_over octet rest =
     let some : eqb (length (octet ∷ rest)) 0 ≡ false = ne_eqb _ _ (λ none. omega arith) in
     rw some refl
 
-rest_none : (rest : List ℕ) → rest_fault rest ≡ None → rest ≡ []
+rest_none : (rest : List ℕ) → fault_of_rest rest ≡ None → rest ≡ []
 rest_none [] e = refl
 rest_none (octet ∷ rest) e = absurd (cc (left_over octet rest))
 
-rest_some : (rest : List ℕ) (fault : UpdateFault) → rest_fault rest ≡ Some fault → (rest ≢ []) × (fault ≡ MalformedAttributeList)
+rest_some : (rest : List ℕ) (fault : UpdateFault) → fault_of_rest rest ≡ Some fault → (rest ≢ []) × (fault ≡ MalformedAttributeList)
 rest_some [] fault e = absurd cc
 rest_some (octet ∷ rest) fault e = (λ empty. cc, cc (left_over octet rest))
 
-some_rest : (rest : List ℕ) (fault : UpdateFault) → rest ≢ [] → fault ≡ MalformedAttributeList → rest_fault rest ≡ Some fault
+some_rest : (rest : List ℕ) (fault : UpdateFault) → rest ≢ [] → fault ≡ MalformedAttributeList → fault_of_rest rest ≡ Some fault
 some_rest [] fault some e = absurd (some refl)
 some_rest (octet ∷ rest) fault some e = cc (left_over octet rest)
 
-either : (here : Option UpdateFault) (rest : List ℕ) (fault : UpdateFault) → or_else here (rest_fault rest) ≡ Some fault → (here ≡ Some fault) ⊎ ((here ≡ None) × (rest_fault rest ≡ Some fault))
+either : (here : Option UpdateFault) (rest : List ℕ) (fault : UpdateFault) → or_else here (fault_of_rest rest) ≡ Some fault → (here ≡ Some fault) ⊎ ((here ≡ None) × (fault_of_rest rest ≡ Some fault))
 either None rest fault e = inr (refl, e)
 either (Some other) rest fault e = inl e
 
 pub section_is_faultless : (section : List ℕ) → ((section_fault section ≡ None) ↔ (AreFaultless (items_of section) × (rest_of section ≡ [])))
 section_is_faultless section = (
   λ none.
-      let parts = none_parts (first_item_fault [] (items_of section)) (rest_fault (rest_of section)) none in
+      let parts = neither (first_item_fault [] (items_of section)) (fault_of_rest (rest_of section)) none in
       (faultless [] (items_of section) parts.0, rest_none (rest_of section) parts.1),
   λ parts.
       let items : first_item_fault [] (items_of section) ≡ None = none_found [] (items_of section) parts.0 in
-      ap (λ (here : Option UpdateFault). or_else here (rest_fault (rest_of section))) items ∙ ap rest_fault parts.1,
+      ap (λ (here : Option UpdateFault). or_else here (fault_of_rest (rest_of section))) items ∙ ap fault_of_rest parts.1,
 )
 
 pub section_is_at_fault : (section : List ℕ) (fault : UpdateFault)
@@ -136,9 +129,9 @@ section_is_at_fault section fault = (
       ],
   λ is.
       elim is [
-        | inl here ↦ ap (λ (found : Option UpdateFault). or_else found (rest_fault (rest_of section))) (found_of [] (items_of section) fault here)
+        | inl here ↦ ap (λ (found : Option UpdateFault). or_else found (fault_of_rest (rest_of section))) (found_of [] (items_of section) fault here)
         | inr behind ↦
-            ap (λ (found : Option UpdateFault). or_else found (rest_fault (rest_of section))) (none_found [] (items_of section) behind.0)
+            ap (λ (found : Option UpdateFault). or_else found (fault_of_rest (rest_of section))) (none_found [] (items_of section) behind.0)
             ∙ some_rest (rest_of section) fault behind.1 behind.2
       ],
 )

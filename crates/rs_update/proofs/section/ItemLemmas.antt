@@ -1,13 +1,14 @@
 -- What an attribute is spelled as is read as that attribute, and what is read is spelled so.
 -- For item.rt, each loop over a section, and `a_section_is_one_list_of_attributes` of laws.rt.
-use Rattle.std.proofs.Common.{◌≡◌, ℕ, suc, ◌+◌, ◌*◌, ◌/◌, ◌%◌, ◌<◌, ◌≤◌, Bool, true, false, cond, ltb, List, [], ◌∷◌, ◌++◌, length, take, drop, Some, None, refl, sym, arith, inl, inr}
+use Rattle.std.proofs.Common.{◌≡◌, ℕ, suc, ◌+◌, ◌*◌, ◌/◌, ◌%◌, ◌<◌, ◌≤◌, true, false, ltb, List, [], ◌∷◌, ◌++◌, length, take, drop, Some, refl, sym, arith, inl, inr}
 use Rattle.std.proofs.lemmas.Bool.{cases_Bool, ltb-false, le-ltb}
 use Rattle.std.proofs.lemmas.List.{take_at, drop_at, take-append-drop, length-append, length-drop, length-take-le}
+use Rattle.std.proofs.lemmas.Option.{same_Some}
 use Rattle.rs_update.specs.AttributeType.{is_extended}
 use Rattle.rs_update.specs.Section.{Item, FitsItsLength, SpellsItem, item_at, item_with, long_item_at, short_item_at}
 use Rattle.rs_update.specs.Parts.{AreOctets}
 use Rattle.rs_update.specs.Spelling.{spelled_item}
-use Rattle.rs_update.proofs.fields.PartsLemmas.{Shrinks, Reads}
+use Rattle.rs_update.proofs.fields.PartsLemmas.{Shrinks, Reads, unless_some}
 
 -- ---- read from its spelling
 
@@ -34,17 +35,12 @@ item_at-spelled item rest fits =
 
 -- ---- what is read
 
--- a value behind a test
-guard_some : {A : Type 0} (b : Bool) (x y : A) → cond b None (Some x) ≡ Some y → (b ≡ false) × (x ≡ y)
-guard_some true x y e = absurd cc
-guard_some false x y e = (refl, cc)
-
 -- a value is the octets that it asks for
 pub item_with-is : (flags kind count : ℕ) (octets : List ℕ) (split : Item × List ℕ) → item_with flags kind count octets ≡ Some split
     → (count ≤ length octets) × (split ≡ (record { flags = flags; kind = kind; value = take count octets }, drop count octets))
 item_with-is flags kind count octets split e =
-    let guarded = guard_some (ltb (length octets) count) (record { flags = flags; kind = kind; value = take count octets }, drop count octets) split e in
-    (ltb-false _ _ guarded.0, sym guarded.1)
+    let guarded = unless_some (ltb (length octets) count) (Some (record { flags = flags; kind = kind; value = take count octets }, drop count octets)) split e in
+    (ltb-false _ _ guarded.0, sym (same_Some _ _ guarded.1))
 
 item_with-takes : (flags kind count : ℕ) (octets : List ℕ) (split : Item × List ℕ) → item_with flags kind count octets ≡ Some split → length split.1 ≤ length octets
 item_with-takes flags kind count octets split e =

@@ -1,21 +1,24 @@
 -- The first fault of a section, attribute by attribute, with the types seen so far: for `find_fault` of section.rt, and treating.rt.
-use Rattle.std.proofs.Common.{◌≡◌, ℕ, ◌<◌, ◌==◌, Bool, true, false, eqb, ◌||◌, List, [], ◌∷◌, ◌++◌, length, get_or, set, Option, Some, None, refl, sym, ap, ◌∙◌, arith, inl, inr, get_or-set_same, get_or-set_other, replicate}
+use Rattle.std.proofs.Common.{◌≡◌, ℕ, ◌<◌, Bool, true, false, eqb, ◌||◌, List, [], ◌∷◌, ◌++◌, length, get_or, set, Option, Some, None, refl, sym, ap, ◌∙◌, arith, inl, inr, get_or-set_same, get_or-set_other, replicate, append_assoc}
 use Rattle.std.specs.Prelude.{if◌then◌else◌}
+use mathlib.Core.Bool.{or-true, or-false}
 use Rattle.std.specs.List.{list_any}
 use Rattle.std.proofs.lemmas.Bool.{cases_eq, eq-eqb, ne_eqb}
 use Rattle.std.proofs.lemmas.Grind.{common_steps}
-use Rattle.std.proofs.lemmas.List.{length-replicate, get_or-replicate, length-set}
+use Rattle.std.proofs.lemmas.List.{append-nil, length-replicate, get_or-replicate, length-set}
 use Rattle.rs_update.specs.declared.fault.UpdateFault.{UpdateFault}
 use Rattle.rs_update.specs.declared.fault.UpdateFault.TheVariants.{MalformedAttributeList}
+use Rattle.rs_update.specs.Concerns.{AreTypesOf}
 use Rattle.rs_update.specs.Fault.{or_else}
 use Rattle.rs_update.specs.Parts.{parts_of}
-use Rattle.rs_update.specs.Section.{Item, item_at, items_of, rest_of, own_fault_of, has_type, fault_behind, first_item_fault}
+use Rattle.rs_update.specs.Section.{Item, item_at, items_of, rest_of, own_fault_of, has_type, fault_behind, first_item_fault, fault_of_rest, section_fault}
+use Rattle.rs_update.proofs.attributes.FoundLemmas.{items_of-step, items_of-end}
 use Rattle.rs_update.proofs.section.ItemLemmas.{item_shrinks}
 use Rattle.rs_update.proofs.fields.PartsLemmas.{parts_of-some, parts_of-none}
 
 -- the first fault of attributes that stand behind others, and of a rest
-abbrev fault_of_parts : List Item → List Item × List ℕ → Option UpdateFault
-fault_of_parts earlier parts = or_else (first_item_fault earlier parts.0) (if length parts.1 == 0 then None else Some MalformedAttributeList)
+abbrev pub fault_of_parts : List Item → List Item × List ℕ → Option UpdateFault
+fault_of_parts earlier parts = or_else (first_item_fault earlier parts.0) (fault_of_rest parts.1)
 
 -- the first fault of octets that stand behind attributes
 abbrev pub fault_after : List Item → List ℕ → Option UpdateFault
@@ -36,22 +39,14 @@ pub fault_after-step : (earlier : List Item) (octets : List ℕ) (split : Item �
 unfolding first_item_fault
 fault_after-step earlier octets split e =
     let parts = parts_of-some item_at item_shrinks octets split.0 split.1 e in
-    ap (fault_of_parts earlier) parts ∙ (or_else-assoc (fault_behind earlier split.0) (first_item_fault (earlier ++ split.0 ∷ []) (items_of split.1)) (if length (rest_of split.1) == 0 then None else Some MalformedAttributeList))
+    ap (fault_of_parts earlier) parts ∙ (or_else-assoc (fault_behind earlier split.0) (first_item_fault (earlier ++ split.0 ∷ []) (items_of split.1)) (fault_of_rest (rest_of split.1)))
 
 -- no attribute is left
-pub fault_after-end : (earlier : List Item) (octets : List ℕ) → item_at octets ≡ None → fault_after earlier octets ≡ (if length octets == 0 then None else Some MalformedAttributeList)
+pub fault_after-end : (earlier : List Item) (octets : List ℕ) → item_at octets ≡ None → fault_after earlier octets ≡ fault_of_rest octets
 unfolding first_item_fault
 fault_after-end earlier octets e =
     let parts = parts_of-none item_at octets e in
     ap (fault_of_parts earlier) parts
-
-or_true : (b : Bool) → (b || true) ≡ true
-or_true true = refl
-or_true false = refl
-
-or_false : (b : Bool) → (b || false) ≡ b
-or_false true = refl
-or_false false = refl
 
 pub list_any-push : (p : Item → Bool) (xs : List Item) (x : Item) → list_any p (xs ++ x ∷ []) ≡ (list_any p xs || p x)
 list_any-push p xs x = grind (arith, common_steps)
@@ -69,16 +64,18 @@ one_seen seen earlier item octet before = record {
         | inl same ↦
             let stands : eqb item.kind kind ≡ true = eq-eqb _ _ (sym same) in
             let table : get_or (set seen item.kind true) kind false ≡ true = rw same (get_or-set_same seen item.kind true false (omega (arith, before.whole))) in
-            table ∙ sym (rw (list_any-push, stands) (or_true (has_type kind earlier)))
+            table ∙ sym (rw (list_any-push, stands) (or-true (has_type kind earlier)))
         | inr other ↦
             let differs : eqb item.kind kind ≡ false = ne_eqb _ _ (λ same. other (sym same)) in
-            rw (get_or-set_other seen item.kind kind true false other, list_any-push, differs) (before.at_each kind below ∙ sym (or_false (has_type kind earlier)))
+            rw (get_or-set_other seen item.kind kind true false other, list_any-push, differs) (before.at_each kind below ∙ sym (or-false (has_type kind earlier)))
       ];
 }
 
--- attributes that stood earlier, as a table says, and none of them nor what is left decides otherwise than the whole section
-abbrev pub GoesOn : List Bool → List ℕ → Option UpdateFault → Type 0
-GoesOn seen octets total = (earlier : List Item) × IsSeen seen earlier × (fault_after earlier octets ≡ total)
+-- attributes that stood earlier, as a table says: with those that are left they are those of the whole section, and none of
+-- them nor what is left decides otherwise than the whole
+abbrev pub GoesOn : List Bool → List ℕ → List ℕ → Type 0
+GoesOn seen octets section =
+    (earlier : List Item) × IsSeen seen earlier × (earlier ++ items_of octets ≡ items_of section) × (fault_after earlier octets ≡ section_fault section)
 
 -- the fault of an attribute, by a table of the types that stood earlier
 abbrev pub fault_seen : List Bool → Item → Option UpdateFault
@@ -88,24 +85,30 @@ seen_is : (seen : List Bool) (earlier : List Item) (item : Item) → item.kind <
 seen_is seen earlier item octet before = rw (before.at_each item.kind octet) refl
 
 -- the next attribute is without fault
-pub goes_on : (seen : List Bool) (octets behind : List ℕ) (item : Item) (total : Option UpdateFault) → item.kind < 256 → Some (item, behind) ≡ item_at octets → None ≡ fault_seen seen item
-    → GoesOn seen octets total → GoesOn (set seen item.kind true) behind total
-goes_on seen octets behind item total octet read faultless so_far =
+pub goes_on : (seen : List Bool) (octets behind section : List ℕ) (item : Item) → item.kind < 256 → Some (item, behind) ≡ item_at octets → None ≡ fault_seen seen item
+    → GoesOn seen octets section → GoesOn (set seen item.kind true) behind section
+goes_on seen octets behind section item octet read faultless so_far =
     let earlier = so_far.0 in
     let step = fault_after-step earlier octets (item, behind) (sym read) in
     let here : fault_behind earlier item ≡ None = sym (faultless ∙ seen_is seen earlier item octet so_far.1) in
     let on : fault_after earlier octets ≡ fault_after (earlier ++ item ∷ []) behind = step ∙ ap (λ (found : Option UpdateFault). or_else found (fault_after (earlier ++ item ∷ []) behind)) here in
-    (earlier ++ item ∷ [], one_seen seen earlier item octet so_far.1, sym on ∙ so_far.2)
+    let items = append_assoc earlier (item ∷ []) (items_of behind) ∙ ap (λ (later : List Item). earlier ++ later) (sym (items_of-step octets (item, behind) (sym read))) in
+    (earlier ++ item ∷ [], one_seen seen earlier item octet so_far.1, items ∙ so_far.2, sym on ∙ so_far.3)
 
 -- the next attribute is at fault
-pub ends_at : (seen : List Bool) (octets behind : List ℕ) (item : Item) (fault : UpdateFault) (total : Option UpdateFault) → item.kind < 256 → Some (item, behind) ≡ item_at octets → Some fault ≡ fault_seen seen item
-    → GoesOn seen octets total → Some fault ≡ total
-ends_at seen octets behind item fault total octet read found so_far =
+pub ends_at : (seen : List Bool) (octets behind section : List ℕ) (item : Item) (fault : UpdateFault) → item.kind < 256 → Some (item, behind) ≡ item_at octets → Some fault ≡ fault_seen seen item
+    → GoesOn seen octets section → Some fault ≡ section_fault section
+ends_at seen octets behind section item fault octet read found so_far =
     let earlier = so_far.0 in
     let step = fault_after-step earlier octets (item, behind) (sym read) in
     let here : fault_behind earlier item ≡ Some fault = sym (found ∙ seen_is seen earlier item octet so_far.1) in
-    sym (step ∙ ap (λ (f : Option UpdateFault). or_else f (fault_after (earlier ++ item ∷ []) behind)) here) ∙ so_far.2
+    sym (step ∙ ap (λ (f : Option UpdateFault). or_else f (fault_after (earlier ++ item ∷ []) behind)) here) ∙ so_far.3
 
 -- no attribute is left
-pub ends_with : (seen : List Bool) (octets : List ℕ) (total : Option UpdateFault) → None ≡ item_at octets → GoesOn seen octets total → (if length octets == 0 then None else Some MalformedAttributeList) ≡ total
-ends_with seen octets total none so_far = sym (fault_after-end so_far.0 octets (sym none)) ∙ so_far.2
+pub ends_with : (seen : List Bool) (octets section : List ℕ) → None ≡ item_at octets → GoesOn seen octets section → fault_of_rest octets ≡ section_fault section
+ends_with seen octets section none so_far = sym (fault_after-end so_far.0 octets (sym none)) ∙ so_far.3
+
+pub all_types : (seen : List Bool) (octets section : List ℕ) → None ≡ item_at octets → GoesOn seen octets section → AreTypesOf seen (items_of section)
+all_types seen octets section none so_far kind below =
+    let all = sym (append-nil so_far.0) ∙ ap (λ (later : List Item). so_far.0 ++ later) (sym (items_of-end octets (sym none))) ∙ so_far.2 in
+    so_far.1.at_each kind below ∙ ap (has_type kind) all

@@ -1,19 +1,21 @@
--- What holds of the attributes of a section without fault: for `whole` of gather.rt and `spell` of spelling.rt.
+-- What holds of the attributes of a section without fault: for `whole` of gather.rt, `spell` of spelling.rt, attributes.rt, and the lemmas of
+-- faults and of what is found and written.
 use Rattle.std.proofs.Common.{◌≡◌, ℕ, ◌%◌, ◌<◌, ◌&&◌, Bool, true, false, not, cond, eqb, List, [], ◌∷◌, ◌++◌, length, Option, Some, None, refl, subst, append_assoc, arith, inl, inr}
 use Rattle.std.specs.List.{AllByRecursion}
-use Rattle.std.proofs.lemmas.Bool.{cases_Bool, eqb-true}
+use Rattle.std.proofs.lemmas.Bool.{cases_Bool, eqb-true, not-false, and_parts}
 use Rattle.std.proofs.lemmas.List.{append-nil, nil_from_length}
+use Rattle.std.proofs.lemmas.Option.{same_Some}
 use Rattle.rs_update.specs.declared.attribute_type.AttributeType.{AttributeType}
 use Rattle.rs_update.specs.declared.attribute_type.AttributeType.TheVariants as types
-use Rattle.rs_update.specs.declared.fault.UpdateFault.{UpdateFault}
+use Rattle.rs_update.specs.declared.attribute_type.Lengths.{Lengths}
+use Rattle.rs_update.specs.declared.attribute_type.Lengths.TheVariants.{Exactly}
 use Rattle.rs_update.specs.declared.fault.UpdateFault.TheVariants.{MalformedAttributeList, UnrecognizedWellKnown, AttributeFlags, AttributeLength, InvalidOrigin, MalformedAsPath}
-use Rattle.rs_update.specs.AttributeType.{type_of, is_unrecognized, is_optional, flags_of, suits}
+use Rattle.rs_update.specs.AttributeType.{type_of, row_of, is_unrecognized, is_optional, is_extended, flags_of, suits, admits}
 use Rattle.rs_update.specs.Fault.{first_fault, or_else}
 use Rattle.rs_update.specs.Gathered.{look}
 use Rattle.rs_update.specs.Parts.{AreOctets}
-use Rattle.rs_update.specs.Section.{Item, items_of, rest_of, tests_of, has_type, first_item_fault, section_fault, suits_length, value_tests, is_origin, is_path}
-use Rattle.rs_update.specs.AttributeType.{is_extended}
-use Rattle.rs_update.proofs.attributes.KindLemmas.{kind_of_found, some_same}
+use Rattle.rs_update.specs.Section.{Item, items_of, rest_of, tests_of, own_fault_of, has_type, first_item_fault, section_fault, suits_length, value_tests, is_origin, is_path}
+use Rattle.rs_update.proofs.attributes.KindLemmas.{kind_of_found}
 use Rattle.rs_update.proofs.section.ReceivedLemmas.{IsReceived, section-is_spelled}
 
 -- no fault, and none later
@@ -21,14 +23,10 @@ pub neither : {F : Type 0} (a b : Option F) → or_else a b ≡ None → (a ≡ 
 neither None b e = (refl, e)
 neither (Some fault) b e = absurd cc
 
--- a test that finds nothing, and those behind it
-pub passed : {F : Type 0} (test : Bool × F) (later : List (Bool × F)) → first_fault (test ∷ later) ≡ None → (test.0 ≡ false) × (first_fault later ≡ None)
-passed (true, fault) later e = absurd cc
-passed (false, fault) later e = (refl, e)
-
-fault_unless : (b : Bool) (fault : Option UpdateFault) → cond b (Some MalformedAttributeList) fault ≡ None → (b ≡ false) × (fault ≡ None)
-fault_unless true fault e = absurd cc
-fault_unless false fault e = (refl, e)
+-- a test that finds nothing, and what stands behind it
+pub passed : {F : Type 0} (test : Bool) (fault : F) (later : Option F) → cond test (Some fault) later ≡ None → (test ≡ false) × (later ≡ None)
+passed true fault later e = absurd cc
+passed false fault later e = (refl, e)
 
 none_unless : (b : Bool) → cond b None (Some MalformedAttributeList) ≡ None → b ≡ true
 none_unless true e = refl
@@ -46,7 +44,7 @@ pub item_without : (earlier : List Item) (item : Item) (later : List Item) → f
 unfolding first_item_fault
 item_without earlier item later e =
     let both = neither _ _ e in
-    let own = fault_unless _ _ both.0 in
+    let own = passed _ MalformedAttributeList (own_fault_of item) both.0 in
     (own.0, own.1, both.1)
 
 pub later_without : (earlier front : List Item) (item : Item) (later : List Item) → first_item_fault earlier (front ++ item ∷ later) ≡ None → has_type item.kind (earlier ++ front) ≡ false
@@ -62,7 +60,7 @@ look_without earlier (first ∷ items) kind item none e =
     let here = item_without earlier first items none in
     elim (cases_Bool (eqb first.kind kind)) [
       | inl same ↦
-          let is : first ≡ item = some_same first item (rw same at e) in
+          let is : first ≡ item = same_Some first item (rw same at e) in
           subst (λ (i : Item). first_fault (tests_of (type_of i.kind) i.flags i.value) ≡ None) is here.1
       | inr other ↦ look_without (earlier ++ first ∷ []) items kind item here.2 (rw other at e)
     ]
@@ -71,7 +69,7 @@ look_received : (items : List Item) (kind : ℕ) (item : Item) → AllByRecursio
 look_received [] kind item each e = absurd cc
 look_received (first ∷ items) kind item each e =
     elim (cases_Bool (eqb first.kind kind)) [
-      | inl same ↦ let is : first ≡ item = some_same first item (rw same at e) in subst IsReceived is each.0
+      | inl same ↦ let is : first ≡ item = same_Some first item (rw same at e) in subst IsReceived is each.0
       | inr other ↦ look_received items kind item each.1 (rw other at e)
     ]
 
@@ -89,70 +87,48 @@ pub record IsSound (kind : ℕ) (item : Item) : Type 0 where
   pub tests : first_fault (tests_of (type_of kind) item.flags item.value) ≡ None
   pub received : IsReceived item
 
+look_tests : (items : List Item) (kind : ℕ) (item : Item) → first_item_fault [] items ≡ None → look kind items ≡ Some item → first_fault (tests_of (type_of kind) item.flags item.value) ≡ None
+look_tests items kind item none e =
+    subst (λ (k : ℕ). first_fault (tests_of (type_of k) item.flags item.value) ≡ None) (kind_of_found (λ (i : Item). i.kind) kind items item e) (look_without [] items kind item none e)
+
 pub look_sound : (items : List Item) (kind : ℕ) (item : Item) → AreSound items → look kind items ≡ Some item → IsSound kind item
-look_sound items kind item sound e =
-    let is : item.kind ≡ kind = kind_of_found (λ (i : Item). i.kind) kind items item e in
-    record {
-      has_kind = is;
-      tests = subst (λ (k : ℕ). first_fault (tests_of (type_of k) item.flags item.value) ≡ None) is (look_without [] items kind item sound.without e);
-      received = look_received items kind item sound.received e;
-    }
+look_sound items kind item sound e = record {
+  has_kind = kind_of_found (λ (i : Item). i.kind) kind items item e;
+  tests = look_tests items kind item sound.without e;
+  received = look_received items kind item sound.received e;
+}
 
 -- ---- what the tests say of a value
-
-not_not : (b : Bool) → not b ≡ false → b ≡ true
-not_not true e = refl
-not_not false e = absurd cc
-
-both_true : (a b : Bool) → (a && b) ≡ true → (a ≡ true) × (b ≡ true)
-both_true true true e = (refl, refl)
-both_true true false e = absurd cc
-both_true false b e = absurd cc
 
 -- flags and length
 pub tests_passed : (type : AttributeType) (flags : ℕ) (value : List ℕ) → first_fault (tests_of type flags value) ≡ None
     → ((is_unrecognized type && not (is_optional flags)) ≡ false) × (suits (flags_of type) flags ≡ true) × (suits_length type (length value) ≡ true) × (first_fault (value_tests type value) ≡ None)
 tests_passed type flags value e =
-    let third : List (Bool × UpdateFault) = (not (suits_length type (length value)), AttributeLength) ∷ value_tests type value in
-    let second : List (Bool × UpdateFault) = (not (suits (flags_of type) flags), AttributeFlags) ∷ third in
-    let a = passed (is_unrecognized type && not (is_optional flags), UnrecognizedWellKnown) second e in
-    let b = passed (not (suits (flags_of type) flags), AttributeFlags) third a.1 in
-    let c = passed (not (suits_length type (length value)), AttributeLength) (value_tests type value) b.1 in
-    (a.0, not_not _ b.0, not_not _ c.0, c.1)
+    let a = passed (is_unrecognized type && not (is_optional flags)) UnrecognizedWellKnown _ e in
+    let b = passed (not (suits (flags_of type) flags)) AttributeFlags _ a.1 in
+    let c = passed (not (suits_length type (length value))) AttributeLength _ b.1 in
+    (a.0, not-false _ b.0, not-false _ c.0, c.1)
 
-pub origin_value : (item : Item) → IsSound 1 item → (length item.value ≡ 1) × (is_origin item.value ≡ true)
+pub origin_value : (item : Item) → IsSound 1 item → is_origin item.value ≡ true
 origin_value item sound =
     let all = tests_passed types.Origin item.flags item.value sound.tests in
-    let code : is_origin item.value ≡ true = not_not _ (passed (not (is_origin item.value), InvalidOrigin) [] all.3).0 in
-    (eqb-true _ _ all.2, code)
+    not-false _ (passed (not (is_origin item.value)) InvalidOrigin None all.3).0
 
 pub path_value : (item : Item) → IsSound 2 item → is_path item.value ≡ true
 path_value item sound =
     let all = tests_passed types.AsPath item.flags item.value sound.tests in
-    not_not _ (passed (not (is_path item.value), MalformedAsPath) [] all.3).0
-
-pub next_hop_value : (item : Item) → IsSound 3 item → length item.value ≡ 4
-next_hop_value item sound = eqb-true _ _ (tests_passed types.NextHop item.flags item.value sound.tests).2
-
-pub med_value : (item : Item) → IsSound 4 item → length item.value ≡ 4
-med_value item sound = eqb-true _ _ (tests_passed types.MultiExitDisc item.flags item.value sound.tests).2
-
--- the length of a value, by its type alone
-pub look_suits : (section : List ℕ) (kind : ℕ) (item : Item) → section_fault section ≡ None → look kind (items_of section) ≡ Some item → suits_length (type_of kind) (length item.value) ≡ true
-look_suits section kind item faultless e =
-    let items = items_of section in
-    let is : item.kind ≡ kind = kind_of_found (λ (i : Item). i.kind) kind items item e in
-    let tests = look_without [] items kind item (section_without section faultless).0 e in
-    (tests_passed (type_of kind) item.flags item.value (subst (λ (k : ℕ). first_fault (tests_of (type_of k) item.flags item.value) ≡ None) is tests)).2
-
-pub atomic_value : (item : Item) → IsSound 6 item → length item.value ≡ 0
-atomic_value item sound = eqb-true _ _ (tests_passed types.AtomicAggregate item.flags item.value sound.tests).2
-
-pub aggregator_value : (item : Item) → IsSound 7 item → length item.value ≡ 8
-aggregator_value item sound = eqb-true _ _ (tests_passed types.Aggregator item.flags item.value sound.tests).2
+    not-false _ (passed (not (is_path item.value)) MalformedAsPath None all.3).0
 
 pub communities_value : (item : Item) → IsSound 8 item → length item.value % 4 ≡ 0
-communities_value item sound = eqb-true _ _ (both_true _ _ (tests_passed types.Communities item.flags item.value sound.tests).2).1
+communities_value item sound = eqb-true _ _ (and_parts _ _ (tests_passed types.Communities item.flags item.value sound.tests).2).1
+
+-- a value of just so many octets, by its type
+pub exact_value : (kind wanted : ℕ) (item : Item) → (row_of (type_of kind)).lengths ≡ Exactly wanted → first_fault (tests_of (type_of kind) item.flags item.value) ≡ None → length item.value ≡ wanted
+exact_value kind wanted item exactly tests =
+    eqb-true _ _ (subst (λ (lengths : Lengths). admits lengths (length item.value) ≡ true) exactly (tests_passed (type_of kind) item.flags item.value tests).2)
+
+pub look_exact : (section : List ℕ) (kind wanted : ℕ) (item : Item) → (row_of (type_of kind)).lengths ≡ Exactly wanted → section_fault section ≡ None → look kind (items_of section) ≡ Some item → length item.value ≡ wanted
+look_exact section kind wanted item exactly faultless e = exact_value kind wanted item exactly (look_tests (items_of section) kind item (section_without section faultless).0 e)
 
 -- a length that fits its octets fits two octets
 pub received_short : (item : Item) → IsReceived item → length item.value < 65536

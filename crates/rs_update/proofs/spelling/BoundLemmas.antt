@@ -3,6 +3,7 @@ use Rattle.std.proofs.Common.{◌≡◌, ℕ, zero, suc, ◌+◌, ◌<◌, ◌�
 use Rattle.std.specs.List.{filter_map, range_with_len, flat_map, AllByRecursion}
 use Rattle.std.proofs.lemmas.Bool.{cases_Bool, cases_eq, cases_lt, eq-eqb, ne_eqb, lt-ltb, le-ltb}
 use Rattle.std.proofs.lemmas.List.{length-append}
+use Rattle.std.proofs.lemmas.Option.{same_Some}
 use Rattle.rs_update.specs.declared.attribute_type.AttributeType.{AttributeType}
 use Rattle.rs_update.specs.declared.attribute_type.WantedFlags.{WantedFlags}
 use Rattle.rs_update.specs.declared.attribute_type.WantedFlags.TheVariants.{WellKnown, OptionalNonTransitive, OptionalTransitive, Optional, Any}
@@ -14,7 +15,7 @@ use Rattle.rs_update.specs.PathAttributes.{PathAttributes}
 use Rattle.rs_update.specs.Section.{Item, spelled_length, items_of, rest_of, section_fault}
 use Rattle.rs_update.specs.Spelling.{written_flags, spelled_item, written, written_items}
 use Rattle.rs_update.proofs.spelling.KeptLemmas.{written_items-kept}
-use Rattle.rs_update.proofs.attributes.KindLemmas.{cases_Option, some_same, All-range}
+use Rattle.rs_update.proofs.attributes.KindLemmas.{cases_Option, All-range}
 use Rattle.rs_update.proofs.section.ReceivedLemmas.{IsReceived, section-is_spelled}
 use Rattle.rs_update.proofs.section.SoundLemmas.{AreSound, sound_section, look_sound}
 use Rattle.rs_update.proofs.attributes.WholeLemmas.{made_of}
@@ -44,12 +45,12 @@ plain_partial true = plain_E0
 plain_partial false = plain_C0
 
 kept_by-is : (wanted : WantedFlags) (item kept : Item) → kept_by wanted item ≡ Some kept → IsKept item kept
-kept_by-is WellKnown item kept e = record { flags = 0x40; plain = plain_40; is = sym (some_same _ _ e) }
-kept_by-is OptionalNonTransitive item kept e = record { flags = 0x80; plain = plain_80; is = sym (some_same _ _ e) }
-kept_by-is OptionalTransitive item kept e = record { flags = cond (is_partial item.flags) 0xE0 0xC0; plain = plain_partial (is_partial item.flags); is = sym (some_same _ _ e) }
+kept_by-is WellKnown item kept e = record { flags = 0x40; plain = plain_40; is = sym (same_Some _ _ e) }
+kept_by-is OptionalNonTransitive item kept e = record { flags = 0x80; plain = plain_80; is = sym (same_Some _ _ e) }
+kept_by-is OptionalTransitive item kept e = record { flags = cond (is_partial item.flags) 0xE0 0xC0; plain = plain_partial (is_partial item.flags); is = sym (same_Some _ _ e) }
 kept_by-is Optional item kept e =
     elim (cases_Bool (is_transitive item.flags)) [
-      | inl passed ↦ record { flags = 0xE0; plain = plain_E0; is = sym (some_same _ _ (rw passed at e)) }
+      | inl passed ↦ record { flags = 0xE0; plain = plain_E0; is = sym (same_Some _ _ (rw passed at e)) }
       | inr dropped ↦ let none = rw dropped at e in absurd cc
     ]
 kept_by-is Any item kept e = absurd cc

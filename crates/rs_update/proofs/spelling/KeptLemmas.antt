@@ -18,10 +18,12 @@ use Rattle.rs_update.specs.Section.{Item, origin_of, is_origin, is_path}
 use Rattle.rs_update.specs.Spelling.{well_known, optional_non_transitive, optional_transitive, aggregator_item, communities_item, origin_code, passed_on_item, written_item, written_items}
 use Rattle.rs_update.proofs.attributes.FoundLemmas.{number_is}
 use Rattle.rs_update.proofs.attributes.KindLemmas.{cases_Option, find-made, range-any, All-range, filter_map-same}
-use Rattle.rs_update.proofs.fields.OctetLemmas.{AreOctets-drop, big_bytes-big_number, spelled_numbers-all}
+use Rattle.rs_update.proofs.fields.OctetLemmas.{big_bytes-big_number}
+use Rattle.rs_update.proofs.fields.PartsLemmas.{AreOctets-drop}
+use Rattle.rs_update.proofs.as_path.SegmentLemmas.{spelled_numbers-all}
 use Rattle.rs_update.proofs.attributes.OthersLemmas.{passed_on_kind}
 use Rattle.rs_update.proofs.section.ReceivedLemmas.{value-is_spelled}
-use Rattle.rs_update.proofs.section.SoundLemmas.{AreSound, IsSound, look_sound, origin_value, path_value, next_hop_value, med_value, atomic_value, aggregator_value, communities_value}
+use Rattle.rs_update.proofs.section.SoundLemmas.{AreSound, IsSound, look_sound, origin_value, path_value, communities_value, exact_value}
 
 -- ---- the values
 
@@ -77,7 +79,7 @@ module _ (items : List Item) (sound : AreSound items) (origin path next_hop : It
   written_origin : written_item the_attributes 1 types.Origin ≡ option_and_then (kept_as types.Origin) (look 1 items)
   written_origin =
       let is = look_sound items 1 origin sound has_origin in
-      let value = code_again origin.value (origin_value origin is).1 in
+      let value = code_again origin.value (origin_value origin is) in
       let kind = is.has_kind in
       rw has_origin (ap (λ (v : List ℕ). Some (well_known 1 v)) value ∙ ap (λ (k : ℕ). Some (well_known k origin.value)) (sym kind))
 
@@ -91,7 +93,7 @@ module _ (items : List Item) (sound : AreSound items) (origin path next_hop : It
   written_next_hop : written_item the_attributes 3 types.NextHop ≡ option_and_then (kept_as types.NextHop) (look 3 items)
   written_next_hop =
       let is = look_sound items 3 next_hop sound has_next_hop in
-      let value = number_again next_hop.value is.received.value_octets (next_hop_value next_hop is) in
+      let value = number_again next_hop.value is.received.value_octets (exact_value 3 4 next_hop refl is.tests) in
       let kind = is.has_kind in
       rw has_next_hop (ap (λ (v : List ℕ). Some (well_known 3 v)) value ∙ ap (λ (k : ℕ). Some (well_known k next_hop.value)) (sym kind))
 
@@ -107,17 +109,17 @@ module _ (items : List Item) (sound : AreSound items) (origin path next_hop : It
   written_med : written_item the_attributes 4 types.MultiExitDisc ≡ option_and_then (kept_as types.MultiExitDisc) (look 4 items)
   written_med =
       written_found 4 types.MultiExitDisc (λ found. option_map (λ med. optional_non_transitive 4 (big_bytes 4 med)) (option_map (λ (item : Item). big_number 4 item.value) found)) refl
-      (λ item is. value_as_received optional_non_transitive 4 item _ is.has_kind (number_again item.value is.received.value_octets (med_value item is)))
+      (λ item is. value_as_received optional_non_transitive 4 item _ is.has_kind (number_again item.value is.received.value_octets (exact_value 4 4 item refl is.tests)))
 
   written_atomic : written_item the_attributes 6 types.AtomicAggregate ≡ option_and_then (kept_as types.AtomicAggregate) (look 6 items)
   written_atomic =
       written_found 6 types.AtomicAggregate (λ found. if is_some found then Some (well_known 6 []) else None) refl
-      (λ item is. value_as_received well_known 6 item [] is.has_kind (sym (nil_from_length item.value (atomic_value item is))))
+      (λ item is. value_as_received well_known 6 item [] is.has_kind (sym (nil_from_length item.value (exact_value 6 0 item refl is.tests))))
 
   written_aggregator : written_item the_attributes 7 types.Aggregator ≡ option_and_then (kept_as types.Aggregator) (look 7 items)
   written_aggregator =
       written_found 7 types.Aggregator (λ found. option_map (aggregator_item 7) (option_map aggregator_of found)) refl
-      (λ item is. value_as_received (optional_transitive (is_partial item.flags)) 7 item _ is.has_kind (two_numbers_again item.value is.received.value_octets (aggregator_value item is)))
+      (λ item is. value_as_received (optional_transitive (is_partial item.flags)) 7 item _ is.has_kind (two_numbers_again item.value is.received.value_octets (exact_value 7 8 item refl is.tests)))
 
   written_communities : written_item the_attributes 8 types.Communities ≡ option_and_then (kept_as types.Communities) (look 8 items)
   written_communities =

@@ -2,6 +2,7 @@
 use Rattle.std.proofs.Common.{◌≡◌, ℕ, zero, suc, ◌+◌, ◌<◌, ◌&&◌, Bool, true, false, not, cond, eqb, List, [], ◌∷◌, ◌++◌, length, Option, Some, None, refl, sym, ap, subst, ◌∙◌, arith, inl, inr}
 use Rattle.std.specs.List.{filter_map, range_with_len, AllByRecursion}
 use Rattle.std.proofs.lemmas.Bool.{cases_Bool, cases_lt, ne_eqb, lt-ltb, le-ltb}
+use Rattle.std.proofs.lemmas.Option.{same_Some}
 use Rattle.rs_update.specs.declared.attribute_type.AttributeType.{AttributeType}
 use Rattle.rs_update.specs.declared.attribute_type.WantedFlags.{WantedFlags}
 use Rattle.rs_update.specs.declared.attribute_type.WantedFlags.TheVariants.{WellKnown, OptionalNonTransitive, OptionalTransitive, Optional, Any}
@@ -13,7 +14,7 @@ use Rattle.rs_update.specs.Section.{Item, FitsItsLength, tests_of, suits_length,
 use Rattle.rs_update.specs.Spelling.{written_flags}
 use Rattle.rs_update.proofs.spelling.BoundLemmas.{kept_as-is}
 use Rattle.rs_update.proofs.attributes.FoundLemmas.{known_number}
-use Rattle.rs_update.proofs.attributes.KindLemmas.{cases_Option, some_same}
+use Rattle.rs_update.proofs.attributes.KindLemmas.{cases_Option}
 use Rattle.rs_update.proofs.section.SoundLemmas.{AreSound, IsSound, look_sound, tests_passed, received_short}
 
 -- ---- flags as they are written
@@ -56,13 +57,13 @@ pub record SuitsType (type : AttributeType) (flags : ℕ) : Type 0 where
 
 -- the flags of what is kept are what they must say
 kept_bits : (wanted : WantedFlags) (item kept : Item) → kept_by wanted item ≡ Some kept → suits wanted kept.flags ≡ true
-kept_bits WellKnown item kept e = let is = some_same _ _ e in subst (λ (k : Item). suits WellKnown k.flags ≡ true) is (well_known_suits item.value)
-kept_bits OptionalNonTransitive item kept e = let is = some_same _ _ e in subst (λ (k : Item). suits OptionalNonTransitive k.flags ≡ true) is (non_transitive_suits item.value)
-kept_bits OptionalTransitive item kept e = let is = some_same _ _ e in subst (λ (k : Item). suits OptionalTransitive k.flags ≡ true) is (transitive_suits (is_partial item.flags) item.value)
+kept_bits WellKnown item kept e = let is = same_Some _ _ e in subst (λ (k : Item). suits WellKnown k.flags ≡ true) is (well_known_suits item.value)
+kept_bits OptionalNonTransitive item kept e = let is = same_Some _ _ e in subst (λ (k : Item). suits OptionalNonTransitive k.flags ≡ true) is (non_transitive_suits item.value)
+kept_bits OptionalTransitive item kept e = let is = same_Some _ _ e in subst (λ (k : Item). suits OptionalTransitive k.flags ≡ true) is (transitive_suits (is_partial item.flags) item.value)
 kept_bits Any item kept e = absurd cc
 kept_bits Optional item kept e =
     elim (cases_Bool (is_transitive item.flags)) [
-      | inl passed ↦ let is = some_same _ _ (rw passed at e) in subst (λ (k : Item). is_optional k.flags ≡ true) is (passed_on_optional item.value)
+      | inl passed ↦ let is = same_Some _ _ (rw passed at e) in subst (λ (k : Item). is_optional k.flags ≡ true) is (passed_on_optional item.value)
       | inr dropped ↦ let none = rw dropped at e in absurd cc
     ]
 

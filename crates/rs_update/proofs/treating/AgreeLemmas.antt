@@ -1,6 +1,6 @@
 -- RFC 7606 beside RFC 4271: where nothing is at fault they agree, and the strongest of what is found counts.
 -- For `without_a_fault_both_standards_agree` and `the_strongest_that_is_found_counts` of laws.rt.
-use Rattle.std.proofs.Common.{◌≡◌, ℕ, ◌≤◌, Bool, true, false, List, [], ◌∷◌, ◌++◌, drop, Option, Some, None, Result, Ok, Err, refl, ap, ◌∙◌, arith, append_assoc}
+use Rattle.std.proofs.Common.{◌≡◌, ℕ, ◌≤◌, max, Bool, true, false, List, [], ◌∷◌, ◌++◌, drop, Option, Some, None, Result, Ok, Err, refl, ap, ◌∙◌, arith, append_assoc}
 use Rattle.std.specs.Prelude.{if◌then◌else◌}
 use Rattle.std.specs.Option.{option_map}
 use Rattle.std.proofs.lemmas.List.{append-nil}
@@ -21,11 +21,13 @@ use Rattle.rs_update.specs.Handling.{stronger, handling_again, handling_of_own, 
 use Rattle.rs_update.specs.Header.{header_of}
 use Rattle.rs_update.specs.IpPrefix.{IpPrefix}
 use Rattle.rs_update.specs.Laws.{StandardsAgree, StrongestIsFound, strength}
-use Rattle.rs_update.specs.Message.{MessageContent, UpdateContent, IsUpdate, ◌>>=◌, passes, length_tests, listed_prefixes, announced_attributes, withdrawn_field, section_field, nlri_field, update_message, update_of, typed_message, message_of}
+use Rattle.rs_update.specs.Message.{MessageContent, UpdateContent, IsUpdate, length_tests, listed_prefixes, announced_attributes, withdrawn_field, section_field, nlri_field, update_message, update_of, typed_message, message_of}
 use Rattle.rs_update.specs.PathAttributes.{PathAttributes}
 use Rattle.rs_update.specs.Section.{Item, items_of, rest_of, has_type, own_fault_of, fault_behind, first_item_fault, section_fault}
-use Rattle.rs_update.specs.Treating.{reset_of, kept_attributes, standing_attributes, content_with, treating_update_of, treating_message, typed_message_by, message_by}
+use Rattle.rs_update.specs.Treating.{reset_of, kept_attributes, standing_attributes, treating_update_of, treating_message, typed_message_by, message_by}
+use Rattle.rs_update.proofs.message.MessageLemmas.{steps}
 use Rattle.rs_update.proofs.treating.HandlingLemmas.{nothing_discarded}
+use Rattle.rs_update.proofs.treating.TreatingLemmas.{treating_steps}
 use Rattle.rs_update.proofs.section.SoundLemmas.{neither, section_without}
 
 -- ---- where nothing is at fault
@@ -58,24 +60,6 @@ announced_kept section (octet ∷ nlri) attributes all =
       | None ↦ λ e. absurd cc
       | Some given ↦ λ e. cc
     ])
-
--- the steps of an UPDATE by RFC 4271, and by RFC 7606
-abbrev steps : Option UpdateFault → Option UpdateFault → Result (Option PathAttributes) UpdateFault → Result (List IpPrefix) UpdateFault → Result (List IpPrefix) UpdateFault → Result UpdateContent UpdateFault
-steps lengths section announced withdrawn nlri = do
-  _lengths ← passes lengths
-  _section ← passes section
-  attributes ← announced
-  first ← withdrawn
-  second ← nlri
-  Ok (record { withdrawn = first; attributes = attributes; nlri = second })
-
-abbrev treating_steps : Option UpdateFault → Option UpdateFault → Result (List IpPrefix) UpdateFault → Result (List IpPrefix) UpdateFault → Option (Option PathAttributes) → Result MessageContent UpdateFault
-treating_steps lengths section withdrawn nlri standing = do
-  _lengths ← passes lengths
-  _section ← passes section
-  first ← withdrawn
-  second ← nlri
-  Ok (content_with standing first second)
 
 steps_agree : (lengths section reset : Option UpdateFault) (announced : Result (Option PathAttributes) UpdateFault) (withdrawn nlri : Result (List IpPrefix) UpdateFault) (standing : Option (Option PathAttributes)) (content : UpdateContent)
     → (section ≡ None → reset ≡ None) → (section ≡ None → (attributes : Option PathAttributes) → announced ≡ Ok attributes → standing ≡ Some attributes)
@@ -121,35 +105,27 @@ both_agree octets content e = headers_agree (header_of octets) (drop 19 octets) 
 
 -- ---- the strongest counts
 
-first_counts : (a b : Handling) → strength a ≤ strength (stronger a b)
-first_counts Keep b = omega arith
-first_counts AttributeDiscard Keep = omega arith
-first_counts AttributeDiscard AttributeDiscard = omega arith
-first_counts AttributeDiscard TreatAsWithdraw = omega arith
-first_counts AttributeDiscard (SessionReset fault) = omega arith
-first_counts TreatAsWithdraw Keep = omega arith
-first_counts TreatAsWithdraw AttributeDiscard = omega arith
-first_counts TreatAsWithdraw TreatAsWithdraw = omega arith
-first_counts TreatAsWithdraw (SessionReset fault) = omega arith
-first_counts (SessionReset fault) b = omega arith
+-- the stronger of two is as strong as each of them
+stronger-most : (a b : Handling) → strength (stronger a b) ≡ max (strength a) (strength b)
+stronger-most Keep b = omega arith
+stronger-most AttributeDiscard Keep = refl
+stronger-most AttributeDiscard AttributeDiscard = refl
+stronger-most AttributeDiscard TreatAsWithdraw = refl
+stronger-most AttributeDiscard (SessionReset fault) = refl
+stronger-most TreatAsWithdraw Keep = refl
+stronger-most TreatAsWithdraw AttributeDiscard = refl
+stronger-most TreatAsWithdraw TreatAsWithdraw = refl
+stronger-most TreatAsWithdraw (SessionReset fault) = refl
+stronger-most (SessionReset fault) Keep = refl
+stronger-most (SessionReset fault) AttributeDiscard = refl
+stronger-most (SessionReset fault) TreatAsWithdraw = refl
+stronger-most (SessionReset fault) (SessionReset later) = refl
 
-at_most_3 : (a : Handling) → strength a ≤ 3
-at_most_3 Keep = omega arith
-at_most_3 AttributeDiscard = omega arith
-at_most_3 TreatAsWithdraw = omega arith
-at_most_3 (SessionReset fault) = omega arith
+first_counts : (a b : Handling) → strength a ≤ strength (stronger a b)
+first_counts a b = omega (arith, stronger-most a b)
 
 later_counts : (a b : Handling) → strength b ≤ strength (stronger a b)
-later_counts Keep b = omega arith
-later_counts AttributeDiscard Keep = omega arith
-later_counts AttributeDiscard AttributeDiscard = omega arith
-later_counts AttributeDiscard TreatAsWithdraw = omega arith
-later_counts AttributeDiscard (SessionReset fault) = omega arith
-later_counts TreatAsWithdraw Keep = omega arith
-later_counts TreatAsWithdraw AttributeDiscard = omega arith
-later_counts TreatAsWithdraw TreatAsWithdraw = omega arith
-later_counts TreatAsWithdraw (SessionReset fault) = omega arith
-later_counts (SessionReset fault) b = at_most_3 b
+later_counts a b = omega (arith, stronger-most a b)
 
 each_counts : (earlier before : List Item) (item : Item) (after : List Item) → strength (handling_behind (earlier ++ before) item) ≤ strength (strongest_behind earlier (before ++ item ∷ after))
 unfolding strongest_behind

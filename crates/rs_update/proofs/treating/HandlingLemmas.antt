@@ -19,8 +19,8 @@ use Rattle.rs_update.specs.Spelling.{spelled_item}
 use Rattle.rs_update.proofs.attributes.FoundLemmas.{items_of-step, items_of-end}
 use Rattle.rs_update.proofs.section.ItemLemmas.{item_shrinks}
 use Rattle.rs_update.proofs.fields.PartsLemmas.{parts_of-some, parts_of-none}
-use Rattle.rs_update.proofs.section.ReceivedLemmas.{IsReceived, item_at-reads, Reads-is, section-is_spelled}
-use Rattle.rs_update.proofs.section.SectionLemmas.{IsSeen, one_seen, list_any-push}
+use Rattle.rs_update.proofs.section.ReceivedLemmas.{IsReceived, item_at-reads, section-is_spelled}
+use Rattle.rs_update.proofs.section.SectionLemmas.{IsSeen, fault_of_parts, one_seen, list_any-push}
 use Rattle.rs_update.proofs.fields.SpelledParts.{items_of-spelled}
 
 -- ---- the stronger of two
@@ -236,12 +236,9 @@ kept_parts section are = items_of-spelled (kept_of (items_of section)) (kept_fit
 pub kept_items : (section : List ℕ) → AreOctets section → items_of (kept_section section) ≡ kept_of (items_of section)
 kept_items section are = ap (λ (parts : List Item × List ℕ). parts.0) (kept_parts section are)
 
-abbrev fault_of_both : List Item × List ℕ → Option UpdateFault
-fault_of_both parts = or_else (first_item_fault [] parts.0) (if length parts.1 == 0 then None else Some MalformedAttributeList)
-
 pub kept_faultless : (section : List ℕ) → AreOctets section → section_fault (kept_section section) ≡ None
 kept_faultless section are =
-    ap fault_of_both (kept_parts section are)
+    ap (fault_of_parts []) (kept_parts section are)
     ∙ ap (λ (found : Option UpdateFault). or_else found None) (kept_without [] [] (items_of section) (λ kind there. there))
 
 pub kept_bound : (section : List ℕ) → AreOctets section → length (kept_section section) ≤ length section
@@ -288,7 +285,7 @@ keeps_on-yes seen octets behind kept whole item octet read stays before =
     let here : is_kept (handling_behind earlier item) ≡ true = ap is_kept (sym (handling_seen-is seen earlier item octet before.1)) ∙ sym stays in
     let items = items_of-step octets (item, behind) (sym read) in
     let step = ap (kept_behind earlier) items ∙ kept-yes earlier item (items_of behind) here in
-    let reads = Reads-is octets (item, behind) (item_at-reads octets (item, behind) before.3 (sym read)) in (
+    let reads = item_at-reads octets (item, behind) before.3 (sym read) in (
       earlier ++ item ∷ [],
       one_seen seen earlier item octet before.1,
       append_assoc kept (spelled_item item) (flat_map spelled_item (kept_behind (earlier ++ item ∷ []) (items_of behind))) ∙ ap (λ (items : List Item). kept ++ flat_map spelled_item items) (sym step) ∙ before.2,
@@ -302,7 +299,7 @@ keeps_on-no seen octets behind kept whole item octet read goes before =
     let here : is_kept (handling_behind earlier item) ≡ false = ap is_kept (sym (handling_seen-is seen earlier item octet before.1)) ∙ sym goes in
     let items = items_of-step octets (item, behind) (sym read) in
     let step = ap (kept_behind earlier) items ∙ kept-no earlier item (items_of behind) here in
-    let reads = Reads-is octets (item, behind) (item_at-reads octets (item, behind) before.3 (sym read)) in (
+    let reads = item_at-reads octets (item, behind) before.3 (sym read) in (
       earlier ++ item ∷ [],
       one_seen seen earlier item octet before.1,
       ap (λ (items : List Item). kept ++ flat_map spelled_item items) (sym step) ∙ before.2,
@@ -320,5 +317,5 @@ front_of front behind = take_at front behind _ (omega (arith, length-append fron
 
 pub taken_is_spelled : (octets behind : List ℕ) (item : Item) → AreOctets octets → Some (item, behind) ≡ item_at octets → take (length octets - length behind) octets ≡ spelled_item item
 taken_is_spelled octets behind item are read =
-    let whole = (Reads-is octets (item, behind) (item_at-reads octets (item, behind) are (sym read))).0 in
+    let whole = (item_at-reads octets (item, behind) are (sym read)).0 in
     rw (sym whole) (front_of (spelled_item item) behind)

@@ -76,8 +76,8 @@ untreated_answered octets (Ok kinds.Refresh) answers = tt
 -- ---- attributes and announced prefixes
 
 -- the steps of an UPDATE by RFC 7606, over what each of them finds
-abbrev steps : Option UpdateFault → Option UpdateFault → Result (List IpPrefix) UpdateFault → Result (List IpPrefix) UpdateFault → Option (Option PathAttributes) → Result MessageContent UpdateFault
-steps lengths section withdrawn nlri standing = do
+abbrev pub treating_steps : Option UpdateFault → Option UpdateFault → Result (List IpPrefix) UpdateFault → Result (List IpPrefix) UpdateFault → Option (Option PathAttributes) → Result MessageContent UpdateFault
+treating_steps lengths section withdrawn nlri standing = do
   _lengths ← passes lengths
   _section ← passes section
   first ← withdrawn
@@ -92,7 +92,7 @@ content-is (Some attributes) withdrawn nlri content e =
     (ap (λ (c : UpdateContent). c.nlri) is, ap (λ (c : UpdateContent). Some c.attributes) is)
 
 steps-content : (lengths section : Option UpdateFault) (withdrawn nlri : Result (List IpPrefix) UpdateFault) (standing : Option (Option PathAttributes)) (content : UpdateContent)
-    → steps lengths section withdrawn nlri standing ≡ Ok (IsUpdate content) → (nlri ≡ Ok content.nlri) × (standing ≡ Some content.attributes)
+    → treating_steps lengths section withdrawn nlri standing ≡ Ok (IsUpdate content) → (nlri ≡ Ok content.nlri) × (standing ≡ Some content.attributes)
 steps-content (Some fault) section withdrawn nlri standing content e = absurd cc
 steps-content None (Some fault) withdrawn nlri standing content e = absurd cc
 steps-content None None (Err fault) nlri standing content e = absurd cc

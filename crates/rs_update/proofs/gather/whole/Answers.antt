@@ -1,4 +1,4 @@
-use Rattle.std.proofs.Common.{◌∙◌, sym, ap, arith, ℕ, List, Option, Some, length, rules}
+use Rattle.std.proofs.Common.{◌∙◌, refl, sym, ap, arith, ℕ, List, Option, Some, length, rules}
 use Rattle.std.specs.Prelude.{unwrap_or}
 use Rattle.std.specs.Option.{option_map}
 use Rattle.byteorder.specs.Endian.{big_number}
@@ -11,28 +11,18 @@ use Rattle.rs_update.specs.PathAttributes.{PathAttributes}
 use Rattle.rs_update.specs.Section.{Item, items_of}
 use Rattle.rs_update.specs.Spelling.{written}
 use Rattle.rs_update.proofs.section.ReceivedLemmas.{path_length_fits}
-use Rattle.rs_update.proofs.section.SoundLemmas.{sound_section, look_sound, origin_value, med_value}
+use Rattle.rs_update.proofs.section.SoundLemmas.{sound_section, look_sound, look_exact}
 use Rattle.rs_update.proofs.attributes.ViewLemmas.{spelled-says}
 use Rattle.rs_update.proofs.attributes.WholeLemmas.{there, found_short}
 use Rattle.rs_update.proofs.gather.whole.Goals as goal
 
 pub origin_of-requires : goal.origin_of-requires
-origin_of-requires c =
-    let items = items_of c.args.section.now in
-    let fit : AreOctets c.args.section.now = λ place. omega (arith, c.type_inv.section place) in
-    let sound = sound_section c.args.section.now fit c.requires.faultless in
-    let found = c.requires.origin_is in
-    let size = (origin_value (item_of c.args.origin) (look_sound items 1 (item_of c.args.origin) sound found)).0 in
-    omega (arith, size)
+origin_of-requires c = omega (arith, look_exact c.args.section.now 1 1 (item_of c.args.origin) refl c.requires.faultless c.requires.origin_is)
 
 pub med_of-requires : goal.med_of-requires
 med_of-requires c = λ x e.
-    let items = items_of c.args.section.now in
-    let fit : AreOctets c.args.section.now = λ place. omega (arith, c.type_inv.section place) in
-    let sound = sound_section c.args.section.now fit c.requires.faultless in
-    let found = there 4 items c.get.result x c.get.ensures e in
-    let size = med_value (item_of x) (look_sound items 4 (item_of x) sound found) in
-    omega (arith, size)
+    let found = there 4 (items_of c.args.section.now) c.get.result x c.get.ensures e in
+    omega (arith, look_exact c.args.section.now 4 4 (item_of x) refl c.requires.faultless found)
 
 pub place_of-requires : goal.place_of-requires
 place_of-requires c =

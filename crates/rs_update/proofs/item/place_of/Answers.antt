@@ -3,7 +3,7 @@ use Rattle.rs_update.specs.Items.{split_of}
 use Rattle.rs_update.specs.Spelling.{spelled_item}
 use Rattle.rs_update.proofs.section.ItemLemmas.{item_at-takes}
 use Rattle.rs_update.proofs.attributes.PlaceLemmas.{item_from-found, item_from-none, look-past}
-use Rattle.rs_update.proofs.section.ReceivedLemmas.{item_at-reads, Reads-is}
+use Rattle.rs_update.proofs.section.ReceivedLemmas.{item_at-reads}
 use Rattle.rs_update.proofs.item.place_of.Goals as goal
 use Rattle.rs_update.proofs.item.place_of.Goals.{in-Some+then-front-kind, in_default}
 
@@ -19,7 +19,7 @@ loop-front-preserved c =
     let rest = c.loop-front.rest.now in
     let split = split_of c.in-Some.front in
     let there = sym c.in-Some.ensures in
-    let reads = Reads-is rest split (item_at-reads rest split held.3 there) in
+    let reads = item_at-reads rest split held.3 there in
     let front = spelled_item split.0 in (
       omega (arith, held.0, item_at-takes rest split there),
       held.1 ++ front,

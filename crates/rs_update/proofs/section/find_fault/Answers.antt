@@ -1,18 +1,16 @@
 use Rattle.std.proofs.Common.{◌<◌, ◌∙◌, [], refl, sym, rules}
 use Rattle.rs_update.specs.Items.{item_of, split_of}
-use Rattle.rs_update.specs.Section.{section_fault}
-use Rattle.rs_update.proofs.message.ConcernLemmas.{no_types, one_type, all_types}
 use Rattle.rs_update.proofs.section.ItemLemmas.{item_at-takes}
-use Rattle.rs_update.proofs.section.SectionLemmas.{none_seen, goes_on, ends_at, ends_with}
+use Rattle.rs_update.proofs.section.SectionLemmas.{none_seen, goes_on, ends_at, ends_with, all_types}
 use Rattle.rs_update.proofs.section.find_fault.Goals as goal
 
 pub loop-split-init : goal.loop-split-init
-loop-split-init c = rw c.requires (record { fault = ([], none_seen, refl); types = no_types c.args.section.now })
+loop-split-init c = rw c.requires ([], none_seen, refl, refl)
 
 pub returns-in-Some-item_fault-clause-fault : goal.returns-in-Some-item_fault-clause-fault
 returns-in-Some-item_fault-clause-fault c =
     let octet : c.in-Some.split.0.kind < 256 = search rules in
-    ends_at c.loop-split.seen c.loop-split.rest.now c.in-Some.split.1.now (item_of c.in-Some.split.0) c.in-Some-item_fault.fault (section_fault c.args.section.now) octet c.in-Some.ensures c.in-Some-item_fault.ensures c.loop-split.invariant.fault
+    ends_at c.loop-split.seen c.loop-split.rest.now c.in-Some.split.1.now c.args.section.now (item_of c.in-Some.split.0) c.in-Some-item_fault.fault octet c.in-Some.ensures c.in-Some-item_fault.ensures c.loop-split.invariant
 
 pub loop-split-smaller : goal.loop-split-smaller
 loop-split-smaller c = item_at-takes c.loop-split.rest.now (split_of c.in-Some.split) (sym c.in-Some.ensures)
@@ -20,25 +18,20 @@ loop-split-smaller c = item_at-takes c.loop-split.rest.now (split_of c.in-Some.s
 pub loop-split-preserved : goal.loop-split-preserved
 loop-split-preserved c =
     let octet : c.in-Some.split.0.kind < 256 = search rules in
-    let held = c.loop-split.invariant in
-    let item = item_of c.in-Some.split.0 in
     rw c.from.ensures
-    (record {
-      fault = goes_on c.loop-split.seen c.loop-split.rest.now c.in-Some.split.1.now item (section_fault c.args.section.now) octet c.in-Some.ensures c.in_default-item_fault.ensures held.fault;
-      types = one_type c.loop-split.seen c.loop-split.rest.now c.in-Some.split.1.now c.args.section.now item held.fault.1.whole octet c.in-Some.ensures held.types;
-    })
+    (goes_on c.loop-split.seen c.loop-split.rest.now c.in-Some.split.1.now c.args.section.now (item_of c.in-Some.split.0) octet c.in-Some.ensures c.in_default-item_fault.ensures c.loop-split.invariant)
 
 pub returns-then-is_empty-clause-fault : goal.returns-then-is_empty-clause-fault
 returns-then-is_empty-clause-fault c =
-    let all = ends_with c.loop-split.seen c.loop-split.rest.now (section_fault c.args.section.now) c.in_default.ensures c.loop-split.invariant.fault in
+    let all = ends_with c.loop-split.seen c.loop-split.rest.now c.args.section.now c.in_default.ensures c.loop-split.invariant in
     rw (sym (c.is_empty.ensures) ∙ c.if-is_empty.true) at all
 
 pub returns-then-is_empty-clause-types : goal.returns-then-is_empty-clause-types
-returns-then-is_empty-clause-types c none = all_types c.loop-split.seen c.loop-split.rest.now c.args.section.now c.in_default.ensures c.loop-split.invariant.types
+returns-then-is_empty-clause-types c none = all_types c.loop-split.seen c.loop-split.rest.now c.args.section.now c.in_default.ensures c.loop-split.invariant
 
 pub returns-clause-fault : goal.returns-clause-fault
 returns-clause-fault c =
-    let all = ends_with c.loop-split.seen c.loop-split.rest.now (section_fault c.args.section.now) c.in_default.ensures c.loop-split.invariant.fault in
+    let all = ends_with c.loop-split.seen c.loop-split.rest.now c.args.section.now c.in_default.ensures c.loop-split.invariant in
     rw (sym (c.is_empty.ensures) ∙ c.if-is_empty.false) at all
 
 pub returns-clause-types : goal.returns-clause-types

@@ -1,9 +1,9 @@
-use Rattle.std.proofs.Common.{◌∙◌, ap, arith, List, ℕ, rules}
+use Rattle.std.proofs.Common.{◌∙◌, refl, ap, arith, List, ℕ, rules}
 use Rattle.rs_update.specs.Gathered.{look}
 use Rattle.rs_update.specs.Items.{item_of}
 use Rattle.rs_update.specs.Section.{items_of}
-use Rattle.rs_update.proofs.attributes.ViewLemmas.{aggregator-length}
 use Rattle.rs_update.proofs.attributes.WholeLemmas.{there}
+use Rattle.rs_update.proofs.section.SoundLemmas.{look_exact}
 use Rattle.rs_update.proofs.attributes.Attributes.aggregator.Goals as goal
 
 pub read_aggregator-requires : goal.read_aggregator-requires
@@ -11,7 +11,7 @@ read_aggregator-requires c = λ x e.
     let octets = c.self.inside.spelling.items in
     let looked = c.find_item.ensures ∙ ap (λ (os : List ℕ). look 7 (items_of os)) c.deref.ensures.value in
     let stands = there 7 (items_of octets) c.find_item.result x looked e in
-    omega (arith, aggregator-length octets c.self.invariant.is_faultless (item_of x) stands)
+    omega (arith, look_exact octets 7 8 (item_of x) refl c.self.invariant.is_faultless stands)
 
 pub returns : goal.returns
 returns c = search rules
