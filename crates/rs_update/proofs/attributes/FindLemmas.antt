@@ -27,8 +27,7 @@ pub record FindsSoFar (section rest places : List ℕ) (end : ℕ) : Type 0 wher
   pub items : items_of section ≡ earlier ++ items_of rest
   pub rest_octets : AreOctets rest
   pub whole : length places ≡ 256
-  pub at_each : (kind : ℕ) → kind < 256 → not (eqb (get_or places kind 0) 65535) ≡ is_some (look kind earlier)
-  pub at_place : (kind : ℕ) → kind < 256 → item_from section (get_or places kind 0) ≡ look kind earlier
+  pub at_each : (kind : ℕ) → kind < 256 → (not (eqb (get_or places kind 0) 65535) ≡ is_some (look kind earlier)) × (item_from section (get_or places kind 0) ≡ look kind earlier)
   pub none_behind : (kind : ℕ) → end ≤ kind → look kind earlier ≡ None
   pub end_fits : end ≤ 256
 
@@ -41,8 +40,8 @@ finds_nothing section fit past = let nowhere : ℕ = 65535 in record {
   items = refl;
   rest_octets = fit;
   whole = length-replicate 256 nowhere;
-  at_each = λ kind below. ap (λ (place : ℕ). not (eqb place 65535)) (get_or-replicate 256 kind nowhere 0 below);
-  at_place = λ kind below. ap (item_from section) (get_or-replicate 256 kind nowhere 0 below) ∙ item_from-past section nowhere past;
+  at_each = λ kind below. let table = get_or-replicate 256 kind nowhere 0 below in
+  (ap (λ (place : ℕ). not (eqb place 65535)) table, ap (item_from section) table ∙ item_from-past section nowhere past);
   none_behind = λ kind behind. refl;
   end_fits = omega arith;
 }
@@ -85,19 +84,16 @@ finds_one section rest places end next split faultless short there after behind 
             | inl same ↦
                 let table : get_or (set places kind place) k 0 ≡ place = rw same (get_or-set_same places kind place 0 (omega (arith, so_far.whole, reads.2.kind_fits))) in
                 let here : look k (so_far.earlier ++ item ∷ []) ≡ Some item = look-new k so_far.earlier item (sym same) (ap (λ (j : ℕ). look j so_far.earlier) same ∙ none) in
-                let somewhere : eqb place 65535 ≡ false = ne_eqb place 65535 (λ e. omega (arith, e, short)) in
-                ap (λ (p : ℕ). not (eqb p 65535)) table ∙ ap not somewhere ∙ sym (ap (λ (found : Option Item). is_some found) here)
+                let somewhere : eqb place 65535 ≡ false = ne_eqb place 65535 (λ e. omega (arith, e, short)) in (
+                  ap (λ (p : ℕ). not (eqb p 65535)) table ∙ ap not somewhere ∙ sym (ap (λ (found : Option Item). is_some found) here),
+                  ap (item_from section) table ∙ item_there so_far.before section rest split so_far.octets there ∙ sym here,
+                )
             | inr other ↦
-                ap (λ (p : ℕ). not (eqb p 65535)) (get_or-set_other places kind k place 0 other) ∙ so_far.at_each k below ∙ sym (ap (λ (found : Option Item). is_some found) (look-other k so_far.earlier item (λ same. other (sym same))))
-          ];
-      at_place = λ k below.
-          elim (cases_eq k kind) [
-            | inl same ↦
-                let table : get_or (set places kind place) k 0 ≡ place = rw same (get_or-set_same places kind place 0 (omega (arith, so_far.whole, reads.2.kind_fits))) in
-                let here : look k (so_far.earlier ++ item ∷ []) ≡ Some item = look-new k so_far.earlier item (sym same) (ap (λ (j : ℕ). look j so_far.earlier) same ∙ none) in
-                ap (item_from section) table ∙ item_there so_far.before section rest split so_far.octets there ∙ sym here
-            | inr other ↦
-                ap (item_from section) (get_or-set_other places kind k place 0 other) ∙ so_far.at_place k below ∙ sym (look-other k so_far.earlier item (λ same. other (sym same)))
+                let table = get_or-set_other places kind k place 0 other in
+                let here = sym (look-other k so_far.earlier item (λ same. other (sym same))) in (
+                  ap (λ (p : ℕ). not (eqb p 65535)) table ∙ (so_far.at_each k below).0 ∙ ap (λ (found : Option Item). is_some found) here,
+                  ap (item_from section) table ∙ (so_far.at_each k below).1 ∙ here,
+                )
           ];
       none_behind = λ k above. look-other k so_far.earlier item (λ same. omega (arith, same, above, behind)) ∙ so_far.none_behind k (omega (arith, above, after));
       end_fits = fits;

@@ -15,7 +15,7 @@ use Rattle.rs_update.specs.Spelling.{written}
 use Rattle.rs_update.proofs.spelling.AgainLemmas.{written_is_read, written-others}
 use Rattle.rs_update.proofs.section.SoundLemmas.{sound_section, look_exact}
 use Rattle.rs_update.proofs.attributes.KindLemmas.{some_there}
-use Rattle.rs_update.proofs.attributes.WholeLemmas.{attributes_of-found, written-found, same_attributes, made_of}
+use Rattle.rs_update.proofs.attributes.WholeLemmas.{attributes_of-found, written-made, same_attributes, made_of}
 
 -- a written form says the attributes that it gives a route, where it passes them on in order
 pub looked_up : (octets : List ℕ) (attributes : PathAttributes) → attributes_of (items_of octets) ≡ Some attributes → passed_on_from octets ≡ attributes.others → looked_up_in octets ≡ attributes
@@ -62,8 +62,8 @@ module _ (section : List ℕ) (fit : AreOctets section) (faultless : section_fau
       let items = items_of section in
       let next_hop = some_there (look 3 items) (sym (finds.at_each 3 (omega arith)) ∙ stands) in
       let given = attributes_of-found items origin path next_hop.0 has_origin has_path next_hop.1 in
-      let are = written-found items origin path next_hop.0 (sound_section section fit faultless) has_origin has_path next_hop.1 in
-      (next_hop.0, written-says (attributes_from items origin path next_hop.0) octets given (spelled ∙ are))
+      let attributes = attributes_from items origin path next_hop.0 in
+      (next_hop.0, written-says attributes octets given (spelled ∙ sym (written-made items attributes (sound_section section fit faultless) given)))
 
 -- ---- the length of a value that is there in a section without fault
 

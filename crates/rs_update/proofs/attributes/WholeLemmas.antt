@@ -15,7 +15,7 @@ use Rattle.rs_update.specs.Gathered.{look, attributes_from, attributes_of}
 use Rattle.rs_update.specs.Items.{item_of}
 use Rattle.rs_update.specs.PathAttributes.{PathAttributes, PathSegment, CommunityList, PassedOn}
 use Rattle.rs_update.specs.Section.{Item, items_of}
-use Rattle.rs_update.specs.Spelling.{written, spelled_item}
+use Rattle.rs_update.specs.Spelling.{written, written_items, spelled_item}
 use Rattle.rs_update.proofs.spelling.KeptLemmas.{written_items-kept}
 use Rattle.rs_update.proofs.attributes.KindLemmas.{cases_Option, none_there}
 use Rattle.rs_update.proofs.section.SoundLemmas.{AreSound, look_sound, received_short}
@@ -79,13 +79,6 @@ pub same_attributes : {a a' : Origin} {b b' : List PathSegment} {c c' : ℕ} {d 
     → ◌≡◌ {A = PathAttributes} (record { origin = a; path = b; next_hop = c; med = d; atomic = e; aggregator = f; communities = g; others = h }) (record { origin = a'; path = b'; next_hop = c'; med = d'; atomic = e'; aggregator = f'; communities = g'; others = h' })
 same_attributes p q r s t u v w = cc
 
--- the written form of the attributes is that of the section
-pub written-found : (items : List Item) (origin path next_hop : Item) → AreSound items → look 1 items ≡ Some origin → look 2 items ≡ Some path → look 3 items ≡ Some next_hop
-    → spelled_section items ≡ written (attributes_from items origin path next_hop)
-unfolding written
-written-found items origin path next_hop sound o p n =
-    ap (flat_map spelled_item) (sym (written_items-kept items sound origin path next_hop o p n))
-
 -- attributes as they are made
 pub record AreMade (items : List Item) (found1 found2 found3 : Option Item) (attributes : PathAttributes) : Type 0 where
   pub origin : Item
@@ -105,3 +98,11 @@ made_of_three items (Some o) (Some p) (Some n) attributes e = record { origin = 
 pub made_of : (items : List Item) (attributes : PathAttributes) → attributes_of items ≡ Some attributes → AreMade items (look 1 items) (look 2 items) (look 3 items) attributes
 unfolding attributes_of
 made_of items attributes e = made_of_three items (look 1 items) (look 2 items) (look 3 items) attributes e
+
+-- the written form of the attributes that a section without fault gives is that of the section
+pub written-made : (items : List Item) (attributes : PathAttributes) → AreSound items → attributes_of items ≡ Some attributes → written attributes ≡ spelled_section items
+unfolding written
+written-made items attributes sound e =
+    let made = made_of items attributes e in
+    ap (λ (a : PathAttributes). flat_map spelled_item (written_items a)) (sym made.are)
+    ∙ ap (flat_map spelled_item) (written_items-kept items sound made.origin made.path made.next_hop made.has_origin made.has_path made.has_next_hop)

@@ -19,14 +19,13 @@ use Rattle.rs_update.specs.Parts.{AreOctets, parts_of}
 use Rattle.rs_update.specs.PathAttributes.{PathAttributes, CommunityList, PassedOn}
 use Rattle.rs_update.specs.Section.{Item, FitsItsLength, item_at, items_of, rest_of, section_fault, first_item_fault}
 use Rattle.rs_update.specs.Shapes.{passed_on_from}
-use Rattle.rs_update.specs.Spelling.{well_known, optional_transitive, spelled_item, written, written_items}
+use Rattle.rs_update.specs.Spelling.{well_known, optional_transitive, spelled_item, written}
 use Rattle.rs_update.proofs.spelling.BoundLemmas.{written-shorter}
 use Rattle.rs_update.proofs.attributes.FoundLemmas.{known_number}
-use Rattle.rs_update.proofs.spelling.KeptLemmas.{written_items-kept}
 use Rattle.rs_update.proofs.attributes.KindLemmas.{cases_Option, All-range, filter_map-same, find-made, range-any}
 use Rattle.rs_update.proofs.section.SoundLemmas.{AreSound, sound_section, look_sound}
 use Rattle.rs_update.proofs.fields.SpelledParts.{items_of-spelled}
-use Rattle.rs_update.proofs.attributes.WholeLemmas.{All-filter_map, attributes_of-found, same_attributes, made_of}
+use Rattle.rs_update.proofs.attributes.WholeLemmas.{All-filter_map, attributes_of-found, same_attributes, made_of, written-made}
 use Rattle.rs_update.proofs.spelling.WrittenLemmas.{kept_written, written_partial, passed_on_transitive, ascending_without}
 
 -- ---- values as they are written
@@ -163,16 +162,21 @@ module _ (items : List Item) (sound : AreSound items) where
   unfolding again
   again_without = ascending_without (kept_in items) (kept_written items sound) 0 256 [] tt
 
+-- what is written is read as it was
+written_parts : (section : List ℕ) (attributes : PathAttributes) (fit : AreOctets section) (faultless : section_fault section ≡ None) → attributes_of (items_of section) ≡ Some attributes
+    → parts_of item_at (written attributes) ≡ (again (items_of section) (sound_section section fit faultless), [])
+unfolding again
+written_parts section attributes fit faultless e =
+    let items = items_of section in
+    let sound = sound_section section fit faultless in
+    ap (parts_of item_at) (written-made items attributes sound e) ∙ read_again items sound
+
 pub written_is_read : WrittenIsRead
-unfolding written again
 written_is_read section attributes fit faultless e =
     let items = items_of section in
     let sound = sound_section section fit faultless in
     let made = made_of items attributes e in
-    let kept : written_items attributes ≡ again items sound =
-    ap written_items (sym made.are) ∙ written_items-kept items sound made.origin made.path made.next_hop made.has_origin made.has_path made.has_next_hop in
-    let octets : written attributes ≡ flat_map spelled_item (again items sound) = ap (flat_map spelled_item) kept in
-    let parts = ap (parts_of item_at) octets ∙ read_again items sound in
+    let parts = written_parts section attributes fit faultless e in
     let are : items_of (written attributes) ≡ again items sound = ap (λ (p : List Item × List ℕ). p.0) parts in
     let rest : rest_of (written attributes) ≡ [] = ap (λ (p : List Item × List ℕ). p.1) parts in
     let without = again_without items sound in
@@ -185,13 +189,8 @@ written_is_read section attributes fit faultless e =
 -- the attributes that are passed on stand in ascending type
 pub written-others : (section : List ℕ) (attributes : PathAttributes) → AreOctets section → section_fault section ≡ None → attributes_of (items_of section) ≡ Some attributes
     → passed_on_from (written attributes) ≡ attributes.others
-unfolding written again
 written-others section attributes fit faultless e =
     let items = items_of section in
-    let sound = sound_section section fit faultless in
-    let made = made_of items attributes e in
-    let kept : written_items attributes ≡ again items sound =
-    ap written_items (sym made.are) ∙ written_items-kept items sound made.origin made.path made.next_hop made.has_origin made.has_path made.has_next_hop in
-    let octets : written attributes ≡ flat_map spelled_item (again items sound) = ap (flat_map spelled_item) kept in
-    let are : items_of (written attributes) ≡ again items sound = ap (λ (p : List Item × List ℕ). p.0) (ap (parts_of item_at) octets ∙ read_again items sound) in
-    ap (λ (xs : List Item). map passed_on_of (filter is_passed_on xs)) are ∙ passed_in_order items sound ∙ ap (λ (a : PathAttributes). a.others) made.are
+    ap (λ (p : List Item × List ℕ). map passed_on_of (filter is_passed_on p.0)) (written_parts section attributes fit faultless e)
+    ∙ passed_in_order items (sound_section section fit faultless)
+    ∙ ap (λ (a : PathAttributes). a.others) (made_of items attributes e).are

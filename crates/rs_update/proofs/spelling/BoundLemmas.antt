@@ -1,5 +1,5 @@
 -- The written form of attributes is never longer than the section that they were received in: for WrittenLemmas and AgainLemmas.
-use Rattle.std.proofs.Common.{◌≡◌, ℕ, zero, suc, ◌+◌, ◌<◌, ◌≤◌, Bool, true, false, cond, eqb, List, [], ◌∷◌, ◌++◌, length, Option, Some, None, refl, sym, ap, subst, ◌∙◌, arith, inl, inr}
+use Rattle.std.proofs.Common.{◌≡◌, ℕ, zero, suc, ◌+◌, ◌<◌, ◌≤◌, Bool, true, false, cond, eqb, List, [], ◌∷◌, ◌++◌, length, Option, Some, None, refl, sym, ap, subst, ◌∙◌, le_trans, arith, inl, inr}
 use Rattle.std.specs.List.{filter_map, range_with_len, flat_map, AllByRecursion}
 use Rattle.std.proofs.lemmas.Bool.{cases_Bool, cases_eq, cases_lt, eq-eqb, ne_eqb, lt-ltb, le-ltb}
 use Rattle.std.proofs.lemmas.List.{length-append}
@@ -8,17 +8,16 @@ use Rattle.rs_update.specs.declared.attribute_type.AttributeType.{AttributeType}
 use Rattle.rs_update.specs.declared.attribute_type.WantedFlags.{WantedFlags}
 use Rattle.rs_update.specs.declared.attribute_type.WantedFlags.TheVariants.{WellKnown, OptionalNonTransitive, OptionalTransitive, Optional, Any}
 use Rattle.rs_update.specs.AttributeType.{type_of, row_of, is_extended, is_transitive, is_partial}
-use Rattle.rs_update.specs.Found.{IsPlain, kept_by, kept_as, kept_of, kept_in, spelled_kept}
+use Rattle.rs_update.specs.Found.{IsPlain, kept_by, kept_as, kept_of, kept_in, spelled_kept, spelled_section}
 use Rattle.rs_update.specs.Gathered.{look, attributes_of}
 use Rattle.rs_update.specs.Parts.{AreOctets}
 use Rattle.rs_update.specs.PathAttributes.{PathAttributes}
 use Rattle.rs_update.specs.Section.{Item, spelled_length, items_of, rest_of, section_fault}
-use Rattle.rs_update.specs.Spelling.{written_flags, spelled_item, written, written_items}
-use Rattle.rs_update.proofs.spelling.KeptLemmas.{written_items-kept}
+use Rattle.rs_update.specs.Spelling.{written_flags, spelled_item, written}
 use Rattle.rs_update.proofs.attributes.KindLemmas.{cases_Option, All-range}
 use Rattle.rs_update.proofs.section.ReceivedLemmas.{IsReceived, section-is_spelled}
 use Rattle.rs_update.proofs.section.SoundLemmas.{AreSound, sound_section, look_sound}
-use Rattle.rs_update.proofs.attributes.WholeLemmas.{made_of}
+use Rattle.rs_update.proofs.attributes.WholeLemmas.{written-made}
 
 -- ---- one attribute
 
@@ -168,12 +167,9 @@ kept_at items kind sound =
           ]
     ]
 
-chain : (a b c : ℕ) → a ≤ b → b ≤ c → a ≤ c
-chain a b c p q = omega arith
-
-kept_section : (items : List Item) → AreSound items → length (flat_map spelled_item (filter_map (kept_in items) (range_with_len 0 256))) ≤ length (flat_map spelled_item items)
+kept_section : (items : List Item) → AreSound items → length (spelled_section items) ≤ length (flat_map spelled_item items)
 kept_section items sound =
-    chain _ (total (octets_at items) (range_with_len 0 256)) _
+    le_trans
     (made_total (kept_in items) (octets_at items) (range_with_len 0 256) (All-range (λ k. length (spelled_kept (kept_in items k)) ≤ octets_at items k) 0 256 256 refl (λ k le lt. kept_at items k sound)))
     (received_total items 0 256)
 
@@ -181,12 +177,8 @@ section_length : (front rest section : List ℕ) → front ++ rest ≡ section �
 section_length front rest section e = omega (arith, ap length e, length-append front rest)
 
 pub written-shorter : (section : List ℕ) (attributes : PathAttributes) → AreOctets section → section_fault section ≡ None → attributes_of (items_of section) ≡ Some attributes → length (written attributes) ≤ length section
-unfolding written
 written-shorter section attributes fit faultless e =
     let items = items_of section in
     let sound = sound_section section fit faultless in
-    let made = made_of items attributes e in
-    let kept = written_items-kept items sound made.origin made.path made.next_hop made.has_origin made.has_path made.has_next_hop in
-    let same : flat_map spelled_item (written_items attributes) ≡ flat_map spelled_item (filter_map (kept_in items) (range_with_len 0 256)) = ap (λ (a : PathAttributes). flat_map spelled_item (written_items a)) (sym made.are) ∙ ap (flat_map spelled_item) kept in
-    subst (λ (octets : List ℕ). length octets ≤ length section) (sym same)
-    (chain _ _ _ (kept_section items sound) (section_length (flat_map spelled_item items) (rest_of section) section (section-is_spelled section fit).0))
+    subst (λ (octets : List ℕ). length octets ≤ length section) (sym (written-made items attributes sound e))
+    (le_trans (kept_section items sound) (section_length (flat_map spelled_item items) (rest_of section) section (section-is_spelled section fit).0))

@@ -27,15 +27,12 @@ both_ways P flags value short long =
       | inr below ↦ rw (le-ltb _ _ below) short
     ]
 
-well_known_suits : (value : List ℕ) → suits WellKnown (written_flags 0x40 value) ≡ true
-well_known_suits value = both_ways (λ flags. suits WellKnown flags ≡ true) 0x40 value refl refl
+suited : (wanted : WantedFlags) (flags : ℕ) (value : List ℕ) → suits wanted flags ≡ true → suits wanted (flags + 0x10) ≡ true → suits wanted (written_flags flags value) ≡ true
+suited wanted = both_ways (λ flags. suits wanted flags ≡ true)
 
-non_transitive_suits : (value : List ℕ) → suits OptionalNonTransitive (written_flags 0x80 value) ≡ true
-non_transitive_suits value = both_ways (λ flags. suits OptionalNonTransitive flags ≡ true) 0x80 value refl refl
-
-transitive_suits : (partial : Bool) (value : List ℕ) → suits OptionalTransitive (written_flags (cond partial 0xE0 0xC0) value) ≡ true
-transitive_suits true value = both_ways (λ flags. suits OptionalTransitive flags ≡ true) 0xE0 value refl refl
-transitive_suits false value = both_ways (λ flags. suits OptionalTransitive flags ≡ true) 0xC0 value refl refl
+partial_suited : (partial : Bool) (value : List ℕ) → suits OptionalTransitive (written_flags (cond partial 0xE0 0xC0) value) ≡ true
+partial_suited true value = suited OptionalTransitive 0xE0 value refl refl
+partial_suited false value = suited OptionalTransitive 0xC0 value refl refl
 
 -- the Partial bit as it was received
 pub written_partial : (partial : Bool) (value : List ℕ) → is_partial (written_flags (cond partial 0xE0 0xC0) value) ≡ partial
@@ -44,9 +41,6 @@ written_partial false value = both_ways (λ flags. is_partial flags ≡ false) 0
 
 pub passed_on_transitive : (value : List ℕ) → is_transitive (written_flags 0xE0 value) ≡ true
 passed_on_transitive value = both_ways (λ flags. is_transitive flags ≡ true) 0xE0 value refl refl
-
-passed_on_optional : (value : List ℕ) → is_optional (written_flags 0xE0 value) ≡ true
-passed_on_optional value = both_ways (λ flags. is_optional flags ≡ true) 0xE0 value refl refl
 
 -- ---- one attribute
 
@@ -57,13 +51,13 @@ pub record SuitsType (type : AttributeType) (flags : ℕ) : Type 0 where
 
 -- the flags of what is kept are what they must say
 kept_bits : (wanted : WantedFlags) (item kept : Item) → kept_by wanted item ≡ Some kept → suits wanted kept.flags ≡ true
-kept_bits WellKnown item kept e = let is = same_Some _ _ e in subst (λ (k : Item). suits WellKnown k.flags ≡ true) is (well_known_suits item.value)
-kept_bits OptionalNonTransitive item kept e = let is = same_Some _ _ e in subst (λ (k : Item). suits OptionalNonTransitive k.flags ≡ true) is (non_transitive_suits item.value)
-kept_bits OptionalTransitive item kept e = let is = same_Some _ _ e in subst (λ (k : Item). suits OptionalTransitive k.flags ≡ true) is (transitive_suits (is_partial item.flags) item.value)
+kept_bits WellKnown item kept e = let is = same_Some _ _ e in subst (λ (k : Item). suits WellKnown k.flags ≡ true) is (suited WellKnown 0x40 item.value refl refl)
+kept_bits OptionalNonTransitive item kept e = let is = same_Some _ _ e in subst (λ (k : Item). suits OptionalNonTransitive k.flags ≡ true) is (suited OptionalNonTransitive 0x80 item.value refl refl)
+kept_bits OptionalTransitive item kept e = let is = same_Some _ _ e in subst (λ (k : Item). suits OptionalTransitive k.flags ≡ true) is (partial_suited (is_partial item.flags) item.value)
 kept_bits Any item kept e = absurd cc
 kept_bits Optional item kept e =
     elim (cases_Bool (is_transitive item.flags)) [
-      | inl passed ↦ let is = same_Some _ _ (rw passed at e) in subst (λ (k : Item). is_optional k.flags ≡ true) is (passed_on_optional item.value)
+      | inl passed ↦ let is = same_Some _ _ (rw passed at e) in subst (λ (k : Item). is_optional k.flags ≡ true) is (suited Optional 0xE0 item.value refl refl)
       | inr dropped ↦ let none = rw dropped at e in absurd cc
     ]
 

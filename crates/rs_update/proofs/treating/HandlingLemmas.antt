@@ -1,8 +1,8 @@
 -- What a section asks for by RFC 7606, attribute by attribute, and the attributes that are kept of it: for treating.rt, and `kept_attributes` of update.rt.
-use Rattle.std.proofs.Common.{◌≡◌, ℕ, ◌-◌, ◌<◌, ◌≤◌, ◌==◌, ◌||◌, Bool, true, false, eqb, List, [], ◌∷◌, ◌++◌, length, take, get_or, set, Option, Some, None, refl, sym, ap, ◌∙◌, arith, inl, inr, append_assoc}
+use Rattle.std.proofs.Common.{◌≡◌, ℕ, ◌-◌, ◌<◌, ◌≤◌, ◌==◌, Bool, true, false, eqb, List, [], ◌∷◌, ◌++◌, length, take, get_or, set, Option, Some, None, refl, sym, ap, ◌∙◌, arith, inl, inr, append_assoc}
 use Rattle.std.specs.Prelude.{if◌then◌else◌}
 use Rattle.std.specs.List.{flat_map, AllByRecursion}
-use Rattle.std.proofs.lemmas.Bool.{cases_Bool, true≢false}
+use Rattle.std.proofs.lemmas.Bool.{cases_Bool, or_cases, or_left, or_right, true≢false}
 use Rattle.std.proofs.lemmas.List.{append-nil, length-append, take_at}
 use Rattle.rs_update.specs.declared.attribute_type.AttributeType.{AttributeType}
 use Rattle.rs_update.specs.declared.attribute_type.AttributeType.TheVariants as types
@@ -167,22 +167,25 @@ kept-no : (earlier : List Item) (item : Item) (later : List Item) → is_kept (h
 unfolding kept_behind
 kept-no earlier item later e = rw (kept_behind, e) refl
 
+spelled-step : (earlier : List Item) (item : Item) (later : List Item) (stays : Bool) → is_kept (handling_behind earlier item) ≡ stays
+    → flat_map spelled_item (kept_behind earlier (item ∷ later)) ≡ (if stays then spelled_item item else []) ++ flat_map spelled_item (kept_behind (earlier ++ item ∷ []) later)
+spelled-step earlier item later true e = ap (flat_map spelled_item) (kept-yes earlier item later e)
+spelled-step earlier item later false e = ap (flat_map spelled_item) (kept-no earlier item later e)
+
 -- types that stand among some attributes stand among others
 abbrev Covers : List Item → List Item → Type 0
 Covers kept earlier = (kind : ℕ) → has_type kind kept ≡ true → has_type kind earlier ≡ true
 
 covers_one : (kept earlier : List Item) (item : Item) → Covers kept earlier → Covers kept (earlier ++ item ∷ [])
-covers_one kept earlier item covers kind there = rw (list_any-push, covers kind there) refl
-
-or_cases : (a b c : Bool) → (a ≡ true → c ≡ true) → (a || b) ≡ true → (c || b) ≡ true
-or_cases true b c implies e = rw (implies refl) refl
-or_cases false true true implies e = refl
-or_cases false true false implies e = refl
-or_cases false false c implies e = absurd (true≢false (sym e))
+covers_one kept earlier item covers kind there = list_any-push (λ one. one.kind == kind) earlier item ∙ or_left _ _ (covers kind there)
 
 covers_both : (kept earlier : List Item) (item : Item) → Covers kept earlier → Covers (kept ++ item ∷ []) (earlier ++ item ∷ [])
 covers_both kept earlier item covers kind there =
-    list_any-push (λ one. one.kind == kind) earlier item ∙ or_cases (has_type kind kept) (item.kind == kind) (has_type kind earlier) (covers kind) (sym (list_any-push (λ one. one.kind == kind) kept item) ∙ there)
+    list_any-push (λ one. one.kind == kind) earlier item
+    ∙ elim (or_cases (has_type kind kept) (item.kind == kind) (sym (list_any-push (λ one. one.kind == kind) kept item) ∙ there)) [
+      | inl held ↦ or_left _ _ (covers kind held)
+      | inr here ↦ or_right _ _ here
+    ]
 
 uncovered : (kept earlier : List Item) (kind : ℕ) → Covers kept earlier → has_type kind earlier ≡ false → has_type kind kept ≡ false
 uncovered kept earlier kind covers none =
@@ -278,32 +281,18 @@ abbrev pub KeepsSo : List Bool → List ℕ → List ℕ → List ℕ → Type 0
 KeepsSo seen octets kept whole =
     (earlier : List Item) × IsSeen seen earlier × (kept ++ flat_map spelled_item (kept_behind earlier (items_of octets)) ≡ whole) × AreOctets octets
 
-pub keeps_on-yes : (seen : List Bool) (octets behind kept whole : List ℕ) (item : Item) → item.kind < 256 → Some (item, behind) ≡ item_at octets → true ≡ is_kept (handling_seen seen item)
-    → KeepsSo seen octets kept whole → KeepsSo (set seen item.kind true) behind (kept ++ spelled_item item) whole
-keeps_on-yes seen octets behind kept whole item octet read stays before =
+pub keeps_on : (seen : List Bool) (octets behind kept whole : List ℕ) (item : Item) (stays : Bool) → item.kind < 256 → Some (item, behind) ≡ item_at octets → stays ≡ is_kept (handling_seen seen item)
+    → KeepsSo seen octets kept whole → KeepsSo (set seen item.kind true) behind (kept ++ (if stays then spelled_item item else [])) whole
+keeps_on seen octets behind kept whole item stays octet read is before =
     let earlier = before.0 in
-    let here : is_kept (handling_behind earlier item) ≡ true = ap is_kept (sym (handling_seen-is seen earlier item octet before.1)) ∙ sym stays in
-    let items = items_of-step octets (item, behind) (sym read) in
-    let step = ap (kept_behind earlier) items ∙ kept-yes earlier item (items_of behind) here in
-    let reads = item_at-reads octets (item, behind) before.3 (sym read) in (
+    let here : is_kept (handling_behind earlier item) ≡ stays = ap is_kept (sym (handling_seen-is seen earlier item octet before.1)) ∙ sym is in
+    let front = if stays then spelled_item item else [] in
+    let later = flat_map spelled_item (kept_behind (earlier ++ item ∷ []) (items_of behind)) in
+    let step = ap (λ (items : List Item). flat_map spelled_item (kept_behind earlier items)) (items_of-step octets (item, behind) (sym read)) ∙ spelled-step earlier item (items_of behind) stays here in (
       earlier ++ item ∷ [],
       one_seen seen earlier item octet before.1,
-      append_assoc kept (spelled_item item) (flat_map spelled_item (kept_behind (earlier ++ item ∷ []) (items_of behind))) ∙ ap (λ (items : List Item). kept ++ flat_map spelled_item items) (sym step) ∙ before.2,
-      reads.1,
-    )
-
-pub keeps_on-no : (seen : List Bool) (octets behind kept whole : List ℕ) (item : Item) → item.kind < 256 → Some (item, behind) ≡ item_at octets → false ≡ is_kept (handling_seen seen item)
-    → KeepsSo seen octets kept whole → KeepsSo (set seen item.kind true) behind kept whole
-keeps_on-no seen octets behind kept whole item octet read goes before =
-    let earlier = before.0 in
-    let here : is_kept (handling_behind earlier item) ≡ false = ap is_kept (sym (handling_seen-is seen earlier item octet before.1)) ∙ sym goes in
-    let items = items_of-step octets (item, behind) (sym read) in
-    let step = ap (kept_behind earlier) items ∙ kept-no earlier item (items_of behind) here in
-    let reads = item_at-reads octets (item, behind) before.3 (sym read) in (
-      earlier ++ item ∷ [],
-      one_seen seen earlier item octet before.1,
-      ap (λ (items : List Item). kept ++ flat_map spelled_item items) (sym step) ∙ before.2,
-      reads.1,
+      append_assoc kept front later ∙ ap (λ (octets : List ℕ). kept ++ octets) (sym step) ∙ before.2,
+      (item_at-reads octets (item, behind) before.3 (sym read)).1,
     )
 
 pub keeps_end : (seen : List Bool) (octets kept whole : List ℕ) → None ≡ item_at octets → KeepsSo seen octets kept whole → kept ≡ whole

@@ -24,8 +24,8 @@ returns c =
     let so_far = c.loop-front.invariant in
     let all = found_all c.args.section.now c.loop-front.rest.now c.loop-front.places c.loop-front.end (sym c.in_default.ensures) so_far in
     record {
-      at_each = λ kind below. so_far.at_each kind below ∙ ap (λ (items : List Item). is_some (look kind items)) all;
-      at_place = λ kind below. so_far.at_place kind below ∙ ap (look kind) all;
+      at_each = λ kind below. (so_far.at_each kind below).0 ∙ ap (λ (items : List Item). is_some (look kind items)) all;
+      at_place = λ kind below. (so_far.at_each kind below).1 ∙ ap (look kind) all;
       none_behind = λ kind behind. sym (ap (look kind) all) ∙ so_far.none_behind kind behind;
       end_fits = so_far.end_fits;
     }

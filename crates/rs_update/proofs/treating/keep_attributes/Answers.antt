@@ -1,11 +1,12 @@
-use Rattle.std.proofs.Common.{◌≡◌, ◌<◌, ◌∙◌, ◌++◌, [], refl, sym, ap, rules, arith, List, ℕ, Bool, true, false}
+use Rattle.std.proofs.Common.{◌<◌, ◌∙◌, ◌++◌, [], refl, sym, ap, rules, arith, List, ℕ, true, false}
+use Rattle.std.proofs.lemmas.List.{append-nil}
 use Rattle.rs_update.specs.Handling.{is_kept, kept_section}
 use Rattle.rs_update.specs.Items.{item_of, split_of}
 use Rattle.rs_update.specs.Parts.{AreOctets}
 use Rattle.rs_update.specs.Section.{items_of, section_fault}
 use Rattle.rs_update.proofs.section.ItemLemmas.{item_at-takes}
 use Rattle.rs_update.proofs.section.SectionLemmas.{none_seen}
-use Rattle.rs_update.proofs.treating.HandlingLemmas.{keeps_on-yes, keeps_on-no, keeps_end, taken_is_spelled, kept_items, kept_faultless, kept_bound}
+use Rattle.rs_update.proofs.treating.HandlingLemmas.{keeps_on, keeps_end, taken_is_spelled, kept_items, kept_faultless, kept_bound}
 use Rattle.rs_update.proofs.treating.keep_attributes.Goals as goal
 use Rattle.rs_update.proofs.treating.keep_attributes.Goals.{then-is_keep+in_ok-extend_from_slice, else-is_keep}
 
@@ -25,36 +26,26 @@ loop-split-preserved c =
     let rest = c.loop-split.rest.now in
     let behind = c.in-Some.split.1.now in
     let item = item_of c.in-Some.split.0 in
-    let whole = kept_section c.args.section.now in
-    let fits = held.3 in
-    let stays = λ (yes : Bool) (is : c.is_keep.result ≡ yes). sym is ∙ c.is_keep.ensures ∙ ap is_kept c.item_handling.ensures in
+    let kept = c.loop-split.kept.items in
+    let is = c.is_keep.ensures ∙ ap is_kept c.item_handling.ensures in
+    let on = keeps_on c.loop-split.seen rest behind kept (kept_section c.args.section.now) item c.is_keep.result octet c.in-Some.ensures is held in
     rw c.from.ensures
     (elim c.if-is_keep.branch [
       | then-is_keep+in_ok-extend_from_slice w ↦
-          let one = keeps_on-yes c.loop-split.seen rest behind c.loop-split.kept.items whole item octet c.in-Some.ensures (stays true w.if-is_keep.true) held in
-          let taken = taken_is_spelled rest behind item fits c.in-Some.ensures in
-          let all = w.in_ok-extend_from_slice.ensures.items ∙ ap (λ (octets : List ℕ). c.loop-split.kept.items ++ octets) taken in
-          rw (w.kept-is, all) one
-      | else-is_keep w ↦ rw w.kept-is (keeps_on-no c.loop-split.seen rest behind c.loop-split.kept.items whole item octet c.in-Some.ensures (stays false w.if-is_keep.false) held)
+          let taken = taken_is_spelled rest behind item held.3 c.in-Some.ensures in
+          let all = w.in_ok-extend_from_slice.ensures.items ∙ ap (λ (octets : List ℕ). kept ++ octets) taken in
+          rw (w.kept-is, all) (rw w.if-is_keep.true at on)
+      | else-is_keep w ↦ rw w.kept-is (rw (w.if-is_keep.false, append-nil) at on)
     ])
 
-pub returns-clause-value : goal.returns-clause-value
-returns-clause-value c = keeps_end c.loop-split.seen c.loop-split.rest.now c.loop-split.kept.items (kept_section c.args.section.now) c.in_default.ensures c.loop-split.invariant
-
-pub returns-clause-items : goal.returns-clause-items
-returns-clause-items c =
-    let fit : AreOctets c.args.section.now = λ place. omega (arith, c.type_inv.section place) in
-    let is = keeps_end c.loop-split.seen c.loop-split.rest.now c.loop-split.kept.items (kept_section c.args.section.now) c.in_default.ensures c.loop-split.invariant in
-    ap items_of is ∙ kept_items c.args.section.now fit
-
-pub returns-clause-faultless : goal.returns-clause-faultless
-returns-clause-faultless c =
-    let fit : AreOctets c.args.section.now = λ place. omega (arith, c.type_inv.section place) in
-    let is = keeps_end c.loop-split.seen c.loop-split.rest.now c.loop-split.kept.items (kept_section c.args.section.now) c.in_default.ensures c.loop-split.invariant in
-    ap section_fault is ∙ kept_faultless c.args.section.now fit
-
-pub returns-clause-bound : goal.returns-clause-bound
-returns-clause-bound c =
-    let fit : AreOctets c.args.section.now = λ place. omega (arith, c.type_inv.section place) in
-    let is = keeps_end c.loop-split.seen c.loop-split.rest.now c.loop-split.kept.items (kept_section c.args.section.now) c.in_default.ensures c.loop-split.invariant in
-    rw is (kept_bound c.args.section.now fit)
+pub returns : goal.returns
+returns c =
+    let section = c.args.section.now in
+    let fit : AreOctets section = λ place. omega (arith, c.type_inv.section place) in
+    let is = keeps_end c.loop-split.seen c.loop-split.rest.now c.loop-split.kept.items (kept_section section) c.in_default.ensures c.loop-split.invariant in
+    record {
+      value = is;
+      items = ap items_of is ∙ kept_items section fit;
+      faultless = ap section_fault is ∙ kept_faultless section fit;
+      bound = rw is (kept_bound section fit);
+    }
