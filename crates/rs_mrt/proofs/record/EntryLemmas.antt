@@ -34,17 +34,11 @@ cut_after_test false n peer_as peer message = refl
 
 message_front : (n : ℕ) (fields : List ℕ) → 24 ≤ n → message_entry (take n fields) ≡ cut_message (n - 20) (message_entry fields)
 message_front n fields h =
-    let make : Bool → ℕ → ℕ → List ℕ → Result Meaning MrtFault = λ short peer_as peer message. cond short (Err FieldsCutShort) (Ok (Message peer_as peer message)) in
-    let front = take n fields in
     let short = front_shorter 20 n fields (omega arith) in
     let peer_as = front_number 0 4 n fields (omega arith) in
     let peer = front_number 12 4 n fields (omega arith) in
     let message = drop_front 20 n fields (omega arith) in
-    ap (λ (b : Bool). make b (big_number 4 front) (big_number 4 (drop 12 front)) (drop 20 front)) short
-    ∙ ap (λ (x : ℕ). make (ltb (length fields) 20) x (big_number 4 (drop 12 front)) (drop 20 front)) peer_as
-    ∙ ap (λ (x : ℕ). make (ltb (length fields) 20) (big_number 4 fields) x (drop 20 front)) peer
-    ∙ ap (make (ltb (length fields) 20) (big_number 4 fields) (big_number 4 (drop 12 fields))) message
-    ∙ cut_after_test (ltb (length fields) 20) (n - 20) (big_number 4 fields) (big_number 4 (drop 12 fields)) (drop 20 fields)
+    rw (short, peer_as, peer, message) (cut_after_test (ltb (length fields) 20) (n - 20) (big_number 4 fields) (big_number 4 (drop 12 fields)) (drop 20 fields))
 
 cut_state : (short : Bool) (n peer_as peer old new : ℕ)
     → cond short (Err FieldsCutShort) (Ok (State peer_as peer old new)) ≡ cut_message n (cond short (Err FieldsCutShort) (Ok (State peer_as peer old new)))
@@ -53,19 +47,12 @@ cut_state false n peer_as peer old new = refl
 
 state_front : (n m : ℕ) (fields : List ℕ) → 24 ≤ n → state_entry (take n fields) ≡ cut_message m (state_entry fields)
 state_front n m fields h =
-    let make : Bool → ℕ → ℕ → ℕ → ℕ → Result Meaning MrtFault = λ short peer_as peer old new. cond short (Err FieldsCutShort) (Ok (State peer_as peer old new)) in
-    let front = take n fields in
     let short = front_shorter 24 n fields (omega arith) in
     let peer_as = front_number 0 4 n fields (omega arith) in
     let peer = front_number 12 4 n fields (omega arith) in
     let old = front_number 20 2 n fields (omega arith) in
     let new = front_number 22 2 n fields (omega arith) in
-    ap (λ (b : Bool). make b (big_number 4 front) (big_number 4 (drop 12 front)) (big_number 2 (drop 20 front)) (big_number 2 (drop 22 front))) short
-    ∙ ap (λ (x : ℕ). make (ltb (length fields) 24) x (big_number 4 (drop 12 front)) (big_number 2 (drop 20 front)) (big_number 2 (drop 22 front))) peer_as
-    ∙ ap (λ (x : ℕ). make (ltb (length fields) 24) (big_number 4 fields) x (big_number 2 (drop 20 front)) (big_number 2 (drop 22 front))) peer
-    ∙ ap (λ (x : ℕ). make (ltb (length fields) 24) (big_number 4 fields) (big_number 4 (drop 12 fields)) x (big_number 2 (drop 22 front))) old
-    ∙ ap (make (ltb (length fields) 24) (big_number 4 fields) (big_number 4 (drop 12 fields)) (big_number 2 (drop 20 fields))) new
-    ∙ cut_state (ltb (length fields) 24) m (big_number 4 fields) (big_number 4 (drop 12 fields)) (big_number 2 (drop 20 fields)) (big_number 2 (drop 22 fields))
+    rw (short, peer_as, peer, old, new) (cut_state (ltb (length fields) 24) m (big_number 4 fields) (big_number 4 (drop 12 fields)) (big_number 2 (drop 20 fields)) (big_number 2 (drop 22 fields)))
 
 -- ---- the tests before an entry
 
@@ -83,18 +70,12 @@ cut_tested false false false false n x y = refl
 fields_front : (subtype n : ℕ) (fields : List ℕ) → 24 ≤ n → fields_entry subtype (take n fields) ≡ cut_message (n - 20) (fields_entry subtype fields)
 unfolding fields_entry
 fields_front subtype n fields h =
-    let other = not (eqb subtype 4) && not (eqb subtype 5) in
-    let message = eqb subtype 4 in
-    let front = take n fields in
     let short = front_shorter 12 n fields (omega arith) in
     let family = front_number 10 2 n fields (omega arith) in
     let x = message_front n fields h in
     let y = state_front n (n - 20) fields h in
-    ap (λ (b : Bool). tested other b (not (eqb (big_number 2 (drop 10 front)) 1)) message (message_entry front) (state_entry front)) short
-    ∙ ap (λ (v : ℕ). tested other (ltb (length fields) 12) (not (eqb v 1)) message (message_entry front) (state_entry front)) family
-    ∙ ap (λ (e : Result Meaning MrtFault). tested other (ltb (length fields) 12) (not (eqb (big_number 2 (drop 10 fields)) 1)) message e (state_entry front)) x
-    ∙ ap (tested other (ltb (length fields) 12) (not (eqb (big_number 2 (drop 10 fields)) 1)) message (cut_message (n - 20) (message_entry fields))) y
-    ∙ cut_tested other (ltb (length fields) 12) (not (eqb (big_number 2 (drop 10 fields)) 1)) message (n - 20) (message_entry fields) (state_entry fields)
+    rw (x, y, short, family)
+    (cut_tested (not (eqb subtype 4) && not (eqb subtype 5)) (ltb (length fields) 12) (not (eqb (big_number 2 (drop 10 fields)) 1)) (eqb subtype 4) (n - 20) (message_entry fields) (state_entry fields))
 
 -- ---- the record
 
@@ -105,10 +86,10 @@ cut_microseconds false n x = refl
 microseconds_front : (subtype : ℕ) (body : List ℕ)
     → cond (ltb (length (take 4121 body)) 4) (Err MicrosecondsCutShort) (fields_entry subtype (drop 4 (take 4121 body))) ≡ cut_message 4097 (cond (ltb (length body) 4) (Err MicrosecondsCutShort) (fields_entry subtype (drop 4 body)))
 microseconds_front subtype body =
-    ap (λ (b : Bool). cond b (Err MicrosecondsCutShort) (fields_entry subtype (drop 4 (take 4121 body)))) (front_shorter 4 4121 body (lit≤ tt))
-    ∙ ap (λ (fields : List ℕ). cond (ltb (length body) 4) (Err MicrosecondsCutShort) (fields_entry subtype fields)) (drop_front 4 4121 body (lit≤ tt))
-    ∙ ap (λ (e : Result Meaning MrtFault). cond (ltb (length body) 4) (Err MicrosecondsCutShort) e) (fields_front subtype 4117 (drop 4 body) (lit≤ tt))
-    ∙ cut_microseconds (ltb (length body) 4) 4097 (fields_entry subtype (drop 4 body))
+    let short = front_shorter 4 4121 body (lit≤ tt) in
+    let fields = drop_front 4 4121 body (lit≤ tt) in
+    let says = fields_front subtype 4117 (drop 4 body) (lit≤ tt) in
+    rw (short, fields, says) (cut_microseconds (ltb (length body) 4) 4097 (fields_entry subtype (drop 4 body)))
 
 -- by the tests of the Type, of which one holds at most
 by_type : (plain extended : Bool) → (plain ≡ true → extended ≡ true → ⊥) → (subtype : ℕ) (body : List ℕ)

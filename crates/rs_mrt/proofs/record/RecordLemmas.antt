@@ -27,90 +27,56 @@ after_record-shorter octets h =
     omega (arith, length-drop (length_field octets) (drop 12 octets), length-drop 12 octets)
 
 -- one record for each octet is enough
-records_within-enough : (n m : ℕ) (octets : List ℕ) → length octets ≤ n → length octets ≤ m → records_within n octets ≡ records_within m octets
-unfolding records_within
-records_within-enough zero zero octets hn hm = refl
-records_within-enough zero (suc m) octets hn hm =
+within-enough : (n m : ℕ) (octets : List ℕ) → length octets ≤ n → length octets ≤ m → (records_within n octets ≡ records_within m octets) × (rest_within n octets ≡ rest_within m octets)
+unfolding records_within rest_within
+within-enough zero zero octets hn hm = (refl, refl)
+within-enough zero (suc m) octets hn hm =
     elim (cases_Bool (has_record octets)) [
       | inl stands ↦ (let long = has_record-long octets stands in absurd (omega arith))
-      | inr lacks ↦ rw lacks refl
+      | inr lacks ↦ rw lacks (refl, refl)
     ]
-records_within-enough (suc n) zero octets hn hm =
+within-enough (suc n) zero octets hn hm =
     elim (cases_Bool (has_record octets)) [
       | inl stands ↦ (let long = has_record-long octets stands in absurd (omega arith))
-      | inr lacks ↦ rw lacks refl
+      | inr lacks ↦ rw lacks (refl, refl)
     ]
-records_within-enough (suc n) (suc m) octets hn hm =
+within-enough (suc n) (suc m) octets hn hm =
     elim (cases_Bool (has_record octets)) [
-      | inl stands ↦ (let shorter = after_record-shorter octets stands in rw stands (ap (λ (rs : List MrtRecord). front_record octets ∷ rs) (records_within-enough n m (after_record octets) (omega arith) (omega arith))))
-      | inr lacks ↦ rw lacks refl
+      | inl stands ↦
+          (let shorter = after_record-shorter octets stands in
+          let later = within-enough n m (after_record octets) (omega arith) (omega arith) in
+          rw stands (ap (λ (rs : List MrtRecord). front_record octets ∷ rs) later.0, later.1))
+      | inr lacks ↦ rw lacks (refl, refl)
     ]
 
--- and gives the same rest
-rest_within-enough : (n m : ℕ) (octets : List ℕ) → length octets ≤ n → length octets ≤ m → rest_within n octets ≡ rest_within m octets
-unfolding rest_within
-rest_within-enough zero zero octets hn hm = refl
-rest_within-enough zero (suc m) octets hn hm =
-    elim (cases_Bool (has_record octets)) [
-      | inl stands ↦ (let long = has_record-long octets stands in absurd (omega arith))
-      | inr lacks ↦ rw lacks refl
-    ]
-rest_within-enough (suc n) zero octets hn hm =
-    elim (cases_Bool (has_record octets)) [
-      | inl stands ↦ (let long = has_record-long octets stands in absurd (omega arith))
-      | inr lacks ↦ rw lacks refl
-    ]
-rest_within-enough (suc n) (suc m) octets hn hm =
-    elim (cases_Bool (has_record octets)) [
-      | inl stands ↦ (let shorter = after_record-shorter octets stands in rw stands (rest_within-enough n m (after_record octets) (omega arith) (omega arith)))
-      | inr lacks ↦ rw lacks refl
-    ]
+-- the record at the front comes first, and the rest is that of the octets after it
+of-step : (octets : List ℕ) → has_record octets ≡ true → (records_of octets ≡ front_record octets ∷ records_of (after_record octets)) × (rest_of octets ≡ rest_of (after_record octets))
+unfolding records_of records_within rest_of rest_within
+of-step octets stands =
+    let shorter = after_record-shorter octets stands in
+    let whole = within-enough (length octets) (suc (length octets)) octets (omega arith) (omega arith) in
+    let later = within-enough (length octets) (length (after_record octets)) (after_record octets) (omega arith) (omega arith) in
+    (whole.0 ∙ rw stands (ap (λ (rs : List MrtRecord). front_record octets ∷ rs) later.0), whole.1 ∙ rw stands later.1)
 
-records_within-step : (n : ℕ) (octets : List ℕ) → has_record octets ≡ true → records_within (suc n) octets ≡ front_record octets ∷ records_within n (after_record octets)
-unfolding records_within
-records_within-step n octets stands = rw stands refl
-
-rest_within-step : (n : ℕ) (octets : List ℕ) → has_record octets ≡ true → rest_within (suc n) octets ≡ rest_within n (after_record octets)
-unfolding rest_within
-rest_within-step n octets stands = rw stands refl
-
-records_within-none : (n : ℕ) (octets : List ℕ) → has_record octets ≡ false → records_within n octets ≡ []
-unfolding records_within
-records_within-none zero octets lacks = refl
-records_within-none (suc n) octets lacks = rw lacks refl
-
-rest_within-none : (n : ℕ) (octets : List ℕ) → has_record octets ≡ false → rest_within n octets ≡ octets
-unfolding rest_within
-rest_within-none zero octets lacks = refl
-rest_within-none (suc n) octets lacks = rw lacks refl
-
--- the record at the front comes first
 pub records_of-step : (octets : List ℕ) → has_record octets ≡ true → records_of octets ≡ front_record octets ∷ records_of (after_record octets)
-unfolding records_of
-records_of-step octets stands =
-    let shorter = after_record-shorter octets stands in
-    records_within-enough (length octets) (suc (length octets)) octets (omega arith) (omega arith)
-    ∙ records_within-step (length octets) octets stands
-    ∙ ap (λ (rs : List MrtRecord). front_record octets ∷ rs) (records_within-enough (length octets) (length (after_record octets)) (after_record octets) (omega arith) (omega arith))
+records_of-step octets stands = (of-step octets stands).0
 
--- the rest is that of the octets after it
 pub rest_of-step : (octets : List ℕ) → has_record octets ≡ true → rest_of octets ≡ rest_of (after_record octets)
-unfolding rest_of
-rest_of-step octets stands =
-    let shorter = after_record-shorter octets stands in
-    rest_within-enough (length octets) (suc (length octets)) octets (omega arith) (omega arith)
-    ∙ rest_within-step (length octets) octets stands
-    ∙ rest_within-enough (length octets) (length (after_record octets)) (after_record octets) (omega arith) (omega arith)
+rest_of-step octets stands = (of-step octets stands).1
 
--- where no record stands at the front, there is none
+-- where no record stands at the front, there is none, and all octets are the rest
+within-none : (n : ℕ) (octets : List ℕ) → has_record octets ≡ false → (records_within n octets ≡ []) × (rest_within n octets ≡ octets)
+unfolding records_within rest_within
+within-none zero octets lacks = (refl, refl)
+within-none (suc n) octets lacks = rw lacks (refl, refl)
+
 pub records_of-none : (octets : List ℕ) → has_record octets ≡ false → records_of octets ≡ []
 unfolding records_of
-records_of-none octets lacks = records_within-none (length octets) octets lacks
+records_of-none octets lacks = (within-none (length octets) octets lacks).0
 
--- and all octets are the rest
 pub rest_of-none : (octets : List ℕ) → has_record octets ≡ false → rest_of octets ≡ octets
 unfolding rest_of
-rest_of-none octets lacks = rest_within-none (length octets) octets lacks
+rest_of-none octets lacks = (within-none (length octets) octets lacks).1
 
 -- an answer with a record
 abbrev taken_some_of : MrtRecord × List ℕ → Result (Option (MrtRecord × List ℕ)) MrtFault
