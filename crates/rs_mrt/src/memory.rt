@@ -1,6 +1,6 @@
 //! A writer over memory, which tells what it has taken. It can be made to fail, for tests of those who write.
 
-ghost use Rattle.std.specs.Prelude.{◌≡◌, ◌+◌, ◌<◌, ◌≤◌, List, Option, Some, length, IfOk};
+ghost use Rattle.std.specs.Prelude.{◌≡◌, ◌+◌, ◌<◌, ◌≤◌, Option, Some, length, IfOk};
 ghost use Rattle.std.specs.Io.KnownBytes.{WriteAppends};
 ghost use Rattle.rs_mrt.specs.Stream.{failed_calls};
 ghost use Rattle.rs_mrt.specs.Memory.{limits_of, begun, amount_of, amount_within, after_call, after_write};

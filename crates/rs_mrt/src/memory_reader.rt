@@ -1,7 +1,7 @@
 //! A reader over memory, which tells what it will give. It can be made to give little at a time and to fail, for tests
 //! of those who read.
 
-ghost use Rattle.std.specs.Prelude.{◌≡◌, ◌+◌, ◌<◌, ◌≤◌, length, take, refl, min, max, Some, Option, ℕ, IfOk};
+ghost use Rattle.std.specs.Prelude.{◌≡◌, ◌+◌, ◌<◌, ◌≤◌, length, take, refl, min, max, Some, Option, IfOk};
 ghost use Rattle.std.specs.Prelude.{MatchResult};
 ghost use Rattle.rs_mrt.specs.Reader.{ReadGives, failed_reads};
 ghost use Rattle.rs_mrt.specs.MemoryReading.{Comes, after_read, amount_given, coming, ending, amount_within, sooner};

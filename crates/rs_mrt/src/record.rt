@@ -3,7 +3,7 @@
 //! Our choice: a file is the longest list of whole records at its front, and a rest. The rest is empty at the end of
 //! the file; else the header or the body of a record is cut short there.
 
-ghost use Rattle.std.specs.Prelude.{◌≡◌, ◌+◌, ◌≤◌, List, length, None, refl, ◌^◌, ◌<◌};
+ghost use Rattle.std.specs.Prelude.{◌≡◌, ◌+◌, ◌≤◌, length, None, refl, ◌^◌, ◌<◌};
 ghost use Rattle.rs_mrt.specs.Source.{IsLeft, source_end, stopped_at};
 ghost use Rattle.rs_mrt.specs.Record.{header_len, headed, reading_of, next_of, after_next, record_of, octets_of, seen};
 ghost use Rattle.rs_mrt.specs.Record.{taken_from};

@@ -3,7 +3,7 @@
 //! The standard leaves the order of its tests open. Ours: whether there are octets for a header, the Marker,
 //! the Length, the Type, and whether the Length suits the Type.
 
-ghost use Rattle.std.specs.Prelude.{◌≡◌, ◌≤◌, length, Ok, IsOk, OnOk, IfOk};
+ghost use Rattle.std.specs.Prelude.{◌≡◌, ◌≤◌, length, Ok, OnOk};
 ghost use Rattle.rs_update.specs.declared.header.MessageType.TheVariants.{Update};
 ghost use Rattle.rs_update.specs.Header as spec;
 

@@ -51,12 +51,7 @@ cut_at_fields : (octets : List ℕ) (n : ℕ)
     → assembled (take 4 octets) (take 2 (drop 4 octets)) (take 2 (drop 6 octets)) (take 4 (drop 8 octets)) (take n (drop 12 octets)) (drop n (drop 12 octets)) ≡ octets
 cut_at_fields octets n =
     let rest = drop 12 octets in
-    ap (λ (z : List ℕ). (((z ++ take 2 (drop 6 octets)) ++ take 4 (drop 8 octets)) ++ take n rest) ++ drop n rest) (sym (take-add 4 2 octets))
-    ∙ ap (λ (z : List ℕ). ((z ++ take 4 (drop 8 octets)) ++ take n rest) ++ drop n rest) (sym (take-add 6 2 octets))
-    ∙ ap (λ (z : List ℕ). (z ++ take n rest) ++ drop n rest) (sym (take-add 8 4 octets))
-    ∙ append_assoc (take 12 octets) (take n rest) (drop n rest)
-    ∙ ap (λ (z : List ℕ). take 12 octets ++ z) (take-append-drop n rest)
-    ∙ take-append-drop 12 octets
+    rw (← take-add 4 2 octets, ← take-add 6 2 octets, ← take-add 8 4 octets, append_assoc (take 12 octets) (take n rest) (drop n rest), take-append-drop n rest, take-append-drop 12 octets) refl
 
 front_spelled : (octets : List ℕ) → AreOctets octets → has_record octets ≡ true → octets ≡ record_spelling (front_record octets) ++ after_record octets
 front_spelled octets h stands =
@@ -68,13 +63,7 @@ front_spelled octets h stands =
     let kind = two_back (drop 4 octets) (AreOctets-drop 4 octets h) (omega (arith, length-drop 4 octets)) in
     let subtype = two_back (drop 6 octets) (AreOctets-drop 6 octets h) (omega (arith, length-drop 6 octets)) in
     let length_octets = ap (big_bytes 4) len ∙ four_back (drop 8 octets) (AreOctets-drop 8 octets h) (omega (arith, length-drop 8 octets)) in
-    sym (
-    ap (λ (z : List ℕ). assembled z (big_bytes 2 (big_number 2 (drop 4 octets))) (big_bytes 2 (big_number 2 (drop 6 octets))) (big_bytes 4 (length (take n rest))) (take n rest) (drop n rest)) time
-    ∙ ap (λ (z : List ℕ). assembled (take 4 octets) z (big_bytes 2 (big_number 2 (drop 6 octets))) (big_bytes 4 (length (take n rest))) (take n rest) (drop n rest)) kind
-    ∙ ap (λ (z : List ℕ). assembled (take 4 octets) (take 2 (drop 4 octets)) z (big_bytes 4 (length (take n rest))) (take n rest) (drop n rest)) subtype
-    ∙ ap (λ (z : List ℕ). assembled (take 4 octets) (take 2 (drop 4 octets)) (take 2 (drop 6 octets)) z (take n rest) (drop n rest)) length_octets
-    ∙ cut_at_fields octets n
-    )
+    sym (rw (← time, ← kind, ← subtype, ← length_octets) at (cut_at_fields octets n))
 
 front_fits : (octets : List ℕ) → AreOctets octets → IsRecord (front_record octets)
 front_fits octets h =
@@ -102,16 +91,12 @@ spelled_stands r after fits =
 spelled_front : (r : MrtRecord) (after : List ℕ) → IsRecord r → front_record (record_spelling r ++ after) ≡ r
 spelled_front r after fits =
     let octets = record_spelling r ++ after in
-    let make : ℕ → ℕ → ℕ → List ℕ → MrtRecord = λ time kind subtype body. record { time = time; kind = kind; subtype = subtype; body = body } in
     let after_kind = big_bytes 2 r.subtype ++ big_bytes 4 (length r.body) ++ r.body ++ after in
     let time : big_number 4 octets ≡ r.time = big_number-reads_back 4 r.time (big_bytes 2 r.kind ++ after_kind) fits.time in
     let kind : big_number 2 (drop 4 octets) ≡ r.kind = big_number-reads_back 2 r.kind after_kind fits.kind in
     let subtype : big_number 2 (drop 6 octets) ≡ r.subtype = big_number-reads_back 2 r.subtype (big_bytes 4 (length r.body) ++ r.body ++ after) fits.subtype in
     let body : take (length_field octets) (r.body ++ after) ≡ r.body = ap (λ (n : ℕ). take n (r.body ++ after)) (spelled_length r after fits) ∙ take_at r.body after (length r.body) refl in
-    ap (λ (x : ℕ). make x (big_number 2 (drop 4 octets)) (big_number 2 (drop 6 octets)) (take (length_field octets) (r.body ++ after))) time
-    ∙ ap (λ (x : ℕ). make r.time x (big_number 2 (drop 6 octets)) (take (length_field octets) (r.body ++ after))) kind
-    ∙ ap (λ (x : ℕ). make r.time r.kind x (take (length_field octets) (r.body ++ after))) subtype
-    ∙ ap (make r.time r.kind r.subtype) body
+    rw (time, kind, subtype, body) refl
 
 spelled_after : (r : MrtRecord) (after : List ℕ) → IsRecord r → after_record (record_spelling r ++ after) ≡ after
 spelled_after r after fits = ap (λ (n : ℕ). drop n (r.body ++ after)) (spelled_length r after fits) ∙ drop_at r.body after (length r.body) refl

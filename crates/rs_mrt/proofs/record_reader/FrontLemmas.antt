@@ -28,15 +28,12 @@ length_field-append octets after long =
 
 headed-append : (octets after body : List ℕ) → 12 ≤ length octets → headed (octets ++ after) body ≡ headed octets body
 headed-append octets after body long =
-    let make : ℕ → ℕ → ℕ → MrtRecord = λ time kind subtype. record { time = time; kind = kind; subtype = subtype; body = body } in
     let time : big_number 4 (octets ++ after) ≡ big_number 4 octets = big_from-append 4 octets after (omega arith) in
     let kind : big_number 2 (drop 4 (octets ++ after)) ≡ big_number 2 (drop 4 octets) =
     ap (big_number 2) (drop-append-le 4 octets after (omega arith)) ∙ big_from-append 2 (drop 4 octets) after (omega (arith, length-drop 4 octets)) in
     let subtype : big_number 2 (drop 6 (octets ++ after)) ≡ big_number 2 (drop 6 octets) =
     ap (big_number 2) (drop-append-le 6 octets after (omega arith)) ∙ big_from-append 2 (drop 6 octets) after (omega (arith, length-drop 6 octets)) in
-    ap (λ (x : ℕ). make x (big_number 2 (drop 4 (octets ++ after))) (big_number 2 (drop 6 (octets ++ after)))) time
-    ∙ ap (λ (x : ℕ). make (big_number 4 octets) x (big_number 2 (drop 6 (octets ++ after)))) kind
-    ∙ ap (make (big_number 4 octets) (big_number 2 (drop 4 octets))) subtype
+    rw (time, kind, subtype) refl
 
 -- a header and a body make a record
 pub has_record-from : (octets : List ℕ) → 12 + length_field octets ≤ length octets → has_record octets ≡ true
@@ -177,10 +174,7 @@ module _ {R : Type 0} (gives : R → List ℕ → ReadEnd → Type 0) (failures 
       after_record-append whole may.octets found.stands ∙ ap (λ (z : List ℕ). z ++ may.octets) (sym found.behind) in
       let first : front_of (front_record (whole ++ may.octets)) ≡ r = ap front_of (front_record-append whole may.octets found.stands) ∙ sym front in
       let records : map front_of (records_of (whole ++ may.octets)) ≡ r ∷ later =
-      ap (map front_of) (records_of-step (whole ++ may.octets) stands)
-      ∙ ap (λ (x : MrtRecord). x ∷ map front_of (records_of (after_record (whole ++ may.octets)))) first
-      ∙ ap (λ (z : List ℕ). r ∷ map front_of (records_of z)) after
-      ∙ ap (λ (rs : List MrtRecord). r ∷ rs) (sym may.fronts) in
+      rw (records_of-step (whole ++ may.octets) stands, first, after) (ap (λ (rs : List MrtRecord). r ∷ rs) (sym may.fronts)) in
       let rest : rest_of (whole ++ may.octets) ≡ rest_of (held ++ may.octets) = rest_of-step (whole ++ may.octets) stands ∙ ap rest_of after in
       record {
         octets = found.piece ++ may.octets;

@@ -76,14 +76,8 @@ given_later : (n : ℕ) (piece : List ℕ) (old new : MemoryReading)
     → take n piece ≡ take n old.left → new.left ≡ drop n old.left → new.before_failure ≡ sooner old.before_failure (Ok n)
     → (later : List ℕ) (end : ReadEnd) → Comes new later end → Comes old (take n piece ++ later) end
 given_later n piece old new amount same left before later end may =
-    let step = coming-step old.left old.before_failure (min (min (length piece) (length old.left)) old.most) n (omega arith) amount in (
-      ap (λ (z : List ℕ). take n piece ++ z) may.0
-          ∙ ap (λ (z : List ℕ). z ++ coming new.left new.before_failure) same
-          ∙ ap (λ (z : List ℕ). take n old.left ++ coming z new.before_failure) left
-          ∙ ap (λ (b : Option ℕ). take n old.left ++ coming (drop n old.left) b) before
-          ∙ step.0,
-      may.1 ∙ ap (λ (z : List ℕ). ending z new.before_failure) left ∙ ap (ending (drop n old.left)) before ∙ step.1,
-    )
+    let step = coming-step old.left old.before_failure (min (min (length piece) (length old.left)) old.most) n (omega arith) amount in
+    (rw (may.0, same, left, before) step.0, rw (may.1, left, before) step.1)
 
 pub given_by_memory : (n : ℕ) (piece : List ℕ) (old new : MemoryReading) → 0 < old.most
     → Some n ≡ amount_within old.before_failure (min (min (length piece) (length old.left)) old.most)
