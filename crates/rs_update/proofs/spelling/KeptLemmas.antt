@@ -3,7 +3,8 @@ use Rattle.std.proofs.Common.{◌≡◌, ℕ, ◌<◌, ◌==◌, true, List, [],
 use Rattle.std.specs.Prelude.{find, option_and_then, is_some, slice_index, if◌then◌else◌}
 use Rattle.std.specs.List.{filter_map, range_with_len, flat_map}
 use Rattle.std.specs.Option.{option_map}
-use Rattle.std.proofs.lemmas.Bool.{cases_Bool, cases_eq, ne_eqb, eqb-true}
+use Rattle.std.proofs.lemmas.Bool.{cases_Bool, eqb-true}
+use Rattle.std.proofs.lemmas.Bool.Decides.{nat_tests}
 use Rattle.std.proofs.lemmas.List.{take-append-drop, take_all, length-drop, append-nil, nil_from_length}
 use Rattle.byteorder.specs.Endian.{big_number, big_bytes}
 use Rattle.rs_update.specs.declared.attribute_type.AttributeType.{AttributeType}
@@ -28,20 +29,7 @@ use Rattle.rs_update.proofs.section.SoundLemmas.{AreSound, IsSound, look_sound, 
 -- ---- the values
 
 known_code : (code : ℕ) → is_some (origin_of code) ≡ true → origin_code (origin_with code) ≡ code
-known_code code known =
-    elim (cases_eq code 0) [
-      | inl zero_code ↦ rw zero_code refl
-      | inr not0 ↦
-          elim (cases_eq code 1) [
-            | inl one ↦ rw one refl
-            | inr not1 ↦
-                elim (cases_eq code 2) [
-                  | inl two ↦ rw two refl
-                  | inr not2 ↦
-                      let none = rw (ne_eqb code 0 not0, ne_eqb code 1 not1, ne_eqb code 2 not2) at known in absurd cc
-                ]
-          ]
-    ]
+known_code code known = grind (arith, nat_tests)
 
 code_again : (value : List ℕ) → is_origin value ≡ true → origin_code (origin_with (slice_index value 0)) ∷ [] ≡ value
 code_again [] known = absurd cc

@@ -10,9 +10,7 @@ returns-in_err-front-clause-steps c =
     let none = segments-end c.args.self.now.octets.now (sym c.in_err-front.ensures) in
     rw c.from_residual.ensures (none, none)
 
-pub returns-clause-steps : goal.returns-clause-steps
-returns-clause-steps c = segments-step c.args.self.now.octets.now (segment_split_of c.in_ok-front.front) (sym c.in_ok-front.ensures)
-
-pub returns-clause-goes : goal.returns-clause-goes
-returns-clause-goes c =
-    one_less segments_in _ _ _ _ (segments-step c.args.self.now.octets.now (segment_split_of c.in_ok-front.front) (sym c.in_ok-front.ensures))
+pub returns : goal.returns
+returns c =
+    let step = segments-step c.args.self.now.octets.now (segment_split_of c.in_ok-front.front) (sym c.in_ok-front.ensures) in
+    record { steps = step; goes = one_less segments_in _ _ _ _ step }

@@ -6,14 +6,10 @@ use Rattle.rs_update.proofs.attributes.PlaceLemmas.{passed-step, passed-skip, pa
 use Rattle.rs_update.proofs.fields.ProgressLemmas.{one_less}
 use Rattle.rs_update.proofs.attributes.OthersIterator.next.Goals as goal
 
-pub returns-then-is_passed_on-clause-steps : goal.returns-then-is_passed_on-clause-steps
-returns-then-is_passed_on-clause-steps c =
-    sym c.loop-front.invariant ∙ passed-step c.loop-front.self.octets.now (split_of c.in-Some.front) (sym c.in-Some.ensures) (sym c.if-is_passed_on.ensures)
-
-pub returns-then-is_passed_on-clause-goes : goal.returns-then-is_passed_on-clause-goes
-returns-then-is_passed_on-clause-goes c =
-    one_less others_in _ _ _ _
-    (sym c.loop-front.invariant ∙ passed-step c.loop-front.self.octets.now (split_of c.in-Some.front) (sym c.in-Some.ensures) (sym c.if-is_passed_on.ensures))
+pub returns-then-is_passed_on : goal.returns-then-is_passed_on
+returns-then-is_passed_on c =
+    let step = sym c.loop-front.invariant ∙ passed-step c.loop-front.self.octets.now (split_of c.in-Some.front) (sym c.in-Some.ensures) (sym c.if-is_passed_on.ensures) in
+    record { steps = step; goes = one_less others_in _ _ _ _ step }
 
 pub loop-front-smaller : goal.loop-front-smaller
 loop-front-smaller c = item_at-takes c.loop-front.self.octets.now (split_of c.in-Some.front) (sym c.in-Some.ensures)

@@ -11,20 +11,14 @@ returns-then-self-eq0-clause-steps c =
     let none = numbers_at-none c.args.self.now.count c.args.self.now.octets.now c.if-self-eq0.true in
     (none, none)
 
-pub returns-clause-steps : goal.returns-clause-steps
-returns-clause-steps c =
+pub returns : goal.returns
+returns c =
     let octets = c.args.self.now.octets.now in
+    let step =
     numbers_at-step c.args.self.now.count octets c.if-self-eq0.false
     ∙ ap (λ (number : ℕ). number ∷ numbers_at (c.args.self.now.count - 1) (drop 4 octets)) (sym c.number_at-number.ensures)
-    ∙ ap (λ (rest : List ℕ). c.number_at-number.result ∷ numbers_at (c.args.self.now.count - 1) rest) (sym (take_all (length octets - 4) (drop 4 octets) (omega (arith, length-drop 4 octets))))
-
-pub returns-clause-goes : goal.returns-clause-goes
-returns-clause-goes c =
-    let octets = c.args.self.now.octets.now in
-    one_less numbers_in _ _ _ _
-    (numbers_at-step c.args.self.now.count octets c.if-self-eq0.false
-    ∙ ap (λ (number : ℕ). number ∷ numbers_at (c.args.self.now.count - 1) (drop 4 octets)) (sym c.number_at-number.ensures)
-    ∙ ap (λ (rest : List ℕ). c.number_at-number.result ∷ numbers_at (c.args.self.now.count - 1) rest) (sym (take_all (length octets - 4) (drop 4 octets) (omega (arith, length-drop 4 octets)))))
+    ∙ ap (λ (rest : List ℕ). c.number_at-number.result ∷ numbers_at (c.args.self.now.count - 1) rest) (sym (take_all (length octets - 4) (drop 4 octets) (omega (arith, length-drop 4 octets)))) in
+    record { steps = step; goes = one_less numbers_in _ _ _ _ step }
 
 pub invariant_of-self : goal.invariant_of-self
 invariant_of-self c = search rules
