@@ -2,8 +2,8 @@
 use Rattle.std.proofs.Common.{◌≡◌, ℕ, suc, ◌+◌, ◌-◌, ◌<◌, ◌≤◌, false, not, eqb, List, [], ◌∷◌, ◌++◌, length, get_or, set, replicate, Option, Some, None, refl, sym, ap, subst, ◌∙◌, append_assoc, arith, inl, inr, get_or-set_same, get_or-set_other}
 use Rattle.std.specs.Prelude.{option_and_then, is_some}
 use Rattle.std.specs.List.{filter_map, flat_map, range_with_len}
-use Rattle.std.specs.Option.{option_or}
-use Rattle.std.proofs.lemmas.Bool.{cases_eq, eq-eqb, ne_eqb}
+use Rattle.std.proofs.lemmas.Bool.{cases_eq, ne_eqb}
+use Rattle.std.proofs.lemmas.Bool.Decides.{nat_tests}
 use Rattle.std.proofs.lemmas.List.{length-replicate, get_or-replicate, length-set, append-nil}
 use Rattle.rs_update.specs.AttributesView.{item_from}
 use Rattle.rs_update.specs.Found.{kept_of, kept_in, spelled_kept}
@@ -13,7 +13,7 @@ use Rattle.rs_update.specs.Section.{Item, item_at, items_of, section_fault, has_
 use Rattle.rs_update.specs.Spelling.{spelled_item}
 use Rattle.rs_update.proofs.attributes.FoundLemmas.{items_of-step, items_of-end}
 use Rattle.rs_update.proofs.attributes.KindLemmas.{cases_Option, All-range, filter_map-none}
-use Rattle.rs_update.proofs.attributes.OthersLemmas.{none_of_type, look-push}
+use Rattle.rs_update.proofs.attributes.OthersLemmas.{none_of_type}
 use Rattle.rs_update.proofs.attributes.PlaceLemmas.{item_there, item_from-past}
 use Rattle.rs_update.proofs.section.ReceivedLemmas.{item_at-reads}
 use Rattle.rs_update.proofs.section.SoundLemmas.{section_without, later_without}
@@ -48,18 +48,13 @@ finds_nothing section fit past = let nowhere : ℕ = 65535 in record {
 
 -- one attribute more, of a type that wasn't found
 look-new : (kind : ℕ) (earlier : List Item) (item : Item) → item.kind ≡ kind → look kind earlier ≡ None → look kind (earlier ++ item ∷ []) ≡ Some item
-look-new kind earlier item same none =
-    look-push kind earlier item ∙ ap (λ (found : Option Item). option_or found (look kind (item ∷ []))) none ∙ rw (eq-eqb item.kind kind same) refl
+look-new kind [] item same none = grind (arith, nat_tests)
+look-new kind (first ∷ earlier) item same none = grind (arith, nat_tests, look-new kind earlier item same)
 
 -- one of another type changes nothing
 look-other : (kind : ℕ) (earlier : List Item) (item : Item) → (item.kind ≡ kind → ⊥) → look kind (earlier ++ item ∷ []) ≡ look kind earlier
-look-other kind earlier item other =
-    let none : look kind (item ∷ []) ≡ None = rw (ne_eqb item.kind kind other) refl in
-    look-push kind earlier item ∙ ap (option_or (look kind earlier)) none ∙ or_none (look kind earlier)
-  where
-    or_none : (found : Option Item) → option_or found None ≡ found
-    or_none None = refl
-    or_none (Some i) = refl
+look-other kind [] item other = grind (arith, nat_tests)
+look-other kind (first ∷ earlier) item other = grind (arith, nat_tests, look-other kind earlier item other)
 
 pub finds_one : (section rest places : List ℕ) (end next : ℕ) (split : Item × List ℕ) → section_fault section ≡ None → length section < 65535 → item_at rest ≡ Some split → end ≤ next → split.0.kind < next → next ≤ 256
     → FindsSoFar section rest places end → FindsSoFar section split.1 (set places split.0.kind (length section - length rest)) next

@@ -1,10 +1,10 @@
 -- Attributes by their types: look-ups, and lists that have one of each type at most.
 -- For the lemmas of what is found and written by type.
-use Rattle.std.proofs.Common.{◌≡◌, ℕ, zero, suc, ◌+◌, ◌<◌, ◌≤◌, ◌==◌, ◌⊎◌, true, false, eqb, List, [], ◌∷◌, Option, Some, None, refl, sym, ap, subst, ◌∙◌, arith, inl, inr}
+use Rattle.std.proofs.Common.{◌≡◌, ℕ, zero, suc, ◌+◌, ◌<◌, ◌≤◌, ◌==◌, ◌⊎◌, true, false, eqb, List, [], ◌∷◌, Option, Some, None, refl, sym, ap, ◌∙◌, arith, inl, inr}
 use Rattle.std.specs.Prelude.{find, is_some}
 use Rattle.std.specs.List.{filter_map, range_with_len, list_any, AllByRecursion}
-use Rattle.std.proofs.lemmas.Bool.{cases_Bool, cases_eq, eqb-true, eq-eqb, ne_eqb}
-use Rattle.std.proofs.lemmas.Option.{same_Some}
+use Rattle.std.proofs.lemmas.Bool.{cases_eq, eq-eqb, ne_eqb}
+use Rattle.std.proofs.lemmas.Bool.Decides.{nat_tests}
 
 -- nothing, or something
 pub cases_Option : {X : Type 0} (found : Option X) → (found ≡ None) ⊎ ((x : X) × (found ≡ Some x))
@@ -28,20 +28,16 @@ All-range P a (suc n) b end each = (each a (omega arith) (omega arith), All-rang
 -- lists made the same way of each element
 pub filter_map-same : {X Y : Type 0} (f g : X → Option Y) (xs : List X) → AllByRecursion (λ x. f x ≡ g x) xs → filter_map f xs ≡ filter_map g xs
 filter_map-same f g [] each = refl
-filter_map-same f g (x ∷ xs) each = let first = each.0 in let later = filter_map-same f g xs each.1 in rw (first, later) refl
+filter_map-same f g (x ∷ xs) each = grind (arith, filter_map-same f g xs each.1, each.0)
 
 pub filter_map-none : {X Y : Type 0} (f : X → Option Y) (xs : List X) → AllByRecursion (λ x. f x ≡ None) xs → filter_map f xs ≡ []
 filter_map-none f [] each = refl
-filter_map-none f (x ∷ xs) each = let first = each.0 in let later = filter_map-none f xs each.1 in rw first later
+filter_map-none f (x ∷ xs) each = grind (arith, filter_map-none f xs each.1, each.0)
 
 -- what is found has the type that is looked for
 pub kind_of_found : {X : Type 0} (kind : X → ℕ) (k : ℕ) (xs : List X) (x : X) → find (λ y. kind y == k) xs ≡ Some x → kind x ≡ k
 kind_of_found kind k [] x e = absurd cc
-kind_of_found kind k (y ∷ ys) x e =
-    elim (cases_Bool (eqb (kind y) k)) [
-      | inl first ↦ let same : Some y ≡ Some x = rw first at e in subst (λ z. kind z ≡ k) (same_Some y x same) (eqb-true (kind y) k first)
-      | inr later ↦ kind_of_found kind k ys x (rw later at e)
-    ]
+kind_of_found kind k (y ∷ ys) x e = grind (arith, nat_tests, kind_of_found kind k ys x)
 
 -- a list with at most one element for each type, made by a function of the type
 module _ {X : Type 0} (kind : X → ℕ) (make : ℕ → Option X) (is : (k : ℕ) (x : X) → make k ≡ Some x → kind x ≡ k) where
@@ -81,8 +77,4 @@ module _ {X : Type 0} (kind : X → ℕ) (make : ℕ → Option X) (is : (k : �
 -- a number stands in a range
 pub range-any : (a n k : ℕ) → a ≤ k → k < a + n → list_any (λ j. j == k) (range_with_len a n) ≡ true
 range-any a zero k le lt = absurd (omega arith)
-range-any a (suc n) k le lt =
-    elim (cases_eq a k) [
-      | inl same ↦ rw (eq-eqb a k same) refl
-      | inr other ↦ rw (ne_eqb a k other) (range-any (a + 1) n k (omega arith) (omega arith))
-    ]
+range-any a (suc n) k le lt = grind (arith, nat_tests, range-any (a + 1) n k)

@@ -56,10 +56,7 @@ attributes_of-found items origin path next_hop o p n =
     rw o (rw p (rw n refl))
 
 all_three : (items : List Item) (origin path next_hop : Option Item) → (is_some origin && is_some path && is_some next_hop) ≡ is_some (of_three items origin path next_hop)
-all_three items None path next_hop = refl
-all_three items (Some o) None next_hop = refl
-all_three items (Some o) (Some p) None = refl
-all_three items (Some o) (Some p) (Some n) = refl
+all_three items origin path next_hop = grind arith
 
 -- a section has the mandatory attributes exactly where it gives a route attributes
 pub mandatory_given : {origin path next_hop : Bool} (items : List Item) → origin ≡ is_some (look 1 items) → path ≡ is_some (look 2 items) → next_hop ≡ is_some (look 3 items)

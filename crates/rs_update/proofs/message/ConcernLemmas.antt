@@ -2,7 +2,7 @@
 use Rattle.std.proofs.Common.{◌≡◌, ℕ, ◌<◌, Bool, true, false, not, ◌==◌, ◌||◌, cond, List, [], ◌∷◌, length, drop, get_or, Option, Some, None, Result, Ok, Err, refl, sym, ap, ◌∙◌, arith}
 use Rattle.std.specs.Prelude.{is_err, is_some, if◌then◌else◌}
 use Rattle.std.specs.Option.{option_map_or}
-use mathlib.Core.Bool.{or-true, or_assoc}
+use mathlib.Core.Bool.{or_assoc}
 use Rattle.rs_update.specs.declared.errors.Errors.{Errors}
 use Rattle.rs_update.specs.declared.errors.Errors.TheVariants.{Rfc4271, Rfc7606}
 use Rattle.rs_update.specs.declared.fault.HeaderFault.{HeaderFault}
@@ -46,16 +46,14 @@ parts_concern prefix parts = option_map_or (lists_cover prefix) (if length parts
 
 first_concerns : (prefix front : IpPrefix) (prefixes : List IpPrefix) (whole : Bool)
     → option_map_or (lists_cover prefix) (cond whole (Some (front ∷ prefixes)) None) true ≡ (covers front prefix || option_map_or (lists_cover prefix) (cond whole (Some prefixes) None) true)
-first_concerns prefix front prefixes true = refl
-first_concerns prefix front prefixes false = sym (or-true (covers front prefix))
+first_concerns prefix front prefixes whole = grind arith
 
 -- a prefix in front covers it, or what stands behind concerns it
 pub concerns_more : (prefix front : IpPrefix) (octets rest : List ℕ) → Some (front, rest) ≡ prefix_at octets → field_concerns prefix octets ≡ (covers front prefix || field_concerns prefix rest)
 concerns_more prefix front octets rest read = ap (parts_concern prefix) (prefixes_more octets front rest read) ∙ first_concerns prefix front _ _
 
 end_concerns : (prefix : IpPrefix) (whole : Bool) → option_map_or (lists_cover prefix) (cond whole (Some []) None) true ≡ not whole
-end_concerns prefix true = refl
-end_concerns prefix false = refl
+end_concerns prefix whole = grind arith
 
 -- what begins with no prefix is at fault unless it is empty
 pub concerns_end : (prefix : IpPrefix) (octets : List ℕ) → None ≡ prefix_at octets → field_concerns prefix octets ≡ not (length octets == 0)
@@ -73,20 +71,12 @@ concerned prefix found = option_map_or (lists_cover prefix) found true
 -- by RFC 4271
 steps_concern : (prefix : IpPrefix) (section : Option UpdateFault) (announced : Result (Option PathAttributes) UpdateFault) (withdrawn nlri : Option (List IpPrefix))
     → message_concerns prefix (update_message (steps None section announced (listed withdrawn) (listed nlri))) ≡ ((is_some section || is_err announced) || (concerned prefix withdrawn || concerned prefix nlri))
-steps_concern prefix (Some fault) announced withdrawn nlri = refl
-steps_concern prefix None (Err fault) withdrawn nlri = refl
-steps_concern prefix None (Ok attributes) None nlri = refl
-steps_concern prefix None (Ok attributes) (Some first) None = sym (or-true (lists_cover prefix first))
-steps_concern prefix None (Ok attributes) (Some first) (Some second) = refl
+steps_concern prefix section announced withdrawn nlri = grind arith
 
 -- by RFC 7606
 treating_steps_concern : (prefix : IpPrefix) (section : Option UpdateFault) (withdrawn nlri : Option (List IpPrefix)) (standing : Option (Option PathAttributes))
     → message_concerns prefix (treating_message (treating_steps None section (listed withdrawn) (listed nlri) standing)) ≡ (is_some section || (concerned prefix withdrawn || concerned prefix nlri))
-treating_steps_concern prefix (Some fault) withdrawn nlri standing = refl
-treating_steps_concern prefix None None nlri standing = refl
-treating_steps_concern prefix None (Some first) None standing = sym (or-true (lists_cover prefix first))
-treating_steps_concern prefix None (Some first) (Some second) None = refl
-treating_steps_concern prefix None (Some first) (Some second) (Some attributes) = refl
+treating_steps_concern prefix section withdrawn nlri standing = grind arith
 
 -- an UPDATE whose lengths are at fault
 pub lengths_concern : (errors : Errors) (prefix : IpPrefix) (body : List ℕ) (fault : UpdateFault) → first_fault (length_tests body) ≡ Some fault → message_concerns prefix (update_by errors body) ≡ true
@@ -122,11 +112,7 @@ unfolding message_by
 header_concern errors prefix octets fault e = rw (e, message_by) refl
 
 typed_concern : (errors : Errors) (prefix : IpPrefix) (kind : MessageType) (body : List ℕ) → (kind ≡ types.Update → ⊥) → message_concerns prefix (typed_message_by errors kind body) ≡ true
-typed_concern errors prefix types.Open body other = refl
-typed_concern errors prefix types.Update body other = absurd (other refl)
-typed_concern errors prefix types.Notification body other = refl
-typed_concern errors prefix types.KeepAlive body other = refl
-typed_concern errors prefix types.Refresh body other = refl
+typed_concern errors prefix kind body other = grind arith
 
 -- one of another type than UPDATE
 pub other_concern : (errors : Errors) (prefix : IpPrefix) (octets : List ℕ) (kind : MessageType) → header_of octets ≡ Ok kind → (kind ≡ types.Update → ⊥) → message_concerns prefix (message_by errors octets) ≡ true

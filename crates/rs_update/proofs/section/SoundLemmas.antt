@@ -1,51 +1,38 @@
 -- What holds of the attributes of a section without fault: for `whole` of gather.rt, `spell` of spelling.rt, attributes.rt, and the lemmas of
 -- faults and of what is found and written.
-use Rattle.std.proofs.Common.{◌≡◌, ℕ, ◌%◌, ◌<◌, ◌&&◌, Bool, true, false, not, cond, eqb, List, [], ◌∷◌, ◌++◌, length, Option, Some, None, refl, subst, append_assoc, arith, inl, inr}
+use Rattle.std.proofs.Common.{◌≡◌, ℕ, ◌%◌, ◌<◌, ◌&&◌, true, false, not, eqb, List, [], ◌∷◌, ◌++◌, length, Option, Some, None, subst, append_assoc, arith, inl, inr}
 use Rattle.std.specs.List.{AllByRecursion}
-use Rattle.std.proofs.lemmas.Bool.{cases_Bool, eqb-true, not-false, and_parts}
+use Rattle.std.proofs.lemmas.Bool.{cases_Bool, eqb-true, and_parts}
 use Rattle.std.proofs.lemmas.List.{append-nil, nil_from_length}
+use Rattle.std.proofs.lemmas.Bool.Decides.{nat_tests}
 use Rattle.std.proofs.lemmas.Option.{same_Some}
 use Rattle.rs_update.specs.declared.attribute_type.AttributeType.{AttributeType}
 use Rattle.rs_update.specs.declared.attribute_type.AttributeType.TheVariants as types
 use Rattle.rs_update.specs.declared.attribute_type.Lengths.{Lengths}
 use Rattle.rs_update.specs.declared.attribute_type.Lengths.TheVariants.{Exactly}
-use Rattle.rs_update.specs.declared.fault.UpdateFault.TheVariants.{MalformedAttributeList, UnrecognizedWellKnown, AttributeFlags, AttributeLength, InvalidOrigin, MalformedAsPath}
 use Rattle.rs_update.specs.AttributeType.{type_of, row_of, is_unrecognized, is_optional, is_extended, flags_of, suits, admits}
 use Rattle.rs_update.specs.Fault.{first_fault, or_else}
 use Rattle.rs_update.specs.Gathered.{look}
 use Rattle.rs_update.specs.Parts.{AreOctets}
-use Rattle.rs_update.specs.Section.{Item, items_of, rest_of, tests_of, own_fault_of, has_type, first_item_fault, section_fault, suits_length, value_tests, is_origin, is_path}
+use Rattle.rs_update.specs.Section.{Item, items_of, rest_of, tests_of, has_type, first_item_fault, section_fault, suits_length, value_tests, is_origin, is_path}
 use Rattle.rs_update.proofs.attributes.KindLemmas.{kind_of_found}
 use Rattle.rs_update.proofs.section.ReceivedLemmas.{IsReceived, section-is_spelled}
 
 -- no fault, and none later
 pub neither : {F : Type 0} (a b : Option F) → or_else a b ≡ None → (a ≡ None) × (b ≡ None)
-neither None b e = (refl, e)
-neither (Some fault) b e = absurd cc
-
--- a test that finds nothing, and what stands behind it
-pub passed : {F : Type 0} (test : Bool) (fault : F) (later : Option F) → cond test (Some fault) later ≡ None → (test ≡ false) × (later ≡ None)
-passed true fault later e = absurd cc
-passed false fault later e = (refl, e)
-
-none_unless : (b : Bool) → cond b None (Some MalformedAttributeList) ≡ None → b ≡ true
-none_unless true e = refl
-none_unless false e = absurd cc
+neither a b e = (grind arith, grind arith)
 
 -- what a section without fault has: attributes without fault, and nothing left over
 pub section_without : (section : List ℕ) → section_fault section ≡ None → (first_item_fault [] (items_of section) ≡ None) × (rest_of section ≡ [])
 section_without section e =
     let both = neither _ _ e in
-    (both.0, nil_from_length (rest_of section) (eqb-true _ _ (none_unless _ both.1)))
+    (both.0, nil_from_length (rest_of section) (grind (arith, nat_tests)))
 
 -- an attribute among others: its type stood not earlier, and it passes its own tests
 pub item_without : (earlier : List Item) (item : Item) (later : List Item) → first_item_fault earlier (item ∷ later) ≡ None
     → (has_type item.kind earlier ≡ false) × (first_fault (tests_of (type_of item.kind) item.flags item.value) ≡ None) × (first_item_fault (earlier ++ item ∷ []) later ≡ None)
 unfolding first_item_fault
-item_without earlier item later e =
-    let both = neither _ _ e in
-    let own = passed _ MalformedAttributeList (own_fault_of item) both.0 in
-    (own.0, own.1, both.1)
+item_without earlier item later e = (grind arith, grind arith, grind arith)
 
 pub later_without : (earlier front : List Item) (item : Item) (later : List Item) → first_item_fault earlier (front ++ item ∷ later) ≡ None → has_type item.kind (earlier ++ front) ≡ false
 later_without earlier [] item later e = rw (append-nil earlier) (item_without earlier item later e).0
@@ -103,21 +90,17 @@ look_sound items kind item sound e = record {
 -- flags and length
 pub tests_passed : (type : AttributeType) (flags : ℕ) (value : List ℕ) → first_fault (tests_of type flags value) ≡ None
     → ((is_unrecognized type && not (is_optional flags)) ≡ false) × (suits (flags_of type) flags ≡ true) × (suits_length type (length value) ≡ true) × (first_fault (value_tests type value) ≡ None)
-tests_passed type flags value e =
-    let a = passed (is_unrecognized type && not (is_optional flags)) UnrecognizedWellKnown _ e in
-    let b = passed (not (suits (flags_of type) flags)) AttributeFlags _ a.1 in
-    let c = passed (not (suits_length type (length value))) AttributeLength _ b.1 in
-    (a.0, not-false _ b.0, not-false _ c.0, c.1)
+tests_passed type flags value e = (grind arith, grind arith, grind arith, grind arith)
 
 pub origin_value : (item : Item) → IsSound 1 item → is_origin item.value ≡ true
 origin_value item sound =
-    let all = tests_passed types.Origin item.flags item.value sound.tests in
-    not-false _ (passed (not (is_origin item.value)) InvalidOrigin None all.3).0
+    let all = (tests_passed types.Origin item.flags item.value sound.tests).3 in
+    grind arith
 
 pub path_value : (item : Item) → IsSound 2 item → is_path item.value ≡ true
 path_value item sound =
-    let all = tests_passed types.AsPath item.flags item.value sound.tests in
-    not-false _ (passed (not (is_path item.value)) MalformedAsPath None all.3).0
+    let all = (tests_passed types.AsPath item.flags item.value sound.tests).3 in
+    grind arith
 
 pub communities_value : (item : Item) → IsSound 8 item → length item.value % 4 ≡ 0
 communities_value item sound = eqb-true _ _ (and_parts _ _ (tests_passed types.Communities item.flags item.value sound.tests).2).1

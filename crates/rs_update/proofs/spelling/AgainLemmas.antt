@@ -73,16 +73,7 @@ passes_again item =
 
 passed-filter : (make : ℕ → Option Item) (kinds : List ℕ) → map passed_on_of (filter is_passed_on (filter_map make kinds)) ≡ filter_map (λ kind. option_and_then passes (make kind)) kinds
 passed-filter make [] = refl
-passed-filter make (kind ∷ kinds) =
-    let later = passed-filter make kinds in
-    elim (cases_Option (make kind)) [
-      | inl none ↦ rw none later
-      | inr some ↦
-          elim (cases_Bool (is_passed_on some.0)) [
-            | inl passed ↦ rw (some.1, passed) (ap (λ (others : List PassedOn). passed_on_of some.0 ∷ others) later)
-            | inr dropped ↦ rw (some.1, dropped) later
-          ]
-    ]
+passed-filter make (kind ∷ kinds) = grind (arith, passed-filter make kinds)
 
 -- ---- the attributes as they are written
 

@@ -74,10 +74,7 @@ kept_suits item kept e =
     }
 
 no_fault : (type : AttributeType) (flags : ℕ) (value : List ℕ) → SuitsType type flags → suits_length type (length value) ≡ true → first_fault (value_tests type value) ≡ None → first_fault (tests_of type flags value) ≡ None
-no_fault type flags value suiting size tests =
-    let class = suiting.class in
-    let bits = suiting.bits in
-    rw (class, bits, size) tests
+no_fault type flags value suiting size tests = grind (arith, suiting.class, suiting.bits)
 
 -- what is written of an attribute without fault: its type, a length that can be spelled, and no fault
 pub record IsWritten (kind : ℕ) (kept : Item) : Type 0 where

@@ -4,15 +4,13 @@ use Rattle.std.specs.Prelude.{if◌then◌else◌}
 use Rattle.std.specs.List.{flat_map, AllByRecursion}
 use Rattle.std.proofs.lemmas.Bool.{cases_Bool, or_cases, or_left, or_right, true≢false}
 use Rattle.std.proofs.lemmas.List.{append-nil, length-append, take_at}
-use Rattle.rs_update.specs.declared.attribute_type.AttributeType.{AttributeType}
-use Rattle.rs_update.specs.declared.attribute_type.AttributeType.TheVariants as types
 use Rattle.rs_update.specs.declared.fault.UpdateFault.{UpdateFault}
-use Rattle.rs_update.specs.declared.fault.UpdateFault.TheVariants.{MalformedAttributeList, UnrecognizedWellKnown, MissingWellKnown, AttributeFlags, AttributeLength, InvalidOrigin, InvalidNextHop, InvalidNetworkField, MalformedAsPath}
+use Rattle.rs_update.specs.declared.fault.UpdateFault.TheVariants.{MalformedAttributeList}
 use Rattle.rs_update.specs.declared.handling.Handling.{Handling}
-use Rattle.rs_update.specs.declared.handling.Handling.TheVariants.{Keep, AttributeDiscard, TreatAsWithdraw, SessionReset}
+use Rattle.rs_update.specs.declared.handling.Handling.TheVariants.{Keep, SessionReset}
 use Rattle.rs_update.specs.AttributeType.{type_of}
 use Rattle.rs_update.specs.Fault.{or_else}
-use Rattle.rs_update.specs.Handling.{stronger, handling_again, handling_of_fault, handling_of_own, handling_behind, strongest_behind, handling_of_rest, strongest_in, is_kept, kept_behind, kept_of, kept_section}
+use Rattle.rs_update.specs.Handling.{stronger, handling_again, handling_of_own, handling_behind, strongest_behind, handling_of_rest, strongest_in, is_kept, kept_behind, kept_of, kept_section}
 use Rattle.rs_update.specs.Parts.{AreOctets, parts_of}
 use Rattle.rs_update.specs.Section.{Item, FitsItsLength, item_at, items_of, rest_of, own_fault_of, has_type, fault_behind, first_item_fault, section_fault}
 use Rattle.rs_update.specs.Spelling.{spelled_item}
@@ -26,52 +24,16 @@ use Rattle.rs_update.proofs.fields.SpelledParts.{items_of-spelled}
 -- ---- the stronger of two
 
 pub stronger-assoc : (a b c : Handling) → stronger (stronger a b) c ≡ stronger a (stronger b c)
-stronger-assoc Keep b c = refl
-stronger-assoc AttributeDiscard Keep c = refl
-stronger-assoc AttributeDiscard AttributeDiscard Keep = refl
-stronger-assoc AttributeDiscard AttributeDiscard AttributeDiscard = refl
-stronger-assoc AttributeDiscard AttributeDiscard TreatAsWithdraw = refl
-stronger-assoc AttributeDiscard AttributeDiscard (SessionReset fault) = refl
-stronger-assoc AttributeDiscard TreatAsWithdraw Keep = refl
-stronger-assoc AttributeDiscard TreatAsWithdraw AttributeDiscard = refl
-stronger-assoc AttributeDiscard TreatAsWithdraw TreatAsWithdraw = refl
-stronger-assoc AttributeDiscard TreatAsWithdraw (SessionReset fault) = refl
-stronger-assoc AttributeDiscard (SessionReset fault) c = refl
-stronger-assoc TreatAsWithdraw Keep c = refl
-stronger-assoc TreatAsWithdraw AttributeDiscard Keep = refl
-stronger-assoc TreatAsWithdraw AttributeDiscard AttributeDiscard = refl
-stronger-assoc TreatAsWithdraw AttributeDiscard TreatAsWithdraw = refl
-stronger-assoc TreatAsWithdraw AttributeDiscard (SessionReset fault) = refl
-stronger-assoc TreatAsWithdraw TreatAsWithdraw Keep = refl
-stronger-assoc TreatAsWithdraw TreatAsWithdraw AttributeDiscard = refl
-stronger-assoc TreatAsWithdraw TreatAsWithdraw TreatAsWithdraw = refl
-stronger-assoc TreatAsWithdraw TreatAsWithdraw (SessionReset fault) = refl
-stronger-assoc TreatAsWithdraw (SessionReset fault) c = refl
-stronger-assoc (SessionReset fault) b c = refl
+stronger-assoc a b c = grind arith
 
 pub stronger-keep : (a : Handling) → stronger a Keep ≡ a
-stronger-keep Keep = refl
-stronger-keep AttributeDiscard = refl
-stronger-keep TreatAsWithdraw = refl
-stronger-keep (SessionReset fault) = refl
+stronger-keep a = grind arith
 
 pub both_keep : (a b : Handling) → stronger a b ≡ Keep → (a ≡ Keep) × (b ≡ Keep)
-both_keep Keep b e = (refl, e)
-both_keep AttributeDiscard Keep e = absurd cc
-both_keep AttributeDiscard AttributeDiscard e = absurd cc
-both_keep AttributeDiscard TreatAsWithdraw e = absurd cc
-both_keep AttributeDiscard (SessionReset fault) e = absurd cc
-both_keep TreatAsWithdraw Keep e = absurd cc
-both_keep TreatAsWithdraw AttributeDiscard e = absurd cc
-both_keep TreatAsWithdraw TreatAsWithdraw e = absurd cc
-both_keep TreatAsWithdraw (SessionReset fault) e = absurd cc
-both_keep (SessionReset fault) b e = absurd cc
+both_keep a b e = (grind arith, grind arith)
 
 pub is_kept-keep : (a : Handling) → is_kept a ≡ true → a ≡ Keep
-is_kept-keep Keep e = refl
-is_kept-keep AttributeDiscard e = absurd (true≢false (sym e))
-is_kept-keep TreatAsWithdraw e = absurd (true≢false (sym e))
-is_kept-keep (SessionReset fault) e = absurd (true≢false (sym e))
+is_kept-keep a e = grind arith
 
 -- ---- a section
 
@@ -123,41 +85,9 @@ asks_end seen octets so_far total none before = ap (stronger so_far) (sym (handl
 
 -- ---- what is kept
 
--- neither one that stood earlier nor one with a length at fault
-row_is_not_kept : (type : AttributeType) → (is_kept (handling_again type) ≡ false) × (is_kept (handling_of_fault type AttributeLength) ≡ false)
-row_is_not_kept types.Origin = (refl, refl)
-row_is_not_kept types.AsPath = (refl, refl)
-row_is_not_kept types.NextHop = (refl, refl)
-row_is_not_kept types.MultiExitDisc = (refl, refl)
-row_is_not_kept types.LocalPref = (refl, refl)
-row_is_not_kept types.AtomicAggregate = (refl, refl)
-row_is_not_kept types.Aggregator = (refl, refl)
-row_is_not_kept types.Communities = (refl, refl)
-row_is_not_kept types.MpReachNlri = (refl, refl)
-row_is_not_kept types.MpUnreachNlri = (refl, refl)
-row_is_not_kept types.As4Path = (refl, refl)
-row_is_not_kept types.As4Aggregator = (refl, refl)
-row_is_not_kept types.Unrecognized = (refl, refl)
-
-fault_is_not_kept : (type : AttributeType) (fault : UpdateFault) → is_kept (handling_of_fault type fault) ≡ false
-fault_is_not_kept type MalformedAttributeList = refl
-fault_is_not_kept type UnrecognizedWellKnown = refl
-fault_is_not_kept type MissingWellKnown = refl
-fault_is_not_kept type AttributeFlags = refl
-fault_is_not_kept type AttributeLength = (row_is_not_kept type).1
-fault_is_not_kept type InvalidOrigin = refl
-fault_is_not_kept type InvalidNextHop = refl
-fault_is_not_kept type InvalidNetworkField = refl
-fault_is_not_kept type MalformedAsPath = refl
-
-kept_by : (again : Bool) (type : AttributeType) (own : Option UpdateFault) → is_kept (if again then handling_again type else handling_of_own type own) ≡ true → (again ≡ false) × (own ≡ None)
-kept_by true type own e = absurd (true≢false (sym e ∙ (row_is_not_kept type).0))
-kept_by false type None e = (refl, refl)
-kept_by false type (Some fault) e = absurd (true≢false (sym e ∙ fault_is_not_kept type fault))
-
 -- an attribute that is kept is the first of its type and without a fault of its own
 kept_is : (earlier : List Item) (item : Item) → is_kept (handling_behind earlier item) ≡ true → (has_type item.kind earlier ≡ false) × (own_fault_of item ≡ None)
-kept_is earlier item e = kept_by (has_type item.kind earlier) (type_of item.kind) (own_fault_of item) e
+kept_is earlier item e = (grind arith, grind arith)
 
 kept-yes : (earlier : List Item) (item : Item) (later : List Item) → is_kept (handling_behind earlier item) ≡ true → kept_behind earlier (item ∷ later) ≡ item ∷ kept_behind (earlier ++ item ∷ []) later
 unfolding kept_behind
@@ -195,7 +125,7 @@ uncovered kept earlier kind covers none =
     ]
 
 no_fault_behind : (earlier : List Item) (item : Item) → has_type item.kind earlier ≡ false → own_fault_of item ≡ None → fault_behind earlier item ≡ None
-no_fault_behind earlier item fresh own = rw (fresh, own) refl
+no_fault_behind earlier item fresh own = grind arith
 
 -- what is kept is without fault
 kept_without : (kept earlier items : List Item) → Covers kept earlier → first_item_fault kept (kept_behind earlier items) ≡ None
