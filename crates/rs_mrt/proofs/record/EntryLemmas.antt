@@ -29,8 +29,7 @@ front_shorter k n octets h =
 
 cut_after_test : (short : Bool) (n peer_as peer : ℕ) (message : List ℕ)
     → cond short (Err FieldsCutShort) (Ok (Message peer_as peer (take n message))) ≡ cut_message n (cond short (Err FieldsCutShort) (Ok (Message peer_as peer message)))
-cut_after_test true n peer_as peer message = refl
-cut_after_test false n peer_as peer message = refl
+cut_after_test short n peer_as peer message = grind arith
 
 message_front : (n : ℕ) (fields : List ℕ) → 24 ≤ n → message_entry (take n fields) ≡ cut_message (n - 20) (message_entry fields)
 message_front n fields h =
@@ -42,8 +41,7 @@ message_front n fields h =
 
 cut_state : (short : Bool) (n peer_as peer old new : ℕ)
     → cond short (Err FieldsCutShort) (Ok (State peer_as peer old new)) ≡ cut_message n (cond short (Err FieldsCutShort) (Ok (State peer_as peer old new)))
-cut_state true n peer_as peer old new = refl
-cut_state false n peer_as peer old new = refl
+cut_state short n peer_as peer old new = grind arith
 
 state_front : (n m : ℕ) (fields : List ℕ) → 24 ≤ n → state_entry (take n fields) ≡ cut_message m (state_entry fields)
 state_front n m fields h =
@@ -61,11 +59,7 @@ abbrev tested : Bool → Bool → Bool → Bool → Result Meaning MrtFault → 
 tested other short family message x y = cond other (Ok Other) (cond short (Err FieldsCutShort) (cond family (Ok Other) (cond message x y)))
 
 cut_tested : (other short family message : Bool) (n : ℕ) (x y : Result Meaning MrtFault) → tested other short family message (cut_message n x) (cut_message n y) ≡ cut_message n (tested other short family message x y)
-cut_tested true short family message n x y = refl
-cut_tested false true family message n x y = refl
-cut_tested false false true message n x y = refl
-cut_tested false false false true n x y = refl
-cut_tested false false false false n x y = refl
+cut_tested other short family message n x y = grind arith
 
 fields_front : (subtype n : ℕ) (fields : List ℕ) → 24 ≤ n → fields_entry subtype (take n fields) ≡ cut_message (n - 20) (fields_entry subtype fields)
 unfolding fields_entry
@@ -80,8 +74,7 @@ fields_front subtype n fields h =
 -- ---- the record
 
 cut_microseconds : (short : Bool) (n : ℕ) (x : Result Meaning MrtFault) → cond short (Err MicrosecondsCutShort) (cut_message n x) ≡ cut_message n (cond short (Err MicrosecondsCutShort) x)
-cut_microseconds true n x = refl
-cut_microseconds false n x = refl
+cut_microseconds short n x = grind arith
 
 microseconds_front : (subtype : ℕ) (body : List ℕ)
     → cond (ltb (length (take 4121 body)) 4) (Err MicrosecondsCutShort) (fields_entry subtype (drop 4 (take 4121 body))) ≡ cut_message 4097 (cond (ltb (length body) 4) (Err MicrosecondsCutShort) (fields_entry subtype (drop 4 body)))

@@ -84,16 +84,13 @@ taken_some_of p = Ok (Some p)
 
 -- a rest gives no record
 not_some : (end : Option MrtFault) (p : MrtRecord × List ℕ) → Ok (Some p) ≡ nothing_taken end → ⊥
-not_some None p e = cc
-not_some (Some fault) p e = cc
+not_some end p e = grind arith
 
 next_none : (end : Option MrtFault) → Ok None ≡ nothing_taken end → Ok None ≡ next_of [] end
-next_none None e = refl
-next_none (Some fault) e = absurd cc
+next_none end e = grind arith
 
 next_fault : (end : Option MrtFault) (fault : MrtFault) → Err fault ≡ nothing_taken end → Err fault ≡ next_of [] end
-next_fault None fault e = absurd cc
-next_fault (Some other) fault e = cc
+next_fault end fault e = grind arith
 
 -- where no record stands at the front, the octets stay
 still : (octets : List ℕ) (shown : Option MrtRecord) → has_record octets ≡ false → reading_of None octets ≡ after_next (records_of octets) (reading_of shown octets)

@@ -1,6 +1,6 @@
 -- What a window that holds the front of a record says of the record, and what a reader of records shows.
 -- For `known_octets_are_shown` of laws.rt, FindLemmas and AdvanceLemmas.
-use Rattle.std.proofs.Common.{◌≡◌, ℕ, ◌+◌, ◌-◌, ◌≤◌, ◌<◌, min, List, [], ◌∷◌, ◌++◌, length, take, drop, map, Option, Some, None, Result, Bool, true, false, refl, sym, ap, subst, ◌∙◌, append_assoc, arith, inl, inr, length-append}
+use Rattle.std.proofs.Common.{◌≡◌, ℕ, ◌+◌, ◌-◌, ◌≤◌, ◌<◌, min, List, [], ◌∷◌, ◌++◌, length, take, drop, map, Option, Some, Result, Bool, true, false, refl, sym, ap, subst, ◌∙◌, append_assoc, arith, inl, inr, length-append}
 use Rattle.std.specs.Prelude.{nat_lt, if◌then◌else◌}
 use Rattle.std.specs.Option.{option_map}
 use Rattle.std.proofs.lemmas.Bool.{cases_Bool, lt-ltb, le-ltb, le-leb, and_from, cases_lt}
@@ -136,8 +136,7 @@ rest-body (octet ∷ octets) long = ap (λ (b : Bool). if b then Some HeaderCutS
 -- ---- what a reader of records shows
 
 fault_of-answer_at : (found : Option MrtFault) → fault_of (answer_at found) ≡ option_map Mrt found
-fault_of-answer_at None = refl
-fault_of-answer_at (Some fault) = refl
+fault_of-answer_at found = grind arith
 
 fault_behind-answer : (end : ReadEnd) (rest : List ℕ) → fault_of (answer_behind end rest) ≡ fault_behind end rest
 fault_behind-answer ReadFails rest = refl

@@ -1,7 +1,8 @@
 -- What octets that come in pieces say of the octets that may still arrive: for inlet.rt, and `find_front` of record_reader.rt.
-use Rattle.std.proofs.Common.{◌≡◌, ◌≢◌, ℕ, zero, suc, ◌+◌, ◌-◌, ◌≤◌, ◌<◌, List, [], ◌∷◌, ◌++◌, length, take, Result, Ok, Err, Bool, true, false, refl, sym, ap, subst, ◌∙◌, append_assoc, arith, inl, inr, length-append}
+use Rattle.std.proofs.Common.{◌≡◌, ◌≢◌, ℕ, zero, suc, ◌+◌, ◌-◌, ◌≤◌, ◌<◌, List, [], ◌∷◌, ◌++◌, length, take, Result, Ok, Err, Bool, true, false, refl, sym, ap, subst, ◌∙◌, append_assoc, arith, inr, length-append}
 use Rattle.std.specs.Prelude.{nat_lt, if◌then◌else◌}
-use Rattle.std.proofs.lemmas.Bool.{cases_Bool, ltb-true, ltb-false, lt-ltb, le-ltb}
+use Rattle.std.proofs.lemmas.Bool.{lt-ltb, le-ltb}
+use Rattle.std.proofs.lemmas.Bool.Decides.{nat_tests}
 use Rattle.std.proofs.lemmas.List.{take_all, take-append-le, length-take-le}
 use Rattle.std.proofs.Math.Seq.{take-append-add}
 use Rattle.rs_mrt.specs.declared.stream.Failed.{Failed}
@@ -13,11 +14,7 @@ use Rattle.rs_mrt.specs.Inflow.{Behind, CountsCall, Draws, Fills, Forgets, Skips
 
 -- a number is below another just where both may lose as much
 same_test : (n a b c : ℕ) → c ≡ n + b → nat_lt a b ≡ nat_lt (n + a) c
-same_test n a b c e =
-    elim (cases_Bool (nat_lt a b)) [
-      | inl below ↦ (let lt : a < b = ltb-true _ _ below in below ∙ sym (lt-ltb (n + a) c (omega arith)))
-      | inr above ↦ (let le : b ≤ a = ltb-false _ _ above in above ∙ sym (le-ltb (n + a) c (omega arith)))
-    ]
+same_test n a b c e = grind (arith, nat_tests)
 
 module _ {R : Type 0} (gives : R → List ℕ → ReadEnd → Type 0) where
   -- the end of the file may be next

@@ -1,8 +1,8 @@
 -- What a call of a reader over std's or over memory says of the octets that may come: for reader.rt and memory_reader.rt.
-use Rattle.std.proofs.Common.{◌≡◌, ℕ, zero, suc, ◌+◌, ◌-◌, ◌≤◌, ◌<◌, min, List, [], ◌∷◌, ◌++◌, length, take, drop, Option, Some, None, Ok, Bool, refl, sym, ap, subst, ◌∙◌, arith, inl, inr}
+use Rattle.std.proofs.Common.{◌≡◌, ℕ, zero, suc, ◌+◌, ◌-◌, ◌≤◌, ◌<◌, min, List, [], ◌∷◌, ◌++◌, length, take, drop, Option, Some, None, Ok, Bool, refl, sym, ap, subst, ◌∙◌, arith}
 use Rattle.std.specs.Prelude.{nat_le, if◌then◌else◌}
 use Rattle.std.specs.Io.KnownBytes.{Consumes, IsAtEnd}
-use Rattle.std.proofs.lemmas.Bool.{cases_Bool, leb-true, leb-false, le-leb, lt-leb}
+use Rattle.std.proofs.lemmas.Bool.Decides.{nat_tests}
 use Rattle.std.proofs.lemmas.List.{take-append-drop, length-drop}
 use Rattle.std.proofs.Math.Seq.{take-add, take-append-add}
 use Rattle.std.proofs.Math.Dec.{leb-suc-zero}
@@ -35,11 +35,7 @@ given_by_std (suc n) piece (Some left) (Some after) h = λ later end may. given_
 
 -- a number that is no more than another stays so when both lose as much
 le-less : (n b len : ℕ) → n ≤ b → n ≤ len → nat_le (b - n) (len - n) ≡ nat_le b len
-le-less n b len hb hl =
-    elim (cases_Bool (nat_le b len)) [
-      | inl holds ↦ (let le : b ≤ len = leb-true _ _ holds in le-leb (b - n) (len - n) (omega arith) ∙ sym holds)
-      | inr fails ↦ (let gt : len < b = leb-false _ _ fails in lt-leb (b - n) (len - n) (omega arith) ∙ sym fails)
-    ]
+le-less n b len hb hl = grind (arith, nat_tests)
 
 -- the octets that come are those of one call, and those that come later
 coming-step : (left : List ℕ) (before : Option ℕ) (wanted n : ℕ) → wanted ≤ length left → Some n ≡ amount_within before wanted
@@ -56,9 +52,7 @@ coming-step left (Some (suc b)) wanted n le e =
 
 -- a call that gives nothing to a piece that isn't empty has nothing left
 not_nothing : (before : Option ℕ) (wanted : ℕ) → 0 < wanted → Some 0 ≡ amount_within before wanted → ⊥
-not_nothing None wanted h e = let e' : Some 0 ≡ Some wanted = e in let same : 0 ≡ wanted = cc in omega arith
-not_nothing (Some zero) wanted h e = absurd cc
-not_nothing (Some (suc b)) wanted h e = let e' : Some 0 ≡ Some (min wanted (suc b)) = e in let same : 0 ≡ min wanted (suc b) = cc in omega arith
+not_nothing before wanted h e = grind arith
 
 ends-none : (before : Option ℕ) (wanted : ℕ) → Some 0 ≡ amount_within before wanted → ([] ≡ coming [] before) × (FileEnds ≡ ending [] before)
 ends-none None wanted e = (refl, refl)

@@ -1,5 +1,5 @@
 -- The value of an AS_PATH, segment by segment: for as_path.rt.
-use Rattle.std.proofs.Common.{◌≡◌, ℕ, ◌+◌, ◌<◌, ◌==◌, List, [], ◌∷◌, length, Option, Some, None, refl, ap, ◌∙◌}
+use Rattle.std.proofs.Common.{◌≡◌, ℕ, ◌+◌, ◌<◌, ◌==◌, List, [], ◌∷◌, length, Option, Some, None, refl, ap, ◌∙◌, arith}
 use Rattle.std.specs.Prelude.{MatchOption}
 use Rattle.std.specs.Option.{option_map}
 use Rattle.std.proofs.lemmas.List.Sums.{sum_by-cons}
@@ -32,8 +32,7 @@ some_split None behind e = absurd cc
 some_split (Some split) behind e = (split, refl, cc)
 
 none_split : (found : Option (PathSegment × List ℕ)) → None ≡ option_map (λ split. split.1) found → found ≡ None
-none_split None e = refl
-none_split (Some split) e = absurd cc
+none_split found e = grind arith
 
 -- a path is a segment and a path behind it
 pub is_path-step : (octets behind : List ℕ) → Some behind ≡ option_map (λ split. split.1) (segment_at octets) → (is_path octets ≡ is_path behind) × (length behind < length octets)

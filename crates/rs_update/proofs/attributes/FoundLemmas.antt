@@ -1,5 +1,5 @@
 -- The attributes of a section one by one, and the numbers of their types: for PlaceLemmas, FindLemmas, HandlingLemmas and the lemmas of the written form.
-use Rattle.std.proofs.Common.{◌≡◌, ℕ, ◌==◌, ◌⊎◌, true, false, List, [], ◌∷◌, Some, None, refl, sym, ap, ◌∙◌, inl, inr}
+use Rattle.std.proofs.Common.{◌≡◌, ℕ, ◌==◌, ◌⊎◌, false, List, [], ◌∷◌, Some, None, refl, ap, inl, inr, arith}
 use Rattle.std.specs.Prelude.{if◌then◌else◌}
 use Rattle.std.proofs.lemmas.Bool.{cases_eq, eq-eqb, ne_eqb}
 use Rattle.rs_update.specs.declared.attribute_type.AttributeType.{AttributeType}
@@ -63,8 +63,4 @@ known_number kind =
 
 -- a known type has one number
 pub number_is : (kind : ℕ) (type : AttributeType) → type_of kind ≡ type → is_unrecognized type ≡ false → kind ≡ number_of type
-number_is kind type is known =
-    elim (known_number kind) [
-      | inl unknown ↦ let e : types.Unrecognized ≡ type = sym unknown ∙ is in let same : true ≡ false = ap is_unrecognized e ∙ known in absurd cc
-      | inr row ↦ row.1 ∙ ap number_of is
-    ]
+number_is kind type is known = grind (arith, known_number kind)

@@ -1,9 +1,8 @@
 -- Attributes by their types: look-ups, and lists that have one of each type at most.
 -- For the lemmas of what is found and written by type.
-use Rattle.std.proofs.Common.{◌≡◌, ℕ, zero, suc, ◌+◌, ◌<◌, ◌≤◌, ◌==◌, ◌⊎◌, true, false, eqb, List, [], ◌∷◌, Option, Some, None, refl, sym, ap, ◌∙◌, arith, inl, inr}
+use Rattle.std.proofs.Common.{◌≡◌, ℕ, zero, suc, ◌+◌, ◌<◌, ◌≤◌, ◌==◌, ◌⊎◌, true, false, List, [], ◌∷◌, Option, Some, None, refl, arith, inl, inr}
 use Rattle.std.specs.Prelude.{find, is_some}
 use Rattle.std.specs.List.{filter_map, range_with_len, list_any, AllByRecursion}
-use Rattle.std.proofs.lemmas.Bool.{cases_eq, eq-eqb, ne_eqb}
 use Rattle.std.proofs.lemmas.Bool.Decides.{nat_tests}
 
 -- nothing, or something
@@ -43,36 +42,12 @@ kind_of_found kind k (y ∷ ys) x e = grind (arith, nat_tests, kind_of_found kin
 module _ {X : Type 0} (kind : X → ℕ) (make : ℕ → Option X) (is : (k : ℕ) (x : X) → make k ≡ Some x → kind x ≡ k) where
   pub find-none : (k : ℕ) (ks : List ℕ) → make k ≡ None → find (λ x. kind x == k) (filter_map make ks) ≡ None
   find-none k [] none = refl
-  find-none k (j ∷ js) none =
-      elim (cases_Option (make j)) [
-        | inl nothing ↦ rw nothing (find-none k js none)
-        | inr some ↦
-            let differs : eqb (kind some.0) k ≡ false = ne_eqb _ _ (λ same. let e : None ≡ Some some.0 = sym none ∙ ap make (sym same ∙ is j some.0 some.1) ∙ some.1 in absurd cc) in
-            rw (some.1, differs) (find-none k js none)
-      ]
+  find-none k (j ∷ js) none = grind (arith, nat_tests, find-none k js none, is j)
 
   -- it is found at its type
   pub find-made : (k : ℕ) (ks : List ℕ) → list_any (λ j. j == k) ks ≡ true → find (λ x. kind x == k) (filter_map make ks) ≡ make k
   find-made k [] among = absurd cc
-  find-made k (j ∷ js) among =
-      elim (cases_eq j k) [
-        | inl same ↦
-            elim (cases_Option (make k)) [
-              | inl none ↦ find-none k (j ∷ js) none ∙ sym none
-              | inr some ↦
-                  let there : make j ≡ Some some.0 = ap make same ∙ some.1 in
-                  let stands : eqb (kind some.0) k ≡ true = eq-eqb _ _ (is k some.0 some.1) in
-                  rw (there, stands, some.1) refl
-            ]
-        | inr other ↦
-            let later = find-made k js (rw (ne_eqb j k other) at among) in
-            elim (cases_Option (make j)) [
-              | inl nothing ↦ rw nothing later
-              | inr some ↦
-                  let differs : eqb (kind some.0) k ≡ false = ne_eqb _ _ (λ e. other (sym (is j some.0 some.1) ∙ e)) in
-                  rw (some.1, differs) later
-            ]
-      ]
+  find-made k (j ∷ js) among = grind (arith, nat_tests, find-made k js, find-none k (j ∷ js), is j, is k)
 
 -- a number stands in a range
 pub range-any : (a n k : ℕ) → a ≤ k → k < a + n → list_any (λ j. j == k) (range_with_len a n) ≡ true

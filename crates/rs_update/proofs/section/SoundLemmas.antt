@@ -54,11 +54,7 @@ look_without earlier (first ∷ items) kind item none e =
 
 look_received : (items : List Item) (kind : ℕ) (item : Item) → AllByRecursion IsReceived items → look kind items ≡ Some item → IsReceived item
 look_received [] kind item each e = absurd cc
-look_received (first ∷ items) kind item each e =
-    elim (cases_Bool (eqb first.kind kind)) [
-      | inl same ↦ let is : first ≡ item = same_Some first item (rw same at e) in subst IsReceived is each.0
-      | inr other ↦ look_received items kind item each.1 (rw other at e)
-    ]
+look_received (first ∷ items) kind item each e = grind (arith, look_received items kind item each.1, each.0)
 
 -- attributes without fault, as they are received
 pub record AreSound (items : List Item) : Type 0 where

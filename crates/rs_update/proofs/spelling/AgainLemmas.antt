@@ -41,7 +41,7 @@ abbrev passes : Item → Option PassedOn
 passes item = if is_passed_on item then Some (passed_on_of item) else None
 
 recognized_passes_not : (kind flags : ℕ) (value : List ℕ) → is_unrecognized (type_of kind) ≡ false → passes (record { flags = flags; kind = kind; value = value }) ≡ None
-recognized_passes_not kind flags value known = rw known refl
+recognized_passes_not kind flags value known = grind arith
 
 -- whatever the flags of a recognized type must say
 recognized_again : (wanted : WantedFlags) (item : Item) → is_unrecognized (type_of item.kind) ≡ false → option_and_then passes (kept_by wanted item) ≡ passes item
@@ -104,12 +104,7 @@ module _ (items : List Item) (sound : AreSound items) where
       ]
 
   passed_on_again : (kind : ℕ) → kind < 256 → passed_on_in again kind ≡ passed_on_in items kind
-  passed_on_again kind octet =
-      ap (option_and_then passes) (look_again kind octet)
-      ∙ elim (cases_Option (look kind items)) [
-        | inl none ↦ rw none refl
-        | inr some ↦ rw some.1 (passes_again some.0)
-      ]
+  passed_on_again kind octet = grind (arith, look_again kind octet, passes_again)
 
   others_again : others_of again ≡ others_of items
   unfolding others_of

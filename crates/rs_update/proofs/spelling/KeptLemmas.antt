@@ -3,19 +3,19 @@ use Rattle.std.proofs.Common.{◌≡◌, ℕ, ◌<◌, ◌==◌, true, List, [],
 use Rattle.std.specs.Prelude.{find, option_and_then, is_some, slice_index, if◌then◌else◌}
 use Rattle.std.specs.List.{filter_map, range_with_len, flat_map}
 use Rattle.std.specs.Option.{option_map}
-use Rattle.std.proofs.lemmas.Bool.{cases_Bool, eqb-true}
+use Rattle.std.proofs.lemmas.Bool.{eqb-true}
 use Rattle.std.proofs.lemmas.Bool.Decides.{nat_tests}
 use Rattle.std.proofs.lemmas.List.{take-append-drop, take_all, length-drop, append-nil, nil_from_length}
 use Rattle.byteorder.specs.Endian.{big_number, big_bytes}
 use Rattle.rs_update.specs.declared.attribute_type.AttributeType.{AttributeType}
 use Rattle.rs_update.specs.declared.attribute_type.AttributeType.TheVariants as types
-use Rattle.rs_update.specs.AttributeType.{type_of, is_transitive, is_partial}
+use Rattle.rs_update.specs.AttributeType.{type_of, is_partial}
 use Rattle.rs_update.specs.Found.{kept_as, kept_in}
 use Rattle.rs_update.specs.Gathered.{look, origin_with, aggregator_of, community_list_of, passed_on_in, others_of, attributes_from}
 use Rattle.rs_update.specs.Parts.{AreOctets}
 use Rattle.rs_update.specs.PathAttributes.{PathAttributes, PassedOn}
 use Rattle.rs_update.specs.PathSegments.{segments_of, spelled_segment}
-use Rattle.rs_update.specs.Section.{Item, origin_of, is_origin, is_path}
+use Rattle.rs_update.specs.Section.{Item, is_origin, is_path}
 use Rattle.rs_update.specs.Spelling.{well_known, optional_non_transitive, optional_transitive, aggregator_item, communities_item, origin_code, passed_on_item, written_item, written_items}
 use Rattle.rs_update.proofs.attributes.FoundLemmas.{number_is}
 use Rattle.rs_update.proofs.attributes.KindLemmas.{cases_Option, find-made, range-any, All-range, filter_map-same}
@@ -28,13 +28,8 @@ use Rattle.rs_update.proofs.section.SoundLemmas.{AreSound, IsSound, look_sound, 
 
 -- ---- the values
 
-known_code : (code : ℕ) → is_some (origin_of code) ≡ true → origin_code (origin_with code) ≡ code
-known_code code known = grind (arith, nat_tests)
-
 code_again : (value : List ℕ) → is_origin value ≡ true → origin_code (origin_with (slice_index value 0)) ∷ [] ≡ value
-code_again [] known = absurd cc
-code_again (code ∷ []) known = ap (λ (c : ℕ). c ∷ []) (known_code code known)
-code_again (code ∷ next ∷ value) known = absurd cc
+code_again value known = grind (arith, nat_tests)
 
 path_again : (value : List ℕ) → AreOctets value → is_path value ≡ true → flat_map spelled_segment (segments_of value).0 ≡ value
 path_again value fit path =
@@ -53,8 +48,7 @@ two_numbers_again value fit size =
 -- ---- what is written of each type
 
 nothing_kept : (found : Option Item) (make : Item → Option Item) → ((item : Item) → make item ≡ None) → None ≡ option_and_then make found
-nothing_kept None make none = refl
-nothing_kept (Some item) make none = sym (none item)
+nothing_kept found make none = grind (arith, none)
 
 -- an attribute of the number and the value that were received
 value_as_received : (make : ℕ → List ℕ → Item) (kind : ℕ) (item : Item) (value : List ℕ) → item.kind ≡ kind → value ≡ item.value → Some (make kind value) ≡ Some (make item.kind item.value)
@@ -117,17 +111,8 @@ module _ (items : List Item) (sound : AreSound items) (origin path next_hop : It
   -- an attribute that is passed on
   passed_again : (kind : ℕ) → type_of kind ≡ types.Unrecognized → option_map passed_on_item (passed_on_in items kind) ≡ option_and_then (kept_as types.Unrecognized) (look kind items)
   passed_again kind unknown =
-      elim (cases_Option (look kind items)) [
-        | inl none ↦ rw none refl
-        | inr some ↦
-            let item = some.0 in
-            let is = look_sound items kind item sound some.1 in
-            let type : type_of item.kind ≡ types.Unrecognized = ap type_of is.has_kind ∙ unknown in
-            elim (cases_Bool (is_transitive item.flags)) [
-              | inl passed ↦ rw (some.1, type, passed) refl
-              | inr dropped ↦ rw (some.1, type, dropped) refl
-            ]
-      ]
+      let has : (item : Item) → look kind items ≡ Some item → item.kind ≡ kind = λ item e. (look_sound items kind item sound e).has_kind in
+      grind (arith, has)
 
   written_other : (kind : ℕ) → kind < 256 → type_of kind ≡ types.Unrecognized → written_item the_attributes kind types.Unrecognized ≡ option_and_then (kept_as types.Unrecognized) (look kind items)
   unfolding others_of

@@ -1,7 +1,8 @@
 -- What is written of the attributes of a section without fault is itself without fault: for AgainLemmas.
-use Rattle.std.proofs.Common.{◌≡◌, ℕ, zero, suc, ◌+◌, ◌<◌, ◌&&◌, Bool, true, false, not, cond, eqb, List, [], ◌∷◌, ◌++◌, length, Option, Some, None, refl, sym, ap, subst, ◌∙◌, arith, inl, inr}
+use Rattle.std.proofs.Common.{◌≡◌, ℕ, zero, suc, ◌+◌, ◌<◌, ◌&&◌, Bool, true, false, not, cond, List, [], ◌∷◌, ◌++◌, length, Option, Some, None, refl, sym, ap, subst, ◌∙◌, arith, inl, inr}
 use Rattle.std.specs.List.{filter_map, range_with_len, AllByRecursion}
-use Rattle.std.proofs.lemmas.Bool.{cases_Bool, cases_lt, ne_eqb, lt-ltb, le-ltb}
+use Rattle.std.proofs.lemmas.Bool.{cases_Bool, cases_lt, lt-ltb, le-ltb}
+use Rattle.std.proofs.lemmas.Bool.Decides.{nat_tests}
 use Rattle.std.proofs.lemmas.Option.{same_Some}
 use Rattle.rs_update.specs.declared.attribute_type.AttributeType.{AttributeType}
 use Rattle.rs_update.specs.declared.attribute_type.WantedFlags.{WantedFlags}
@@ -63,15 +64,9 @@ kept_bits Optional item kept e =
 
 kept_suits : (item kept : Item) → kept_of item ≡ Some kept → SuitsType (type_of item.kind) kept.flags
 kept_suits item kept e =
+    let knows = known_number item.kind in
     let bits : suits (flags_of (type_of item.kind)) kept.flags ≡ true = kept_bits (flags_of (type_of item.kind)) item kept e in
-    record {
-      class =
-          elim (known_number item.kind) [
-            | inl unknown ↦ let optional : is_optional kept.flags ≡ true = rw unknown at bits in rw (unknown, optional) refl
-            | inr row ↦ let known = row.0 in rw known refl
-          ];
-      bits = bits;
-    }
+    record { class = grind arith; bits = bits }
 
 no_fault : (type : AttributeType) (flags : ℕ) (value : List ℕ) → SuitsType type flags → suits_length type (length value) ≡ true → first_fault (value_tests type value) ≡ None → first_fault (tests_of type flags value) ≡ None
 no_fault type flags value suiting size tests = grind (arith, suiting.class, suiting.bits)
@@ -126,10 +121,7 @@ kept_written items sound kind kept e =
 -- a type above all others stands nowhere
 not_among : (kind : ℕ) (items : List Item) → AllByRecursion (λ (item : Item). item.kind < kind) items → has_type kind items ≡ false
 not_among kind [] each = refl
-not_among kind (item ∷ items) each =
-    let differs : eqb item.kind kind ≡ false = ne_eqb _ _ (λ e. omega (arith, each.0, e)) in
-    let later = not_among kind items each.1 in
-    rw (differs, later) refl
+not_among kind (item ∷ items) each = grind (arith, nat_tests, not_among kind items each.1, each.0)
 
 one_more : (a : ℕ) (items : List Item) (item : Item) → AllByRecursion (λ (i : Item). i.kind < a) items → item.kind < a + 1 → AllByRecursion (λ (i : Item). i.kind < a + 1) (items ++ item ∷ [])
 one_more a [] item each last = (last, tt)
