@@ -11,7 +11,7 @@ use Rattle.rs_update.specs.declared.attribute_type.AttributeType.TheVariants as 
 use Rattle.rs_update.specs.declared.attribute_type.WantedFlags.{WantedFlags}
 use Rattle.rs_update.specs.declared.attribute_type.WantedFlags.TheVariants.{WellKnown, OptionalNonTransitive, OptionalTransitive, Optional, Any}
 use Rattle.rs_update.specs.declared.values.Aggregator.{Aggregator}
-use Rattle.rs_update.specs.AttributeType.{type_of, row_of, is_unrecognized, is_transitive, is_partial}
+use Rattle.rs_update.specs.AttributeType.{type_of, row_of, is_unrecognized, is_partial}
 use Rattle.rs_update.specs.Found.{kept_by, kept_as, kept_of, kept_in}
 use Rattle.rs_update.specs.Gathered.{look, aggregator_of, community_list_of, is_passed_on, passed_on_of, passed_on_in, others_of, attributes_from, attributes_of}
 use Rattle.rs_update.specs.Laws.{WrittenIsRead}
@@ -21,7 +21,6 @@ use Rattle.rs_update.specs.Section.{Item, FitsItsLength, item_at, items_of, rest
 use Rattle.rs_update.specs.Shapes.{passed_on_from}
 use Rattle.rs_update.specs.Spelling.{well_known, optional_transitive, spelled_item, written}
 use Rattle.rs_update.proofs.spelling.BoundLemmas.{written-shorter}
-use Rattle.rs_update.proofs.attributes.FoundLemmas.{known_number}
 use Rattle.rs_update.proofs.attributes.KindLemmas.{cases_Option, All-range, filter_map-same, find-made, range-any}
 use Rattle.rs_update.proofs.section.SoundLemmas.{AreSound, sound_section, look_sound}
 use Rattle.rs_update.proofs.fields.SpelledParts.{items_of-spelled}
@@ -40,35 +39,22 @@ communities_again item = let same = written_partial (is_partial item.flags) item
 abbrev passes : Item → Option PassedOn
 passes item = if is_passed_on item then Some (passed_on_of item) else None
 
-recognized_passes_not : (kind flags : ℕ) (value : List ℕ) → is_unrecognized (type_of kind) ≡ false → passes (record { flags = flags; kind = kind; value = value }) ≡ None
-recognized_passes_not kind flags value known = grind arith
+unrecognized_is : (type : AttributeType) → is_unrecognized type ≡ true → type ≡ types.Unrecognized
+unrecognized_is type unknown = grind arith
 
 -- whatever the flags of a recognized type must say
 recognized_again : (wanted : WantedFlags) (item : Item) → is_unrecognized (type_of item.kind) ≡ false → option_and_then passes (kept_by wanted item) ≡ passes item
-recognized_again WellKnown item known = recognized_passes_not item.kind _ item.value known ∙ sym (recognized_passes_not item.kind item.flags item.value known)
-recognized_again OptionalNonTransitive item known = recognized_passes_not item.kind _ item.value known ∙ sym (recognized_passes_not item.kind item.flags item.value known)
-recognized_again OptionalTransitive item known = recognized_passes_not item.kind _ item.value known ∙ sym (recognized_passes_not item.kind item.flags item.value known)
-recognized_again Any item known = sym (recognized_passes_not item.kind item.flags item.value known)
-recognized_again Optional item known =
-    elim (cases_Bool (is_transitive item.flags)) [
-      | inl passed ↦ rw (passed, known) refl
-      | inr dropped ↦ rw (dropped, known) refl
-    ]
+recognized_again WellKnown item known = rw known refl
+recognized_again OptionalNonTransitive item known = rw known refl
+recognized_again OptionalTransitive item known = rw known refl
+recognized_again Any item known = rw known refl
+recognized_again Optional item known = grind arith
 
 passes_again : (item : Item) → option_and_then passes (kept_of item) ≡ passes item
 passes_again item =
-    elim (known_number item.kind) [
-      | inl is ↦
-          elim (cases_Bool (is_transitive item.flags)) [
-            | inl passed ↦
-                let kept : kept_of item ≡ Some (optional_transitive true item.kind item.value) = rw (is, passed) refl in
-                let again = passed_on_transitive item.value in
-                ap (option_and_then passes) kept ∙ rw (passed, is, again) refl
-            | inr dropped ↦
-                let kept : kept_of item ≡ None = rw (is, dropped) refl in
-                ap (option_and_then passes) kept ∙ rw (dropped, is) refl
-          ]
-      | inr row ↦ recognized_again (row_of (type_of item.kind)).flags item row.0
+    elim (cases_Bool (is_unrecognized (type_of item.kind))) [
+      | inl unknown ↦ let again = passed_on_transitive item.value in let is : type_of item.kind ≡ types.Unrecognized = unrecognized_is _ unknown in grind arith
+      | inr known ↦ recognized_again (row_of (type_of item.kind)).flags item known
     ]
 
 passed-filter : (make : ℕ → Option Item) (kinds : List ℕ) → map passed_on_of (filter is_passed_on (filter_map make kinds)) ≡ filter_map (λ kind. option_and_then passes (make kind)) kinds

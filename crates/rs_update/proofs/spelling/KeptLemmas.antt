@@ -17,7 +17,6 @@ use Rattle.rs_update.specs.PathAttributes.{PathAttributes, PassedOn}
 use Rattle.rs_update.specs.PathSegments.{segments_of, spelled_segment}
 use Rattle.rs_update.specs.Section.{Item, is_origin, is_path}
 use Rattle.rs_update.specs.Spelling.{well_known, optional_non_transitive, optional_transitive, aggregator_item, communities_item, origin_code, passed_on_item, written_item, written_items}
-use Rattle.rs_update.proofs.attributes.FoundLemmas.{number_is}
 use Rattle.rs_update.proofs.attributes.KindLemmas.{cases_Option, find-made, range-any, All-range, filter_map-same}
 use Rattle.rs_update.proofs.fields.OctetLemmas.{big_bytes-big_number}
 use Rattle.rs_update.proofs.fields.PartsLemmas.{AreOctets-drop}
@@ -121,14 +120,14 @@ module _ (items : List Item) (sound : AreSound items) (origin path next_hop : It
       ap (option_map passed_on_item) made ∙ passed_again kind unknown
 
   written_as : (type : AttributeType) (kind : ℕ) → kind < 256 → type_of kind ≡ type → written_item the_attributes kind type ≡ option_and_then (kept_as type) (look kind items)
-  written_as types.Origin kind octet is = let k : kind ≡ 1 = number_is kind types.Origin is refl in rw k written_origin
-  written_as types.AsPath kind octet is = let k : kind ≡ 2 = number_is kind types.AsPath is refl in rw k written_path
-  written_as types.NextHop kind octet is = let k : kind ≡ 3 = number_is kind types.NextHop is refl in rw k written_next_hop
-  written_as types.MultiExitDisc kind octet is = let k : kind ≡ 4 = number_is kind types.MultiExitDisc is refl in rw k written_med
+  written_as types.Origin kind octet is = let k : kind ≡ 1 = grind (arith, nat_tests) in rw k written_origin
+  written_as types.AsPath kind octet is = let k : kind ≡ 2 = grind (arith, nat_tests) in rw k written_path
+  written_as types.NextHop kind octet is = let k : kind ≡ 3 = grind (arith, nat_tests) in rw k written_next_hop
+  written_as types.MultiExitDisc kind octet is = let k : kind ≡ 4 = grind (arith, nat_tests) in rw k written_med
   written_as types.LocalPref kind octet is = nothing_kept (look kind items) (kept_as types.LocalPref) (λ item. refl)
-  written_as types.AtomicAggregate kind octet is = let k : kind ≡ 6 = number_is kind types.AtomicAggregate is refl in rw k written_atomic
-  written_as types.Aggregator kind octet is = let k : kind ≡ 7 = number_is kind types.Aggregator is refl in rw k written_aggregator
-  written_as types.Communities kind octet is = let k : kind ≡ 8 = number_is kind types.Communities is refl in rw k written_communities
+  written_as types.AtomicAggregate kind octet is = let k : kind ≡ 6 = grind (arith, nat_tests) in rw k written_atomic
+  written_as types.Aggregator kind octet is = let k : kind ≡ 7 = grind (arith, nat_tests) in rw k written_aggregator
+  written_as types.Communities kind octet is = let k : kind ≡ 8 = grind (arith, nat_tests) in rw k written_communities
   written_as types.MpReachNlri kind octet is = nothing_kept (look kind items) (kept_as types.MpReachNlri) (λ item. refl)
   written_as types.MpUnreachNlri kind octet is = nothing_kept (look kind items) (kept_as types.MpUnreachNlri) (λ item. refl)
   written_as types.As4Path kind octet is = nothing_kept (look kind items) (kept_as types.As4Path) (λ item. refl)

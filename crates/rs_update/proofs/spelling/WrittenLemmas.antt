@@ -14,7 +14,6 @@ use Rattle.rs_update.specs.Gathered.{look}
 use Rattle.rs_update.specs.Section.{Item, FitsItsLength, tests_of, suits_length, value_tests, own_fault_of, has_type, first_item_fault}
 use Rattle.rs_update.specs.Spelling.{written_flags}
 use Rattle.rs_update.proofs.spelling.BoundLemmas.{kept_as-is}
-use Rattle.rs_update.proofs.attributes.FoundLemmas.{known_number}
 use Rattle.rs_update.proofs.attributes.KindLemmas.{cases_Option}
 use Rattle.rs_update.proofs.section.SoundLemmas.{AreSound, IsSound, look_sound, tests_passed, received_short}
 
@@ -45,11 +44,6 @@ passed_on_transitive value = both_ways (λ flags. is_transitive flags ≡ true) 
 
 -- ---- one attribute
 
--- the class and the flags of what is kept are those of its type
-pub record SuitsType (type : AttributeType) (flags : ℕ) : Type 0 where
-  pub class : (is_unrecognized type && not (is_optional flags)) ≡ false
-  pub bits : suits (flags_of type) flags ≡ true
-
 -- the flags of what is kept are what they must say
 kept_bits : (wanted : WantedFlags) (item kept : Item) → kept_by wanted item ≡ Some kept → suits wanted kept.flags ≡ true
 kept_bits WellKnown item kept e = let is = same_Some _ _ e in subst (λ (k : Item). suits WellKnown k.flags ≡ true) is (suited WellKnown 0x40 item.value refl refl)
@@ -62,14 +56,12 @@ kept_bits Optional item kept e =
       | inr dropped ↦ let none = rw dropped at e in absurd cc
     ]
 
-kept_suits : (item kept : Item) → kept_of item ≡ Some kept → SuitsType (type_of item.kind) kept.flags
-kept_suits item kept e =
-    let knows = known_number item.kind in
-    let bits : suits (flags_of (type_of item.kind)) kept.flags ≡ true = kept_bits (flags_of (type_of item.kind)) item kept e in
-    record { class = grind arith; bits = bits }
+-- so they say its class, too
+suits_class : (type : AttributeType) (flags : ℕ) → suits (flags_of type) flags ≡ true → (is_unrecognized type && not (is_optional flags)) ≡ false
+suits_class type flags bits = grind arith
 
-no_fault : (type : AttributeType) (flags : ℕ) (value : List ℕ) → SuitsType type flags → suits_length type (length value) ≡ true → first_fault (value_tests type value) ≡ None → first_fault (tests_of type flags value) ≡ None
-no_fault type flags value suiting size tests = grind (arith, suiting.class, suiting.bits)
+no_fault : (type : AttributeType) (flags : ℕ) (value : List ℕ) → suits (flags_of type) flags ≡ true → suits_length type (length value) ≡ true → first_fault (value_tests type value) ≡ None → first_fault (tests_of type flags value) ≡ None
+no_fault type flags value bits size tests = rw (suits_class type flags bits, bits, size) tests
 
 -- what is written of an attribute without fault: its type, a length that can be spelled, and no fault
 pub record IsWritten (kind : ℕ) (kept : Item) : Type 0 where
@@ -93,7 +85,7 @@ kept_without kind item kept sound e =
     let type : type_of item.kind ≡ type_of kind = ap type_of sound.has_kind in
     let size : suits_length (type_of item.kind) (length item.value) ≡ true = rw type all.2 in
     let tests : first_fault (value_tests (type_of item.kind) item.value) ≡ None = rw type all.3 in
-    let none : first_fault (tests_of (type_of item.kind) kept.flags item.value) ≡ None = no_fault (type_of item.kind) kept.flags item.value (kept_suits item kept e) size tests in
+    let none : first_fault (tests_of (type_of item.kind) kept.flags item.value) ≡ None = no_fault (type_of item.kind) kept.flags item.value (kept_bits (flags_of (type_of item.kind)) item kept e) size tests in
     rw (same_kind, same_value) none
 
 -- where what is written of a type comes from
