@@ -1,7 +1,5 @@
 -- Attributes by their types: which are found in a section, where, and what a route keeps of them.
 pub mod KindLemmas
-pub mod OthersLemmas
-pub mod FoundLemmas
 pub mod FindLemmas
 pub mod PlaceLemmas
 pub mod WholeLemmas

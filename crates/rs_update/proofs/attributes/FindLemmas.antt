@@ -11,9 +11,8 @@ use Rattle.rs_update.specs.Gathered.{look}
 use Rattle.rs_update.specs.Parts.{AreOctets}
 use Rattle.rs_update.specs.Section.{Item, item_at, items_of, section_fault, has_type, first_item_fault}
 use Rattle.rs_update.specs.Spelling.{spelled_item}
-use Rattle.rs_update.proofs.attributes.FoundLemmas.{items_of-step, items_of-end}
-use Rattle.rs_update.proofs.attributes.KindLemmas.{cases_Option, All-range, filter_map-none}
-use Rattle.rs_update.proofs.attributes.OthersLemmas.{none_of_type}
+use Rattle.rs_update.proofs.section.ItemLemmas.{items_of-step, items_of-end}
+use Rattle.rs_update.proofs.attributes.KindLemmas.{cases_Option, All-range, filter_map-none, none_of_type}
 use Rattle.rs_update.proofs.attributes.PlaceLemmas.{item_there, item_from-past}
 use Rattle.rs_update.proofs.section.ReceivedLemmas.{item_at-reads}
 use Rattle.rs_update.proofs.section.SoundLemmas.{section_without, later_without}

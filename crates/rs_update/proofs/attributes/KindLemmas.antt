@@ -1,9 +1,12 @@
 -- Attributes by their types: look-ups, and lists that have one of each type at most.
--- For the lemmas of what is found and written by type.
-use Rattle.std.proofs.Common.{◌≡◌, ℕ, zero, suc, ◌+◌, ◌<◌, ◌≤◌, ◌==◌, ◌⊎◌, true, false, List, [], ◌∷◌, Option, Some, None, refl, arith, inl, inr}
+-- For gather.rt, `is_at_fault` of concerns.rt, and the lemmas of what is found and written by type.
+use Rattle.std.proofs.Common.{◌≡◌, ℕ, zero, suc, ◌+◌, ◌<◌, ◌≤◌, ◌==◌, ◌⊎◌, true, false, List, [], ◌∷◌, Option, Some, None, refl, sym, ◌∙◌, arith, inl, inr}
 use Rattle.std.specs.Prelude.{find, is_some}
 use Rattle.std.specs.List.{filter_map, range_with_len, list_any, AllByRecursion}
 use Rattle.std.proofs.lemmas.Bool.Decides.{nat_tests}
+use Rattle.rs_update.specs.Gathered.{look, passed_on_in}
+use Rattle.rs_update.specs.PathAttributes.{PassedOn}
+use Rattle.rs_update.specs.Section.{Item, has_type}
 
 -- nothing, or something
 pub cases_Option : {X : Type 0} (found : Option X) → (found ≡ None) ⊎ ((x : X) × (found ≡ Some x))
@@ -53,3 +56,17 @@ module _ {X : Type 0} (kind : X → ℕ) (make : ℕ → Option X) (is : (k : �
 pub range-any : (a n k : ℕ) → a ≤ k → k < a + n → list_any (λ j. j == k) (range_with_len a n) ≡ true
 range-any a zero k le lt = absurd (omega arith)
 range-any a (suc n) k le lt = grind (arith, nat_tests, range-any (a + 1) n k)
+
+-- ---- attributes
+
+-- a type stands among attributes where it is found
+pub has_look : (kind : ℕ) (items : List Item) → has_type kind items ≡ is_some (look kind items)
+has_look kind [] = refl
+has_look kind (item ∷ items) = grind (arith, has_look kind items)
+
+pub none_of_type : (kind : ℕ) (items : List Item) → has_type kind items ≡ false → look kind items ≡ None
+none_of_type kind items none = none_there (look kind items) (sym (has_look kind items) ∙ none)
+
+-- what is passed on has the type that it is looked up by
+pub passed_on_kind : (items : List Item) (kind : ℕ) (other : PassedOn) → passed_on_in items kind ≡ Some other → other.kind ≡ kind
+passed_on_kind items kind other e = grind (arith, kind_of_found (λ (i : Item). i.kind) kind items)

@@ -9,7 +9,7 @@ use Rattle.rs_update.specs.AttributesView.{item_from}
 use Rattle.rs_update.specs.Gathered.{look, is_passed_on, passed_on_of}
 use Rattle.rs_update.specs.Section.{Item, item_at, items_of}
 use Rattle.rs_update.specs.Shapes.{passed_on_from}
-use Rattle.rs_update.proofs.attributes.FoundLemmas.{items_of-step, items_of-end}
+use Rattle.rs_update.proofs.section.ItemLemmas.{items_of-step, items_of-end}
 
 -- behind the octets before it a section goes on
 behind : (before section rest : List ℕ) → section ≡ before ++ rest → drop (length section - length rest) section ≡ rest

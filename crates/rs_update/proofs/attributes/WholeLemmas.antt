@@ -25,11 +25,7 @@ pub there : (kind : ℕ) (items : List Item) (field : Option ItemThere) (item : 
 there kind items field item e is = sym e ∙ ap (option_map item_of) is
 
 pub not_there : (kind : ℕ) (items : List Item) (field : Option ItemThere) → option_map item_of field ≡ look kind items → ((item : ItemThere) → field ≡ Some item → ⊥) → look kind items ≡ None
-not_there kind items field e none =
-    elim (cases_Option field) [
-      | inl nothing ↦ sym e ∙ ap (option_map item_of) nothing
-      | inr some ↦ absurd (none some.0 some.1)
-    ]
+not_there kind items field e none = grind (arith, none)
 
 pub found_short : (items : List Item) (kind : ℕ) (item : Item) → AreSound items → look kind items ≡ Some item → length item.value < 65536
 found_short items kind item sound e = received_short item (look_sound items kind item sound e).received

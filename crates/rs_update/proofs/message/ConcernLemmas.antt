@@ -25,7 +25,7 @@ use Rattle.rs_update.specs.Treating.{reset_of, standing_attributes, treating_mes
 use Rattle.rs_update.proofs.message.MessageLemmas.{steps, announced-missing}
 use Rattle.rs_update.proofs.fields.PrefixLemmas.{prefixes_more, prefixes_end}
 use Rattle.rs_update.proofs.treating.TreatingLemmas.{message_by-typed, treating_steps}
-use Rattle.rs_update.proofs.attributes.OthersLemmas.{has_look}
+use Rattle.rs_update.proofs.attributes.KindLemmas.{has_look}
 use Rattle.rs_update.proofs.attributes.WholeLemmas.{mandatory_given}
 
 mandatory_types : (seen : List Bool) (items : List Item) → AreTypesOf seen items → has_mandatory seen ≡ is_some (attributes_of items)

@@ -1,14 +1,14 @@
 -- What an attribute is spelled as is read as that attribute, and what is read is spelled so.
 -- For item.rt, each loop over a section, and `a_section_is_one_list_of_attributes` of laws.rt.
-use Rattle.std.proofs.Common.{◌≡◌, ℕ, suc, ◌+◌, ◌*◌, ◌/◌, ◌%◌, ◌<◌, ◌≤◌, true, false, ltb, List, [], ◌∷◌, ◌++◌, length, take, drop, Some, refl, sym, arith, inl, inr}
+use Rattle.std.proofs.Common.{◌≡◌, ℕ, suc, ◌+◌, ◌*◌, ◌/◌, ◌%◌, ◌<◌, ◌≤◌, true, false, ltb, List, [], ◌∷◌, ◌++◌, length, take, drop, Some, None, refl, sym, ap, arith, inl, inr}
 use Rattle.std.proofs.lemmas.Bool.{cases_Bool, ltb-false, le-ltb}
 use Rattle.std.proofs.lemmas.List.{take_at, drop_at, take-append-drop, length-append, length-drop, length-take-le}
 use Rattle.std.proofs.lemmas.Option.{same_Some}
 use Rattle.rs_update.specs.AttributeType.{is_extended}
-use Rattle.rs_update.specs.Section.{Item, FitsItsLength, SpellsItem, item_at, item_with, long_item_at, short_item_at}
+use Rattle.rs_update.specs.Section.{Item, FitsItsLength, SpellsItem, item_at, item_with, long_item_at, short_item_at, items_of}
 use Rattle.rs_update.specs.Parts.{AreOctets}
 use Rattle.rs_update.specs.Spelling.{spelled_item}
-use Rattle.rs_update.proofs.fields.PartsLemmas.{Shrinks, Reads, unless_some}
+use Rattle.rs_update.proofs.fields.PartsLemmas.{Shrinks, Reads, unless_some, parts_of-some, parts_of-none}
 
 -- ---- read from its spelling
 
@@ -111,3 +111,11 @@ item_reads = record {
   found = λ octets item rest are e. let found = item_at-found octets (item, rest) are e in (spelled_item item, found.0, (refl, found.1));
   only = λ front rest item spells. rw spells.0 (item_at-spelled item rest spells.1);
 }
+
+-- ---- the attributes of octets, one by one
+
+pub items_of-step : (octets : List ℕ) (split : Item × List ℕ) → item_at octets ≡ Some split → items_of octets ≡ split.0 ∷ items_of split.1
+items_of-step octets split e = ap (λ (parts : List Item × List ℕ). parts.0) (parts_of-some item_at item_shrinks octets split.0 split.1 e)
+
+pub items_of-end : (octets : List ℕ) → item_at octets ≡ None → items_of octets ≡ []
+items_of-end octets e = ap (λ (parts : List Item × List ℕ). parts.0) (parts_of-none item_at octets e)

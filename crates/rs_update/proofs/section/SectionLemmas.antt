@@ -12,8 +12,7 @@ use Rattle.rs_update.specs.Concerns.{AreTypesOf}
 use Rattle.rs_update.specs.Fault.{or_else}
 use Rattle.rs_update.specs.Parts.{parts_of}
 use Rattle.rs_update.specs.Section.{Item, item_at, items_of, rest_of, own_fault_of, has_type, fault_behind, first_item_fault, fault_of_rest, section_fault}
-use Rattle.rs_update.proofs.attributes.FoundLemmas.{items_of-step, items_of-end}
-use Rattle.rs_update.proofs.section.ItemLemmas.{item_shrinks}
+use Rattle.rs_update.proofs.section.ItemLemmas.{item_shrinks, items_of-step, items_of-end}
 use Rattle.rs_update.proofs.fields.PartsLemmas.{parts_of-some, parts_of-none}
 
 -- the first fault of attributes that stand behind others, and of a rest

@@ -10,7 +10,7 @@ use Rattle.rs_update.specs.declared.attribute_type.AttributeType.{AttributeType}
 use Rattle.rs_update.specs.declared.attribute_type.AttributeType.TheVariants as types
 use Rattle.rs_update.specs.declared.attribute_type.Lengths.{Lengths}
 use Rattle.rs_update.specs.declared.attribute_type.Lengths.TheVariants.{Exactly}
-use Rattle.rs_update.specs.AttributeType.{type_of, row_of, is_unrecognized, is_optional, is_extended, flags_of, suits, admits}
+use Rattle.rs_update.specs.AttributeType.{type_of, row_of, is_unrecognized, is_optional, flags_of, suits, admits}
 use Rattle.rs_update.specs.Fault.{first_fault, or_else}
 use Rattle.rs_update.specs.Gathered.{look}
 use Rattle.rs_update.specs.Parts.{AreOctets}
@@ -111,8 +111,4 @@ look_exact section kind wanted item exactly faultless e = exact_value kind wante
 
 -- a length that fits its octets fits two octets
 pub received_short : (item : Item) → IsReceived item → length item.value < 65536
-received_short item received =
-    elim (cases_Bool (is_extended item.flags)) [
-      | inl long ↦ let fits = rw long at received.length_fits in omega (arith, fits)
-      | inr short ↦ let fits = rw short at received.length_fits in omega (arith, fits)
-    ]
+received_short item received = grind (arith, received.length_fits)

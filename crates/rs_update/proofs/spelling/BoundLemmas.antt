@@ -1,7 +1,8 @@
 -- The written form of attributes is never longer than the section that they were received in: for WrittenLemmas and AgainLemmas.
-use Rattle.std.proofs.Common.{◌≡◌, ℕ, zero, suc, ◌+◌, ◌<◌, ◌≤◌, Bool, true, false, cond, eqb, List, [], ◌∷◌, ◌++◌, length, Option, Some, None, refl, sym, ap, subst, ◌∙◌, le_trans, arith, inl, inr}
+use Rattle.std.proofs.Common.{◌≡◌, ℕ, zero, suc, ◌+◌, ◌<◌, ◌≤◌, Bool, true, false, cond, List, [], ◌∷◌, ◌++◌, length, Option, Some, None, refl, sym, ap, subst, ◌∙◌, le_trans, arith, inl, inr}
 use Rattle.std.specs.List.{filter_map, range_with_len, flat_map, AllByRecursion}
-use Rattle.std.proofs.lemmas.Bool.{cases_Bool, cases_eq, cases_lt, eq-eqb, ne_eqb, lt-ltb, le-ltb}
+use Rattle.std.proofs.lemmas.Bool.{cases_Bool, cases_lt, lt-ltb, le-ltb}
+use Rattle.std.proofs.lemmas.Bool.Decides.{nat_tests}
 use Rattle.std.proofs.lemmas.List.{length-append}
 use Rattle.std.proofs.lemmas.Option.{same_Some}
 use Rattle.rs_update.specs.declared.attribute_type.AttributeType.{AttributeType}
@@ -130,25 +131,12 @@ nothing_total (k ∷ ks) = let later = nothing_total ks in omega (arith, later)
 lower_total : (item : Item) (items : List Item) (a n : ℕ) → item.kind < a → total (octets_at (item ∷ items)) (range_with_len a n) ≡ total (octets_at items) (range_with_len a n)
 unfolding total
 lower_total item items a zero below = refl
-lower_total item items a (suc n) below =
-    let other : eqb item.kind a ≡ false = ne_eqb _ _ (λ e. omega (arith, e)) in
-    let later = lower_total item items (a + 1) n (omega arith) in
-    rw (other, later) refl
+lower_total item items a (suc n) below = grind (arith, nat_tests, lower_total item items (a + 1) n)
 
 one_more_total : (item : Item) (items : List Item) (a n : ℕ) → total (octets_at (item ∷ items)) (range_with_len a n) ≤ length (spelled_item item) + total (octets_at items) (range_with_len a n)
 unfolding total
 one_more_total item items a zero = omega arith
-one_more_total item items a (suc n) =
-    elim (cases_eq item.kind a) [
-      | inl same ↦
-          let stands : eqb item.kind a ≡ true = eq-eqb _ _ same in
-          let later = lower_total item items (a + 1) n (omega (arith, same)) in
-          rw (stands, later) (omega arith)
-      | inr other ↦
-          let differs : eqb item.kind a ≡ false = ne_eqb _ _ other in
-          let later = one_more_total item items (a + 1) n in
-          rw differs (omega (arith, later))
-    ]
+one_more_total item items a (suc n) = grind (arith, nat_tests, lower_total item items (a + 1) n, one_more_total item items (a + 1) n)
 
 received_total : (items : List Item) (a n : ℕ) → total (octets_at items) (range_with_len a n) ≤ length (flat_map spelled_item items)
 received_total [] a n = omega (arith, nothing_total (range_with_len a n))

@@ -17,11 +17,10 @@ use Rattle.rs_update.specs.PathAttributes.{PathAttributes, PassedOn}
 use Rattle.rs_update.specs.PathSegments.{segments_of, spelled_segment}
 use Rattle.rs_update.specs.Section.{Item, is_origin, is_path}
 use Rattle.rs_update.specs.Spelling.{well_known, optional_non_transitive, optional_transitive, aggregator_item, communities_item, origin_code, passed_on_item, written_item, written_items}
-use Rattle.rs_update.proofs.attributes.KindLemmas.{cases_Option, find-made, range-any, All-range, filter_map-same}
+use Rattle.rs_update.proofs.attributes.KindLemmas.{cases_Option, find-made, range-any, All-range, filter_map-same, passed_on_kind}
 use Rattle.rs_update.proofs.fields.OctetLemmas.{big_bytes-big_number}
 use Rattle.rs_update.proofs.fields.PartsLemmas.{AreOctets-drop}
 use Rattle.rs_update.proofs.as_path.SegmentLemmas.{spelled_numbers-all}
-use Rattle.rs_update.proofs.attributes.OthersLemmas.{passed_on_kind}
 use Rattle.rs_update.proofs.section.ReceivedLemmas.{value-is_spelled}
 use Rattle.rs_update.proofs.section.SoundLemmas.{AreSound, IsSound, look_sound, origin_value, path_value, communities_value, exact_value}
 

@@ -1,12 +1,10 @@
 -- What is written of the attributes of a section without fault is itself without fault: for AgainLemmas.
 use Rattle.std.proofs.Common.{◌≡◌, ℕ, zero, suc, ◌+◌, ◌<◌, ◌&&◌, Bool, true, false, not, cond, List, [], ◌∷◌, ◌++◌, length, Option, Some, None, refl, sym, ap, subst, ◌∙◌, arith, inl, inr}
 use Rattle.std.specs.List.{filter_map, range_with_len, AllByRecursion}
-use Rattle.std.proofs.lemmas.Bool.{cases_Bool, cases_lt, lt-ltb, le-ltb}
+use Rattle.std.proofs.lemmas.Bool.{cases_lt, lt-ltb, le-ltb}
 use Rattle.std.proofs.lemmas.Bool.Decides.{nat_tests}
-use Rattle.std.proofs.lemmas.Option.{same_Some}
 use Rattle.rs_update.specs.declared.attribute_type.AttributeType.{AttributeType}
 use Rattle.rs_update.specs.declared.attribute_type.WantedFlags.{WantedFlags}
-use Rattle.rs_update.specs.declared.attribute_type.WantedFlags.TheVariants.{WellKnown, OptionalNonTransitive, OptionalTransitive, Optional, Any}
 use Rattle.rs_update.specs.AttributeType.{type_of, flags_of, suits, is_unrecognized, is_optional, is_transitive, is_partial}
 use Rattle.rs_update.specs.Fault.{first_fault}
 use Rattle.rs_update.specs.Found.{IsPlain, kept_by, kept_of, kept_in}
@@ -30,10 +28,6 @@ both_ways P flags value short long =
 suited : (wanted : WantedFlags) (flags : ℕ) (value : List ℕ) → suits wanted flags ≡ true → suits wanted (flags + 0x10) ≡ true → suits wanted (written_flags flags value) ≡ true
 suited wanted = both_ways (λ flags. suits wanted flags ≡ true)
 
-partial_suited : (partial : Bool) (value : List ℕ) → suits OptionalTransitive (written_flags (cond partial 0xE0 0xC0) value) ≡ true
-partial_suited true value = suited OptionalTransitive 0xE0 value refl refl
-partial_suited false value = suited OptionalTransitive 0xC0 value refl refl
-
 -- the Partial bit as it was received
 pub written_partial : (partial : Bool) (value : List ℕ) → is_partial (written_flags (cond partial 0xE0 0xC0) value) ≡ partial
 written_partial true value = both_ways (λ flags. is_partial flags ≡ true) 0xE0 value refl refl
@@ -46,15 +40,7 @@ passed_on_transitive value = both_ways (λ flags. is_transitive flags ≡ true) 
 
 -- the flags of what is kept are what they must say
 kept_bits : (wanted : WantedFlags) (item kept : Item) → kept_by wanted item ≡ Some kept → suits wanted kept.flags ≡ true
-kept_bits WellKnown item kept e = let is = same_Some _ _ e in subst (λ (k : Item). suits WellKnown k.flags ≡ true) is (suited WellKnown 0x40 item.value refl refl)
-kept_bits OptionalNonTransitive item kept e = let is = same_Some _ _ e in subst (λ (k : Item). suits OptionalNonTransitive k.flags ≡ true) is (suited OptionalNonTransitive 0x80 item.value refl refl)
-kept_bits OptionalTransitive item kept e = let is = same_Some _ _ e in subst (λ (k : Item). suits OptionalTransitive k.flags ≡ true) is (partial_suited (is_partial item.flags) item.value)
-kept_bits Any item kept e = absurd cc
-kept_bits Optional item kept e =
-    elim (cases_Bool (is_transitive item.flags)) [
-      | inl passed ↦ let is = same_Some _ _ (rw passed at e) in subst (λ (k : Item). is_optional k.flags ≡ true) is (suited Optional 0xE0 item.value refl refl)
-      | inr dropped ↦ let none = rw dropped at e in absurd cc
-    ]
+kept_bits wanted item kept e = grind (arith, suited wanted)
 
 -- so they say its class, too
 suits_class : (type : AttributeType) (flags : ℕ) → suits (flags_of type) flags ≡ true → (is_unrecognized type && not (is_optional flags)) ≡ false
@@ -70,11 +56,7 @@ pub record IsWritten (kind : ℕ) (kept : Item) : Type 0 where
   pub without : own_fault_of kept ≡ None
 
 kept_fits : (item : Item) (flags : ℕ) → IsPlain flags → length item.value < 65536 → FitsItsLength (record { flags = written_flags flags item.value; kind = item.kind; value = item.value })
-kept_fits item flags plain short =
-    elim (cases_lt 255 (length item.value)) [
-      | inl above ↦ rw (lt-ltb _ _ above, plain.may_be_long) short
-      | inr below ↦ rw (le-ltb _ _ below, plain.is_short) (omega (arith, below))
-    ]
+kept_fits item flags plain short = grind (arith, nat_tests, plain.is_short, plain.may_be_long)
 
 kept_without : (kind : ℕ) (item kept : Item) → IsSound kind item → kept_of item ≡ Some kept → own_fault_of kept ≡ None
 kept_without kind item kept sound e =

@@ -1,8 +1,9 @@
 -- What a section asks for by RFC 7606, attribute by attribute, and the attributes that are kept of it: for treating.rt, and `kept_attributes` of update.rt.
-use Rattle.std.proofs.Common.{◌≡◌, ℕ, ◌-◌, ◌<◌, ◌≤◌, ◌==◌, Bool, true, false, eqb, List, [], ◌∷◌, ◌++◌, length, take, get_or, set, Option, Some, None, refl, sym, ap, ◌∙◌, arith, inl, inr, append_assoc}
+use Rattle.std.proofs.Common.{◌≡◌, ℕ, ◌-◌, ◌<◌, ◌≤◌, Bool, true, false, eqb, List, [], ◌∷◌, ◌++◌, length, take, get_or, set, Option, Some, None, refl, sym, ap, ◌∙◌, arith, inl, inr, append_assoc}
 use Rattle.std.specs.Prelude.{if◌then◌else◌}
 use Rattle.std.specs.List.{flat_map, AllByRecursion}
-use Rattle.std.proofs.lemmas.Bool.{cases_Bool, or_cases, or_left, or_right, true≢false}
+use Rattle.std.proofs.lemmas.Bool.{cases_Bool}
+use Rattle.std.proofs.lemmas.Grind.{common_steps}
 use Rattle.std.proofs.lemmas.List.{append-nil, length-append, take_at}
 use Rattle.rs_update.specs.declared.fault.UpdateFault.{UpdateFault}
 use Rattle.rs_update.specs.declared.fault.UpdateFault.TheVariants.{MalformedAttributeList}
@@ -14,11 +15,10 @@ use Rattle.rs_update.specs.Handling.{stronger, handling_again, handling_of_own, 
 use Rattle.rs_update.specs.Parts.{AreOctets, parts_of}
 use Rattle.rs_update.specs.Section.{Item, FitsItsLength, item_at, items_of, rest_of, own_fault_of, has_type, fault_behind, first_item_fault, section_fault}
 use Rattle.rs_update.specs.Spelling.{spelled_item}
-use Rattle.rs_update.proofs.attributes.FoundLemmas.{items_of-step, items_of-end}
-use Rattle.rs_update.proofs.section.ItemLemmas.{item_shrinks}
+use Rattle.rs_update.proofs.section.ItemLemmas.{item_shrinks, items_of-step, items_of-end}
 use Rattle.rs_update.proofs.fields.PartsLemmas.{parts_of-some, parts_of-none}
 use Rattle.rs_update.proofs.section.ReceivedLemmas.{IsReceived, item_at-reads, section-is_spelled}
-use Rattle.rs_update.proofs.section.SectionLemmas.{IsSeen, fault_of_parts, one_seen, list_any-push}
+use Rattle.rs_update.proofs.section.SectionLemmas.{IsSeen, fault_of_parts, one_seen}
 use Rattle.rs_update.proofs.fields.SpelledParts.{items_of-spelled}
 
 -- ---- the stronger of two
@@ -107,22 +107,13 @@ abbrev Covers : List Item → List Item → Type 0
 Covers kept earlier = (kind : ℕ) → has_type kind kept ≡ true → has_type kind earlier ≡ true
 
 covers_one : (kept earlier : List Item) (item : Item) → Covers kept earlier → Covers kept (earlier ++ item ∷ [])
-covers_one kept earlier item covers kind there = list_any-push (λ one. one.kind == kind) earlier item ∙ or_left _ _ (covers kind there)
+covers_one kept earlier item covers kind there = grind (arith, common_steps, covers kind)
 
 covers_both : (kept earlier : List Item) (item : Item) → Covers kept earlier → Covers (kept ++ item ∷ []) (earlier ++ item ∷ [])
-covers_both kept earlier item covers kind there =
-    list_any-push (λ one. one.kind == kind) earlier item
-    ∙ elim (or_cases (has_type kind kept) (item.kind == kind) (sym (list_any-push (λ one. one.kind == kind) kept item) ∙ there)) [
-      | inl held ↦ or_left _ _ (covers kind held)
-      | inr here ↦ or_right _ _ here
-    ]
+covers_both kept earlier item covers kind there = grind (arith, common_steps, covers kind)
 
 uncovered : (kept earlier : List Item) (kind : ℕ) → Covers kept earlier → has_type kind earlier ≡ false → has_type kind kept ≡ false
-uncovered kept earlier kind covers none =
-    elim (cases_Bool (has_type kind kept)) [
-      | inl there ↦ absurd (true≢false (sym (covers kind there) ∙ none))
-      | inr missing ↦ missing
-    ]
+uncovered kept earlier kind covers none = grind (arith, covers kind)
 
 no_fault_behind : (earlier : List Item) (item : Item) → has_type item.kind earlier ≡ false → own_fault_of item ≡ None → fault_behind earlier item ≡ None
 no_fault_behind earlier item fresh own = grind arith
