@@ -1,5 +1,5 @@
 -- What a segment of an AS_PATH is spelled as is read as that segment, and what is read is spelled so.
--- For as_path.rt, number_list.rt, and `a_path_is_one_list_of_segments` of laws.rt.
+-- For as_path.rt, number_list.rt, `a_path_is_one_list_of_segments` of laws.rt, ReceivedLemmas and KeptLemmas.
 use Rattle.std.proofs.Common.{◌≡◌, ℕ, zero, suc, ◌+◌, ◌-◌, ◌*◌, ◌/◌, ◌%◌, ◌^◌, ◌<◌, ◌≤◌, false, ltb, eqb, List, [], ◌∷◌, ◌++◌, length, take, drop, Some, refl, sym, ap, ◌∙◌, arith, inl, inr, ◌⊎◌, take-add}
 use Rattle.std.specs.List.{AllByRecursion}
 use Rattle.std.proofs.lemmas.Bool.{cases_Bool, ltb-false, le-ltb, ne_eqb, eqb-true, eqb-false}

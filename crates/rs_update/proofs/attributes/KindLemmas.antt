@@ -1,5 +1,5 @@
 -- Attributes by their types: look-ups, and lists that have one of each type at most.
--- For gather.rt, `is_at_fault` of concerns.rt, and the lemmas of what is found and written by type.
+-- For `is_at_fault` of concerns.rt, and the lemmas of messages and of what is found and written by type.
 use Rattle.std.proofs.Common.{◌≡◌, ℕ, zero, suc, ◌+◌, ◌<◌, ◌≤◌, ◌==◌, ◌⊎◌, true, false, List, [], ◌∷◌, Option, Some, None, refl, sym, ◌∙◌, arith, inl, inr}
 use Rattle.std.specs.Prelude.{find, is_some}
 use Rattle.std.specs.List.{filter_map, range_with_len, list_any, AllByRecursion}

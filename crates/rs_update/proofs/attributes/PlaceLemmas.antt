@@ -1,4 +1,5 @@
--- Where an attribute begins in a section, and which of them are passed on: for item.rt, and the iterator of `Others` in attributes.rt.
+-- Where an attribute begins in a section, and which of them are passed on: for item.rt, the iterator of `Others` in attributes.rt,
+-- and FindLemmas.
 use Rattle.std.proofs.Common.{◌≡◌, ℕ, ◌-◌, ◌<◌, true, false, List, [], ◌∷◌, ◌++◌, length, drop, map, Some, None, refl, sym, ap, ◌∙◌, arith}
 use Rattle.std.specs.Prelude.{filter}
 use Rattle.std.specs.Option.{option_map}

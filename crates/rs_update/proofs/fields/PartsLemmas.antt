@@ -1,4 +1,5 @@
--- Reading parts one after another finds exactly the parts that stand in a field: for the lemmas of prefixes, attributes and segments.
+-- Reading parts one after another finds exactly the parts that stand in a field: for the lemmas of prefixes, attributes and segments,
+-- and those of the items of rs_inventory.
 use Rattle.std.proofs.Common.{◌≡◌, ℕ, zero, suc, ◌+◌, ◌<◌, ◌≤◌, Bool, true, false, cond, List, [], ◌∷◌, ◌++◌, length, drop, Option, Some, None, refl, sym, ap, ◌∙◌, arith, inl, inr}
 use Rattle.std.proofs.lemmas.Bool.{cases_lt}
 use Rattle.std.proofs.lemmas.List.{get_or-append-add, get_or-drop, get_or_append_left, get_or_past}

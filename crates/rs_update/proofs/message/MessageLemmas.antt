@@ -1,4 +1,4 @@
--- A message behind its header: for `lacks_mandatory` of update.rt, and two laws of messages in laws.rt.
+-- A message behind its header: for `lacks_mandatory` of update.rt, two laws of messages in laws.rt, and the other lemmas of messages.
 use Rattle.std.proofs.Common.{◌≡◌, ℕ, ◌<◌, Bool, true, false, not, ltb, List, [], ◌∷◌, length, drop, Option, Some, None, Result, Ok, Err, refl, sym, ap, ◌∙◌, arith}
 use Rattle.std.specs.Prelude.{◌↔◌, IsOk, IsSome, is_err}
 use Rattle.std.specs.Option.{is_none, is_some, option_map, ok_or}

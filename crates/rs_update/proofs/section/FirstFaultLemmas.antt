@@ -7,7 +7,7 @@ use Rattle.rs_update.specs.declared.fault.UpdateFault.{UpdateFault}
 use Rattle.rs_update.specs.declared.fault.UpdateFault.TheVariants.{MalformedAttributeList}
 use Rattle.rs_update.specs.Fault.{or_else}
 use Rattle.rs_update.specs.Section.{Item, items_of, rest_of, fault_of_rest, fault_behind, first_item_fault, section_fault, AreFaultless, IsFirstAtFault}
-use Rattle.rs_update.proofs.section.SoundLemmas.{neither}
+use Rattle.rs_update.proofs.section.SoundLemmas.{neither, section_without}
 
 -- the same of attributes that stand behind others
 abbrev AreFaultlessBehind : List Item → List Item → Type 0
@@ -91,10 +91,6 @@ left_over octet rest =
     let some : eqb (length (octet ∷ rest)) 0 ≡ false = ne_eqb _ _ (λ none. omega arith) in
     rw some refl
 
-rest_none : (rest : List ℕ) → fault_of_rest rest ≡ None → rest ≡ []
-rest_none [] e = refl
-rest_none (octet ∷ rest) e = absurd (cc (left_over octet rest))
-
 rest_some : (rest : List ℕ) (fault : UpdateFault) → fault_of_rest rest ≡ Some fault → (rest ≢ []) × (fault ≡ MalformedAttributeList)
 rest_some [] fault e = absurd cc
 rest_some (octet ∷ rest) fault e = (λ empty. cc, cc (left_over octet rest))
@@ -110,8 +106,8 @@ either (Some other) rest fault e = inl e
 pub section_is_faultless : (section : List ℕ) → ((section_fault section ≡ None) ↔ (AreFaultless (items_of section) × (rest_of section ≡ [])))
 section_is_faultless section = (
   λ none.
-      let parts = neither (first_item_fault [] (items_of section)) (fault_of_rest (rest_of section)) none in
-      (faultless [] (items_of section) parts.0, rest_none (rest_of section) parts.1),
+      let parts = section_without section none in
+      (faultless [] (items_of section) parts.0, parts.1),
   λ parts.
       let items : first_item_fault [] (items_of section) ≡ None = none_found [] (items_of section) parts.0 in
       ap (λ (here : Option UpdateFault). or_else here (fault_of_rest (rest_of section))) items ∙ ap fault_of_rest parts.1,

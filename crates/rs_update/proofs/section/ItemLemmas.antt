@@ -1,5 +1,5 @@
 -- What an attribute is spelled as is read as that attribute, and what is read is spelled so.
--- For item.rt, each loop over a section, and `a_section_is_one_list_of_attributes` of laws.rt.
+-- For item.rt, each loop over a section, `a_section_is_one_list_of_attributes` of laws.rt, and the lemmas of sections.
 use Rattle.std.proofs.Common.{◌≡◌, ℕ, suc, ◌+◌, ◌*◌, ◌/◌, ◌%◌, ◌<◌, ◌≤◌, true, false, ltb, List, [], ◌∷◌, ◌++◌, length, take, drop, Some, None, refl, sym, ap, arith, inl, inr}
 use Rattle.std.proofs.lemmas.Bool.{cases_Bool, ltb-false, le-ltb}
 use Rattle.std.proofs.lemmas.List.{take_at, drop_at, take-append-drop, length-append, length-drop, length-take-le}

@@ -1,4 +1,4 @@
--- What is written of the attributes of a section without fault has the values that were received: for BoundLemmas, AgainLemmas and WholeLemmas.
+-- What is written of the attributes of a section without fault has the values that were received: for WholeLemmas.
 use Rattle.std.proofs.Common.{◌≡◌, ℕ, ◌<◌, ◌==◌, true, List, [], ◌∷◌, ◌++◌, length, take, drop, Option, Some, None, refl, sym, ap, ◌∙◌, arith, inl, inr}
 use Rattle.std.specs.Prelude.{find, option_and_then, is_some, slice_index, if◌then◌else◌}
 use Rattle.std.specs.List.{filter_map, range_with_len, flat_map}

@@ -1,4 +1,5 @@
--- What a section asks for by RFC 7606, attribute by attribute, and the attributes that are kept of it: for treating.rt, and `kept_attributes` of update.rt.
+-- What a section asks for by RFC 7606, attribute by attribute, and the attributes that are kept of it: for treating.rt,
+-- `kept_attributes` of update.rt, and AgreeLemmas.
 use Rattle.std.proofs.Common.{◌≡◌, ℕ, ◌-◌, ◌<◌, ◌≤◌, Bool, true, false, eqb, List, [], ◌∷◌, ◌++◌, length, take, get_or, set, Option, Some, None, refl, sym, ap, ◌∙◌, arith, inl, inr, append_assoc}
 use Rattle.std.specs.Prelude.{if◌then◌else◌}
 use Rattle.std.specs.List.{flat_map, AllByRecursion}

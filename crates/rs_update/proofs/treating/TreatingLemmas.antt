@@ -1,4 +1,5 @@
--- A message by either standard of handling faults: for message.rt, `concerns_prefix` of concerns.rt, and `by_rfc_4271_a_message_says_what_it_says` of laws.rt.
+-- A message by either standard of handling faults: for message.rt, `concerns_prefix` of concerns.rt, `by_rfc_4271_a_message_says_what_it_says` of laws.rt,
+-- AgreeLemmas, ConcernLemmas and RoomLemmas.
 use Rattle.std.proofs.Common.{◌≡◌, ℕ, ◌<◌, List, [], ◌∷◌, length, drop, Option, Some, None, Result, Ok, Err, refl, sym, ap, ◌∙◌, arith}
 use Rattle.std.specs.Prelude.{◌↔◌, IfOk, IsSome}
 use Rattle.std.specs.Option.{is_some}
