@@ -1,6 +1,7 @@
 -- The front of a record says what the record says: for `front_of_a_record_says_the_same` of laws.rt.
-use Rattle.std.proofs.Common.{◌≡◌, ℕ, ◌+◌, ◌-◌, ◌≤◌, Bool, true, false, ◌&&◌, not, cond, eqb, ltb, List, length, take, drop, Result, Ok, Err, lit≤, refl, sym, ap, ◌∙◌, arith, inl, inr}
-use Rattle.std.proofs.lemmas.Bool.{cases_lt, lt-ltb, le-ltb, eqb-true}
+use Rattle.std.proofs.Common.{◌≡◌, ℕ, ◌+◌, ◌-◌, ◌≤◌, Bool, true, false, ◌&&◌, not, cond, eqb, ltb, List, length, take, drop, Result, Ok, Err, lit≤, refl, ap, ◌∙◌, arith}
+use Rattle.std.proofs.lemmas.Bool.{eqb-true}
+use Rattle.std.proofs.lemmas.Bool.Decides.{nat_tests}
 use Rattle.std.proofs.lemmas.List.{length-take, drop-take}
 use Rattle.byteorder.specs.Endian.{big_number}
 use Rattle.byteorder.specs.Numbers.{big_from-take}
@@ -19,11 +20,7 @@ front_number : (i k n : ℕ) (octets : List ℕ) → i + k ≤ n → big_number 
 front_number i k n octets h = ap (big_number k) (drop_front i n octets (omega arith)) ∙ big_from-take 0 k (n - i) (drop i octets) (omega arith)
 
 front_shorter : (k n : ℕ) (octets : List ℕ) → k ≤ n → ltb (length (take n octets)) k ≡ ltb (length octets) k
-front_shorter k n octets h =
-    elim (cases_lt (length octets) k) [
-      | inl lt ↦ lt-ltb _ _ (omega (arith, length-take n octets)) ∙ sym (lt-ltb _ _ lt)
-      | inr le ↦ le-ltb _ _ (omega (arith, length-take n octets)) ∙ sym (le-ltb _ _ le)
-    ]
+front_shorter k n octets h = grind (arith, nat_tests, length-take n octets)
 
 -- ---- entries
 

@@ -30,24 +30,12 @@ after_record-shorter octets h =
 within-enough : (n m : ℕ) (octets : List ℕ) → length octets ≤ n → length octets ≤ m → (records_within n octets ≡ records_within m octets) × (rest_within n octets ≡ rest_within m octets)
 unfolding records_within rest_within
 within-enough zero zero octets hn hm = (refl, refl)
-within-enough zero (suc m) octets hn hm =
-    elim (cases_Bool (has_record octets)) [
-      | inl stands ↦ (let long = has_record-long octets stands in absurd (omega arith))
-      | inr lacks ↦ rw lacks (refl, refl)
-    ]
-within-enough (suc n) zero octets hn hm =
-    elim (cases_Bool (has_record octets)) [
-      | inl stands ↦ (let long = has_record-long octets stands in absurd (omega arith))
-      | inr lacks ↦ rw lacks (refl, refl)
-    ]
+within-enough zero (suc m) octets hn hm = let long = has_record-long octets in (grind arith, grind arith)
+within-enough (suc n) zero octets hn hm = let long = has_record-long octets in (grind arith, grind arith)
 within-enough (suc n) (suc m) octets hn hm =
-    elim (cases_Bool (has_record octets)) [
-      | inl stands ↦
-          (let shorter = after_record-shorter octets stands in
-          let later = within-enough n m (after_record octets) (omega arith) (omega arith) in
-          rw stands (ap (λ (rs : List MrtRecord). front_record octets ∷ rs) later.0, later.1))
-      | inr lacks ↦ rw lacks (refl, refl)
-    ]
+    let shorter = after_record-shorter octets in
+    let later = within-enough n m (after_record octets) in
+    (grind arith, grind arith)
 
 -- the record at the front comes first, and the rest is that of the octets after it
 of-step : (octets : List ℕ) → has_record octets ≡ true → (records_of octets ≡ front_record octets ∷ records_of (after_record octets)) × (rest_of octets ≡ rest_of (after_record octets))

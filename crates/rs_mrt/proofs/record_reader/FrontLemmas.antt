@@ -3,7 +3,7 @@
 use Rattle.std.proofs.Common.{◌≡◌, ℕ, ◌+◌, ◌-◌, ◌≤◌, ◌<◌, min, List, [], ◌∷◌, ◌++◌, length, take, drop, map, Option, Some, Result, Bool, true, false, refl, sym, ap, subst, ◌∙◌, append_assoc, arith, inl, inr, length-append}
 use Rattle.std.specs.Prelude.{nat_lt, if◌then◌else◌}
 use Rattle.std.specs.Option.{option_map}
-use Rattle.std.proofs.lemmas.Bool.{cases_Bool, lt-ltb, le-ltb, le-leb, and_from, cases_lt}
+use Rattle.std.proofs.lemmas.Bool.{lt-ltb, le-ltb, le-leb, and_from, cases_lt}
 use Rattle.std.proofs.lemmas.List.{take_all, take-take, take-append-le, drop-append-le, drop-drop, drop_all, nil_from_length, length-drop, length-take, append-nil}
 use Rattle.byteorder.specs.Endian.{big_number}
 use Rattle.byteorder.specs.Numbers.{big_from-append}
@@ -42,11 +42,7 @@ has_record-from octets long =
 
 -- where one of them is cut short, there is none
 pub has_record-cut : (octets : List ℕ) → length octets < 12 + length_field octets → has_record octets ≡ false
-has_record-cut octets cut =
-    elim (cases_Bool (has_record octets)) [
-      | inl stands ↦ (let long = has_record-long octets stands in absurd (omega arith))
-      | inr lacks ↦ lacks
-    ]
+has_record-cut octets cut = let long = has_record-long octets in grind arith
 
 -- ---- a record, and octets behind it
 

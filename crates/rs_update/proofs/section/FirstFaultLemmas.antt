@@ -1,7 +1,7 @@
 -- The first attribute at fault, by its place among the attributes: for `a_section_is_at_fault_by_its_first_attribute_at_fault` of laws.rt, and SectionExamples.
-use Rattle.std.proofs.Common.{◌≡◌, ◌≢◌, ℕ, false, List, [], ◌∷◌, ◌++◌, length, Option, Some, None, ◌⊎◌, inl, inr, refl, sym, ap, ◌∙◌, append_assoc, eqb, arith}
+use Rattle.std.proofs.Common.{◌≡◌, ◌≢◌, ℕ, List, [], ◌∷◌, ◌++◌, Option, Some, None, ◌⊎◌, inl, inr, refl, sym, ap, ◌∙◌, append_assoc, arith}
 use Rattle.std.specs.Prelude.{◌↔◌}
-use Rattle.std.proofs.lemmas.Bool.{ne_eqb}
+use Rattle.std.proofs.lemmas.Bool.Decides.{nat_tests}
 use Rattle.std.proofs.lemmas.List.{append-nil}
 use Rattle.rs_update.specs.declared.fault.UpdateFault.{UpdateFault}
 use Rattle.rs_update.specs.declared.fault.UpdateFault.TheVariants.{MalformedAttributeList}
@@ -86,18 +86,13 @@ found_of earlier items fault is = ap (first_item_fault earlier) is.3 ∙ found_a
 
 -- ---- a section
 
-left_over : (octet : ℕ) (rest : List ℕ) → fault_of_rest (octet ∷ rest) ≡ Some MalformedAttributeList
-left_over octet rest =
-    let some : eqb (length (octet ∷ rest)) 0 ≡ false = ne_eqb _ _ (λ none. omega arith) in
-    rw some refl
-
 rest_some : (rest : List ℕ) (fault : UpdateFault) → fault_of_rest rest ≡ Some fault → (rest ≢ []) × (fault ≡ MalformedAttributeList)
 rest_some [] fault e = absurd cc
-rest_some (octet ∷ rest) fault e = (λ empty. cc, cc (left_over octet rest))
+rest_some (octet ∷ rest) fault e = (λ empty. cc, grind (arith, nat_tests))
 
 some_rest : (rest : List ℕ) (fault : UpdateFault) → rest ≢ [] → fault ≡ MalformedAttributeList → fault_of_rest rest ≡ Some fault
 some_rest [] fault some e = absurd (some refl)
-some_rest (octet ∷ rest) fault some e = cc (left_over octet rest)
+some_rest (octet ∷ rest) fault some e = grind (arith, nat_tests)
 
 either : (here : Option UpdateFault) (rest : List ℕ) (fault : UpdateFault) → or_else here (fault_of_rest rest) ≡ Some fault → (here ≡ Some fault) ⊎ ((here ≡ None) × (fault_of_rest rest ≡ Some fault))
 either None rest fault e = inr (refl, e)
