@@ -1,9 +1,9 @@
 -- MRT records, and the records that a file holds (RFC 6396, section 2).
 use Rattle.std.specs.Prelude.{◌≡◌, ◌≢◌, ℕ, zero, suc, ◌+◌, ◌-◌, ◌^◌, ◌<◌, nat_lt, nat_le, Bool, ◌&&◌, if◌then◌else◌}
-use Rattle.std.specs.Prelude.{List, [], ◌∷◌, ◌++◌, length, take, drop, slice_index, Option, Some, None, Result, Ok}
+use Rattle.std.specs.Prelude.{List, [], ◌∷◌, ◌++◌, length, take, drop, Option, Some, None, Result, Ok}
 use Rattle.std.specs.Prelude.{Err}
 use Rattle.std.specs.Option.{option_map}
-use Rattle.std.specs.List.{flat_map, AllByRecursion}
+use Rattle.std.specs.List.{flat_map, All, AllByRecursion}
 use Rattle.byteorder.specs.Endian.{big_bytes, big_number}
 use Rattle.rs_mrt.specs.declared.fault.MrtFault.{MrtFault}
 use Rattle.rs_mrt.specs.declared.fault.MrtFault.TheVariants.{HeaderCutShort, BodyCutShort}
@@ -47,10 +47,6 @@ octets_of None = 0
 octets_of (Some r) = header_len + length r.body
 
 -- ---- the records of a file, as a relation on the whole file
-
--- octets are numbers below 256
-abbrev pub AreOctets : List ℕ → Type 0
-AreOctets octets = (i : ℕ) → slice_index octets i < 256
 
 -- the file is the spellings of these records, one after another, then the rest, and no front of the rest
 -- spells a record
@@ -114,12 +110,12 @@ fault_of_rest (octet ∷ octets) =
 
 -- the computed split is one
 abbrev pub SplitIsFound : Type 0
-SplitIsFound = (file : List ℕ) → AreOctets file → Splits file (records_of file) (rest_of file)
+SplitIsFound = (file : List ℕ) → All (λ octet. octet < 256) file → Splits file (records_of file) (rest_of file)
 
 -- and there is no other
 abbrev pub SplitIsTheOnlyOne : Type 0
 SplitIsTheOnlyOne =
-    (records : List MrtRecord) (file rest : List ℕ) → AreOctets file → Splits file records rest
+    (records : List MrtRecord) (file rest : List ℕ) → All (λ octet. octet < 256) file → Splits file records rest
     → (records ≡ records_of file) × (rest ≡ rest_of file)
 
 -- how the records of a file end
