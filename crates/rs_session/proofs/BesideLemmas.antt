@@ -2,6 +2,7 @@
 use Rattle.std.proofs.Common.{◌≡◌, ◌∙◌, refl, ℕ, Bool, true, false, cond, List, [], ◌∷◌, ◌++◌, Option, Some, None, Result, Ok, Err}
 use Rattle.std.specs.Prelude.{◌||◌, map, filter}
 use Rattle.std.specs.List.{list_any}
+use Rattle.std.proofs.lemmas.Bool.{or_parts}
 use Rattle.std.proofs.lemmas.List.Folds.{list_any-append}
 use Rattle.rs_update.specs.Concerns.{message_concerns}
 use Rattle.rs_update.specs.Covering.{covers, lists_cover}
@@ -14,19 +15,11 @@ use Rattle.rs_session.specs.Concerning.{ArePassedOver, IsBeside, concerns, is_la
 use Rattle.rs_session.specs.Effect.{effect_of_message}
 use Rattle.rs_session.specs.UpdateChanges.{withdraws, announces, announcements, withdrawn_only, unicast}
 
-or-first : (b c : Bool) → (b || c) ≡ false → b ≡ false
-or-first false c e = refl
-or-first true c e = absurd cc
-
-or-second : (b c : Bool) → (b || c) ≡ false → c ≡ false
-or-second false c e = e
-or-second true c e = absurd cc
-
 -- what holds of none of a list holds of none of a part of it
 none-part : {A : Type 0} (p keeps : A → Bool) (xs : List A) → list_any p xs ≡ false → list_any p (filter keeps xs) ≡ false
 none-part p keeps [] none = refl
 none-part {A} p keeps (x ∷ xs) none =
-    none_if (keeps x) (or-first (p x) (list_any p xs) none) (none-part p keeps xs (or-second (p x) (list_any p xs) none))
+    let parts = or_parts (p x) (list_any p xs) none in none_if (keeps x) parts.0 (none-part p keeps xs parts.1)
   where
     none_if : (b : Bool) → p x ≡ false → list_any p (filter keeps xs) ≡ false → list_any p (cond b (x ∷ filter keeps xs) (filter keeps xs)) ≡ false
     none_if true first later = rw (first, later) refl
@@ -34,47 +27,41 @@ none-part {A} p keeps (x ∷ xs) none =
 
 -- some changes, all beside the prefix and in time
 module _ (prefix : IpPrefix) (until : Option ℕ) where
-  both : (xs ys : List Change) → ArePassedOver prefix until xs → ArePassedOver prefix until ys → ArePassedOver prefix until (xs ++ ys)
-  both xs ys first second = record {
+  -- more is passed over behind some
+  pub over-more : (xs ys : List Change) → ArePassedOver prefix until xs → ArePassedOver prefix until ys → ArePassedOver prefix until (xs ++ ys)
+  over-more xs ys first second = record {
     beside = list_any-append (concerns prefix) xs ys ∙ rw (first.beside, second.beside) refl;
     in_time = list_any-append (is_later until) xs ys ∙ rw (first.in_time, second.in_time) refl;
   }
 
   module _ (time : ℕ) (at : is_past until time ≡ false) where
-    over-withdraws : (prefixes : List IpPrefix) → lists_cover prefix prefixes ≡ false → ArePassedOver prefix until (map (withdraws time) prefixes)
-    over-withdraws [] none = record { beside = refl; in_time = refl }
-    over-withdraws (one ∷ prefixes) none =
-        let rest = over-withdraws prefixes (or-second (covers one prefix) (lists_cover prefix prefixes) none) in
-        record {
-          beside = rw (or-first (covers one prefix) (lists_cover prefix prefixes) none, rest.beside) refl;
-          in_time = rw (at, rest.in_time) refl;
-        }
+    -- a change on each of these prefixes
+    over-each : (says : IpPrefix → Change) → ((one : IpPrefix) → concerns prefix (says one) ≡ covers one prefix) → ((one : IpPrefix) → is_later until (says one) ≡ false) → (prefixes : List IpPrefix) → lists_cover prefix prefixes ≡ false
+        → ArePassedOver prefix until (map says prefixes)
+    over-each says on early [] none = record { beside = refl; in_time = refl }
+    over-each says on early (one ∷ prefixes) none =
+        let parts = or_parts (covers one prefix) (lists_cover prefix prefixes) none in
+        let rest = over-each says on early prefixes parts.1 in
+        record { beside = rw (on one, parts.0, rest.beside) refl; in_time = rw (early one, rest.in_time) refl }
 
-    over-announces : (attributes : PathAttributes) (prefixes : List IpPrefix) → lists_cover prefix prefixes ≡ false → ArePassedOver prefix until (map (announces time attributes) prefixes)
-    over-announces attributes [] none = record { beside = refl; in_time = refl }
-    over-announces attributes (one ∷ prefixes) none =
-        let rest = over-announces attributes prefixes (or-second (covers one prefix) (lists_cover prefix prefixes) none) in
-        record {
-          beside = rw (or-first (covers one prefix) (lists_cover prefix prefixes) none, rest.beside) refl;
-          in_time = rw (at, rest.in_time) refl;
-        }
+    over-withdraws : (prefixes : List IpPrefix) → lists_cover prefix prefixes ≡ false → ArePassedOver prefix until (map (withdraws time) prefixes)
+    over-withdraws = over-each (withdraws time) (λ one. refl) (λ one. at)
 
     over-announcements : (attributes : Option PathAttributes) (prefixes : List IpPrefix) → lists_cover prefix prefixes ≡ false → ArePassedOver prefix until (announcements time attributes prefixes)
     over-announcements None prefixes none = record { beside = refl; in_time = refl }
-    over-announcements (Some attributes) prefixes none = over-announces attributes prefixes none
+    over-announcements (Some attributes) prefixes none = over-each (announces time attributes) (λ one. refl) (λ one. at) prefixes none
+
+    -- changes that withdraw those of the first list that stay, before changes on those of the second
+    over-lists : (withdrawn nlri : List IpPrefix) (behind : List Change) → (lists_cover prefix withdrawn || lists_cover prefix nlri) ≡ false
+        → (lists_cover prefix (unicast nlri) ≡ false → ArePassedOver prefix until behind) → ArePassedOver prefix until (map (withdraws time) (withdrawn_only withdrawn nlri) ++ behind)
+    over-lists withdrawn nlri behind none over =
+        let parts = or_parts (lists_cover prefix withdrawn) (lists_cover prefix nlri) none in
+        over-more _ _ (over-withdraws (withdrawn_only withdrawn nlri) (none-part (λ wide. covers wide prefix) _ withdrawn parts.0)) (over (none-part (λ wide. covers wide prefix) _ nlri parts.1))
 
     -- what a message that doesn't concern the prefix says
     pub beside_message : (answer : Result MessageContent MessageFault) → message_concerns prefix answer ≡ false → IsBeside prefix until (effect_of_message time answer)
-    beside_message (Ok (IsUpdate update)) none =
-        let withdrawn = or-first (lists_cover prefix update.withdrawn) (lists_cover prefix update.nlri) none in
-        let nlri = or-second (lists_cover prefix update.withdrawn) (lists_cover prefix update.nlri) none in
-        both _ _ (over-withdraws (withdrawn_only update.withdrawn update.nlri) (none-part (λ wide. covers wide prefix) _ update.withdrawn withdrawn))
-        (over-announcements update.attributes (unicast update.nlri) (none-part (λ wide. covers wide prefix) _ update.nlri nlri))
-    beside_message (Ok (IsTreated treated)) none =
-        let withdrawn = or-first (lists_cover prefix treated.withdrawn) (lists_cover prefix treated.nlri) none in
-        let nlri = or-second (lists_cover prefix treated.withdrawn) (lists_cover prefix treated.nlri) none in
-        both _ _ (over-withdraws (withdrawn_only treated.withdrawn treated.nlri) (none-part (λ wide. covers wide prefix) _ treated.withdrawn withdrawn))
-        (over-withdraws (unicast treated.nlri) (none-part (λ wide. covers wide prefix) _ treated.nlri nlri))
+    beside_message (Ok (IsUpdate update)) none = over-lists update.withdrawn update.nlri _ none (over-announcements update.attributes (unicast update.nlri))
+    beside_message (Ok (IsTreated treated)) none = over-lists treated.withdrawn treated.nlri _ none (over-withdraws (unicast treated.nlri))
     beside_message (Ok IsOpen) none = absurd cc
     beside_message (Ok IsNotification) none = absurd cc
     beside_message (Ok IsKeepAlive) none = absurd cc

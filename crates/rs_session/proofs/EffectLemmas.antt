@@ -1,6 +1,7 @@
 -- What any record says: changes without a close, no more than its body has octets, or a close by a reason that records say.
-use Rattle.std.proofs.Common.{◌≡◌, ℕ, zero, suc, ◌+◌, ◌≤◌, ◌==◌, Bool, true, false, cond, not, ◌&&◌, List, [], ◌∷◌, length, drop, map, filter, Option, Some, None, Result, Ok, Err, refl, ◌∙◌, arith, length-append, length-take, length-drop}
-use Rattle.std.proofs.lemmas.List.Folds.{list_any-append}
+use Rattle.std.proofs.Common.{◌≡◌, ℕ, zero, suc, ◌+◌, ◌≤◌, ◌==◌, Bool, true, false, cond, not, ◌&&◌, List, [], ◌∷◌, ◌++◌, length, drop, map, filter, Option, Some, None, Result, Ok, Err, refl, ◌∙◌, arith, length-append, length-take, length-drop}
+use Rattle.std.proofs.lemmas.List.Elements.{All-map}
+use Rattle.std.proofs.lemmas.List.Folds.{list_any-append, list_any_none}
 use Rattle.std.proofs.lemmas.List.Sums.{length-filter, count_by-le-length}
 use Rattle.std.proofs.lemmas.List.{length-map}
 use Rattle.rs_mrt.specs.Entry.{Meaning, Message, State, Other, entry_of, fields_entry, message_entry, state_entry}
@@ -24,7 +25,7 @@ use Rattle.rs_update.specs.declared.header.MessageType.{MessageType}
 use Rattle.rs_update.specs.declared.header.MessageType.TheVariants as types
 use Rattle.rs_session.specs.Effect.{RecordEffect, PassesOver, Gives, Ends, effect_of, effect_of_entry, effect_of_message, effect_of_state, loss}
 use Rattle.rs_session.specs.Laws.{has_close, is_recorded}
-use Rattle.rs_session.specs.Change.{is_close}
+use Rattle.rs_session.specs.Change.{Change, is_close}
 use Rattle.rs_session.specs.Peer.{is_of}
 use Rattle.std.specs.Prelude.{nat_lt}
 use Rattle.rs_mrt.specs.Endian.{big_number}
@@ -39,7 +40,7 @@ IsFine octets (Gives changes) = (has_close changes ≡ false) × (length changes
 IsFine octets (Ends reason) = is_recorded reason ≡ true
 
 -- what holds in both branches holds of the choice
-branch : {A : Type 0} (P : A → Type 0) (b : Bool) (x y : A) → P x → P y → P (cond b x y)
+pub branch : {A : Type 0} (P : A → Type 0) (b : Bool) (x y : A) → P x → P y → P (cond b x y)
 branch P true x y h k = h
 branch P false x y h k = k
 
@@ -79,40 +80,38 @@ bind P Q (Err fault) next all bad good = bad fault
 
 -- ---- the changes of an UPDATE
 
-has_close-withdraws : (time : ℕ) (prefixes : List IpPrefix) → has_close (map (withdraws time) prefixes) ≡ false
-has_close-withdraws time [] = refl
-has_close-withdraws time (prefix ∷ prefixes) = has_close-withdraws time prefixes
+-- a change on each prefix, and no close
+fine-each : (says : IpPrefix → Change) → ((prefix : IpPrefix) → is_close (says prefix) ≡ false) → (prefixes : List IpPrefix) → IsFine (length prefixes) (Gives (map says prefixes))
+fine-each says none prefixes = (list_any_none is_close (map says prefixes) (All-map (λ change. is_close change ≡ false) says prefixes (λ k d below. none _)), omega (arith, length-map prefixes says))
 
-has_close-announces : (time : ℕ) (attributes : PathAttributes) (prefixes : List IpPrefix) → has_close (map (announces time attributes) prefixes) ≡ false
-has_close-announces time attributes [] = refl
-has_close-announces time attributes (prefix ∷ prefixes) = has_close-announces time attributes prefixes
+fine-withdraws : (time : ℕ) (prefixes : List IpPrefix) → IsFine (length prefixes) (Gives (map (withdraws time) prefixes))
+fine-withdraws time = fine-each (withdraws time) (λ prefix. refl)
 
-has_close-announcements : (time : ℕ) (attributes : Option PathAttributes) (prefixes : List IpPrefix) → has_close (announcements time attributes prefixes) ≡ false
-has_close-announcements time None prefixes = refl
-has_close-announcements time (Some attributes) prefixes = has_close-announces time attributes prefixes
-
-length-announcements : (time : ℕ) (attributes : Option PathAttributes) (prefixes : List IpPrefix) → length (announcements time attributes prefixes) ≤ length prefixes
-length-announcements time None prefixes = omega arith
-length-announcements time (Some attributes) prefixes = omega (arith, length-map prefixes (announces time attributes))
+fine-announcements : (time : ℕ) (attributes : Option PathAttributes) (prefixes : List IpPrefix) → IsFine (length prefixes) (Gives (announcements time attributes prefixes))
+fine-announcements time None prefixes = (refl, omega arith)
+fine-announcements time (Some attributes) prefixes = fine-each (announces time attributes) (λ prefix. refl) prefixes
 
 length-filter-le : {A : Type 0} (p : A → Bool) (xs : List A) → length (filter p xs) ≤ length xs
 length-filter-le p xs = omega (arith, length-filter p xs, count_by-le-length p xs)
 
-fine-changes : (time octets : ℕ) (update : UpdateContent) → length update.withdrawn + length update.nlri ≤ octets → IsFine octets (Gives (changes_of_update time update))
-fine-changes time octets update few =
-    let withdrawn = withdrawn_only update.withdrawn update.nlri in
-    let announced = unicast update.nlri in (
-      list_any-append is_close (map (withdraws time) withdrawn) (announcements time update.attributes announced)
-          ∙ rw (has_close-withdraws time withdrawn, has_close-announcements time update.attributes announced) refl,
+-- changes that withdraw, before changes on what is announced
+fine-lists : (time octets : ℕ) (withdrawn nlri : List IpPrefix) (behind : List Change) → length withdrawn + length nlri ≤ octets → IsFine (length (unicast nlri)) (Gives behind) → IsFine octets (Gives (map (withdraws time) (withdrawn_only withdrawn nlri) ++ behind))
+fine-lists time octets withdrawn nlri behind few fine =
+    let first = fine-withdraws time (withdrawn_only withdrawn nlri) in (
+      list_any-append is_close (map (withdraws time) (withdrawn_only withdrawn nlri)) behind ∙ rw (first.0, fine.0) refl,
       omega (
         arith,
-        length-append (map (withdraws time) withdrawn) (announcements time update.attributes announced),
-        length-map withdrawn (withdraws time),
-        length-announcements time update.attributes announced,
-        length-filter-le (λ prefix. not (is_multicast prefix) && not (is_listed update.nlri prefix)) update.withdrawn,
-        length-filter-le (λ prefix. not (is_multicast prefix)) update.nlri,
+        few,
+        first.1,
+        fine.1,
+        length-append (map (withdraws time) (withdrawn_only withdrawn nlri)) behind,
+        length-filter-le (λ prefix. not (is_multicast prefix) && not (is_listed nlri prefix)) withdrawn,
+        length-filter-le (λ prefix. not (is_multicast prefix)) nlri,
       ),
     )
+
+fine-changes : (time octets : ℕ) (update : UpdateContent) → length update.withdrawn + length update.nlri ≤ octets → IsFine octets (Gives (changes_of_update time update))
+fine-changes time octets update few = fine-lists time octets update.withdrawn update.nlri _ few (fine-announcements time update.attributes (unicast update.nlri))
 
 fields_fit : (body : List ℕ) (withdrawn nlri : ℕ) → withdrawn ≤ length (withdrawn_field body) → nlri ≤ length (nlri_field body) → withdrawn + nlri ≤ length body
 fields_fit body withdrawn nlri h k =
@@ -131,37 +130,17 @@ unfolding update_of
 fine-update time body =
     let P : Result UpdateContent UpdateFault → Type 0 = λ answer. IsFine (length body) (effect_of_message time (update_message answer)) in
     let bad : (fault : UpdateFault) → P (Err fault) = λ fault. refl in
-    let few_withdrawn : List IpPrefix → Type 0 = λ prefixes. length prefixes ≤ length (withdrawn_field body) in
-    let few_announced : List IpPrefix → Type 0 = λ prefixes. length prefixes ≤ length (nlri_field body) in
-    let content : Option PathAttributes → List IpPrefix → List IpPrefix → UpdateContent = λ attributes withdrawn nlri. record { withdrawn = withdrawn; attributes = attributes; nlri = nlri } in
-    let nlri_step : Option PathAttributes → List IpPrefix → Result UpdateContent UpdateFault = λ attributes withdrawn. listed_prefixes (nlri_field body) >>= (λ nlri. Ok (content attributes withdrawn nlri)) in
-    let withdrawn_step : Option PathAttributes → Result UpdateContent UpdateFault = λ attributes. listed_prefixes (withdrawn_field body) >>= nlri_step attributes in
-    let attributes_step : Result UpdateContent UpdateFault = announced_attributes (section_field body) (nlri_field body) >>= withdrawn_step in
-    let section_step : Result UpdateContent UpdateFault = passes (section_fault (section_field body)) >>= (λ (checked : Unit {0}). attributes_step) in
-    bind P (λ (checked : Unit {0}). Unit {0}) (passes (first_fault (length_tests body))) (λ (checked : Unit {0}). section_step) (any_ok (passes (first_fault (length_tests body)))) bad (λ lengths _.
-    bind P (λ (checked : Unit {0}). Unit {0}) (passes (section_fault (section_field body))) (λ (checked : Unit {0}). attributes_step) (any_ok (passes (section_fault (section_field body)))) bad (λ section _.
-    bind P (λ (attributes : Option PathAttributes). Unit {0}) (announced_attributes (section_field body) (nlri_field body)) withdrawn_step (any_ok (announced_attributes (section_field body) (nlri_field body))) bad (λ attributes _.
-    bind P few_withdrawn (listed_prefixes (withdrawn_field body)) (nlri_step attributes) (listed (withdrawn_field body)) bad (λ withdrawn few.
-    bind P few_announced (listed_prefixes (nlri_field body)) (λ nlri. Ok (content attributes withdrawn nlri)) (listed (nlri_field body)) bad (λ nlri as_few.
-    fine-changes time (length body) (content attributes withdrawn nlri) (fields_fit body (length withdrawn) (length nlri) few as_few))))))
+    bind P (λ _. Unit {0}) (passes (first_fault (length_tests body))) _ (any_ok _) bad (λ lengths _.
+    bind P (λ _. Unit {0}) (passes (section_fault (section_field body))) _ (any_ok _) bad (λ section _.
+    bind P (λ _. Unit {0}) (announced_attributes (section_field body) (nlri_field body)) _ (any_ok _) bad (λ attributes _.
+    bind P _ (listed_prefixes (withdrawn_field body)) _ (listed (withdrawn_field body)) bad (λ withdrawn few.
+    bind P _ (listed_prefixes (nlri_field body)) _ (listed (nlri_field body)) bad (λ nlri as_few.
+    fine-changes time (length body) _ (fields_fit body (length withdrawn) (length nlri) few as_few))))))
 
 -- ---- an UPDATE that may be treated as withdrawn
 
 fine-treated : (time octets : ℕ) (treated : TreatedContent) → length treated.withdrawn + length treated.nlri ≤ octets → IsFine octets (Gives (changes_of_treated time treated))
-fine-treated time octets treated few =
-    let withdrawn = withdrawn_only treated.withdrawn treated.nlri in
-    let announced = unicast treated.nlri in (
-      list_any-append is_close (map (withdraws time) withdrawn) (map (withdraws time) announced)
-          ∙ rw (has_close-withdraws time withdrawn, has_close-withdraws time announced) refl,
-      omega (
-        arith,
-        length-append (map (withdraws time) withdrawn) (map (withdraws time) announced),
-        length-map withdrawn (withdraws time),
-        length-map announced (withdraws time),
-        length-filter-le (λ prefix. not (is_multicast prefix) && not (is_listed treated.nlri prefix)) treated.withdrawn,
-        length-filter-le (λ prefix. not (is_multicast prefix)) treated.nlri,
-      ),
-    )
+fine-treated time octets treated few = fine-lists time octets treated.withdrawn treated.nlri _ few (fine-withdraws time (unicast treated.nlri))
 
 fine-content : (time octets : ℕ) (standing : Option (Option PathAttributes)) (withdrawn nlri : List IpPrefix) → length withdrawn + length nlri ≤ octets → IsFine octets (effect_of_message time (Ok (content_with standing withdrawn nlri)))
 fine-content time octets None withdrawn nlri few = fine-treated time octets (record { withdrawn = withdrawn; nlri = nlri }) few
@@ -172,17 +151,11 @@ unfolding treating_update_of
 fine-treating time body =
     let P : Result MessageContent UpdateFault → Type 0 = λ answer. IsFine (length body) (effect_of_message time (treating_message answer)) in
     let bad : (fault : UpdateFault) → P (Err fault) = λ fault. refl in
-    let few_withdrawn : List IpPrefix → Type 0 = λ prefixes. length prefixes ≤ length (withdrawn_field body) in
-    let few_announced : List IpPrefix → Type 0 = λ prefixes. length prefixes ≤ length (nlri_field body) in
-    let standing : Option (Option PathAttributes) = standing_attributes (strongest_in (section_field body)) (section_field body) (nlri_field body) in
-    let nlri_step : List IpPrefix → Result MessageContent UpdateFault = λ withdrawn. listed_prefixes (nlri_field body) >>= (λ nlri. Ok (content_with standing withdrawn nlri)) in
-    let withdrawn_step : Result MessageContent UpdateFault = listed_prefixes (withdrawn_field body) >>= nlri_step in
-    let section_step : Result MessageContent UpdateFault = passes (reset_of (strongest_in (section_field body))) >>= (λ (checked : Unit {0}). withdrawn_step) in
-    bind P (λ (checked : Unit {0}). Unit {0}) (passes (first_fault (length_tests body))) (λ (checked : Unit {0}). section_step) (any_ok (passes (first_fault (length_tests body)))) bad (λ lengths _.
-    bind P (λ (checked : Unit {0}). Unit {0}) (passes (reset_of (strongest_in (section_field body)))) (λ (checked : Unit {0}). withdrawn_step) (any_ok (passes (reset_of (strongest_in (section_field body))))) bad (λ section _.
-    bind P few_withdrawn (listed_prefixes (withdrawn_field body)) nlri_step (listed (withdrawn_field body)) bad (λ withdrawn few.
-    bind P few_announced (listed_prefixes (nlri_field body)) (λ nlri. Ok (content_with standing withdrawn nlri)) (listed (nlri_field body)) bad (λ nlri as_few.
-    fine-content time (length body) standing withdrawn nlri (fields_fit body (length withdrawn) (length nlri) few as_few)))))
+    bind P (λ _. Unit {0}) (passes (first_fault (length_tests body))) _ (any_ok _) bad (λ lengths _.
+    bind P (λ _. Unit {0}) (passes (reset_of (strongest_in (section_field body)))) _ (any_ok _) bad (λ section _.
+    bind P _ (listed_prefixes (withdrawn_field body)) _ (listed (withdrawn_field body)) bad (λ withdrawn few.
+    bind P _ (listed_prefixes (nlri_field body)) _ (listed (nlri_field body)) bad (λ nlri as_few.
+    fine-content time (length body) _ withdrawn nlri (fields_fit body (length withdrawn) (length nlri) few as_few)))))
 
 -- ---- messages and records
 
@@ -217,11 +190,10 @@ fine-message errors time (octet ∷ octets) = fine-headed errors time (octet ∷
 
 fine-message_entry : (errors : Errors) (peer : PeerId) (time : ℕ) (fields : List ℕ) → IsFine (length fields) (effect_of_entry errors peer time (message_entry fields))
 fine-message_entry errors peer time fields =
-    branch (λ (meaning : Result Meaning MrtFault). IsFine (length fields) (effect_of_entry errors peer time meaning)) (nat_lt (length fields) 20) (Err FieldsCutShort)
-    (Ok (Message (big_number 4 fields) (big_number 4 (drop 12 fields)) (drop 20 fields)))
+    branch (λ (meaning : Result Meaning MrtFault). IsFine (length fields) (effect_of_entry errors peer time meaning)) (nat_lt (length fields) 20) _ _
     refl
-    (branch (IsFine (length fields)) (is_of peer (big_number 4 fields) (big_number 4 (drop 12 fields))) (effect_of_message time (message_by errors (drop 20 fields))) PassesOver
-    (IsFine-more (length (drop 20 fields)) (length fields) (effect_of_message time (message_by errors (drop 20 fields))) (omega (arith, length-drop 20 fields)) (fine-message errors time (drop 20 fields)))
+    (branch (IsFine (length fields)) (is_of peer (big_number 4 fields) (big_number 4 (drop 12 fields))) _ PassesOver
+    (IsFine-more (length (drop 20 fields)) (length fields) _ (omega (arith, length-drop 20 fields)) (fine-message errors time (drop 20 fields)))
     tt)
 
 fine-state : (octets time old new : ℕ) → 1 ≤ octets → IsFine octets (effect_of_state time old new)

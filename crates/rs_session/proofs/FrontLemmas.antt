@@ -20,6 +20,7 @@ use Rattle.rs_session.specs.Effect.{effect_of, effect_of_entry}
 use Rattle.rs_session.specs.Laws.{FrontSuffices}
 use Rattle.rs_update.specs.declared.errors.Errors.{Errors}
 use Rattle.rs_session.specs.declared.peer.PeerId.{PeerId}
+use Rattle.rs_session.proofs.EffectLemmas.{branch}
 
 -- what octets that are more than any message has say, by whether they begin with a Marker
 too_long : Bool → Result MessageContent MessageFault
@@ -58,11 +59,6 @@ effect-cut errors peer time n (Ok (Message asn address octets)) enough = rw (mes
 effect-cut errors peer time n (Ok (State asn address old new)) enough = refl
 effect-cut errors peer time n (Ok Other) enough = refl
 effect-cut errors peer time n (Err fault) enough = refl
-
--- what holds in both branches holds of the choice
-branch : {A : Type 0} (P : A → Type 0) (b : Bool) (x y : A) → P x → P y → P (cond b x y)
-branch P true x y h k = h
-branch P false x y h k = k
 
 room_enough : (r : MrtRecord) → 4096 < message_room r
 room_enough r = branch (λ n. 4096 < n) (r.kind == 17) 4097 4101 (omega arith) (omega arith)

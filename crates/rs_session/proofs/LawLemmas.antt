@@ -14,7 +14,7 @@ use Rattle.rs_update.specs.declared.errors.Errors.{Errors}
 use Rattle.rs_session.specs.declared.peer.PeerId.{PeerId}
 use Rattle.rs_session.specs.declared.word.Reason.{Reason}
 use Rattle.rs_session.specs.declared.word.Reason.TheVariants as reasons
-use Rattle.rs_session.proofs.EffectLemmas.{IsFine, fine-effect}
+use Rattle.rs_session.proofs.EffectLemmas.{IsFine, branch, fine-effect}
 use Rattle.rs_session.proofs.FileChangesLemmas.{changes_of-nil, changes_of-passes, changes_of-gives, changes_of-ends}
 
 -- ---- one close
@@ -92,11 +92,6 @@ length-changes_of : (errors : Errors) (peer : PeerId) (records : List MrtRecord)
 unfolding body_octets
 length-changes_of errors peer [] end = rw (changes_of-nil errors peer end) (omega arith)
 length-changes_of errors peer (r ∷ later) end = length-record errors peer r later end (effect_of errors peer r) refl (fine-effect errors peer r) (length-changes_of errors peer later end)
-
--- what holds in both branches holds of the choice
-branch : {A : Type 0} (P : A → Type 0) (b : Bool) (x y : A) → P x → P y → P (cond b x y)
-branch P true x y h k = h
-branch P false x y h k = k
 
 -- the bodies of the records of a file have no more octets than the file
 octets-records_within : (fuel : ℕ) (octets : List ℕ) → body_octets (records_within fuel octets) ≤ length octets

@@ -1,15 +1,15 @@
 -- What a step leaves to come behind the changes that are passed over.
 use Rattle.std.proofs.Common.{◌≡◌, ℕ, true, false, List, [], ◌∷◌, ◌++◌, Option, Some, None, Result, Ok, Err, refl, sym, subst, ◌∙◌, ap, arith, append_assoc}
 use Rattle.std.specs.declared.alloc.AllocError.{AllocError}
-use Rattle.std.proofs.lemmas.List.Folds.{list_any-append}
 use Rattle.rs_mrt.specs.Record.{MrtRecord}
 use Rattle.rs_update.specs.IpPrefix.{IpPrefix}
 use Rattle.rs_session.specs.Change.{Change, change_of}
-use Rattle.rs_session.specs.Concerning.{ArePassedOver, IsBeside, KeepsBehindAll, PassesShown, SaysOn, StepsBehind, StepsOn, concerns, is_later}
+use Rattle.rs_session.specs.Concerning.{ArePassedOver, IsBeside, KeepsBehindAll, PassesShown, SaysOn, StepsBehind, StepsOn}
 use Rattle.rs_session.specs.Effect.{RecordEffect, PassesOver, Gives, Ends, effect_of}
 use Rattle.rs_session.specs.Stage.{Comes, Stage, May, KeepsBehind}
 use Rattle.rs_session.specs.Steps.{Fetches, GivesWaiting, Steps}
 use Rattle.rs_session.specs.declared.word.Word.{Word}
+use Rattle.rs_session.proofs.BesideLemmas.{over-more}
 use Rattle.rs_session.proofs.FileChangesLemmas.{changes_of-gives, passed_of-gives}
 use Rattle.rs_session.proofs.StageLemmas.{keeps_by_reading, may_read-held, over-closed}
 
@@ -29,13 +29,6 @@ module _ {S : Type 0} (comes : Comes S) (shows : S → Option MrtRecord) (prefix
     pub over : List Change
     pub are_over : ArePassedOver prefix until over
     pub keeps : KeepsBehindAll comes shows over old new
-
-  -- more is passed over behind some
-  over-more : (first second : List Change) → ArePassedOver prefix until first → ArePassedOver prefix until second → ArePassedOver prefix until (first ++ second)
-  over-more first second are more = record {
-    beside = list_any-append (concerns prefix) first second ∙ rw (are.beside, more.beside) refl;
-    in_time = list_any-append (is_later until) first second ∙ rw (are.in_time, more.in_time) refl;
-  }
 
   keeps-more : (first second : List Change) (old between new : Stage S) → KeepsBehindAll comes shows first old between → KeepsBehindAll comes shows second between new → KeepsBehindAll comes shows (first ++ second) old new
   keeps-more first second old between new keeps more changes passed m =
@@ -93,7 +86,7 @@ module _ {S : Type 0} (comes : Comes S) (shows : S → Option MrtRecord) (prefix
   pub behind-step : (old between new : Stage S) → IsBehind old between → StepsOn comes shows prefix until between new (Ok None) → IsBehind old new
   behind-step old between new is step = record {
     over = is.over ++ step.over;
-    are_over = over-more is.over step.over is.are_over step.are_over;
+    are_over = over-more prefix until is.over step.over is.are_over step.are_over;
     keeps = keeps-more is.over step.over old between new is.keeps step.steps.0;
   }
 
@@ -114,7 +107,7 @@ module _ {S : Type 0} (comes : Comes S) (shows : S → Option MrtRecord) (prefix
   pub says-closed : (old between new : Stage S) (word : Word) → IsBehind old between → StepsOn comes shows prefix until between new (Ok (Some word)) → SaysOn comes shows prefix until old new (Ok (Some word))
   says-closed old between new word is step = record {
     over = is.over ++ step.over;
-    are_over = over-more is.over step.over is.are_over step.are_over;
+    are_over = over-more prefix until is.over step.over is.are_over step.are_over;
     says = (
       (λ changes passed m. subst (λ (all : List Change). May comes shows old (all ++ changes) passed) (sym (append_assoc is.over step.over (change_of word ∷ []))) (keeps-more is.over (step.over ++ change_of word ∷ []) old between new is.keeps step.steps.0 changes passed m)),
       λ closes. over-closed comes shows new step.steps.2,
@@ -125,7 +118,7 @@ module _ {S : Type 0} (comes : Comes S) (shows : S → Option MrtRecord) (prefix
   pub says-refused : (old between new : Stage S) (refused : AllocError) → IsBehind old between → between.passed ≡ old.passed → StepsOn comes shows prefix until between new (Err refused) → SaysOn comes shows prefix until old new (Err refused)
   says-refused old between new refused is same step = record {
     over = is.over ++ step.over;
-    are_over = over-more is.over step.over is.are_over step.are_over;
+    are_over = over-more prefix until is.over step.over is.are_over step.are_over;
     says = (keeps-more is.over step.over old between new is.keeps step.steps.0, step.steps.2 ∙ same);
   }
 
