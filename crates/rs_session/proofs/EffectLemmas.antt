@@ -4,7 +4,7 @@ use Rattle.std.proofs.lemmas.List.Elements.{All-map}
 use Rattle.std.proofs.lemmas.List.Folds.{list_any-append, list_any_none}
 use Rattle.std.proofs.lemmas.List.Sums.{length-filter, count_by-le-length}
 use Rattle.std.proofs.lemmas.List.{length-map}
-use Rattle.rs_mrt.specs.Entry.{Meaning, Message, State, Other, entry_of, fields_entry, message_entry, state_entry}
+use Rattle.rs_mrt.specs.Entry.{Meaning, Other, entry_of, fields_entry, message_entry, state_entry}
 use Rattle.rs_mrt.specs.Record.{MrtRecord}
 use Rattle.rs_mrt.specs.declared.fault.MrtFault.{MrtFault}
 use Rattle.rs_mrt.specs.declared.fault.MrtFault.TheVariants.{FieldsCutShort, MicrosecondsCutShort}
@@ -14,7 +14,7 @@ use Rattle.rs_update.specs.Header.{header_of}
 use Rattle.rs_update.specs.IpPrefix.{IpPrefix}
 use Rattle.rs_update.specs.Message.{MessageContent, UpdateContent, TreatedContent, update_message, update_of, listed_prefixes, withdrawn_field, withdrawn_length, behind_withdrawn, section_length, section_field, nlri_field, length_tests, passes, announced_attributes, ◌>>=◌}
 use Rattle.rs_update.specs.Handling.{strongest_in}
-use Rattle.rs_update.specs.Treating.{message_by, typed_message_by, update_by, treating_message, treating_update_of, reset_of, standing_attributes, content_with}
+use Rattle.rs_update.specs.Treating.{message_by, typed_message_by, update_by, treating_message, treating_update_of, reset_of, content_with}
 use Rattle.rs_update.specs.Parts.{parts_within}
 use Rattle.rs_update.specs.PathAttributes.{PathAttributes}
 use Rattle.rs_update.specs.Prefix.{prefix_at, is_multicast}
@@ -203,33 +203,26 @@ fine-state_entry : (errors : Errors) (peer : PeerId) (time : ℕ) (fields : List
 fine-state_entry errors peer time [] = refl
 fine-state_entry errors peer time (octet ∷ octets) =
     let fields : List ℕ = octet ∷ octets in
-    let old = big_number 2 (drop 20 fields) in
-    let new = big_number 2 (drop 22 fields) in
-    branch (λ (meaning : Result Meaning MrtFault). IsFine (length fields) (effect_of_entry errors peer time meaning)) (nat_lt (length fields) 24) (Err FieldsCutShort)
-    (Ok (State (big_number 4 fields) (big_number 4 (drop 12 fields)) old new))
+    branch (λ (meaning : Result Meaning MrtFault). IsFine (length fields) (effect_of_entry errors peer time meaning)) (nat_lt (length fields) 24) _ _
     refl
-    (branch (IsFine (length fields)) (is_of peer (big_number 4 fields) (big_number 4 (drop 12 fields))) (effect_of_state time old new) PassesOver (fine-state (length fields) time old new (omega arith)) tt)
+    (branch (IsFine (length fields)) (is_of peer (big_number 4 fields) (big_number 4 (drop 12 fields))) _ PassesOver (fine-state (length fields) time (big_number 2 (drop 20 fields)) (big_number 2 (drop 22 fields)) (omega arith)) tt)
 
 fine-fields : (errors : Errors) (peer : PeerId) (time subtype : ℕ) (fields : List ℕ) → IsFine (length fields) (effect_of_entry errors peer time (fields_entry subtype fields))
 unfolding fields_entry
 fine-fields errors peer time subtype fields =
     let P : Result Meaning MrtFault → Type 0 = λ meaning. IsFine (length fields) (effect_of_entry errors peer time meaning) in
-    let by_subtype : Result Meaning MrtFault = cond (subtype == 4) (message_entry fields) (state_entry fields) in
-    let by_family : Result Meaning MrtFault = cond (not (big_number 2 (drop 10 fields) == 1)) (Ok Other) by_subtype in
-    let by_length : Result Meaning MrtFault = cond (nat_lt (length fields) 12) (Err FieldsCutShort) by_family in
-    branch P (not (subtype == 4) && not (subtype == 5)) (Ok Other) by_length tt
-    (branch P (nat_lt (length fields) 12) (Err FieldsCutShort) by_family refl
-    (branch P (not (big_number 2 (drop 10 fields) == 1)) (Ok Other) by_subtype tt
-    (branch P (subtype == 4) (message_entry fields) (state_entry fields) (fine-message_entry errors peer time fields) (fine-state_entry errors peer time fields))))
+    branch P (not (subtype == 4) && not (subtype == 5)) (Ok Other) _ tt
+    (branch P (nat_lt (length fields) 12) (Err FieldsCutShort) _ refl
+    (branch P (not (big_number 2 (drop 10 fields) == 1)) (Ok Other) _ tt
+    (branch P (subtype == 4) _ _ (fine-message_entry errors peer time fields) (fine-state_entry errors peer time fields))))
 
 pub fine-effect : (errors : Errors) (peer : PeerId) (r : MrtRecord) → IsFine (length r.body) (effect_of errors peer r)
 unfolding effect_of entry_of
 fine-effect errors peer r =
     let P : Result Meaning MrtFault → Type 0 = λ meaning. IsFine (length r.body) (effect_of_entry errors peer r.time meaning) in
     let fields : List ℕ = drop 4 r.body in
-    let extended : Result Meaning MrtFault = cond (nat_lt (length r.body) 4) (Err MicrosecondsCutShort) (fields_entry r.subtype fields) in
-    branch P (r.kind == 16) (fields_entry r.subtype r.body) (cond (r.kind == 17) extended (Ok Other)) (fine-fields errors peer r.time r.subtype r.body)
-    (branch P (r.kind == 17) extended (Ok Other)
-    (branch P (nat_lt (length r.body) 4) (Err MicrosecondsCutShort) (fields_entry r.subtype fields) refl
-    (IsFine-more (length fields) (length r.body) (effect_of_entry errors peer r.time (fields_entry r.subtype fields)) (omega (arith, length-drop 4 r.body)) (fine-fields errors peer r.time r.subtype fields)))
+    branch P (r.kind == 16) _ _ (fine-fields errors peer r.time r.subtype r.body)
+    (branch P (r.kind == 17) _ (Ok Other)
+    (branch P (nat_lt (length r.body) 4) (Err MicrosecondsCutShort) _ refl
+    (IsFine-more (length fields) (length r.body) _ (omega (arith, length-drop 4 r.body)) (fine-fields errors peer r.time r.subtype fields)))
     tt)

@@ -5,7 +5,7 @@
 //! counts among changes of state; after a loss and after a NOTIFICATION reading goes on, whatever the
 //! recorded state is; a fault of the recording or of a message ends the session.
 
-ghost use Rattle.std.specs.Prelude.{◌≡◌, IsTrue, IfOk};
+ghost use Rattle.std.specs.Prelude.{◌≡◌, IfOk};
 ghost use Rattle.rs_mrt.specs.Record.{record_of};
 ghost use Rattle.rs_update.specs.Treating.{message_by};
 ghost use Rattle.rs_session.specs.Effect.{effect_of, effect_of_message, effect_of_state};

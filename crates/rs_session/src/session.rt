@@ -4,7 +4,7 @@
 //! nothing is read after the close.
 
 ghost use Rattle.std.specs.Prelude.{◌≡◌, ◌+◌, ◌<◌, ◌≤◌, ℕ, Bool, true, false, List, [], None, Option, Result, OnErr};
-ghost use Rattle.std.specs.Prelude.{IfOk, IfSome, IfNone, is_none};
+ghost use Rattle.std.specs.Prelude.{IfOk, IfNone, is_none};
 ghost use Rattle.rs_mrt.specs.declared.fault.SourceFault.{SourceFault};
 ghost use Rattle.rs_update.specs.declared.errors.Errors.TheVariants.{Rfc4271};
 ghost use Rattle.std.specs.Option.{option_map};
@@ -49,7 +49,7 @@ pub struct Session<S: Source> {
 }
 
 impl<S: Source> Model for Session<S> {
-    ghost use Rattle.std.specs.Prelude.{◌+◌, ◌^◌, ◌<◌};
+    ghost use Rattle.std.specs.Prelude.{◌+◌, ◌<◌};
     ghost use Rattle.rs_session.specs.Stage.{Stage};
     ghost use Rattle.rs_session.specs.Counts.{CountFits};
 
