@@ -1,14 +1,13 @@
 -- What records hold with one record more.
-use Rattle.std.proofs.Common.{◌≡◌, ◌≤◌, ◌<◌, ◌∙◌, sym, ap, subst, refl, ℕ, ◌+◌, true, cond, List, [], ◌∷◌, ◌++◌, All, length, map, slice_index, Option, Some, None, option_map, min, max, arith, inl, inr, append-nil, length-append, ◌⊎◌, leb, leb-true, leb-false}
-use Rattle.std.specs.List.{count_by}
+use Rattle.std.proofs.Common.{◌≡◌, ◌≤◌, ◌∙◌, sym, ap, subst, refl, ℕ, ◌+◌, true, cond, List, [], ◌∷◌, ◌++◌, All, length, map, slice_index, Option, Some, None, option_map, min, max, arith, inl, inr, append-nil, length-append, ◌⊎◌}
+use Rattle.std.specs.List.{Contains, count_by}
 use Rattle.std.specs.Option.{option_or}
 use Rattle.std.specs.Cmp.{Equal-is}
-use Rattle.std.specs.FinMap.{nat_cmp-IsAntisymmetric}
-use Rattle.std.specs.Ordering.{nat_cmp, ordering_then}
-use Rattle.std.specs.declared.cmp.Ordering.{Ordering}
-use Rattle.std.specs.declared.cmp.Ordering.TheVariants.{Less, Equal, Greater}
-use Rattle.std.proofs.lemmas.Bool.{cases_Bool}
-use Rattle.std.proofs.lemmas.List.Elements.{All-push, All-weaker, Contains-append_left, Contains-push, filter_map-append}
+use Rattle.std.specs.declared.cmp.Ordering.TheVariants.{Equal}
+use Rattle.std.proofs.lemmas.Bool.{cases_Bool, cases_lt}
+use Rattle.std.proofs.lemmas.Grind.{common_steps}
+use Rattle.std.proofs.lemmas.List.{map_push}
+use Rattle.std.proofs.lemmas.List.Elements.{All-nil, All-push, All-weaker, Contains-append_left, Contains-push, filter_map-append}
 use Rattle.std.proofs.lemmas.List.Sums.{sum_by_push}
 use Rattle.rs_inventory.specs.Kind.{is_kind, place_of}
 use Rattle.rs_inventory.specs.Opening.{first_found}
@@ -21,36 +20,24 @@ use Rattle.rs_inventory.specs.declared.kind.Kind.{Kind}
 use Rattle.rs_inventory.specs.declared.peer.Peer.{Peer}
 use Rattle.rs_inventory.proofs.PeerLemmas.{counted-more}
 
-map-push : {X Y : Type 0} (f : X → Y) (xs : List X) (x : X) → map f (xs ++ x ∷ []) ≡ map f xs ++ f x ∷ []
-map-push f [] x = refl
-map-push f (y ∷ xs) x = ap (λ rest. f y ∷ rest) (map-push f xs x)
-
 -- ---- times
 
-le_or : (m n : ℕ) → (m ≤ n) ⊎ (n ≤ m)
-le_or m n = elim (cases_Bool (leb m n)) [ inl is ↦ inl (leb-true m n is) | inr isnt ↦ let below : n < m = leb-false m n isnt in inr (omega arith) ]
+-- the best of some times and of one more, where R orders them
+best-push : (R : ℕ → ℕ → Type 0) → ((x : ℕ) → R x x) → ((x y z : ℕ) → R x y → R y z → R x z) → (times : List ℕ) (best time chosen : ℕ) → ((chosen ≡ best) × R best time) ⊎ ((chosen ≡ time) × R time best)
+    → Contains times best × All (R best) times → Contains (times ++ time ∷ []) chosen × All (R chosen) (times ++ time ∷ [])
+best-push R same through times best time chosen (inl before) is = rw before.0 (Contains-append_left times (time ∷ []) best is.0, All-push (R best) times time is.1 before.1)
+best-push R same through times best time chosen (inr after) is =
+    rw after.0 (Contains-push times time, All-push (R time) times time (All-weaker (R best) (R time) (λ x h. through time best x after.1 h) times is.1) (same time))
 
 earliest-push : (times : List ℕ) (first : Option ℕ) (time : ℕ) → IsEarliest times first → IsEarliest (times ++ time ∷ []) (Some (earlier_of first time))
-earliest-push times None time none =
-    (Contains-push times time, All-push (λ other. time ≤ other) times time (subst (λ (ts : List ℕ). All (λ other. time ≤ other) ts) (sym none) (λ k d k<. absurd (omega arith))) (omega arith))
+earliest-push times None time none = rw none (Contains-push [] time, All-push (λ other. time ≤ other) [] time (All-nil _) (omega arith))
 earliest-push times (Some first) time is =
-    elim (le_or first time) [
-      | inl before ↦ let e : min first time ≡ first = omega arith in
-          rw e ((Contains-append_left times (time ∷ []) first is.0, All-push (λ other. first ≤ other) times time is.1 before))
-      | inr after ↦ let e : min first time ≡ time = omega arith in
-          rw e ((Contains-push times time, All-push (λ other. time ≤ other) times time (All-weaker (λ other. first ≤ other) (λ other. time ≤ other) (λ x le. omega arith) times is.1) (omega arith)))
-    ]
+    best-push (λ x y. x ≤ y) (λ x. omega arith) (λ x y z h k. omega arith) times first time (min first time) (elim (cases_lt first time) [ inl before ↦ inl (omega arith, omega arith) | inr after ↦ inr (omega arith, after) ]) is
 
 latest-push : (times : List ℕ) (last : Option ℕ) (time : ℕ) → IsLatest times last → IsLatest (times ++ time ∷ []) (Some (later_of last time))
-latest-push times None time none =
-    (Contains-push times time, All-push (λ other. other ≤ time) times time (subst (λ (ts : List ℕ). All (λ other. other ≤ time) ts) (sym none) (λ k d k<. absurd (omega arith))) (omega arith))
+latest-push times None time none = rw none (Contains-push [] time, All-push (λ other. other ≤ time) [] time (All-nil _) (omega arith))
 latest-push times (Some last) time is =
-    elim (le_or last time) [
-      | inl before ↦ let e : max last time ≡ time = omega arith in
-          rw e ((Contains-push times time, All-push (λ other. other ≤ time) times time (All-weaker (λ other. other ≤ last) (λ other. other ≤ time) (λ x le. omega arith) times is.1) (omega arith)))
-      | inr after ↦ let e : max last time ≡ last = omega arith in
-          rw e ((Contains-append_left times (time ∷ []) last is.0, All-push (λ other. other ≤ last) times time is.1 (omega arith)))
-    ]
+    best-push (λ x y. y ≤ x) (λ x. omega arith) (λ x y z h k. omega arith) times last time (max last time) (elim (cases_lt last time) [ inl before ↦ inr (omega arith, omega arith) | inr after ↦ inl (omega arith, after) ]) is
 
 -- ---- kinds
 
@@ -100,21 +87,11 @@ first_found-push ask (y ∷ xs) x =
 
 -- ---- peers
 
-then_first : (r s : Ordering) → ordering_then r s ≡ Equal → r ≡ Equal
-then_first Less s e = cc e
-then_first Equal s e = refl
-then_first Greater s e = cc e
-
-then_second : (r s : Ordering) → ordering_then r s ≡ Equal → s ≡ Equal
-then_second Less s e = cc e
-then_second Equal s e = e
-then_second Greater s e = cc e
-
 same_peer-true : (x y : Peer) → same_peer x y ≡ true → x ≡ y
 same_peer-true x y e =
     let equal = (Equal-is (peer_cmp x y)).0 e in
-    let address : x.address ≡ y.address = nat_cmp-IsAntisymmetric x.address y.address (then_first _ _ equal) in
-    let asn : x.asn ≡ y.asn = nat_cmp-IsAntisymmetric x.asn y.asn (then_second (nat_cmp x.address y.address) _ equal) in
+    let address : x.address ≡ y.address = grind (arith, common_steps) in
+    let asn : x.asn ≡ y.asn = grind (arith, common_steps) in
     λ i. record { address = address i; asn = asn i }
 
 -- what is known of one peer becomes what it is with one record more
@@ -146,11 +123,11 @@ holds-more findings one old mid new holds same takes counts = record {
       ∙ sym (counted-more (length findings) 1) ∙ ap counted (sym (length-append findings (one ∷ [])));
   kinds = λ kind. counts.kinds kind ∙ kinds-push kind findings one (slice_index mid.kinds (place_of kind)) (ap (λ (c : Content). slice_index c.kinds (place_of kind)) same ∙ holds.kinds kind);
   first = subst (λ (o : Option ℕ). IsEarliest (map (λ f. f.time) (findings ++ one ∷ [])) o) (sym (counts.first ∙ ap (λ (c : Content). Some (earlier_of c.first one.time)) same))
-      (rw (map-push (λ (f : Finding). f.time) findings one) (earliest-push (map (λ f. f.time) findings) old.first one.time holds.first));
+      (rw (map_push (λ (f : Finding). f.time) findings one) (earliest-push (map (λ f. f.time) findings) old.first one.time holds.first));
   last = subst (λ (o : Option ℕ). IsLatest (map (λ f. f.time) (findings ++ one ∷ [])) o) (sym (counts.last ∙ ap (λ (c : Content). Some (later_of c.last one.time)) same))
-      (rw (map-push (λ (f : Finding). f.time) findings one) (latest-push (map (λ f. f.time) findings) old.last one.time holds.last));
+      (rw (map_push (λ (f : Finding). f.time) findings one) (latest-push (map (λ f. f.time) findings) old.last one.time holds.last));
   octets = counts.octets ∙ ap (λ (c : Content). sum_of c.octets one.octets) same ∙ ap (λ o. sum_of o one.octets) holds.octets
-      ∙ sym (known_sum-push (map (λ f. f.octets) findings) one.octets) ∙ ap (λ l. option_map counted (known_sum l)) (sym (map-push (λ (f : Finding). f.octets) findings one));
+      ∙ sym (known_sum-push (map (λ f. f.octets) findings) one.octets) ∙ ap (λ l. option_map counted (known_sum l)) (sym (map_push (λ (f : Finding). f.octets) findings one));
   recorder = counts.recorder ∙ ap (λ (c : Content). first_of c.recorder one.recorder) same ∙ ap (λ o. first_of o one.recorder) holds.recorder
       ∙ sym (first_found-push (λ (f : Finding). f.recorder) findings one);
   peers = λ peer. ap (λ ps. peer_at ps peer) counts.peers ∙ takes peer (told_of peer findings) (holds.peers peer)

@@ -1,5 +1,6 @@
 -- What records may come, and what they hold.
 use Rattle.std.proofs.Common.{◌≡◌, ◌≤◌, ◌∙◌, ℕ, ◌||◌, nat_le, Bool, true, false, List, [], ◌∷◌, ◌++◌, length, map, Option, refl, sym, ap, subst, arith, append-nil, append_assoc, leb-true}
+use Rattle.std.proofs.lemmas.List.{map_push}
 use Rattle.rs_mrt.specs.Reader.{ReadEnd, SomethingIsGiven}
 use Rattle.rs_mrt.specs.Record.{MrtRecord}
 use Rattle.rs_mrt.specs.RecordReading.{MayCome, unread}
@@ -10,10 +11,6 @@ use Rattle.rs_inventory.specs.Front.{GivesUnlessEnded, IsFrontOf, RewoundGives, 
 use Rattle.rs_inventory.specs.Inventory.{Content, Holds, TakesFinding}
 use Rattle.rs_inventory.specs.Reading.{Going, IsInventoryOf, MayBeCompressed}
 use Rattle.rs_inventory.specs.declared.finding.Finding.{Finding}
-
-map-push : {X Y : Type 0} (f : X → Y) (xs : List X) (x : X) → map f (xs ++ x ∷ []) ≡ map f xs ++ f x ∷ []
-map-push f [] x = refl
-map-push f (y ∷ xs) x = ap (λ rest. f y ∷ rest) (map-push f xs x)
 
 -- one record more came
 pub going-more : {S : Type 0} (comes : S → List MrtRecord → Option SourceFault → Type 0) (initial old new : S) (before after : Content) (finding : Finding)
@@ -26,7 +23,7 @@ going-more comes initial old new before after finding going gives takes = record
       subst (λ (records : List MrtRecord). comes initial records fault) (sym (append_assoc going.done (gives.0 ∷ []) later))
       (going.behind (gives.0 ∷ later) fault (gives.2 later fault come));
   holds = subst (λ (findings : List Finding). Holds findings after)
-      (ap (λ f. map finding_of going.done ++ f ∷ []) gives.1 ∙ sym (map-push finding_of going.done gives.0))
+      (ap (λ f. map finding_of going.done ++ f ∷ []) gives.1 ∙ sym (map_push finding_of going.done gives.0))
       (takes (map finding_of going.done) going.holds);
 }
 

@@ -44,12 +44,7 @@ news_of_message octets (Err fault) = news.Faulty
 -- whether a message is an OPEN
 abbrev pub is_open : Result MessageContent MessageFault → Bool
 is_open (Ok IsOpen) = true
-is_open (Ok (IsUpdate update)) = false
-is_open (Ok (IsTreated treated)) = false
-is_open (Ok IsNotification) = false
-is_open (Ok IsKeepAlive) = false
-is_open (Ok IsRefresh) = false
-is_open (Err fault) = false
+is_open answer = false
 
 -- ---- a change of state
 

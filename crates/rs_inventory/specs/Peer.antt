@@ -12,86 +12,45 @@ counted n = min n (2 ^ 64 - 1)
 
 -- it is a message of a session with four-octet AS numbers
 abbrev pub is_message : News → Bool
-is_message (news.Update announced withdrawn) = true
-is_message (news.Open identifier) = true
-is_message news.Notification = true
-is_message news.Message = true
-is_message news.Faulty = true
 is_message news.Up = false
 is_message news.Down = false
 is_message news.State = false
 is_message (news.TwoOctetOpen identifier) = false
+is_message other = true
 
 -- it is a change of state
 abbrev pub is_state_change : News → Bool
-is_state_change (news.Update announced withdrawn) = false
-is_state_change (news.Open identifier) = false
-is_state_change news.Notification = false
-is_state_change news.Message = false
-is_state_change news.Faulty = false
 is_state_change news.Up = true
 is_state_change news.Down = true
 is_state_change news.State = true
-is_state_change (news.TwoOctetOpen identifier) = false
+is_state_change other = false
 
 -- it is a message with a fault
 abbrev pub is_faulty : News → Bool
-is_faulty (news.Update announced withdrawn) = false
-is_faulty (news.Open identifier) = false
-is_faulty news.Notification = false
-is_faulty news.Message = false
 is_faulty news.Faulty = true
-is_faulty news.Up = false
-is_faulty news.Down = false
-is_faulty news.State = false
-is_faulty (news.TwoOctetOpen identifier) = false
+is_faulty other = false
 
 -- how many prefixes it announces, and withdraws
 abbrev pub announced_by : News → ℕ
 announced_by (news.Update announced withdrawn) = announced
-announced_by (news.Open identifier) = 0
-announced_by news.Notification = 0
-announced_by news.Message = 0
-announced_by news.Faulty = 0
-announced_by news.Up = 0
-announced_by news.Down = 0
-announced_by news.State = 0
-announced_by (news.TwoOctetOpen identifier) = 0
+announced_by other = 0
 
 abbrev pub withdrawn_by : News → ℕ
 withdrawn_by (news.Update announced withdrawn) = withdrawn
-withdrawn_by (news.Open identifier) = 0
-withdrawn_by news.Notification = 0
-withdrawn_by news.Message = 0
-withdrawn_by news.Faulty = 0
-withdrawn_by news.Up = 0
-withdrawn_by news.Down = 0
-withdrawn_by news.State = 0
-withdrawn_by (news.TwoOctetOpen identifier) = 0
+withdrawn_by other = 0
 
 -- the BGP Identifier that it tells
 abbrev pub identifier_in : News → Option ℕ
-identifier_in (news.Update announced withdrawn) = None
 identifier_in (news.Open identifier) = Some identifier
-identifier_in news.Notification = None
-identifier_in news.Message = None
-identifier_in news.Faulty = None
-identifier_in news.Up = None
-identifier_in news.Down = None
-identifier_in news.State = None
 identifier_in (news.TwoOctetOpen identifier) = Some identifier
+identifier_in other = None
 
 -- what it says of a session: a NOTIFICATION ends one too (RFC 4271, section 6.4)
 abbrev pub event_at : ℕ → News → Option Event
-event_at time (news.Update announced withdrawn) = None
-event_at time (news.Open identifier) = None
 event_at time news.Notification = Some (Down time)
-event_at time news.Message = None
-event_at time news.Faulty = None
 event_at time news.Up = Some (Up time)
 event_at time news.Down = Some (Down time)
-event_at time news.State = None
-event_at time (news.TwoOctetOpen identifier) = None
+event_at time other = None
 
 -- whether a number is this one
 abbrev pub is_same : Option ℕ → ℕ → Bool

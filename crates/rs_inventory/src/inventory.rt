@@ -1,11 +1,9 @@
 //! What a recorded file holds (RFC 6396).
 
-ghost use Rattle.std.specs.Prelude.{◌≡◌, ◌+◌, [], ◌∷◌, ◌++◌, IfOk, OnOk, Some, None, List, slice_index};
-ghost use Rattle.std.specs.Option.{option_map};
+ghost use Rattle.std.specs.Prelude.{◌≡◌, [], OnOk, Some, None, slice_index};
 ghost use Rattle.rs_inventory.specs.Inventory.{Holds, TakesFinding, TakesNote, WithCounts, earlier_of, later_of};
 ghost use Rattle.rs_inventory.specs.Inventory.{sum_of};
 ghost use Rattle.rs_inventory.specs.Kind.{place_of};
-ghost use Rattle.rs_inventory.specs.Peer.{counted};
 
 use crate::compression::Compression;
 use crate::finding::{Finding, Note};
