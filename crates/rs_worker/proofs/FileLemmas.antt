@@ -1,5 +1,5 @@
 -- A worker over the records of a file.
-use Rattle.std.proofs.Common.{◌∙◌, refl, ℕ, arith, List, ◌++◌, None, map}
+use Rattle.std.proofs.Common.{ℕ, List, ◌++◌, None, map}
 use Rattle.rs_mrt.specs.Record.{reading_of}
 use Rattle.rs_ring.specs.Ends.{Ring}
 use Rattle.rs_mrt.specs.Source.{IsLeft}
@@ -9,6 +9,7 @@ use Rattle.rs_session.specs.Stage.{May, fresh}
 use Rattle.rs_session.specs.declared.peer.PeerId.{PeerId}
 use Rattle.rs_worker.specs.Worked.{Saying, HasWorked, just}
 use Rattle.rs_worker.specs.declared.work.WorkerEnd.{WorkerEnd}
+use Rattle.rs_session.proofs.StageLemmas.{says_just-file}
 
 -- what is sent of a session is sent of any other that may say the same
 has_worked-said : (may other : Saying) → ((changes : List Change) (passed : ℕ) → may changes passed → other changes passed) → (ring : Ring) (end : WorkerEnd) → HasWorked may ring end → HasWorked other ring end
@@ -36,11 +37,6 @@ has_worked-said may other says ring end h = record {
 }
 
 -- only what the file says may come
-file_says : (peer : PeerId) (file : List ℕ) (changes : List Change) (passed : ℕ) → May (λ s later end. IsLeft s later end) (λ s. s.shown) (fresh (reading_of None file) peer default_standard) changes passed → just (changes_in peer file) (passed_in peer file) changes passed
-file_says peer file changes passed m =
-    let same = m.may_read.read ∙ m.may_read.come.0 in
-    (m.left ∙ rw (same, m.may_read.come.1) refl, m.counted ∙ rw same (omega arith))
-
 pub has_worked-file : (peer : PeerId) (file : List ℕ) (ring : Ring) (end : WorkerEnd) → HasWorked (May (λ s later end. IsLeft s later end) (λ s. s.shown) (fresh (reading_of None file) peer default_standard)) ring end → HasWorked (just (changes_in peer file) (passed_in peer file)) ring end
 has_worked-file peer file ring end h =
-    has_worked-said (May (λ s later end. IsLeft s later end) (λ s. s.shown) (fresh (reading_of None file) peer default_standard)) (just (changes_in peer file) (passed_in peer file)) (file_says peer file) ring end h
+    has_worked-said (May (λ s later end. IsLeft s later end) (λ s. s.shown) (fresh (reading_of None file) peer default_standard)) (just (changes_in peer file) (passed_in peer file)) (λ changes passed m. (says_just-file default_standard peer file changes passed).0 m) ring end h

@@ -1,4 +1,5 @@
-mod TakeLemmas
+pub mod TakeLemmas
 mod SentLemmas
 mod FileLemmas
 mod CrewLemmas
+pub mod PlaceLemmas

@@ -1,10 +1,11 @@
 -- What the next answer of a session is, as a word to send.
 use Rattle.std.proofs.Common.{◌≡◌, ◌∙◌, sym, ap, refl, ℕ, ◌≤◌, arith, true, false, List, [], ◌∷◌, ◌++◌, length, Option, Some, None, Ok, Err, append_assoc, length-append}
 use Rattle.std.specs.declared.alloc.AllocError.{AllocError}
+use Rattle.std.proofs.lemmas.List.{same_from_push}
 use Rattle.rs_mrt.specs.Record.{MrtRecord}
 use Rattle.rs_mrt.specs.declared.fault.SourceFault.{SourceFault}
 use Rattle.rs_mrt.specs.declared.fault.SourceFault.TheVariants as faults
-use Rattle.rs_session.specs.Change.{Change, ChangeBody, Closed, change_of, closing_word}
+use Rattle.rs_session.specs.Change.{Change, Closed, change_of, closing_word}
 use Rattle.rs_session.specs.FileChanges.{changes_of, close_at}
 use Rattle.rs_session.specs.Laws.{ClosesOnce, SomethingMayCome, may_close}
 use Rattle.rs_session.specs.Stage.{Comes, Stage, May, Says, Closes, Fewer, most_changes}
@@ -16,30 +17,11 @@ use Rattle.rs_session.specs.declared.word.Word.{Word}
 use Rattle.rs_worker.specs.Steps.{reason_of, Ends, Takes}
 use Rattle.rs_worker.specs.Worked.{is_memory}
 
--- ---- lists with a last member
-
-last_or : {X : Type 0} → List X → X → X
-last_or [] x = x
-last_or (y ∷ ys) x = last_or ys y
-
-last-append : {X : Type 0} (xs : List X) (x d : X) → last_or (xs ++ x ∷ []) d ≡ x
-unfolding last_or
-last-append [] x d = refl
-last-append (y ∷ ys) x d = last-append ys x y
-
-same_last : {X : Type 0} (xs ys : List X) (x y : X) → xs ++ x ∷ [] ≡ ys ++ y ∷ [] → x ≡ y
-same_last xs ys x y e = sym (last-append xs x x) ∙ ap (λ zs. last_or zs x) e ∙ last-append ys y x
-
--- ---- reasons
-
-reason_in : ChangeBody → Reason → Reason
-reason_in (Closed reason) other = reason
-reason_in body other = other
-
--- two closes that are equal have one reason
-same_reason : (time at : ℕ) (reason other : Reason) → close_at time reason ≡ close_at at other → reason ≡ other
-unfolding reason_in
-same_reason time at reason other e = ap (λ (change : Change). reason_in change.body reasons.Read) e
+-- changes that end in a close are those that end in another one only where both tell one reason
+pub same_reason : (before others : List Change) (time at : ℕ) (reason other : Reason) → before ++ close_at time reason ∷ [] ≡ others ++ close_at at other ∷ [] → reason ≡ other
+same_reason before others time at reason other e =
+    let bodies : Closed reason ≡ Closed other = ap (λ (change : Change). change.body) (same_from_push before others (close_at time reason) (close_at at other) e).1 in
+    cc
 
 -- no records close a session for want of memory
 never_memory : (end : Option SourceFault) (reason : Reason) → may_close end reason ≡ true → is_memory reason ≡ false
@@ -58,7 +40,7 @@ module _ {S : Type 0} (comes : Comes S) (shows : S → Option MrtRecord) (law : 
       let closes = law stage.errors stage.peer m.records m.end in
       let whole : front ++ close_at time reason ∷ [] ≡ (stage.waiting ++ closes.before) ++ close_at closes.time closes.reason ∷ [] =
       rw unclosed at m.left ∙ ap (λ cs. stage.waiting ++ cs) closes.splits ∙ sym (append_assoc stage.waiting closes.before (close_at closes.time closes.reason ∷ [])) in
-      let same = same_reason time closes.time reason closes.reason (same_last front (stage.waiting ++ closes.before) (close_at time reason) (close_at closes.time closes.reason) whole) in
+      let same = same_reason front (stage.waiting ++ closes.before) time closes.time reason closes.reason whole in
       ap is_memory same ∙ never_memory m.end closes.reason closes.recorded
 
   -- something is to come of an open session

@@ -20,10 +20,7 @@ just whole total = λ changes passed. (changes ≡ whole) × (passed ≡ total)
 -- whether memory was refused to the reader of a session
 abbrev pub is_memory : Reason → Bool
 is_memory reasons.Memory = true
-is_memory reasons.EndOfFile = false
-is_memory (reasons.Bgp code subcode) = false
-is_memory (reasons.Mrt number) = false
-is_memory reasons.Read = false
+is_memory other = false
 
 -- whether one of the words closes the session
 abbrev pub closes_any : List Word → Bool

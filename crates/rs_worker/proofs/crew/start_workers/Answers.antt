@@ -2,9 +2,9 @@
 use Rattle.std.proofs.Common.{suc, arith, ◌≡◌, ◌∙◌, ap, List, ◌∷◌, map, rules}
 use Rattle.std.proofs.lemmas.Grind.{common_steps}
 use Rattle.std.specs.Vec.Iter.{into_iter_items}
-use Rattle.rs_worker.proofs.CrewLemmas.{next-moves}
 use Rattle.rs_worker.specs.Crew.{charge_of, charged}
 use Rattle.rs_worker.specs.declared.crew.Job.{Job}
+use Rattle.rs_worker.proofs.PlaceLemmas.{next-moves}
 use Rattle.rs_worker.proofs.crew.start_workers.Goals as goal
 
 pub returns-in_default-clause-tied : goal.returns-in_default-clause-tied
