@@ -1,3 +1,3 @@
 mod CutLemmas
 mod PlaceLemmas
-mod RoutingLemmas
+pub mod RoutingLemmas

@@ -1,14 +1,15 @@
 -- The changes of all peers, one change more.
-use Rattle.std.proofs.Common.{◌≡◌, ◌≢◌, ◌∙◌, sym, ap, subst, refl, ℕ, ◌+◌, ◌*◌, ◌<◌, ◌≤◌, ◌^◌, suc, zero, arith, inl, inr, Bool, true, false, cond, nat_lt, List, [], ◌∷◌, ◌++◌, length, map, Some}
+use Rattle.std.proofs.Common.{◌≡◌, ◌≢◌, ◌∙◌, sym, ap, subst, refl, ℕ, ◌+◌, ◌*◌, ◌<◌, ◌≤◌, ◌^◌, suc, zero, arith, inl, inr, true, false, cond, nat_lt, List, [], ◌∷◌, ◌++◌, length, map, Some}
 use Rattle.std.specs.Prelude.{◌==◌, slice_get, slice_set, All, sum_by}
 use Rattle.std.specs.List.{list_all, list_any}
-use Rattle.std.proofs.lemmas.Bool.{cases_Bool, ne_eqb}
+use Rattle.std.proofs.lemmas.Bool.{cases_Bool, cond-false, cond-true, eq-eqb, ne_eqb}
 use Rattle.std.proofs.lemmas.Bool.Decides.{Decides-ltb}
-use Rattle.std.proofs.lemmas.List.{append-nil, length-append, length-map, map-append}
+use Rattle.std.proofs.lemmas.List.{append-nil, length-append, length-map, length-set, map-append}
+use Rattle.std.proofs.lemmas.Option.{slice_get_within}
 use Rattle.std.proofs.lemmas.List.Elements.{filter-append, filter_map-append}
 use Rattle.std.proofs.lemmas.List.Folds.{list_all-append}
 use Rattle.std.proofs.lemmas.List.Sums.{sum_by-cons}
-use Rattle.rs_ring.specs.Ends.{Receiving, Ring, Sending}
+use Rattle.rs_ring.specs.Ends.{Receiving, Sending}
 use Rattle.rs_update.specs.IpPrefix.{IpPrefix}
 use Rattle.rs_session.specs.Change.{Change, body_of, change_of, is_close}
 use Rattle.rs_session.specs.declared.word.Word.{Word}
@@ -20,27 +21,19 @@ use Rattle.rs_router.specs.Items.{change_from, is_known, is_last, of_peer}
 use Rattle.rs_router.specs.Routing.{AreClosed, AreCuts, AreKnown, EndLast, IsRouted, all_closed, is_closed, received_lists, SameReceivers}
 use Rattle.rs_router.specs.declared.routed.Routed.{Routed}
 use Rattle.rs_router.specs.declared.routed.Routed.TheVariants as items
-use Rattle.rs_router.proofs.CutLemmas.{equal_itself}
-use Rattle.rs_router.proofs.PlaceLemmas.{all-get, get-map, get-within, length-set, list_all-get, map-get, one_turned, option_map-get, set_cases}
+use Rattle.rs_worker.proofs.PlaceLemmas.{all-at, get-map, map-get, one-turned, same-counted}
+use Rattle.rs_router.proofs.PlaceLemmas.{list_all-get, option_map-get, set_cases}
 
 -- ---- one delivery
-
-if_true : {X : Type 0} (b : Bool) (x y : X) → b ≡ true → cond b x y ≡ x
-if_true true x y e = refl
-if_true false x y e = absurd cc
-
-if_false : {X : Type 0} (b : Bool) (x y : X) → b ≡ false → cond b x y ≡ y
-if_false true x y e = absurd cc
-if_false false x y e = refl
 
 -- the shard of a change's prefix alone gets it
 pub delivered_to_one : (before : List (List Routed)) (peer : ℕ) (word : Word) (prefix : IpPrefix) (at : ℕ) (sent new : List Routed) → body_prefix (body_of word.body) ≡ Some prefix
     → at ≡ shard_of prefix (length before) → slice_get before at ≡ Some sent → new ≡ sent ++ items.Word peer word ∷ [] → Delivered peer word before (slice_set before at new)
 delivered_to_one before peer word prefix at sent new on at_is here is =
     let got : (shard : ℕ) → gets (length before) shard (change_of word) ≡ (shard_of prefix (length before) == shard) = λ shard. ap (gets_on (length before) shard) on in
-    one_turned (with_word (length before) peer word) before at sent new here
-    (is ∙ sym (if_true (gets (length before) at (change_of word)) (sent ++ items.Word peer word ∷ []) sent (got at ∙ ap (λ (n : ℕ). n == at) (sym at_is) ∙ equal_itself at)))
-    (λ other items_there apart. if_false (gets (length before) other (change_of word)) (items_there ++ items.Word peer word ∷ []) items_there
+    one-turned (with_word (length before) peer word) before at sent new here
+    (is ∙ sym (cond-true (gets (length before) at (change_of word)) (sent ++ items.Word peer word ∷ []) sent (got at ∙ eq-eqb _ at (sym at_is))))
+    (λ other items_there apart. cond-false (gets (length before) other (change_of word)) (items_there ++ items.Word peer word ∷ []) items_there
     (got other ∙ ne_eqb (shard_of prefix (length before)) other (λ e. apart (sym e ∙ sym at_is))))
 
 -- ---- one change more of a peer
@@ -60,11 +53,11 @@ sum-below [] short = omega arith
 sum-below (y ∷ ys) short = omega (arith, sum_by-cons length y ys, short 0 y refl, sum-below ys (λ at words e. short (suc at) words e))
 
 -- the shard's items of a peer, and the cut of its changes, each with the change more
-of_peer-own : (peer : ℕ) (before : List Routed) (word : Word) → of_peer peer (before ++ items.Word peer word ∷ []) ≡ of_peer peer before ++ change_of word ∷ []
+pub of_peer-own : (peer : ℕ) (before : List Routed) (word : Word) → of_peer peer (before ++ items.Word peer word ∷ []) ≡ of_peer peer before ++ change_of word ∷ []
 of_peer-own peer before word =
-    filter_map-append (change_from peer) before (items.Word peer word ∷ []) ∙ ap (λ (cs : List Change). of_peer peer before ++ cs) (rw (equal_itself peer) refl)
+    filter_map-append (change_from peer) before (items.Word peer word ∷ []) ∙ ap (λ (cs : List Change). of_peer peer before ++ cs) (rw (eq-eqb peer peer refl) refl)
 
-of_peer-other : (other peer : ℕ) (before : List Routed) (word : Word) → other ≢ peer → of_peer other (before ++ items.Word peer word ∷ []) ≡ of_peer other before
+pub of_peer-other : (other peer : ℕ) (before : List Routed) (word : Word) → other ≢ peer → of_peer other (before ++ items.Word peer word ∷ []) ≡ of_peer other before
 of_peer-other other peer before word apart =
     filter_map-append (change_from other) before (items.Word peer word ∷ []) ∙ ap (λ (cs : List Change). of_peer other before ++ cs) (rw (ne_eqb peer other (λ e. apart (sym e))) refl) ∙ append-nil (of_peer other before)
 
@@ -72,17 +65,20 @@ cut-more : (shards shard : ℕ) (words : List Word) (word : Word) → cut shards
 cut-more shards shard words word =
     ap (cut shards shard) (map-append change_of words (word ∷ [])) ∙ filter-append (gets shards shard) (map change_of words) (change_of word ∷ [])
 
+pub of_peer-last : (peer : ℕ) (before : List Routed) → of_peer peer (before ++ items.Last ∷ []) ≡ of_peer peer before
+of_peer-last peer before = filter_map-append (change_from peer) before (items.Last ∷ []) ∙ append-nil (of_peer peer before)
+
 own_cut : (shards shard peer : ℕ) (words : List Word) (word : Word) (before : List Routed) → of_peer peer before ≡ cut shards shard (map change_of words)
     → of_peer peer (with_word shards peer word shard before) ≡ cut shards shard (map change_of (words ++ word ∷ []))
 own_cut shards shard peer words word before is =
     elim (cases_Bool (gets shards shard (change_of word))) [
       | inl got ↦
-          ap (of_peer peer) (if_true (gets shards shard (change_of word)) (before ++ items.Word peer word ∷ []) before got) ∙ of_peer-own peer before word
+          ap (of_peer peer) (cond-true (gets shards shard (change_of word)) (before ++ items.Word peer word ∷ []) before got) ∙ of_peer-own peer before word
           ∙ ap (λ (cs : List Change). cs ++ change_of word ∷ []) is
           ∙ ap (λ (cs : List Change). cut shards shard (map change_of words) ++ cs) (sym (rw got refl))
           ∙ sym (cut-more shards shard words word)
       | inr passed ↦
-          ap (of_peer peer) (if_false (gets shards shard (change_of word)) (before ++ items.Word peer word ∷ []) before passed) ∙ is
+          ap (of_peer peer) (cond-false (gets shards shard (change_of word)) (before ++ items.Word peer word ∷ []) before passed) ∙ is
           ∙ sym (append-nil (cut shards shard (map change_of words)))
           ∙ ap (λ (cs : List Change). cut shards shard (map change_of words) ++ cs) (sym (rw passed refl))
           ∙ sym (cut-more shards shard words word)
@@ -116,7 +112,7 @@ routed_more received before after peer words word routed here short unclosed del
       told ∙ ap (λ (n : ℕ). cut n shard (map change_of ws)) (sym count);
   known = λ shard sent at_shard.
       let old = earlier shard sent at_shard in
-      let named : nat_lt peer (length received) ≡ true = (Decides-ltb peer (length received)).1 (get-within received peer words here) in
+      let named : nat_lt peer (length received) ≡ true = (Decides-ltb peer (length received)).1 (slice_get_within received peer words here) in
       let all = routed.known shard old.0 old.1.0 in
       let told : list_all (is_known (length received)) sent ≡ true =
       subst (λ (xs : List Routed). list_all (is_known (length received)) xs ≡ true) old.1.1
@@ -158,13 +154,11 @@ routed_more received before after peer words word routed here short unclosed del
 -- senders of the same rings are as many
 pub as_many : (before after : List (Sending Routed)) → SameSenders before after → length (sent_lists after) ≡ length (sent_lists before)
 as_many before after same =
-    length-map after (λ (s : Sending Routed). s.sent) ∙ sym (length-map after (λ (s : Sending Routed). s.ring)) ∙ ap (λ (rings : List Ring). length rings) same
-    ∙ length-map before (λ (s : Sending Routed). s.ring) ∙ sym (length-map before (λ (s : Sending Routed). s.sent))
+    length-map after (λ (s : Sending Routed). s.sent) ∙ same-counted (λ s. s.ring) (λ s. s.ring) after before same ∙ sym (length-map before (λ (s : Sending Routed). s.sent))
 
 pub as_many_received : (before after : List (Receiving Word)) → SameReceivers before after → length (received_lists after) ≡ length before
 as_many_received before after same =
-    length-map after (λ (r : Receiving Word). r.received) ∙ sym (length-map after (λ (r : Receiving Word). r.ring)) ∙ ap (λ (rings : List Ring). length rings) same
-    ∙ length-map before (λ (r : Receiving Word). r.ring)
+    length-map after (λ (r : Receiving Word). r.received) ∙ same-counted (λ r. r.ring) (λ r. r.ring) after before same
 
 -- ---- the beginning and the end
 
@@ -188,12 +182,12 @@ routed_first receivers senders fresh unsent = record {
     nothing_received : (p : ℕ) (ws : List Word) → slice_get (received_lists receivers) p ≡ Some ws → ws ≡ []
     nothing_received p ws e =
         let from = map-get (λ (r : Receiving Word). r.received) receivers p ws e in
-        sym from.1.1 ∙ all-get (λ (r : Receiving Word). r.received ≡ []) receivers p from.0 fresh from.1.0
+        sym from.1.1 ∙ all-at (λ (r : Receiving Word). r.received ≡ []) receivers fresh p from.0 from.1.0
 
     nothing_sent : (shard : ℕ) (sent : List Routed) → slice_get (sent_lists senders) shard ≡ Some sent → sent ≡ []
     nothing_sent shard sent e =
         let to = map-get (λ (s : Sending Routed). s.sent) senders shard sent e in
-        sym to.1.1 ∙ all-get (λ (s : Sending Routed). s.sent ≡ []) senders shard to.0 unsent to.1.0
+        sym to.1.1 ∙ all-at (λ (s : Sending Routed). s.sent ≡ []) senders unsent shard to.0 to.1.0
 
 pub are_closed : (receivers : List (Receiving Word)) (sent : List (List Routed)) → IsRouted (received_lists receivers) sent → all_closed receivers ≡ true → AreClosed (received_lists receivers)
 are_closed receivers sent routed closed peer words at =
@@ -204,9 +198,6 @@ are_closed receivers sent routed closed peer words at =
 module _ (received : List (List Word)) (before after : List (List Routed)) (routed : IsRouted received before) (is : after ≡ map (λ sent. sent ++ items.Last ∷ []) before) where
   ended : (shard : ℕ) (sent : List Routed) → slice_get after shard ≡ Some sent → (old : List Routed) × ((slice_get before shard ≡ Some old) × (old ++ items.Last ∷ [] ≡ sent))
   ended shard sent e = map-get (λ (xs : List Routed). xs ++ items.Last ∷ []) before shard sent (sym (ap (λ (lists : List (List Routed)). slice_get lists shard) is) ∙ e)
-
-  of_peer-last : (peer : ℕ) (xs : List Routed) → of_peer peer (xs ++ items.Last ∷ []) ≡ of_peer peer xs
-  of_peer-last peer xs = filter_map-append (change_from peer) xs (items.Last ∷ []) ∙ append-nil (of_peer peer xs)
 
   pub cuts_last : AreCuts received after
   cuts_last peer shard words sent at_peer at_shard =

@@ -1,7 +1,7 @@
 -- The shard of the prefix was sent the change, or all were.
 use Rattle.std.proofs.Common.{◌≡◌, ◌∙◌, sym, ap, inl, inr, ℕ, List, Some, get_or, length, rules}
 use Rattle.std.specs.Prelude.{slice_get, slice_set}
-use Rattle.std.proofs.lemmas.List.{length-map}
+use Rattle.std.proofs.lemmas.List.{length-map, map-set}
 use Rattle.std.proofs.lemmas.Option.{slice_get-get_or}
 use Rattle.rs_ring.specs.Ends.{Sending}
 use Rattle.rs_session.specs.Change.{body_of}
@@ -10,7 +10,7 @@ use Rattle.rs_table.specs.Left.{body_prefix}
 use Rattle.rs_router.specs.Cut.{shard_of}
 use Rattle.rs_router.specs.Delivery.{Delivered, sent_lists}
 use Rattle.rs_router.specs.declared.routed.Routed.{Routed}
-use Rattle.rs_router.proofs.PlaceLemmas.{get-map, map-set, map-set_same}
+use Rattle.rs_worker.proofs.PlaceLemmas.{get-map, map-set_same}
 use Rattle.rs_router.proofs.RoutingLemmas.{delivered_to_one}
 use Rattle.rs_router.proofs.delivery.deliver.Goals as goal
 

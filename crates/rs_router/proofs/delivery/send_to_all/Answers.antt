@@ -6,7 +6,8 @@ use Rattle.std.proofs.lemmas.Option.{slice_get-get_or}
 use Rattle.rs_ring.specs.Ends.{Sending}
 use Rattle.rs_router.specs.Delivery.{item_of, sent_lists}
 use Rattle.rs_router.specs.declared.routed.Routed.{Routed}
-use Rattle.rs_router.proofs.PlaceLemmas.{get-set_other, map-set_same, map_from, map_from-end, map_from-step}
+use Rattle.rs_worker.proofs.PlaceLemmas.{get-set_other, map-set_same}
+use Rattle.rs_router.proofs.PlaceLemmas.{map_from, map_from-end, map_from-step}
 use Rattle.rs_router.proofs.delivery.send_to_all.Goals as goal
 
 pub loop-sender-preserved : goal.loop-sender-preserved

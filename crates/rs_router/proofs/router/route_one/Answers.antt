@@ -2,13 +2,13 @@
 use Rattle.std.proofs.Common.{◌≡◌, ◌∙◌, sym, ap, subst, arith, List, Some, get_or, ◌++◌, ◌∷◌, [], rules}
 use Rattle.std.proofs.lemmas.Grind.{common_steps}
 use Rattle.std.specs.Prelude.{slice_get, slice_set}
-use Rattle.std.proofs.lemmas.List.{length-map}
+use Rattle.std.proofs.lemmas.List.{length-map, map-set}
 use Rattle.std.proofs.lemmas.Option.{slice_get-get_or}
 use Rattle.rs_ring.specs.Ends.{Receiving}
 use Rattle.rs_session.specs.declared.word.Word.{Word}
 use Rattle.rs_router.specs.Delivery.{sent_lists}
 use Rattle.rs_router.specs.Routing.{IsRouted, received_lists}
-use Rattle.rs_router.proofs.PlaceLemmas.{get-map, map-set, map-set_same}
+use Rattle.rs_worker.proofs.PlaceLemmas.{get-map, map-set_same}
 use Rattle.rs_router.proofs.RoutingLemmas.{as_many, can_send, routed_more}
 use Rattle.rs_router.proofs.router.route_one.Goals as goal
 
