@@ -1,6 +1,5 @@
 mod CloseLemmas
 mod CrewLemmas
-mod ListLemmas
 mod MergingLemmas
 mod RunLemmas
-mod TakingLemmas
+pub mod TakingLemmas

@@ -1,18 +1,14 @@
 -- The tables of all shards, made one.
-use Rattle.std.proofs.Common.{◌≡◌, ◌≢◌, ◌∙◌, sym, ap, refl, ℕ, zero, suc, ◌<◌, ◌≤◌, arith, inl, inr, true, false, List, [], ◌∷◌, length, map, get_or, Some, None, AllPairs}
+use Rattle.std.proofs.Common.{◌≡◌, ◌≢◌, ◌∙◌, sym, ap, ℕ, ◌<◌, ◌≤◌, arith, inl, inr, true, false, List, length, map, get_or, Some, None, AllPairs}
 use Rattle.std.specs.Prelude.{slice_get}
 use Rattle.std.specs.List.{list_any}
-use Rattle.std.specs.Option.{option_map, is_some}
+use Rattle.std.specs.Option.{option_map}
 use Rattle.std.specs.FinMap as fin
-use Rattle.std.specs.Ordering.{nat_cmp, ordering_then}
-use Rattle.std.specs.Cmp.{IsTotalOrder, nat_cmp_total, on_total, then_total}
-use Rattle.std.specs.declared.cmp.Ordering.{Ordering}
-use Rattle.std.specs.declared.cmp.Ordering.TheVariants.{Less, Equal, Greater}
-use Rattle.std.proofs.lemmas.Bool.{false≢true, or_from}
+use Rattle.std.proofs.lemmas.Bool.{false≢true}
 use Rattle.std.proofs.lemmas.Bool.Decides.{eqb_tells}
-use Rattle.std.proofs.lemmas.List.{ext_get_or, length-map}
+use Rattle.std.proofs.lemmas.List.{ext_get_or, get_or_past, length-map}
 use Rattle.std.proofs.lemmas.Nat.{mod_below}
-use Rattle.std.proofs.lemmas.Option.{slice_get-get_or, slice_get-map, get_or_from_slice_get}
+use Rattle.std.proofs.lemmas.Option.{slice_get-get_or, slice_get-map, slice_get_cases, get_or_from_slice_get}
 use Rattle.rs_update.specs.IpPrefix.{IpPrefix}
 use Rattle.rs_update.specs.PrefixOrder.{prefix_cmp}
 use Rattle.rs_choice.specs.Plan.{Plan}
@@ -25,40 +21,8 @@ use Rattle.rs_table.specs.Merge.{AreParts, IsMerged}
 use Rattle.rs_router.specs.Cut.{first_octet, shard_of}
 use Rattle.rs_router.specs.Laws.{CutByShards}
 use Rattle.rs_shard.specs.Laws.{AreShardsOf}
-use Rattle.rs_shard.proofs.ListLemmas.{there-or_past}
-
--- ---- the order of prefixes tells all of them apart
-
-prefix_total : IsTotalOrder prefix_cmp
-prefix_total = then_total (on_total (λ (p : IpPrefix). p.address) nat_cmp_total) (on_total (λ (p : IpPrefix). p.len) nat_cmp_total)
-
-then_first : (r s : Ordering) → ordering_then r s ≡ Equal → r ≡ Equal
-then_first Less s e = cc e
-then_first Equal s e = refl
-then_first Greater s e = cc e
-
-then_second : (r s : Ordering) → ordering_then r s ≡ Equal → s ≡ Equal
-then_second Less s e = cc e
-then_second Equal s e = e
-then_second Greater s e = cc e
-
-prefix_cmp-IsAntisymmetric : fin.IsAntisymmetric prefix_cmp
-prefix_cmp-IsAntisymmetric x y e =
-    let address : x.address ≡ y.address = fin.nat_cmp-IsAntisymmetric x.address y.address (then_first _ _ e) in
-    let len : x.len ≡ y.len = fin.nat_cmp-IsAntisymmetric x.len y.len (then_second (nat_cmp x.address y.address) _ e) in
-    λ i. record { address = address i; len = len i }
-
--- ---- peers that aren't there
-
-get_or-past : {X : Type 0} (xs : List X) (at : ℕ) (d : X) → length xs ≤ at → get_or xs at d ≡ d
-get_or-past [] at d past = refl
-get_or-past (x ∷ xs) zero d past = absurd (omega arith)
-get_or-past (x ∷ xs) (suc at) d past = get_or-past xs at d (omega arith)
-
--- a prefix that is no peer's is not held
-none-held : (ribs : List RibContent) (q : IpPrefix) → ((peer : ℕ) → fin.get (get_or ribs peer nothing_held).routes q ≡ None) → is_held ribs q ≡ false
-none-held [] q none = refl
-none-held (rib ∷ ribs) q none = or_from _ _ (ap is_some (none zero)) (none-held ribs q (λ peer. none (suc peer)))
+use Rattle.rs_table.proofs.MergeLemmas.{none-held}
+use Rattle.rs_table.proofs.PrefixLemmas.{prefix_total, prefix_cmp-IsAntisymmetric}
 
 -- ---- the parts
 
@@ -68,7 +32,7 @@ module _ (cuts : CutByShards) (plan : Plan) (received : List (List Word)) (parts
 
   part-past : (shard : ℕ) (part : TablesContent) → slice_get parts shard ≡ Some part → (peer : ℕ) → length received ≤ peer → rib_of part peer ≡ nothing_held
   part-past shard part at peer past =
-      get_or-past part.ribs peer nothing_held (omega (arith, past, are.peers, (are.each shard part at).of_plan.count))
+      get_or_past part.ribs peer nothing_held (omega (arith, past, are.peers, (are.each shard part at).of_plan.count))
 
   part-closed : (shard : ℕ) (part : TablesContent) → slice_get parts shard ≡ Some part → (peer : ℕ) (words : List Word) → slice_get received peer ≡ Some words
       → (rib_of part peer).closed ≡ list_any is_close (changes_of words)
@@ -78,17 +42,17 @@ module _ (cuts : CutByShards) (plan : Plan) (received : List (List Word)) (parts
 
   same-closed : (i j : ℕ) (one other : TablesContent) → slice_get parts i ≡ Some one → slice_get parts j ≡ Some other → (peer : ℕ)
       → (rib_of one peer).closed ≡ (rib_of other peer).closed
-  same-closed i j one other at_i at_j peer = elim (there-or_past received peer) [
-    | inl w ↦ part-closed i one at_i peer w.0 w.1 ∙ sym (part-closed j other at_j peer w.0 w.1)
-    | inr past ↦ ap (λ (rib : RibContent). rib.closed) (part-past i one at_i peer past ∙ sym (part-past j other at_j peer past))
+  same-closed i j one other at_i at_j peer = elim (slice_get_cases received peer).1 [
+    | inl w ↦ part-closed i one at_i peer w.0 w.2 ∙ sym (part-closed j other at_j peer w.0 w.2)
+    | inr past ↦ ap (λ (rib : RibContent). rib.closed) (part-past i one at_i peer past.0 ∙ sym (part-past j other at_j peer past.0))
   ]
 
   -- a shard has no route on a prefix of another one
   not-there : (shard : ℕ) (part : TablesContent) → slice_get parts shard ≡ Some part → (q : IpPrefix) → shard ≢ shard_of q (length parts) → (peer : ℕ)
       → fin.get (rib_of part peer).routes q ≡ None
-  not-there shard part at q apart peer = elim (there-or_past received peer) [
-    | inl w ↦ ap (λ (rib : RibContent). fin.get rib.routes q) ((are.each shard part at).ribs peer w.0 w.1) ∙ (cuts (length parts) are.counted (changes_of w.0)).others q shard apart
-    | inr past ↦ ap (λ (rib : RibContent). fin.get rib.routes q) (part-past shard part at peer past) ∙ fin.get-empty prefix_cmp q
+  not-there shard part at q apart peer = elim (slice_get_cases received peer).1 [
+    | inl w ↦ ap (λ (rib : RibContent). fin.get rib.routes q) ((are.each shard part at).ribs peer w.0 w.2) ∙ (cuts (length parts) are.counted (changes_of w.0)).others q shard apart
+    | inr past ↦ ap (λ (rib : RibContent). fin.get rib.routes q) (part-past shard part at peer past.0) ∙ fin.get-empty prefix_cmp q
   ]
 
   not-held : (shard : ℕ) (part : TablesContent) → slice_get parts shard ≡ Some part → (q : IpPrefix) → shard ≢ shard_of q (length parts) → is_held part.ribs q ≡ false
@@ -146,11 +110,11 @@ module _ (cuts : CutByShards) (plan : Plan) (received : List (List Word)) (parts
         length-map received (λ words. rib_left (changes_of words)) ∙ are.peers ∙ ap (λ (p : Plan). length p.peers) (sym merged-plan) ∙ sym count
 
     merged-ribs : map (λ words. rib_left (changes_of words)) received ≡ merged.ribs
-    merged-ribs = ext_get_or nothing_held (map (λ words. rib_left (changes_of words)) received) merged.ribs merged-length (λ at within. elim (there-or_past received at) [
+    merged-ribs = ext_get_or nothing_held (map (λ words. rib_left (changes_of words)) received) merged.ribs merged-length (λ at within. elim (slice_get_cases received at).1 [
       | inl w ↦ get_or_from_slice_get (map (λ words. rib_left (changes_of words)) received) at (rib_left (changes_of w.0)) nothing_held
-          (slice_get-map (λ words. rib_left (changes_of words)) received at ∙ ap (option_map (λ words. rib_left (changes_of words))) w.1)
-          ∙ sym (merged-rib at w.0 w.1)
-      | inr past ↦ absurd (omega (arith, within, past, length-map received (λ words. rib_left (changes_of words))))
+          (slice_get-map (λ words. rib_left (changes_of words)) received at ∙ ap (option_map (λ words. rib_left (changes_of words))) w.2)
+          ∙ sym (merged-rib at w.0 w.2)
+      | inr past ↦ absurd (omega (arith, within, past.0, length-map received (λ words. rib_left (changes_of words))))
     ])
 
     pub merged-whole : merged ≡ record { plan = plan; ribs = map (λ words. rib_left (map change_of words)) received }

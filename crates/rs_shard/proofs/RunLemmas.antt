@@ -3,7 +3,7 @@ use Rattle.std.proofs.Common.{◌≡◌, ◌∙◌, sym, ap, subst, refl, ℕ, a
 use Rattle.std.specs.Prelude.{slice_get}
 use Rattle.std.proofs.lemmas.List.{map-append}
 use Rattle.std.proofs.lemmas.List.Elements.{filter-append}
-use Rattle.std.proofs.lemmas.Option.{slice_get_within}
+use Rattle.std.proofs.lemmas.Option.{slice_get_cases, slice_get_within}
 use Rattle.rs_choice.specs.Plan.{Plan}
 use Rattle.rs_session.specs.Change.{Change, change_of, is_close}
 use Rattle.rs_session.specs.declared.word.Word.{Word}
@@ -15,7 +15,6 @@ use Rattle.rs_router.specs.declared.routed.Routed.{Routed}
 use Rattle.rs_shard.specs.Crew.{Charge}
 use Rattle.rs_shard.specs.Held.{HoldReceived, through_close}
 use Rattle.rs_shard.specs.Laws.{AreShardsOf, IsOfPlan, IsRun, IsShardOf}
-use Rattle.rs_shard.proofs.ListLemmas.{there-or_past}
 use Rattle.rs_shard.proofs.CloseLemmas.{through-open, through-one}
 
 -- the cut of words without a close has none
@@ -71,11 +70,11 @@ module _ (plan : Plan) (received : List (List Word)) (sent : List (List Routed))
   run-whole = record {
     counted = subst IsShardCount (sym as_many) run.counted;
     peers = run.peers;
-    each = λ shard part at. elim (there-or_past charges shard) [
-      | inl charge ↦ elim (there-or_past sent shard) [
-        | inl items ↦ one-shard shard part charge.0 items.0 at charge.1 items.1
-        | inr past ↦ absurd (omega (arith, as_many, past, slice_get_within parts shard part at))
+    each = λ shard part at. elim (slice_get_cases charges shard).1 [
+      | inl charge ↦ elim (slice_get_cases sent shard).1 [
+        | inl items ↦ one-shard shard part charge.0 items.0 at charge.2 items.2
+        | inr past ↦ absurd (omega (arith, as_many, past.0, slice_get_within parts shard part at))
       ]
-      | inr past ↦ absurd (omega (arith, run.hold.count, past, slice_get_within parts shard part at))
+      | inr past ↦ absurd (omega (arith, run.hold.count, past.0, slice_get_within parts shard part at))
     ];
   }

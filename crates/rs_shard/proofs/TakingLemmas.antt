@@ -1,52 +1,18 @@
 -- What tables hold of the items that they took, with one item more.
-use Rattle.std.proofs.Common.{◌≡◌, ◌≢◌, ◌∙◌, sym, ap, subst, refl, ℕ, ◌<◌, ◌≤◌, arith, inl, inr, Bool, true, false, List, [], ◌∷◌, ◌++◌, append-nil, length, Option, Some, None, Result, Ok, Err}
-use Rattle.std.specs.Prelude.{if◌then◌else◌, ◌==◌, OnOk}
-use Rattle.std.specs.List.{filter_map, list_any}
-use Rattle.std.proofs.lemmas.List.Elements.{filter_map-append}
-use Rattle.std.proofs.lemmas.Bool.{ne_eqb}
+use Rattle.std.proofs.Common.{◌≡◌, ◌≢◌, ◌∙◌, sym, ap, subst, refl, ℕ, ◌<◌, ◌≤◌, arith, inl, inr, true, false, [], ◌∷◌, ◌++◌, length, Result, Ok, Err}
+use Rattle.std.specs.Prelude.{OnOk}
+use Rattle.std.specs.List.{list_any}
 use Rattle.std.proofs.lemmas.Bool.Decides.{eqb_tells}
-use Rattle.rs_session.specs.Change.{Change, change_of, is_close}
+use Rattle.rs_session.specs.Change.{change_of, is_close}
 use Rattle.rs_session.specs.declared.word.Word.{Word}
 use Rattle.rs_table.specs.Content.{RibContent, TablesContent, rib_of, rib_left, nothing_held}
 use Rattle.rs_table.specs.Left.{BecomeBy}
-use Rattle.rs_router.specs.Items.{change_from, of_peer}
-use Rattle.rs_router.specs.declared.routed.Routed.{Routed}
+use Rattle.rs_router.specs.Items.{of_peer}
 use Rattle.rs_router.specs.declared.routed.Routed.TheVariants as routed
+use Rattle.rs_router.proofs.RoutingLemmas.{of_peer-last, of_peer-other, of_peer-own}
 use Rattle.rs_shard.specs.Held.{HoldReceived, Takes, through_close}
 use Rattle.rs_table.proofs.RibLemmas.{rib_left-nothing, rib_left-more}
 use Rattle.rs_shard.proofs.CloseLemmas.{through-closed, through-more, through-none, any-through}
-
--- one item more of the peer's, of another peer's, and of none's
-of_peer-gives : (peer : ℕ) (items : List Routed) (item : Routed) (change : Change) → change_from peer item ≡ Some change → of_peer peer (items ++ item ∷ []) ≡ of_peer peer items ++ change ∷ []
-of_peer-gives peer items item change e = filter_map-append (change_from peer) items (item ∷ []) ∙ ap (λ cs. of_peer peer items ++ cs) (one (change_from peer item) e)
-  where
-    one : (o : Option Change) → o ≡ Some change → filter_map (λ (x : Option Change). x) (o ∷ []) ≡ change ∷ []
-    one (Some c) e = let same : c ≡ change = cc in ap (λ c. c ∷ []) same
-    one None e = absurd cc
-
-of_peer-skips : (peer : ℕ) (items : List Routed) (item : Routed) → change_from peer item ≡ None → of_peer peer (items ++ item ∷ []) ≡ of_peer peer items
-of_peer-skips peer items item e = filter_map-append (change_from peer) items (item ∷ []) ∙ ap (λ cs. of_peer peer items ++ cs) (one (change_from peer item) e) ∙ append-nil (of_peer peer items)
-  where
-    one : (o : Option Change) → o ≡ None → filter_map (λ (x : Option Change). x) (o ∷ []) ≡ []
-    one (Some c) e = absurd cc
-    one None e = refl
-
-if_true : {X : Type 0} (b : Bool) (x y : X) → b ≡ true → (if b then x else y) ≡ x
-if_true true x y e = refl
-if_true false x y e = absurd cc
-
-if_false : {X : Type 0} (b : Bool) (x y : X) → b ≡ false → (if b then x else y) ≡ y
-if_false true x y e = absurd cc
-if_false false x y e = refl
-
-equal_itself : (n : ℕ) → (n == n) ≡ true
-equal_itself n = elim (eqb_tells n n) [ inl told ↦ told.0 | inr told ↦ absurd (told.1 refl) ]
-
-own : (peer : ℕ) (items : List Routed) (word : Word) → of_peer peer (items ++ routed.Word peer word ∷ []) ≡ of_peer peer items ++ change_of word ∷ []
-own peer items word = of_peer-gives peer items (routed.Word peer word) (change_of word) (if_true (peer == peer) (Some (change_of word)) None (equal_itself peer))
-
-others : (peer other : ℕ) (items : List Routed) (word : Word) → other ≢ peer → of_peer other (items ++ routed.Word peer word ∷ []) ≡ of_peer other items
-others peer other items word apart = of_peer-skips other items (routed.Word peer word) (if_false (peer == other) (Some (change_of word)) None (ne_eqb peer other (λ e. apart (sym e))))
 
 -- tables that took nothing yet
 pub held-nothing : (new : TablesContent) → ((peer : ℕ) → rib_of new peer ≡ nothing_held) → HoldReceived new [] new
@@ -57,7 +23,7 @@ pub took-last : (tables : TablesContent) → Takes routed.Last tables tables
 took-last tables new items held = record {
   plan = held.plan;
   count = held.count;
-  ribs = λ peer below. held.ribs peer below ∙ ap (λ cs. rib_left (through_close cs)) (sym (of_peer-skips peer items routed.Last refl));
+  ribs = λ peer below. held.ribs peer below ∙ ap (λ cs. rib_left (through_close cs)) (sym (of_peer-last peer items));
 }
 
 -- nor does a change of a peer that isn't there
@@ -66,7 +32,7 @@ took-unknown tables peer word past new items held = record {
   plan = held.plan;
   count = held.count;
   ribs = λ other below.
-      held.ribs other below ∙ ap (λ cs. rib_left (through_close cs)) (sym (others peer other items word (λ e. absurd (omega (arith, past, below, held.count, e)))));
+      held.ribs other below ∙ ap (λ cs. rib_left (through_close cs)) (sym (of_peer-other other peer items word (λ e. absurd (omega (arith, past, below, held.count, e)))));
 }
 
 -- nor one of a peer whose session closed
@@ -76,7 +42,7 @@ took-closed tables peer word closed new items held = record {
   count = held.count;
   ribs = λ other below. elim (eqb_tells other peer) [
     | inl told ↦ here other below told.1
-    | inr told ↦ held.ribs other below ∙ ap (λ cs. rib_left (through_close cs)) (sym (others peer other items word told.1))
+    | inr told ↦ held.ribs other below ∙ ap (λ cs. rib_left (through_close cs)) (sym (of_peer-other other peer items word told.1))
   ];
 }
   where
@@ -85,7 +51,7 @@ took-closed tables peer word closed new items held = record {
         let at_peer : rib_of tables peer ≡ rib_left (through_close (of_peer peer items)) = subst (λ (n : ℕ). rib_of tables n ≡ rib_left (through_close (of_peer n items))) same (held.ribs other below) in
         let has_closed : list_any is_close (of_peer peer items) ≡ true = sym (any-through (of_peer peer items)) ∙ sym (ap (λ (rib : RibContent). rib.closed) at_peer) ∙ closed in
         let kept : rib_of tables peer ≡ rib_left (through_close (of_peer peer (items ++ routed.Word peer word ∷ []))) =
-        at_peer ∙ ap rib_left (sym (through-closed (of_peer peer items) (change_of word ∷ []) has_closed)) ∙ ap (λ cs. rib_left (through_close cs)) (sym (own peer items word)) in
+        at_peer ∙ ap rib_left (sym (through-closed (of_peer peer items) (change_of word ∷ []) has_closed)) ∙ ap (λ cs. rib_left (through_close cs)) (sym (of_peer-own peer items word)) in
         subst (λ (n : ℕ). rib_of tables n ≡ rib_left (through_close (of_peer n (items ++ routed.Word peer word ∷ [])))) (sym same) kept
 
 -- a change of a peer whose session is open
@@ -98,7 +64,7 @@ took-change before after peer word unclosed become closes stay plan count new it
   count = count ∙ held.count;
   ribs = λ other below. elim (eqb_tells other peer) [
     | inl told ↦ here other below told.1
-    | inr told ↦ stay other told.1 ∙ held.ribs other below ∙ ap (λ cs. rib_left (through_close cs)) (sym (others peer other items word told.1))
+    | inr told ↦ stay other told.1 ∙ held.ribs other below ∙ ap (λ cs. rib_left (through_close cs)) (sym (of_peer-other other peer items word told.1))
   ];
 }
   where
@@ -109,7 +75,7 @@ took-change before after peer word unclosed become closes stay plan count new it
         let whole : rib_of before peer ≡ rib_left (of_peer peer items) = at_peer ∙ ap rib_left (through-none (of_peer peer items) open_yet) in
         let more : rib_of after peer ≡ rib_left (of_peer peer items ++ change_of word ∷ []) = rib_left-more (of_peer peer items) (change_of word) (rib_of before peer) (rib_of after peer) whole open_yet become closes in
         let taken : rib_of after peer ≡ rib_left (through_close (of_peer peer (items ++ routed.Word peer word ∷ []))) =
-        more ∙ ap rib_left (sym (through-more (of_peer peer items) (change_of word) open_yet)) ∙ ap (λ cs. rib_left (through_close cs)) (sym (own peer items word)) in
+        more ∙ ap rib_left (sym (through-more (of_peer peer items) (change_of word) open_yet)) ∙ ap (λ cs. rib_left (through_close cs)) (sym (of_peer-own peer items word)) in
         subst (λ (n : ℕ). rib_of after n ≡ rib_left (through_close (of_peer n (items ++ routed.Word peer word ∷ [])))) (sym same) taken
 
 -- what follows from two facts of a success holds of it

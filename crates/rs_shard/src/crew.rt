@@ -1,6 +1,6 @@
 //! All shards: each on a thread of its own, started and joined in their order.
 
-ghost use Rattle.std.specs.Prelude.{◌≡◌, ◌≤◌, ◌<◌, [], ℕ, All, IfSome, IsTrue, map, vec_len, vec_capacity, length};
+ghost use Rattle.std.specs.Prelude.{◌≡◌, ◌≤◌, ◌<◌, [], ℕ, All, IfSome, IsTrue, map, vec_len, vec_capacity};
 ghost use mathlib.Core.List.{IsPrefix};
 ghost use Rattle.rs_router.specs.Delivery.{sent_lists, SameSenders};
 ghost use Rattle.rs_table.specs.Content.{nothing_held, rib_of};

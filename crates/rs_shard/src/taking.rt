@@ -1,6 +1,6 @@
 //! What one item makes of the tables of a shard.
 
-ghost use Rattle.std.specs.Prelude.{ℕ, List, ◌++◌, ◌∷◌, [], OnOk, IfSome};
+ghost use Rattle.std.specs.Prelude.{List, ◌++◌, ◌∷◌, [], OnOk, IfSome};
 ghost use Rattle.rs_table.specs.Content.{TablesContent};
 ghost use Rattle.rs_router.specs.declared.routed.Routed.{Routed};
 ghost use Rattle.rs_shard.specs.Held.{HoldReceived, Takes};

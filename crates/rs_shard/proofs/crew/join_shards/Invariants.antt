@@ -8,8 +8,6 @@ use Rattle.rs_shard.proofs.crew.join_shards.Given as goal
 -- the first shards were joined: while each one has its tables, these are the parts so far, and the other handles are still to come
 abbrev pub invariant-loop-handle : goal.invariant-loop-handle
 invariant-loop-handle g l = record {
-  next : (goal.iterator-loop-handle g).can_next l.handle-iterator;
-  finite : (goal.iterator-loop-handle g).is_finite l.handle-iterator;
   rest : into_iter_items l.handle-iterator ≡ drop l.shard l.fn.handles.items;
   count : into_iter_len l.handle-iterator ≡ length (into_iter_items l.handle-iterator);
   all : l.shard + into_iter_len l.handle-iterator ≡ length l.fn.handles.items;
