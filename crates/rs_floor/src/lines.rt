@@ -1,6 +1,6 @@
 //! The rings of all peers, before a run on threads.
 
-ghost use Rattle.std.specs.Prelude.{◌≡◌, ◌<◌, true, All, IfOk, length, take};
+ghost use Rattle.std.specs.Prelude.{◌≡◌, ◌<◌, true, All, IfOk, length};
 ghost use Rattle.rs_ring.specs.Items.{is_capacity};
 ghost use Rattle.rs_choice.specs.Plan.{peer_of};
 ghost use Rattle.rs_floor.specs.Lines.{AreLines, IsLine};

@@ -1,6 +1,6 @@
 //! The rings and the empty tables of all shards, before a run on threads.
 
-ghost use Rattle.std.specs.Prelude.{◌≡◌, ◌<◌, true, All, IfOk, length};
+ghost use Rattle.std.specs.Prelude.{◌≡◌, ◌<◌, true, IfOk, length};
 ghost use Rattle.rs_ring.specs.Items.{is_capacity};
 ghost use Rattle.rs_router.specs.Cut.{IsShardCount};
 ghost use Rattle.rs_floor.specs.Lines.{AreRings, IsRing};

@@ -1,8 +1,8 @@
 -- One peer's changes on their way through its ring: for `new`, `send` and `receive` of lane.rt, and LaneStates.
 use Rattle.std.proofs.Common.{◌≡◌, ◌∙◌, sym, ap, refl, ℕ, ◌+◌, ◌-◌, ◌<◌, ◌≤◌, suc, arith, Bool, true, false, List, [], ◌∷◌, ◌++◌, length, take, Option, Some, append_assoc, length-append}
-use Rattle.std.specs.Prelude.{slice_get, ◌&&◌, ◌||◌, nat_lt, if◌then◌else◌}
+use Rattle.std.specs.Prelude.{slice_get, ◌||◌, nat_lt}
 use Rattle.std.specs.List.{list_any}
-use Rattle.std.proofs.lemmas.Bool.{le-ltb, lt-ltb}
+use Rattle.std.proofs.lemmas.Bool.{and_from, and_left, cond-false, cond-true, le-ltb, lt-ltb}
 use Rattle.std.proofs.lemmas.List.{length-map, map-append, take-append-le}
 use Rattle.std.proofs.Math.Seq.{take-append_seam}
 use Rattle.rs_mrt.specs.declared.fault.SourceFault.{SourceFault}
@@ -13,7 +13,8 @@ use Rattle.rs_session.specs.declared.word.Word.{Word}
 use Rattle.rs_floor.specs.Lane.{NoneClosesBefore, sent_changes}
 use Rattle.rs_floor.specs.Schedule.{after_send}
 use Rattle.rs_floor.specs.declared.counts.Counts.{Counts}
-use Rattle.rs_floor.proofs.ListLemmas.{none-take, get-append_seam}
+use Rattle.rs_worker.proofs.PlaceLemmas.{get-seam}
+use Rattle.rs_floor.proofs.ListLemmas.{none-take}
 
 -- ---- which changes close
 
@@ -28,20 +29,11 @@ none-before end recorded last = rw last.splits (λ n below. rw (take-append-le n
 
 -- ---- counts
 
-not_first : {X : Type 0} (a b : Bool) (x y : X) → a ≡ false → (if a && b then x else y) ≡ y
-not_first true b x y e = absurd cc
-not_first false b x y e = refl
-
-both : {X : Type 0} (a b : Bool) (x y : X) → a ≡ true → b ≡ true → (if a && b then x else y) ≡ x
-both true true x y e f = refl
-both true false x y e f = absurd cc
-both false b x y e f = absurd cc
-
 pub send-none_left : (capacity total : ℕ) (counts : Counts) → total ≤ counts.sent → after_send capacity total counts ≡ counts
-send-none_left capacity total counts all = not_first (nat_lt counts.sent total) (nat_lt (counts.sent - counts.received) capacity) (record counts { sent = counts.sent + 1 }) counts (le-ltb counts.sent total all)
+send-none_left capacity total counts all = cond-false _ _ counts (and_left (nat_lt counts.sent total) (nat_lt (counts.sent - counts.received) capacity) (le-ltb counts.sent total all))
 
 pub send-one : (capacity total : ℕ) (counts : Counts) → counts.sent < total → counts.sent - counts.received < capacity → after_send capacity total counts ≡ record counts { sent = counts.sent + 1 }
-send-one capacity total counts some room = both (nat_lt counts.sent total) (nat_lt (counts.sent - counts.received) capacity) (record counts { sent = counts.sent + 1 }) counts (lt-ltb counts.sent total some) (lt-ltb (counts.sent - counts.received) capacity room)
+send-one capacity total counts some room = cond-true _ _ counts (and_from (nat_lt counts.sent total) (nat_lt (counts.sent - counts.received) capacity) (lt-ltb counts.sent total some) (lt-ltb (counts.sent - counts.received) capacity room))
 
 -- ---- a send
 
@@ -64,7 +56,7 @@ pub recorded-waiting : (sent received : List Word) (word : Word) (later : List W
 recorded-waiting sent received word later to_come all =
     let counted : length (sent_changes received) ≡ length received = length-map received change_of in
     let spelled : sent_changes sent ≡ sent_changes received ++ change_of word ∷ sent_changes later = sym (ap (λ (ws : List Word). sent_changes ws) all) ∙ map-append change_of received (word ∷ later) in
-    rw (spelled, append_assoc (sent_changes received) (change_of word ∷ sent_changes later) to_come, ← counted) (get-append_seam (sent_changes received) (sent_changes later ++ to_come) (change_of word))
+    rw (spelled, append_assoc (sent_changes received) (change_of word ∷ sent_changes later) to_come, ← counted) (get-seam (sent_changes received) (sent_changes later ++ to_come) (change_of word))
 
 -- a beginning of what was sent, with one more
 pub beginning-more : (sent received : List Word) (word : Word) (later : List Word) → received ++ word ∷ later ≡ sent → take (length (received ++ word ∷ [])) sent ≡ received ++ word ∷ []

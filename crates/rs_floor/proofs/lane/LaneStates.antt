@@ -19,11 +19,7 @@ recorded_of lane = sent_changes lane.sender.sent ++ to_come lane.session
 -- what the lane is seen as, by its parts
 pub view-is : (lane : Inside) (recorded : List Change) (capacity sent received : ℕ) → recorded_of lane ≡ recorded → lane.capacity ≡ capacity → length lane.sender.sent ≡ sent → length lane.receiver.received ≡ received
     → let seen : LaneContent = record { recorded = recorded; capacity = capacity; counts = record { sent = sent; received = received } } in lane_view lane ≡ seen
-view-is lane recorded capacity sent received a b c d =
-    ap (λ (cs : List Change). let seen : LaneContent = record { recorded = cs; capacity = lane.capacity; counts = record { sent = length lane.sender.sent; received = length lane.receiver.received } } in seen) a
-    ∙ ap (λ (n : ℕ). let seen : LaneContent = record { recorded = recorded; capacity = n; counts = record { sent = length lane.sender.sent; received = length lane.receiver.received } } in seen) b
-    ∙ ap (λ (n : ℕ). let seen : LaneContent = record { recorded = recorded; capacity = capacity; counts = record { sent = n; received = length lane.receiver.received } } in seen) c
-    ∙ ap (λ (n : ℕ). let seen : LaneContent = record { recorded = recorded; capacity = capacity; counts = record { sent = sent; received = n } } in seen) d
+view-is lane recorded capacity sent received a b c d = λ i. record { recorded = a i; capacity = b i; counts = record { sent = c i; received = d i } }
 
 last-along : (one other : List Change) → one ≡ other → NoneClosesBefore other → NoneClosesBefore one
 last-along one other e h = let P : List Change → Type 0 = λ cs. NoneClosesBefore cs in subst P (sym e) h

@@ -1,35 +1,22 @@
 -- What tables hold beside the lanes: for `receive` of steps.rt.
-use Rattle.std.proofs.Common.{◌≡◌, ◌≢◌, ◌∙◌, sym, ap, ℕ, ◌+◌, suc, zero, inl, inr, false, List, [], ◌∷◌, ◌++◌, take, Some, Result, Ok, Err}
-use Rattle.std.proofs.Math.Numerals.{add-one}
+use Rattle.std.proofs.Common.{◌≡◌, ◌≢◌, ◌∙◌, sym, ap, ℕ, ◌+◌, inl, inr, false, List, [], ◌∷◌, ◌++◌, take, Some, Result, Ok, Err}
 use Rattle.std.specs.Prelude.{slice_get, slice_set, OnOk}
 use Rattle.std.specs.List.{list_any}
 use Rattle.std.proofs.lemmas.Bool.Decides.{eqb_tells}
+use Rattle.std.proofs.lemmas.Option.{slice_get_within}
 use Rattle.rs_session.specs.Change.{Change, is_close}
 use Rattle.rs_table.specs.Content.{TablesContent, rib_of, rib_left}
 use Rattle.rs_table.specs.Left.{BecomeBy}
 use Rattle.rs_table.proofs.RibLemmas.{rib_left-more}
 use Rattle.rs_floor.specs.Lane.{LaneContent, received_of}
 use Rattle.rs_floor.specs.Schedule.{after_receive}
-use Rattle.rs_floor.proofs.ListLemmas.{get-set_same, get-set_other, get-within}
+use Rattle.rs_worker.proofs.PlaceLemmas.{get-set_same, get-set_other, take-more}
 use Rattle.rs_floor.specs.Steps.{HoldReceived}
-
--- one change more of a list
-take-suc : {X : Type 0} (xs : List X) (at : ℕ) (x : X) → slice_get xs at ≡ Some x → take (suc at) xs ≡ take at xs ++ x ∷ []
-take-suc [] at x e = absurd cc
-take-suc (y ∷ ys) zero x e = let found : y ≡ x = cc in ap (λ z. z ∷ []) found
-take-suc (y ∷ ys) (suc at) x e = ap (λ zs. y ∷ zs) (take-suc ys at x e)
-
-pub take-more : {X : Type 0} (xs : List X) (at : ℕ) (x : X) → slice_get xs at ≡ Some x → take (at + 1) xs ≡ take at xs ++ x ∷ []
-take-more xs at x e = rw add-one (take-suc xs at x e)
 
 -- what holds anyway holds where the answer is Ok
 pub ok-anyway : {A E : Type 0} (result : Result A E) (Q : Type 0) → Q → OnOk result Q
 ok-anyway (Ok value) Q q = q
 ok-anyway (Err fault) Q q = tt
-
-pub ok-both : {A E : Type 0} (result : Result A E) (P R Q : Type 0) → OnOk result P → OnOk result R → (P → R → Q) → OnOk result Q
-ok-both (Ok value) P R Q p r h = h p r
-ok-both (Err fault) P R Q p r h = tt
 
 -- a change was received from one lane, and the tables took it
 pub held-after : (lanes : List LaneContent) (before after : TablesContent) (at : ℕ) (lane new : LaneContent) (change : Change) → HoldReceived before lanes → slice_get lanes at ≡ Some lane
@@ -50,7 +37,7 @@ held-after lanes before after at lane new change held found new_is one_more give
 
     here : other ≡ at → rib_of after other ≡ rib_left (received_of one)
     here same =
-        let set : slice_get (slice_set lanes at new) at ≡ Some new = get-set_same lanes at new (get-within lanes at lane found) in
+        let set : slice_get (slice_set lanes at new) at ≡ Some new = get-set_same lanes at new (slice_get_within lanes at lane found) in
         let there : slice_get (slice_set lanes at new) at ≡ Some one = ap (λ (n : ℕ). slice_get (slice_set lanes at new) n) (sym same) ∙ e in
         let one_is : new ≡ one = cc in
         ap (λ (n : ℕ). rib_of after n) same ∙ rib ∙ ap (λ (l : LaneContent). rib_left (received_of l)) one_is

@@ -2,12 +2,12 @@
 use Rattle.std.proofs.Common.{◌≡◌, ◌∙◌, sym, ap, ℕ, ◌+◌, ◌<◌, ◌≤◌, arith, List, [], ◌∷◌, ◌++◌, Bor, length, map, get_or, Some}
 use Rattle.std.specs.Prelude.{slice_get}
 use Rattle.std.proofs.Math.ListN.{get_or-map}
-use Rattle.std.proofs.lemmas.Option.{get_or_from_slice_get}
+use Rattle.std.proofs.lemmas.Option.{get_or_from_slice_get, slice_get_within}
 use borrow.Author.Count.{below_more}
 use Rattle.rs_choice.specs.Plan.{Peer}
 use Rattle.rs_floor.specs.FloorContent.{id_of}
 use Rattle.rs_floor.specs.Lane.{LaneContent, fresh_lane}
-use Rattle.rs_floor.proofs.ListLemmas.{get-append, get-append_seam, get-within}
+use Rattle.rs_worker.proofs.PlaceLemmas.{get-front, get-seam}
 
 -- one lane more
 pub one-more : (peers : List Peer) (files : List (Bor (List ℕ))) (capacity : ℕ) (lanes : List LaneContent) (lane : LaneContent) (at : ℕ) (here : Peer) (none : Bor (List ℕ)) → length lanes ≡ at
@@ -17,8 +17,8 @@ pub one-more : (peers : List Peer) (files : List (Bor (List ℕ))) (capacity : �
 one-more peers files capacity lanes lane at here none as_many before is below made number peer file within =
     let octets : List (List ℕ) = map (λ file. file.now) files in
     let P : ℕ → Type 0 = λ n. (p : Peer) (f : List ℕ) → slice_get peers n ≡ Some p → slice_get octets n ≡ Some f → slice_get (lanes ++ lane ∷ []) n ≡ Some (fresh_lane capacity (id_of p) f) in
-    let seam : slice_get (lanes ++ lane ∷ []) at ≡ Some lane = rw (← as_many) (get-append_seam lanes [] lane) in
-    below_more P at (λ n h p f e g. get-append lanes (lane ∷ []) n (omega (arith, as_many)) ∙ before n p f h e g)
+    let seam : slice_get (lanes ++ lane ∷ []) at ≡ Some lane = rw (← as_many) (get-seam lanes [] lane) in
+    below_more P at (λ n h p f e g. get-front lanes (lane ∷ []) n (omega (arith, as_many)) ∙ before n p f h e g)
     (λ p f e g.
     let same_peer : here ≡ p = cc in
     let same_file : (get_or files at none).now ≡ f = sym (get_or-map (λ (file : Bor (List ℕ)). file.now) files at none) ∙ get_or_from_slice_get octets at f none.now g in
@@ -29,4 +29,4 @@ one-more peers files capacity lanes lane at here none as_many before is below ma
 pub all-opened : (peers : List Peer) (files : List (List ℕ)) (capacity : ℕ) (lanes : List LaneContent) (at : ℕ) → length files ≤ at
     → ((number : ℕ) (peer : Peer) (file : List ℕ) → number < at → slice_get peers number ≡ Some peer → slice_get files number ≡ Some file → slice_get lanes number ≡ Some (fresh_lane capacity (id_of peer) file))
     → (number : ℕ) (peer : Peer) (file : List ℕ) → slice_get peers number ≡ Some peer → slice_get files number ≡ Some file → slice_get lanes number ≡ Some (fresh_lane capacity (id_of peer) file)
-all-opened peers files capacity lanes at whole before number peer file e f = before number peer file (omega (arith, get-within files number file f)) e f
+all-opened peers files capacity lanes at whole before number peer file e f = before number peer file (omega (arith, slice_get_within files number file f)) e f

@@ -1,10 +1,10 @@
 -- The end of a schedule, peer by peer: for `run_turns` of steps.rt, `replay` of schedule.rt, and `drained_schedules_agree` of laws.rt.
-use Rattle.std.proofs.Common.{◌≡◌, ◌∙◌, sym, ap, subst, refl, ℕ, ◌<◌, suc, zero, arith, List, [], ◌∷◌, length, take, map, Option, Some, Result, Ok, Err}
-use Rattle.std.specs.Prelude.{slice_get, IfOk}
+use Rattle.std.proofs.Common.{◌≡◌, ◌∙◌, sym, ap, subst, refl, ℕ, ◌<◌, suc, zero, arith, List, [], ◌∷◌, length, take, map, Option, Some}
+use Rattle.std.specs.Prelude.{slice_get}
 use Rattle.std.specs.List.{zip}
 use Rattle.std.specs.Option.{option_map}
 use Rattle.std.proofs.lemmas.List.{length-map}
-use Rattle.std.proofs.lemmas.Option.{slice_get-map, slice_get-get_or}
+use Rattle.std.proofs.lemmas.Option.{slice_get-map, slice_get-get_or, slice_get_within}
 use Rattle.std.proofs.Math.Seq.{take-length}
 use Rattle.rs_choice.specs.Plan.{Peer, Plan}
 use Rattle.rs_session.specs.Change.{Change}
@@ -18,7 +18,8 @@ use Rattle.rs_floor.specs.Steps.{HoldReceived, IsEnd}
 use Rattle.rs_floor.specs.declared.counts.Counts.{Counts}
 use Rattle.rs_floor.specs.declared.turn.Turn.{Turn}
 use Rattle.rs_table.proofs.RibLemmas.{rib_left-nothing}
-use Rattle.rs_floor.proofs.ListLemmas.{same-places, get-within}
+use Rattle.rs_worker.proofs.PlaceLemmas.{map-get, some-at}
+use Rattle.rs_floor.proofs.ListLemmas.{same-places, zip-counted}
 
 -- the peer and the file whose changes stand at a place
 pub record IsSaidAt (peers : List Peer) (files : List (List ℕ)) (at : ℕ) (changes : List Change) : Type 0 where
@@ -37,32 +38,20 @@ recorded-at (p ∷ peers) (f ∷ files) (suc at) changes e =
     record { peer = later.peer; file = later.file; peer_at = later.peer_at; file_at = later.file_at; says = later.says }
 
 pub length-recorded : (peers : List Peer) (files : List (List ℕ)) → length files ≡ length peers → length (map (λ (peer, file). changes_in (id_of peer) file) (zip peers files)) ≡ length peers
-length-recorded [] files e = refl
-length-recorded (p ∷ peers) [] e = absurd (omega (arith, e))
-length-recorded (p ∷ peers) (f ∷ files) e = ap suc (length-recorded peers files (omega (arith, e)))
+length-recorded peers files e = length-map (zip peers files) (λ (peer, file). changes_in (id_of peer) file) ∙ zip-counted peers files e
 
 -- before the first turn nothing was received
-some-at : {X : Type 0} (xs : List X) (at : ℕ) → at < length xs → (x : X) × (slice_get xs at ≡ Some x)
-some-at [] at h = absurd (omega arith)
-some-at (x ∷ xs) zero h = (x, refl)
-some-at (x ∷ xs) (suc at) h = some-at xs at (omega arith)
-
 pub held-fresh : (plan : Plan) (files : List (List ℕ)) (capacity : ℕ) (lanes : List LaneContent) (tables : TablesContent) → length files ≡ length plan.peers → length lanes ≡ length files
     → ((number : ℕ) (peer : Peer) (file : List ℕ) → slice_get plan.peers number ≡ Some peer → slice_get files number ≡ Some file → slice_get lanes number ≡ Some (fresh_lane capacity (id_of peer) file))
     → ((peer : ℕ) → rib_of tables peer ≡ nothing_held) → HoldReceived tables lanes
 held-fresh plan files capacity lanes tables as_many lanes_many fresh empty number lane e =
-    let below = get-within lanes number lane e in
+    let below = slice_get_within lanes number lane e in
     let peer = some-at plan.peers number (omega (arith, below)) in
     let file = some-at files number (omega (arith, below)) in
     let start : LaneContent = fresh_lane capacity (id_of peer.0) file.0 in
     let found : slice_get lanes number ≡ Some start = fresh number peer.0 file.0 peer.1 file.1 in
     let same : start ≡ lane = cc in
     empty number ∙ sym rib_left-nothing ∙ ap (λ (l : LaneContent). rib_left (received_of l)) same
-
--- what holds of an answer is recorded of it in other words
-pub if-ok : {A E : Type 0} (result : Result A E) (P Q : A → Type 0) → IfOk result P → ((x : A) → P x → Q x) → IfOk result Q
-if-ok (Ok x) P Q p h = h x p
-if-ok (Err e) P Q p h = tt
 
 -- the end of the lanes, lane by lane
 pub ended : (turns : List Turn) (lanes after : List LaneContent) (counts : List Counts) (tables : TablesContent) → length after ≡ length lanes
@@ -93,7 +82,7 @@ replayed plan files capacity turns lanes tables counts as_many lanes_many plan_i
           let start : LaneContent = fresh_lane capacity (id_of at.peer) at.file in
           let here : slice_get lanes number ≡ Some start = fresh number at.peer at.file at.peer_at at.file_at in
           let P : List Change → Type 0 = λ cs. IsPeerReplayed cs (after_turns capacity (length cs) number at_start turns) (record { tables = tables; counts = counts }) number in
-          let below : number < length tables.ribs = omega (arith, get-within (recorded_by plan files) number changes e, recorded_many, ribs_many) in
+          let below : number < length tables.ribs = omega (arith, slice_get_within (recorded_by plan files) number changes e, recorded_many, ribs_many) in
           subst P at.says (record {
             counts_are = end.counts_are number start here;
             rib = slice_get-get_or tables.ribs number nothing_held below ∙ ap Some (end.held number start here);
@@ -101,16 +90,11 @@ replayed plan files capacity turns lanes tables counts as_many lanes_many plan_i
     }
 
 -- where all was received, what the tables hold is what is recorded
-map-at : {X Y : Type 0} (f : X → Y) (xs : List X) (at : ℕ) (y : Y) → slice_get (map f xs) at ≡ Some y → (x : X) × ((slice_get xs at ≡ Some x) × (f x ≡ y))
-map-at f [] at y e = absurd cc
-map-at f (x ∷ xs) zero y e = (x, (refl, cc))
-map-at f (x ∷ xs) (suc at) y e = map-at f xs at y e
-
 pub drained : DrainedSchedulesAgree
 drained plan files capacity turns floor replayed_so all =
     let recorded : List (List Change) = recorded_by plan files in
     let places : (at : ℕ) (rib : RibContent) → slice_get (map rib_left recorded) at ≡ Some rib → slice_get floor.tables.ribs at ≡ Some rib = λ at rib e.
-    let found = map-at rib_left recorded at rib e in
+    let found = map-get rib_left recorded at rib e in
     let one = replayed_so.peers at found.0 found.1.0 in
     let whole = all at found.0 (after_turns capacity (length found.0) at at_start turns) found.1.0 one.counts_are in
     one.rib ∙ ap (λ (n : ℕ). Some (rib_left (take n found.0))) whole ∙ ap (λ (cs : List Change). Some (rib_left cs)) (take-length found.0) ∙ ap Some found.1.1 in

@@ -3,7 +3,7 @@ use Rattle.std.proofs.Common.{◌≡◌, ◌∙◌, sym, ap, subst, refl, ℕ, �
 use Rattle.std.specs.Prelude.{slice_get}
 use Rattle.std.specs.List.{zip}
 use Rattle.std.proofs.lemmas.List.{length-map, length-take}
-use Rattle.std.proofs.lemmas.Option.{get_or_from_slice_get}
+use Rattle.std.proofs.lemmas.Option.{slice_get_within}
 use Rattle.rs_choice.specs.Plan.{Peer, Plan}
 use Rattle.rs_mrt.specs.Reader.{ReadEnd}
 use Rattle.rs_mrt.specs.RecordReading.{RecordReading, MayCome, unread}
@@ -29,16 +29,9 @@ use Rattle.rs_floor.specs.Lines.{AreLines}
 use Rattle.rs_floor.specs.Run.{HasRun, IsAnswer, IsFirstRead, IsWell, end_of}
 use Rattle.rs_floor.specs.Served.{ServedContent, IsEndOf, IsServedBy, said_by}
 use Rattle.rs_floor.specs.declared.ended.PeerEnd.{PeerEnd}
-use Rattle.rs_floor.proofs.ListLemmas.{same-places, get-within}
-use Rattle.rs_floor.proofs.serving.ServedLemmas.{JoinedOver, choose, made-at, zip-at, zip-counted, says-file, end-of-file, may-fail}
-
-pub some-at : {X : Type 0} (xs : List X) (at : ℕ) → at < length xs → (x : X) × (slice_get xs at ≡ Some x)
-some-at [] at h = absurd (omega arith)
-some-at (x ∷ xs) zero h = (x, refl)
-some-at (x ∷ xs) (suc at) h = some-at xs at (omega arith)
-
-pub all-at : {X : Type 0} (P : X → Type 0) (xs : List X) → All P xs → (place : ℕ) (x : X) → slice_get xs place ≡ Some x → P x
-all-at P xs all place x e = subst P (get_or_from_slice_get xs place x x e) (all place x (get-within xs place x e))
+use Rattle.rs_worker.proofs.PlaceLemmas.{all-at, get-map, same-counted, same-made, some-at}
+use Rattle.rs_floor.proofs.ListLemmas.{same-places, zip-at, zip-counted}
+use Rattle.rs_floor.proofs.serving.ServedLemmas.{JoinedOver, choose, says-file, end-of-file, may-fail}
 
 -- what is known at a place of a run: its peer, its reader, what was received, and how its worker ended
 pub record IsPlace {R : Type 0} (gives : R → List ℕ → ReadEnd → Type 0) (errors : Errors) (peers : List Peer) (readers : List R) (receivers : List (Receiving Word)) (ends : List Joined) (place : ℕ) : Type 0 where
@@ -55,17 +48,10 @@ pub record IsPlace {R : Type 0} (gives : R → List ℕ → ReadEnd → Type 0) 
 
 -- the file at a place, which its reader may give: it says what was received there, and its end
 pub record IsFileAt {R : Type 0} (gives : R → List ℕ → ReadEnd → Type 0) (errors : Errors) (peers : List Peer) (readers : List R) (receivers : List (Receiving Word)) (ends : List Joined) (place : ℕ) (file : List ℕ) : Type 0 where
-  pub peer : Peer
-  pub reader : R
-  pub receiver : Receiving Word
-  pub end : Joined
-  pub peer_at : slice_get peers place ≡ Some peer
-  pub reader_at : slice_get readers place ≡ Some reader
-  pub receiver_at : slice_get receivers place ≡ Some receiver
-  pub end_at : slice_get ends place ≡ Some end
-  pub given : IsGiven gives errors (id_of peer) reader file
-  pub says : map change_of receiver.received ≡ changes_in_by errors (id_of peer) file
-  pub ended : IsEndOf errors (id_of peer) file (end_of end)
+  pub here : IsPlace gives errors peers readers receivers ends place
+  pub given : IsGiven gives errors (id_of here.peer) here.reader file
+  pub says : map change_of here.receiver.received ≡ changes_in_by errors (id_of here.peer) file
+  pub ended : IsEndOf errors (id_of here.peer) file (end_of here.end)
 
 -- the reader at a place may give this file
 pub record IsGivenAt {R : Type 0} (gives : R → List ℕ → ReadEnd → Type 0) (errors : Errors) (peers : List PeerId) (readers : List R) (place : ℕ) (file : List ℕ) : Type 0 where
@@ -97,19 +83,7 @@ take-at (suc n) (y ∷ ys) (suc place) x below e = take-at n ys place x (omega (
 
 -- what a value made of a member is at its place
 made-is : {X Y : Type 0} (f : X → Y) (xs : List X) (place : ℕ) (x : X) (y : Y) → slice_get xs place ≡ Some x → slice_get (map f xs) place ≡ Some y → f x ≡ y
-made-is f xs place x y e made = let both : Some (f x) ≡ Some y = sym (made-at f xs place x e) ∙ made in cc
-
--- two lists made alike have the same at a place
-same-made : {X Y Z : Type 0} (f : X → Z) (g : Y → Z) (xs : List X) (ys : List Y) → map f xs ≡ map g ys → (place : ℕ) (x : X) (y : Y) → slice_get xs place ≡ Some x → slice_get ys place ≡ Some y → f x ≡ g y
-same-made f g xs ys same place x y at_xs at_ys =
-    let one : slice_get (map f xs) place ≡ Some (f x) = made-at f xs place x at_xs in
-    let other : slice_get (map g ys) place ≡ Some (g y) = made-at g ys place y at_ys in
-    let both : slice_get (map f xs) place ≡ slice_get (map g ys) place = ap (λ zs. slice_get zs place) same in
-    let joined : Some (f x) ≡ Some (g y) = sym one ∙ both ∙ other in
-    cc
-
-same-counted : {X Y Z : Type 0} (f : X → Z) (g : Y → Z) (xs : List X) (ys : List Y) → map f xs ≡ map g ys → length xs ≡ length ys
-same-counted f g xs ys same = sym (length-map xs f) ∙ ap length same ∙ length-map ys g
+made-is f xs place x y e made = let both : Some (f x) ≡ Some y = sym (get-map f xs place x e) ∙ made in cc
 
 ribs-same : (receivers : List (Receiving Word))
     → map (λ words. rib_left (map change_of words)) (received_lists receivers) ≡ map rib_left (map (λ receiver. map change_of receiver.received) receivers)
@@ -135,9 +109,6 @@ module _ {R : Type 0} (gives : R → List ℕ → ReadEnd → Type 0) (errors : 
       let end = some-at ends place (omega (arith, as_many, joined)) in
       let source : job.0.source ≡ unread reader.0 = same-made (λ (j : Job (RecordReading R)). j.source) unread jobs readers sources place job.0 reader.0 job.1 reader.1 in
       let id : job.0.id ≡ id_of peer.0 = same-made (λ (j : Job (RecordReading R)). j.id) id_of jobs plan.peers peers place job.0 peer.0 job.1 peer.1 in
-      let before : HasJoined (May (MayCome gives) (λ reading. reading.shown) (fresh job.0.source job.0.id errors)) receiver.0.received end.0 = known place job.0 receiver.0 end.0 job.1 receiver.1 end.1 in
-      let with_source : JoinedOver gives errors job.0.id reader.0 receiver.0.received end.0 =
-      subst (λ (s : RecordReading R). HasJoined (May (MayCome gives) (λ reading. reading.shown) (fresh s job.0.id errors)) receiver.0.received end.0) source before in
       record {
         peer = peer.0;
         reader = reader.0;
@@ -148,7 +119,7 @@ module _ {R : Type 0} (gives : R → List ℕ → ReadEnd → Type 0) (errors : 
         receiver_at = receiver.1;
         end_at = end.1;
         law = all-at (GivesFileOrFails gives) readers says place reader.0 reader.1;
-        joined = subst (λ (i : PeerId). JoinedOver gives errors i reader.0 receiver.0.received end.0) id with_source;
+        joined = rw (source, id) at (known place job.0 receiver.0 end.0 job.1 receiver.1 end.1);
       }
 
   -- where all is well there is a file
@@ -157,14 +128,7 @@ module _ {R : Type 0} (gives : R → List ℕ → ReadEnd → Type 0) (errors : 
       let said : SaysGiven gives errors (id_of here.peer) here.reader (map change_of here.joined.sent) here.end.passed = says-file gives errors (id_of here.peer) here.reader here.receiver.received here.end here.law closes here.joined fine.1 fine.2 in (
         said.file,
         record {
-          peer = here.peer;
-          reader = here.reader;
-          receiver = here.receiver;
-          end = here.end;
-          peer_at = here.peer_at;
-          reader_at = here.reader_at;
-          receiver_at = here.receiver_at;
-          end_at = here.end_at;
+          here = here;
           given = said.given;
           says = ap (map change_of) (here.joined.settles fine.0) ∙ said.says;
           ended = end-of-file gives errors (id_of here.peer) here.reader here.receiver.received here.end here.joined said;
@@ -176,7 +140,7 @@ module _ {R : Type 0} (gives : R → List ℕ → ReadEnd → Type 0) (errors : 
     are-given =
         given-all gives errors (map id_of plan.peers) readers files
         (as_many ∙ sym (same-counted (λ (job : Job (RecordReading R)). job.id) id_of jobs plan.peers peers) ∙ same-counted (λ (job : Job (RecordReading R)). job.source) unread jobs readers sources)
-        (λ place file file_at. let here = at place file file_at in record { peer = id_of here.peer; reader = here.reader; peer_at = made-at id_of plan.peers place here.peer here.peer_at; reader_at = here.reader_at; given = here.given })
+        (λ place file file_at. let found = at place file file_at in let here = found.here in record { peer = id_of here.peer; reader = here.reader; peer_at = get-map id_of plan.peers place here.peer here.peer_at; reader_at = here.reader_at; given = found.given })
 
     said-same : said_by errors plan files ≡ map (λ receiver. map change_of receiver.received) receivers
     said-same = same-places (map (λ (receiver : Receiving Word). map change_of receiver.received) receivers) (said_by errors plan files) lengths places
@@ -188,25 +152,27 @@ module _ {R : Type 0} (gives : R → List ℕ → ReadEnd → Type 0) (errors : 
 
         places : (place : ℕ) (changes : List Change) → slice_get (map (λ (receiver : Receiving Word). map change_of receiver.received) receivers) place ≡ Some changes → slice_get (said_by errors plan files) place ≡ Some changes
         places place changes e =
-            let within : place < length (map (λ (receiver : Receiving Word). map change_of receiver.received) receivers) = get-within (map (λ (receiver : Receiving Word). map change_of receiver.received) receivers) place changes e in
+            let within : place < length (map (λ (receiver : Receiving Word). map change_of receiver.received) receivers) = slice_get_within (map (λ (receiver : Receiving Word). map change_of receiver.received) receivers) place changes e in
             let total : length (map (λ (receiver : Receiving Word). map change_of receiver.received) receivers) ≡ length plan.peers =
             length-map receivers (λ (receiver : Receiving Word). map change_of receiver.received) ∙ counted ∙ same-counted (λ (job : Job (RecordReading R)). job.id) id_of jobs plan.peers peers in
             let file = some-at files place (omega (arith, within, total, as_many)) in
-            let here = at place file.0 file.1 in
-            let made : slice_get (map (λ (receiver : Receiving Word). map change_of receiver.received) receivers) place ≡ Some (map change_of here.receiver.received) = made-at (λ (receiver : Receiving Word). map change_of receiver.received) receivers place here.receiver here.receiver_at in
+            let found = at place file.0 file.1 in
+            let here = found.here in
+            let made : slice_get (map (λ (receiver : Receiving Word). map change_of receiver.received) receivers) place ≡ Some (map change_of here.receiver.received) = get-map (λ (receiver : Receiving Word). map change_of receiver.received) receivers place here.receiver here.receiver_at in
             let zipped : slice_get (zip plan.peers files) place ≡ Some (here.peer, file.0) = zip-at plan.peers files place here.peer file.0 here.peer_at file.1 in
-            made-at (λ (peer, file). changes_in_by errors (id_of peer) file) (zip plan.peers files) place (here.peer, file.0) zipped ∙ ap Some (sym here.says) ∙ sym made ∙ e
+            get-map (λ (peer, file). changes_in_by errors (id_of peer) file) (zip plan.peers files) place (here.peer, file.0) zipped ∙ ap Some (sym found.says) ∙ sym made ∙ e
 
     ends-same : (served : List PeerEnd) → served ≡ map end_of ends → (place : ℕ) (peer : Peer) (file : List ℕ) (end : PeerEnd)
         → slice_get plan.peers place ≡ Some peer → slice_get files place ≡ Some file → slice_get served place ≡ Some end → IsEndOf errors (id_of peer) file end
     ends-same served served_is place peer file end peer_at file_at end_at =
-        let here = at place file file_at in
+        let found = at place file file_at in
+        let here = found.here in
         let two : Some here.peer ≡ Some peer = sym here.peer_at ∙ peer_at in
         let same_peer : here.peer ≡ peer = cc in
-        let made : slice_get (map end_of ends) place ≡ Some (end_of here.end) = made-at end_of ends place here.end here.end_at in
+        let made : slice_get (map end_of ends) place ≡ Some (end_of here.end) = get-map end_of ends place here.end here.end_at in
         let both : Some (end_of here.end) ≡ Some end = sym made ∙ sym (ap (λ (all : List PeerEnd). slice_get all place) served_is) ∙ end_at in
         let same_end : end_of here.end ≡ end = cc in
-        subst (λ (e : PeerEnd). IsEndOf errors (id_of peer) file e) same_end (subst (λ (p : Peer). IsEndOf errors (id_of p) file (end_of here.end)) same_peer here.ended)
+        subst (λ (e : PeerEnd). IsEndOf errors (id_of peer) file e) same_end (subst (λ (p : Peer). IsEndOf errors (id_of p) file (end_of here.end)) same_peer found.ended)
 
 module _ {R : Type 0} (gives : R → List ℕ → ReadEnd → Type 0) (errors : Errors) (plan : Plan) (readers : List R) (jobs : List (Job (RecordReading R))) (lines : List (Receiving Word))
     (shards : List ShardJob) (ends : List Joined) (parts : List TablesContent) (whole : Bool)
@@ -225,7 +191,7 @@ module _ {R : Type 0} (gives : R → List ℕ → ReadEnd → Type 0) (errors : 
 
   known : (place : ℕ) (job : Job (RecordReading R)) (receiver : Receiving Word) (end : Joined) → slice_get jobs place ≡ Some job → slice_get run.receivers place ≡ Some receiver → slice_get ends place ≡ Some end
       → HasJoined (May (MayCome gives) (λ reading. reading.shown) (fresh job.source job.id errors)) receiver.received end
-  known place job receiver end job_at receiver_at end_at = run.known place (charge_of errors job) receiver end (made-at (charge_of errors) jobs place job job_at) receiver_at end_at
+  known place job receiver end job_at receiver_at end_at = run.known place (charge_of errors job) receiver end (get-map (charge_of errors) jobs place job job_at) receiver_at end_at
 
   here-at : (place : ℕ) → place < length plan.peers → IsPlace gives errors plan.peers readers run.receivers ends place
   here-at = place-at gives errors plan readers jobs run.receivers ends are.sources are.peers counted joined are.says known
@@ -253,14 +219,14 @@ module _ {R : Type 0} (gives : R → List ℕ → ReadEnd → Type 0) (errors : 
   -- the first peer of which a read failed had a reader that may fail, and those of the peers before it may give files
   pub fails-first : ClosesOnce → (peer : ℕ) → IsFirstRead ends peer → MayFailAt gives errors (map id_of plan.peers) readers peer
   fails-first once peer first =
-      let within : peer < length ends = omega (arith, get-within (map (λ (end : Joined). is_read end.reason) ends) peer true first.least.has, length-map ends (λ (end : Joined). is_read end.reason)) in
+      let within : peer < length ends = omega (arith, slice_get_within (map (λ (end : Joined). is_read end.reason) ends) peer true first.least.has, length-map ends (λ (end : Joined). is_read end.reason)) in
       let here = here-at peer (within-peers peer within) in
       let chosen = choose peer (λ place file. IsGivenAt gives errors (take peer (map id_of plan.peers)) (take peer readers) place file) (before within) in
       record {
         peer = id_of here.peer;
         reader = here.reader;
         files = chosen.0;
-        peer_is = made-at id_of plan.peers peer here.peer here.peer_at;
+        peer_is = get-map id_of plan.peers peer here.peer here.peer_at;
         reader_is = here.reader_at;
         fails = may-fail gives errors (id_of here.peer) here.reader here.receiver.received here.end here.law once here.joined (made-is (λ (end : Joined). is_read end.reason) ends peer here.end true here.end_at first.least.has);
         before = given-all gives errors (take peer (map id_of plan.peers)) (take peer readers) chosen.0 (omega (arith, chosen.1, length-take peer readers, within, joined, as_readers)) chosen.2;
@@ -276,7 +242,7 @@ module _ {R : Type 0} (gives : R → List ℕ → ReadEnd → Type 0) (errors : 
             record {
               peer = id_of here.peer;
               reader = here.reader;
-              peer_at = take-at peer (map id_of plan.peers) place (id_of here.peer) below (made-at id_of plan.peers place here.peer here.peer_at);
+              peer_at = take-at peer (map id_of plan.peers) place (id_of here.peer) below (get-map id_of plan.peers place here.peer here.peer_at);
               reader_at = take-at peer readers place here.reader below here.reader_at;
               given = said.given;
             },

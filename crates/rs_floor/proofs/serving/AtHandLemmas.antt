@@ -3,6 +3,7 @@ use Rattle.std.proofs.Common.{◌≡◌, ◌∙◌, sym, ap, subst, ℕ, ◌<◌
 use Rattle.std.specs.Prelude.{slice_get}
 use Rattle.std.specs.List.{zip}
 use Rattle.std.proofs.lemmas.List.{length-map, take-append-drop}
+use Rattle.std.proofs.lemmas.Option.{slice_get_within}
 use Rattle.rs_choice.specs.Plan.{Peer, Plan}
 use Rattle.rs_mrt.specs.Reader.{ReadEnd, FileEnds, ReadFails, MayBeLeft}
 use Rattle.rs_session.specs.Change.{Change}
@@ -14,10 +15,9 @@ use Rattle.rs_floor.specs.FloorContent.{id_of}
 use Rattle.rs_floor.specs.Laws.{tables_of}
 use Rattle.rs_floor.specs.Served.{ServedContent, IsEndOf, IsServed, IsServedBy, said_by}
 use Rattle.rs_floor.specs.declared.ended.PeerEnd.{PeerEnd}
-use Rattle.rs_floor.proofs.serving.AllServedLemmas.{some-at}
+use Rattle.rs_worker.proofs.PlaceLemmas.{get-map, some-at}
 use Rattle.rs_floor.proofs.serving.FileLemmas.{front-says}
-use Rattle.rs_floor.proofs.ListLemmas.{same-places, get-within}
-use Rattle.rs_floor.proofs.serving.ServedLemmas.{made-at, zip-at, zip-counted}
+use Rattle.rs_floor.proofs.ListLemmas.{same-places, zip-at, zip-counted}
 
 -- a reader gives the octets that it has at hand, or a beginning of them before a failed read
 abbrev pub at_hand : {R : Type 0} → (R → List ℕ) → R → List ℕ → ReadEnd → Type 0
@@ -54,35 +54,35 @@ module _ {R : Type 0} (f : R → List ℕ) (errors : Errors) (plan : Plan) (read
   files-counted = s.1.as_many ∙ as_many
 
   same : (place : ℕ) (peer : Peer) (reader : R) (file : List ℕ) → slice_get plan.peers place ≡ Some peer → slice_get readers place ≡ Some reader → slice_get s.0 place ≡ Some file → SaysSame errors (id_of peer) file (f reader)
-  same place peer reader file ep er ef = given-whole f errors (id_of peer) reader file (s.1.each place (id_of peer) reader file (made-at id_of plan.peers place peer ep) er ef)
+  same place peer reader file ep er ef = given-whole f errors (id_of peer) reader file (s.1.each place (id_of peer) reader file (get-map id_of plan.peers place peer ep) er ef)
 
   of-zip : (files : List (List ℕ)) → length files ≡ length plan.peers → length (said_by errors plan files) ≡ length plan.peers
   of-zip files counts = length-map (zip plan.peers files) (λ (peer, file). changes_in_by errors (id_of peer) file) ∙ zip-counted plan.peers files counts
 
   said-at : (files : List (List ℕ)) (place : ℕ) (peer : Peer) (file : List ℕ) → slice_get plan.peers place ≡ Some peer → slice_get files place ≡ Some file → slice_get (said_by errors plan files) place ≡ Some (changes_in_by errors (id_of peer) file)
-  said-at files place peer file ep ef = made-at (λ (p, o). changes_in_by errors (id_of p) o) (zip plan.peers files) place (peer, file) (zip-at plan.peers files place peer file ep ef)
+  said-at files place peer file ep ef = get-map (λ (p, o). changes_in_by errors (id_of p) o) (zip plan.peers files) place (peer, file) (zip-at plan.peers files place peer file ep ef)
 
   said : said_by errors plan s.0 ≡ said_by errors plan (map f readers)
   said = same-places (said_by errors plan (map f readers)) (said_by errors plan s.0) (of-zip (map f readers) (length-map readers f ∙ as_many) ∙ sym (of-zip s.0 files-counted)) places
     where
       places : (place : ℕ) (changes : List Change) → slice_get (said_by errors plan (map f readers)) place ≡ Some changes → slice_get (said_by errors plan s.0) place ≡ Some changes
       places place changes e =
-          let within : place < length (said_by errors plan (map f readers)) = get-within (said_by errors plan (map f readers)) place changes e in
+          let within : place < length (said_by errors plan (map f readers)) = slice_get_within (said_by errors plan (map f readers)) place changes e in
           let total : length (said_by errors plan (map f readers)) ≡ length plan.peers = of-zip (map f readers) (length-map readers f ∙ as_many) in
           let peer = some-at plan.peers place (omega (arith, within, total)) in
           let reader = some-at readers place (omega (arith, within, total, as_many)) in
           let file = some-at s.0 place (omega (arith, within, total, files-counted)) in
           let one = same place peer.0 reader.0 file.0 peer.1 reader.1 file.1 in
-          said-at s.0 place peer.0 file.0 peer.1 file.1 ∙ ap Some one.changes ∙ sym (said-at (map f readers) place peer.0 (f reader.0) peer.1 (made-at f readers place reader.0 reader.1)) ∙ e
+          said-at s.0 place peer.0 file.0 peer.1 file.1 ∙ ap Some one.changes ∙ sym (said-at (map f readers) place peer.0 (f reader.0) peer.1 (get-map f readers place reader.0 reader.1)) ∙ e
 
   ends : (place : ℕ) (peer : Peer) (whole : List ℕ) (end : PeerEnd) → slice_get plan.peers place ≡ Some peer → slice_get (map f readers) place ≡ Some whole → slice_get served.ends place ≡ Some end → IsEndOf errors (id_of peer) whole end
   ends place peer whole end ep ew ee =
-      let within : place < length (map f readers) = get-within (map f readers) place whole ew in
+      let within : place < length (map f readers) = slice_get_within (map f readers) place whole ew in
       let reader = some-at readers place (omega (arith, within, length-map readers f)) in
       let file = some-at s.0 place (omega (arith, within, length-map readers f, as_many, files-counted)) in
       let one = same place peer reader.0 file.0 ep reader.1 file.1 in
       let was = s.2.ends_are place peer file.0 end ep file.1 ee in
-      let both : Some (f reader.0) ≡ Some whole = sym (made-at f readers place reader.0 reader.1) ∙ ew in
+      let both : Some (f reader.0) ≡ Some whole = sym (get-map f readers place reader.0 reader.1) ∙ ew in
       let same_file : f reader.0 ≡ whole = cc in
       let is : IsEndOf errors (id_of peer) (f reader.0) end = record {
         before = was.before;

@@ -1,9 +1,9 @@
 -- What follows the record that ends a session says nothing: for `serve` of serving.rt, by AtHandLemmas.
 use Rattle.std.proofs.Common.{◌≡◌, ◌∙◌, sym, ap, refl, ℕ, ◌+◌, ◌*◌, ◌^◌, ◌≤◌, zero, suc, arith, Bool, true, false, cond, not, List, [], ◌∷◌, ◌++◌, length, take, drop, length-append, length-drop, Option, Some}
-use Rattle.std.specs.Prelude.{◌&&◌, nat_le, slice_index, find, take_while, if◌then◌else◌}
+use Rattle.std.specs.Prelude.{nat_le, slice_index, find, take_while, if◌then◌else◌}
 use Rattle.std.specs.List.{list_any}
 use Rattle.std.proofs.lemmas.List.Sums.{take_while-cons}
-use Rattle.std.proofs.lemmas.Bool.Decides.{nat_tests}
+use Rattle.std.proofs.lemmas.Bool.{and_from, and_parts, le-leb, leb-true}
 use Rattle.std.proofs.lemmas.List.{get_or_append_left, take-append-le, drop-append-le}
 use Rattle.rs_mrt.specs.Source.{source_end}
 use Rattle.rs_mrt.specs.declared.fault.SourceFault.{SourceFault}
@@ -13,9 +13,6 @@ use Rattle.rs_session.specs.Given.{has_end}
 use Rattle.rs_session.specs.declared.peer.PeerId.{PeerId}
 use Rattle.rs_update.specs.declared.errors.Errors.{Errors}
 use Rattle.rs_mrt.specs.Record.{MrtRecord, records_within, records_of, end_of, has_record, front_record, after_record, length_field}
-
-and-true : (a b : Bool) → a ≡ true → b ≡ true → (a && b) ≡ true
-and-true a b e f = cc
 
 -- the number in n octets from place i, the highest first
 abbrev big_from : ℕ → ℕ → List ℕ → ℕ
@@ -38,16 +35,6 @@ same-behind : (n k : ℕ) (xs rest : List ℕ) → k + n ≤ length xs → big_n
 same-behind n k xs rest h =
     ap (big_number n) (drop-append-le k xs rest (omega arith)) ∙ same-number n 0 (drop k xs) rest (omega (arith, length-drop k xs))
 
-both-true : (a b : Bool) → (a && b) ≡ true → (a ≡ true) × (b ≡ true)
-both-true true b e = (refl, e)
-both-true false b e = absurd cc
-
-le-true : (a b : ℕ) → nat_le a b ≡ true → a ≤ b
-le-true a b e = grind (arith, nat_tests)
-
-true-le : (a b : ℕ) → a ≤ b → nat_le a b ≡ true
-true-le a b h = grind (arith, nat_tests)
-
 abbrev mk : ℕ → ℕ → ℕ → List ℕ → MrtRecord
 mk time kind subtype body = record { time = time; kind = kind; subtype = subtype; body = body }
 
@@ -61,10 +48,10 @@ stays : (xs rest : List ℕ) → has_record xs ≡ true → Stays xs rest
 stays xs rest has = record { there = there; front = front; after = after }
   where
     parts : (nat_le 12 (length xs) ≡ true) × (nat_le (length_field xs) (length (drop 12 xs)) ≡ true)
-    parts = both-true (nat_le 12 (length xs)) (nat_le (length_field xs) (length (drop 12 xs))) has
+    parts = and_parts (nat_le 12 (length xs)) (nat_le (length_field xs) (length (drop 12 xs))) has
 
     head : 12 ≤ length xs
-    head = le-true 12 (length xs) parts.0
+    head = leb-true 12 (length xs) parts.0
 
     field : length_field (xs ++ rest) ≡ length_field xs
     field = same-behind 4 8 xs rest (omega (arith, head))
@@ -73,12 +60,12 @@ stays xs rest has = record { there = there; front = front; after = after }
     behind = drop-append-le 12 xs rest head
 
     room : length_field xs ≤ length (drop 12 xs)
-    room = le-true (length_field xs) (length (drop 12 xs)) parts.1
+    room = leb-true (length_field xs) (length (drop 12 xs)) parts.1
 
     there : has_record (xs ++ rest) ≡ true
-    there = and-true (nat_le 12 (length (xs ++ rest))) (nat_le (length_field (xs ++ rest)) (length (drop 12 (xs ++ rest))))
-        (true-le 12 (length (xs ++ rest)) (omega (arith, length-append xs rest, head)))
-        (true-le (length_field (xs ++ rest)) (length (drop 12 (xs ++ rest))) (omega (arith, field, ap length behind, length-append (drop 12 xs) rest, room)))
+    there = and_from (nat_le 12 (length (xs ++ rest))) (nat_le (length_field (xs ++ rest)) (length (drop 12 (xs ++ rest))))
+        (le-leb 12 (length (xs ++ rest)) (omega (arith, length-append xs rest, head)))
+        (le-leb (length_field (xs ++ rest)) (length (drop 12 (xs ++ rest))) (omega (arith, field, ap length behind, length-append (drop 12 xs) rest, room)))
 
     body : take (length_field (xs ++ rest)) (drop 12 (xs ++ rest)) ≡ take (length_field xs) (drop 12 xs)
     body = ap (λ (n : ℕ). take n (drop 12 (xs ++ rest))) field ∙ ap (take (length_field xs)) behind ∙ take-append-le (length_field xs) (drop 12 xs) rest room

@@ -1,11 +1,11 @@
 -- A run, from the start of its threads to their join: for crew.rt, `open_lines` of lines.rt, and `serve_by` and `serve` of serving.rt.
 use mathlib.Core.List.{IsPrefix, map-map}
-use Rattle.std.proofs.Common.{◌≡◌, ◌∙◌, sym, ap, subst, refl, ℕ, ◌<◌, ◌≤◌, ◌⊎◌, inl, inr, zero, suc, arith, take, Result, Ok, Err, Bool, true, List, [], ◌∷◌, ◌++◌, length, map, get_or, append-nil, length-append}
-use Rattle.std.specs.Prelude.{IfErr, IfOk}
+use Rattle.std.proofs.Common.{◌≡◌, ◌∙◌, sym, ap, subst, ℕ, ◌<◌, ◌≤◌, ◌⊎◌, inl, inr, arith, Result, Ok, Err, Bool, true, List, [], ◌++◌, length, map, get_or, append-nil, length-append}
+use Rattle.std.specs.Prelude.{IfErr}
 use Rattle.std.specs.Result.{IsErrOf}
-use Rattle.std.proofs.lemmas.List.{length-map}
+use Rattle.std.proofs.lemmas.List.{length-map, nil_from_length}
 use Rattle.std.proofs.lemmas.List.Elements.{All-map}
-use Rattle.std.proofs.lemmas.Option.{slice_get-get_or}
+use Rattle.std.proofs.lemmas.Option.{slice_get-get_or, slice_get_within}
 use Rattle.rs_choice.specs.Plan.{Plan}
 use Rattle.rs_mrt.specs.Reader.{ReadEnd}
 use Rattle.rs_mrt.specs.RecordReading.{RecordReading, MayCome}
@@ -31,29 +31,13 @@ use Rattle.rs_floor.specs.Run.{HasRun, CanMerge, IsAnswer, IsFirstRead, IsRefusa
 use Rattle.rs_floor.specs.Served.{ServedContent, IsServedBy}
 use Rattle.rs_floor.specs.declared.fault.FloorRefused.{FloorRefused}
 use Rattle.rs_floor.specs.declared.fault.FloorRefused.TheVariants.{Capacity, Read, Shards, Unsettled}
-use Rattle.rs_floor.proofs.serving.AllServedLemmas.{all-at, all-served, fails-first, within-peers}
-use Rattle.rs_floor.proofs.ListLemmas.{get-within}
-
-pub none-left : {X : Type 0} (xs : List X) → length xs ≡ 0 → xs ≡ []
-none-left [] e = refl
-none-left (x ∷ xs) e = absurd (omega (arith, e))
-
--- what was written over the front of a list of that length
-pub take-front : {X : Type 0} (xs later : List X) (n : ℕ) → length xs ≡ n → take n (xs ++ later) ≡ xs
-take-front [] later zero e = refl
-take-front [] later (suc n) e = absurd (omega (arith, e))
-take-front (x ∷ xs) later zero e = absurd (omega (arith, e))
-take-front (x ∷ xs) later (suc n) e = ap (λ zs. x ∷ zs) (take-front xs later n (omega (arith, e)))
-
--- what follows where the answer is Ok
-pub ok-so : {A E : Type 0} (result : Result A E) (P Q : A → Type 0) → IfOk result P → ((x : A) → P x → Q x) → IfOk result Q
-ok-so (Ok x) P Q p h = h x p
-ok-so (Err fault) P Q p h = tt
+use Rattle.rs_worker.proofs.PlaceLemmas.{all-at, same-counted}
+use Rattle.rs_floor.proofs.serving.AllServedLemmas.{all-served, fails-first, within-peers}
 
 -- a beginning that is as long is the whole
 pub prefix-whole : {X : Type 0} (xs ys : List X) → IsPrefix xs ys → length xs ≡ length ys → xs ≡ ys
 prefix-whole xs ys prefix counts =
-    let none : prefix.0 ≡ [] = none-left prefix.0 (omega (arith, ap length prefix.1, length-append xs prefix.0, counts)) in
+    let none : prefix.0 ≡ [] = nil_from_length prefix.0 (omega (arith, ap length prefix.1, length-append xs prefix.0, counts)) in
     sym (append-nil xs) ∙ ap (λ zs. xs ++ zs) (sym none) ∙ prefix.1
 
 -- where all were started, each is charged with its job
@@ -72,9 +56,6 @@ pub rings-of : {H J C Q E : Type 0} (charged : H → C) (charge : J → C) (ring
 rings-of charged charge ring end handles jobs before after same rings kept =
     sym (map-map ring charged handles) ∙ ap (map ring) same ∙ map-map ring charge jobs ∙ rings ∙ sym kept
 
-pub counted-by : {X Y Z : Type 0} (f : X → Z) (g : Y → Z) (xs : List X) (ys : List Y) → map f xs ≡ map g ys → length xs ≡ length ys
-counted-by f g xs ys same = sym (length-map xs f) ∙ ap length same ∙ length-map ys g
-
 -- all were joined
 pub has-run : {R : Type 0} (gives : R → List ℕ → ReadEnd → Type 0) (workers : List (Charge (RecordReading R))) (of_shards : List shards.Charge) (routed joined : List (Receiving Word)) (sent : List (List Routed))
     (ends : List Joined) (parts : List TablesContent) (whole : Bool)
@@ -87,7 +68,7 @@ has-run gives workers of_shards routed joined sent ends parts whole closed cuts 
   sent = sent;
   closed = rw same closed;
   cuts = rw same cuts;
-  counted = counted-by (λ (r : Receiving Word). r.received) (λ (r : Receiving Word). r.received) joined routed same ∙ counted;
+  counted = same-counted (λ (r : Receiving Word). r.received) (λ (r : Receiving Word). r.received) joined routed same ∙ counted;
   shared = sizes;
   joined = ended;
   known = known;
@@ -105,7 +86,7 @@ module _ {R : Type 0} (gives : R → List ℕ → ReadEnd → Type 0) (errors : 
     (of_shards : List ShardJob) (senders : List (Sending Routed)) (ends : List Joined) (parts : List TablesContent) (whole : Bool)
     (are : AreLines gives plan readers jobs lines) (rings : AreRings plan of_shards senders) (run : HasRun gives (map (charge_of errors) jobs) (map shards.charge_of of_shards) ends parts whole) where
   peers-counted : length jobs ≡ length plan.peers
-  peers-counted = counted-by (λ (job : Job (RecordReading R)). job.id) id_of jobs plan.peers are.peers
+  peers-counted = same-counted (λ (job : Job (RecordReading R)). job.id) id_of jobs plan.peers are.peers
 
   is-run : whole ≡ true → IsRun plan (received_lists run.receivers) run.sent (map shards.charge_of of_shards) parts
   is-run is = record {
@@ -152,7 +133,7 @@ module _ {R : Type 0} (gives : R → List ℕ → ReadEnd → Type 0) (errors : 
       let same : fault ≡ Read peer = cc in
       let first : IsFirstRead ends peer = subst (IsRefusal ends) same refused in
       within-peers gives errors plan readers jobs lines of_shards ends parts whole are closes run peer
-      (omega (arith, get-within (map (λ (end : Joined). is_read end.reason) ends) peer true first.least.has, length-map ends (λ (end : Joined). is_read end.reason)))
+      (omega (arith, slice_get_within (map (λ (end : Joined). is_read end.reason) ends) peer true first.least.has, length-map ends (λ (end : Joined). is_read end.reason)))
   run-names closes (Err fault) refused peer (inr is) =
       let same : fault ≡ Unsettled peer = cc in
       within-peers gives errors plan readers jobs lines of_shards ends parts whole are closes run peer (subst (IsRefusal ends) same refused)

@@ -1,17 +1,14 @@
 -- What files say of each peer whose worker settled well: for `serve_by` and `serve` of serving.rt, by AllServedLemmas and AtHandLemmas.
 use Rattle.std.proofs.Common.{◌≡◌, ◌∙◌, sym, ap, subst, refl, ℕ, ◌<◌, suc, zero, arith, inl, inr, true, false, List, [], ◌∷◌, ◌++◌, length, map, Option, Some, None}
 use Rattle.std.specs.Prelude.{slice_get}
-use Rattle.std.specs.List.{zip}
-use Rattle.std.specs.Option.{option_map}
 use Rattle.std.proofs.lemmas.List.{length-map, map-append}
-use Rattle.std.proofs.lemmas.Option.{slice_get-map}
 use Rattle.rs_mrt.specs.Reader.{ReadEnd}
 use Rattle.rs_mrt.specs.Record.{records_of, end_of}
 use Rattle.rs_mrt.specs.RecordReading.{MayCome, unread}
 use Rattle.rs_mrt.specs.Source.{source_end}
 use Rattle.rs_mrt.specs.declared.fault.MrtFault.{MrtFault}
 use Rattle.rs_mrt.specs.declared.fault.SourceFault.TheVariants as faults
-use Rattle.rs_session.specs.Change.{Change, Closed, change_of, closing_word, is_read}
+use Rattle.rs_session.specs.Change.{change_of, closing_word, is_read}
 use Rattle.rs_session.specs.FileChanges.{changes_of, close_at}
 use Rattle.rs_session.specs.Given.{MayFail, SaysGiven, SaysFailed}
 use Rattle.rs_session.specs.Laws.{ClosesOnce, GivesFileOrFails, FailedReadCloses, ClosesByRead, may_close}
@@ -24,20 +21,9 @@ use Rattle.rs_update.specs.declared.errors.Errors.{Errors}
 use Rattle.rs_worker.specs.Crew.{HasJoined}
 use Rattle.rs_worker.specs.Worked.{is_memory}
 use Rattle.rs_worker.specs.declared.crew.Joined.{Joined}
+use Rattle.rs_worker.proofs.TakeLemmas.{same_reason}
 use Rattle.rs_floor.specs.Run as run
 use Rattle.rs_floor.specs.Served.{IsEndOf}
-
--- two lists that are one have the same last member
-pub last-same : {X : Type 0} (xs ys : List X) (x y : X) → xs ++ x ∷ [] ≡ ys ++ y ∷ [] → x ≡ y
-last-same [] [] x y e = cc
-last-same [] (b ∷ []) x y e = absurd cc
-last-same [] (b ∷ c ∷ ys) x y e = absurd cc
-last-same (a ∷ []) [] x y e = absurd cc
-last-same (a ∷ c ∷ xs) [] x y e = absurd cc
-last-same (a ∷ xs) (b ∷ ys) x y e = let later : xs ++ x ∷ [] ≡ ys ++ y ∷ [] = cc in last-same xs ys x y later
-
-reason-same : (t u : ℕ) (reason other : Reason) → close_at t reason ≡ close_at u other → reason ≡ other
-reason-same t u reason other e = let bodies : Closed reason ≡ Closed other = ap (λ (c : Change). c.body) e in cc
 
 -- what is known of a worker over this reader
 abbrev pub JoinedOver : {R : Type 0} → (R → List ℕ → ReadEnd → Type 0) → Errors → PeerId → R → List Word → Joined → Type 0
@@ -62,8 +48,7 @@ says-file gives errors peer reader received end file_or_fails closes joined reme
         let close : ClosesByRead (changes_of errors peer (records_of failed.came) (Some faults.Read)) = closes errors peer failed.came failed.fails.no_end in
         let ends = ends-so gives errors peer reader received end joined in
         let same : map change_of joined.said.before ++ close_at joined.said.time end.reason ∷ [] ≡ close.before ++ close_at 0 reasons.Read ∷ [] = sym ends ∙ failed.says ∙ close.splits in
-        let last : close_at joined.said.time end.reason ≡ close_at 0 reasons.Read = last-same (map change_of joined.said.before) close.before (close_at joined.said.time end.reason) (close_at 0 reasons.Read) same in
-        let reason : end.reason ≡ reasons.Read = reason-same joined.said.time 0 end.reason reasons.Read last in
+        let reason : end.reason ≡ reasons.Read = same_reason (map change_of joined.said.before) close.before joined.said.time 0 end.reason reasons.Read same in
         let read : is_read end.reason ≡ true = ap is_read reason in
         cc
 
@@ -105,8 +90,7 @@ may-fail gives errors peer reader received end file_or_fails once joined reads =
         let close = once errors peer (records_of given.file) (source_end (end_of given.file)) in
         let ends = ends-so gives errors peer reader received end joined in
         let same : map change_of joined.said.before ++ close_at joined.said.time end.reason ∷ [] ≡ close.before ++ close_at close.time close.reason ∷ [] = sym ends ∙ given.says ∙ close.splits in
-        let last : close_at joined.said.time end.reason ≡ close_at close.time close.reason = last-same (map change_of joined.said.before) close.before (close_at joined.said.time end.reason) (close_at close.time close.reason) same in
-        let reason : end.reason ≡ close.reason = reason-same joined.said.time close.time end.reason close.reason last in
+        let reason : end.reason ≡ close.reason = same_reason (map change_of joined.said.before) close.before joined.said.time close.time end.reason close.reason same in
         unread_by-file (end_of given.file) close.reason close.recorded (sym reason ∙ read)
 
 -- ---- lists by places
@@ -122,18 +106,3 @@ choose (suc n) P all =
     at : (x : _) → P zero x → (xs : List _) → ((k : ℕ) (y : _) → slice_get xs k ≡ Some y → P (suc k) y) → (k : ℕ) (y : _) → slice_get (x ∷ xs) k ≡ Some y → P k y
     at x here xs later zero y e = let same : x ≡ y = cc in subst (λ z. P zero z) same here
     at x here xs later (suc k) y e = later k y e
-
-pub zip-at : {X Y : Type 0} (xs : List X) (ys : List Y) (place : ℕ) (x : X) (y : Y) → slice_get xs place ≡ Some x → slice_get ys place ≡ Some y → slice_get (zip xs ys) place ≡ Some (x, y)
-zip-at [] ys place x y at_xs at_ys = absurd cc
-zip-at (a ∷ xs) [] place x y at_xs at_ys = absurd cc
-zip-at (a ∷ xs) (b ∷ ys) zero x y at_xs at_ys = cc
-zip-at (a ∷ xs) (b ∷ ys) (suc place) x y at_xs at_ys = zip-at xs ys place x y at_xs at_ys
-
-pub zip-counted : {X Y : Type 0} (xs : List X) (ys : List Y) → length ys ≡ length xs → length (zip xs ys) ≡ length xs
-zip-counted [] ys same = refl
-zip-counted (x ∷ xs) [] same = absurd (omega (arith, same))
-zip-counted (x ∷ xs) (y ∷ ys) same = ap suc (zip-counted xs ys (omega (arith, same)))
-
--- what stands at a place of a list that another one's members are made of
-pub made-at : {X Y : Type 0} (f : X → Y) (xs : List X) (place : ℕ) (x : X) → slice_get xs place ≡ Some x → slice_get (map f xs) place ≡ Some (f x)
-made-at f xs place x e = slice_get-map f xs place ∙ ap (option_map f) e

@@ -1,9 +1,11 @@
 -- The answer to a run of which all threads were joined: for `settle` of serving.rt.
-use Rattle.std.proofs.Common.{◌≡◌, ◌∙◌, sym, ap, subst, refl, arith, ℕ, zero, Bool, true, false, not, List, [], ◌∷◌, All, length, map, Result, Ok, Err}
+use Rattle.std.proofs.Common.{◌≡◌, ◌∙◌, sym, ap, subst, arith, ℕ, zero, Bool, true, false, not, List, [], ◌∷◌, All, length, map, Result, Ok, Err}
 use Rattle.std.specs.Prelude.{◌||◌, IfErr}
 use Rattle.std.specs.Result.{IsErrAnd}
 use Rattle.std.specs.List.{list_any}
+use Rattle.std.proofs.lemmas.Bool.{not-false, or_parts}
 use Rattle.std.proofs.lemmas.List.{length-map}
+use Rattle.std.proofs.lemmas.Option.{slice_get_within}
 use Rattle.std.proofs.lemmas.List.Elements.{All-nil, All-cons, All-head, All-tail}
 use Rattle.rs_choice.specs.Plan.{Plan}
 use Rattle.rs_session.specs.Change.{is_read}
@@ -15,30 +17,21 @@ use Rattle.rs_floor.specs.Outcome.{IsLeastPlace, IsVerdict}
 use Rattle.rs_floor.specs.Run.{CanMerge, IsRefusal, IsWell}
 use Rattle.rs_floor.specs.declared.fault.FloorRefused.{FloorRefused}
 use Rattle.rs_floor.specs.declared.fault.FloorRefused.TheVariants.{Memory, Unsettled, Capacity, Read, Shards}
-use Rattle.rs_floor.proofs.ListLemmas.{get-within}
-
-or-split : (a b : Bool) → (a || b) ≡ false → (a ≡ false) × (b ≡ false)
-or-split true b e = absurd cc
-or-split false b e = (refl, e)
-
-not-false : (b : Bool) → not b ≡ false → b ≡ true
-not-false true e = refl
-not-false false e = absurd cc
 
 wells : (ends : List Joined) → list_any (λ end. is_memory end.reason) ends ≡ false → All (λ v. v ≡ false) (map (λ end. is_read end.reason) ends) → All (λ v. v ≡ true) (map (λ end. end.settled) ends) → All IsWell ends
 wells [] none reads settled = All-nil IsWell
 wells (e ∷ es) none reads settled =
-    let parts = or-split (is_memory e.reason) (list_any (λ (end : Joined). is_memory end.reason) es) none in
+    let parts = or_parts (is_memory e.reason) (list_any (λ (end : Joined). is_memory end.reason) es) none in
     All-cons IsWell e es
     (All-head (λ v. v ≡ true) e.settled (map (λ (end : Joined). end.settled) es) settled, parts.0, All-head (λ v. v ≡ false) (is_read e.reason) (map (λ (end : Joined). is_read end.reason) es) reads)
     (wells es parts.1 (All-tail (λ v. v ≡ false) (is_read e.reason) (map (λ (end : Joined). is_read end.reason) es) reads) (All-tail (λ v. v ≡ true) e.settled (map (λ (end : Joined). end.settled) es) settled))
 
 -- where the verdict is well, all is
-pub all-well : (ends : List Joined) (memory whole : Bool) → memory ≡ (list_any (λ end. is_memory end.reason) ends || not whole) → (memory ≡ false) × All (λ v. v ≡ false) (map (λ end. is_read end.reason) ends) × All (λ v. v ≡ true) (map (λ end. end.settled) ends)
-    → (whole ≡ true) × All IsWell ends
-all-well ends memory whole is verdict =
-    let parts = or-split (list_any (λ (end : Joined). is_memory end.reason) ends) (not whole) (sym is ∙ verdict.0) in
-    (not-false whole parts.1, wells ends parts.0 verdict.1 verdict.2)
+pub all-well : (ends : List Joined) (memory whole : Bool) (failed settled : List Bool) → memory ≡ (list_any (λ end. is_memory end.reason) ends || not whole) → failed ≡ map (λ end. is_read end.reason) ends → settled ≡ map (λ end. end.settled) ends
+    → (memory ≡ false) × All (λ v. v ≡ false) failed × All (λ v. v ≡ true) settled → (whole ≡ true) × All IsWell ends
+all-well ends memory whole failed settled is reads settles verdict =
+    let parts = or_parts (list_any (λ (end : Joined). is_memory end.reason) ends) (not whole) (sym is ∙ verdict.0) in
+    (not-false whole parts.1, wells ends parts.0 (rw reads at verdict.1) (rw settles at verdict.2))
 
 -- tables made of parts that can be merged are over a plan of so many peers
 pub merged-counted : (peers : ℕ) (parts : List TablesContent) (merged : TablesContent) → CanMerge peers parts → IsMerged parts merged → length merged.plan.peers ≡ peers
@@ -47,7 +40,7 @@ merged-counted peers parts merged can is = ap (λ (plan : Plan). length plan.pee
 remembers : (ends : List Joined) → list_any (λ end. is_memory end.reason) ends ≡ false → All (λ end. is_memory end.reason ≡ false) ends
 remembers [] none = All-nil (λ end. is_memory end.reason ≡ false)
 remembers (e ∷ es) none =
-    let parts = or-split (is_memory e.reason) (list_any (λ (end : Joined). is_memory end.reason) es) none in
+    let parts = or_parts (is_memory e.reason) (list_any (λ (end : Joined). is_memory end.reason) es) none in
     All-cons (λ end. is_memory end.reason ≡ false) e es parts.0 (remembers es parts.1)
 
 -- where it isn't, the verdict says why
@@ -55,11 +48,11 @@ pub refusal : (ends : List Joined) (memory whole : Bool) (failed settled : List 
     → IsVerdict memory failed settled (Err fault) → IsRefusal ends fault
 refusal ends memory whole failed settled Memory is reads settles verdict = tt
 refusal ends memory whole failed settled (Read peer) is reads settles verdict = record {
-  remember = remembers ends ((or-split (list_any (λ (end : Joined). is_memory end.reason) ends) (not whole) (sym is ∙ verdict.0)).0);
+  remember = remembers ends ((or_parts (list_any (λ (end : Joined). is_memory end.reason) ends) (not whole) (sym is ∙ verdict.0)).0);
   least = subst (λ (values : List Bool). IsLeastPlace true false values peer) reads verdict.1;
 }
 refusal ends memory whole failed settled (Unsettled peer) is reads settles verdict =
-    omega (arith, get-within settled peer false verdict.2.has, ap (λ (values : List Bool). length values) settles, length-map ends (λ (end : Joined). end.settled))
+    omega (arith, slice_get_within settled peer false verdict.2.has, ap (λ (values : List Bool). length values) settles, length-map ends (λ (end : Joined). end.settled))
 refusal ends memory whole failed settled Capacity is reads settles verdict = absurd verdict
 refusal ends memory whole failed settled Shards is reads settles verdict = absurd verdict
 

@@ -2,9 +2,9 @@
 use Rattle.std.proofs.Common.{◌≡◌, ◌∙◌, sym, ap, ℕ, [], ◌∷◌, length, length-append, Some, arith, rules}
 use Rattle.std.specs.Prelude.{slice_get}
 use Rattle.std.specs.Vec.Iter.{into_iter_items}
+use Rattle.std.proofs.lemmas.List.{nil_from_length}
 use Rattle.rs_choice.specs.Plan.{peer_of}
 use Rattle.rs_floor.proofs.serving.OpenLemmas.{opening-next, opening-all}
-use Rattle.rs_floor.proofs.serving.RunLemmas.{none-left}
 use Rattle.rs_floor.proofs.lines.open_lines.Goals as goal
 
 pub loop-reader-preserved : goal.loop-reader-preserved
@@ -20,7 +20,7 @@ loop-reader-preserved g c =
 
 pub returns : goal.returns
 returns g c =
-    let none : into_iter_items c.loop-reader.reader-iterator ≡ [] = none-left (into_iter_items c.loop-reader.reader-iterator) (sym c.loop-reader.invariant.left ∙ c.in-None.ensures.steps.0) in
+    let none : into_iter_items c.loop-reader.reader-iterator ≡ [] = nil_from_length (into_iter_items c.loop-reader.reader-iterator) (sym c.loop-reader.invariant.left ∙ c.in-None.ensures.steps.0) in
     let readers : into_iter_items c.into_iter-reader-iterator.result ≡ c.args.readers.items = c.into_iter-reader-iterator.ensures.into_iter_gives.0 in
     let so_far = rw (none, readers) at c.loop-reader.invariant.opening in
     opening-all g.R.Read.gives c.args.plan.now c.args.readers.items c.loop-reader.jobs.items c.loop-reader.from.items so_far c.requires.as_many

@@ -1,8 +1,9 @@
 -- The run is served.
 use Rattle.std.proofs.Common.{inl, inr, rules}
+use Rattle.std.proofs.lemmas.Result.{IfOk-weaker}
 use Rattle.rs_floor.specs.Run.{IsAnswer}
 use Rattle.rs_floor.specs.Served.{IsServedBy}
-use Rattle.rs_floor.proofs.serving.RunLemmas.{can-merge, not-limits, ok-so, run-fails, run-names, run-served}
+use Rattle.rs_floor.proofs.serving.RunLemmas.{can-merge, not-limits, run-fails, run-names, run-served}
 use Rattle.rs_floor.proofs.serving.serve_by.Goals as goal
 
 pub settle-requires : goal.settle-requires
@@ -10,8 +11,9 @@ settle-requires g c = λ is. can-merge g.R.Read.gives c.args.errors c.args.plan.
 
 pub returns-in-Some-clause-served : goal.returns-in-Some-clause-served
 returns-in-Some-clause-served g c =
-    ok-so c.settle.result (IsAnswer c.in-Some.ran.ends.items c.in-Some.ran.parts.items c.in-Some.ran.whole) (IsServedBy g.R.Read.gives c.args.errors c.args.plan.now.value c.args.readers.items) c.settle.ensures.served
+    IfOk-weaker c.settle.result (IsAnswer c.in-Some.ran.ends.items c.in-Some.ran.parts.items c.in-Some.ran.whole) (IsServedBy g.R.Read.gives c.args.errors c.args.plan.now.value c.args.readers.items)
     (λ served answer. run-served g.R.Read.gives c.args.errors c.args.plan.now.value c.args.readers.items c.in_ok-crew.crew.lines.jobs.items c.in_ok-crew.crew.lines.from.items c.in_ok-crew.crew.rings.jobs.items c.in_ok-crew.crew.rings.to.items c.in-Some.ran.ends.items c.in-Some.ran.parts.items c.in-Some.ran.whole c.in_ok-crew.ensures.lines c.in_ok-crew.ensures.rings c.in-Some.ensures.1 c.run_shards_are_whole.ensures c.shards_merge.ensures c.a_failed_read_closes_last.ensures served answer)
+    c.settle.ensures.served
 
 pub returns-in-Some-clause-read_fails : goal.returns-in-Some-clause-read_fails
 returns-in-Some-clause-read_fails g c = λ peer is.
