@@ -1,5 +1,5 @@
 -- An UPDATE that lists no prefix that covers one gives changes none of which concerns it, all at its record's time.
-use Rattle.std.proofs.Common.{◌≡◌, ◌∙◌, refl, ℕ, Bool, true, false, cond, List, [], ◌∷◌, ◌++◌, Option, Some, None, Result, Ok, Err}
+use Rattle.std.proofs.Common.{◌≡◌, ◌∙◌, refl, ℕ, Bool, true, false, cond, List, [], ◌∷◌, ◌++◌, Option, Some, None, Result, Ok}
 use Rattle.std.specs.Prelude.{◌||◌, map, filter}
 use Rattle.std.specs.List.{list_any}
 use Rattle.std.proofs.lemmas.Bool.{or_parts}
@@ -7,7 +7,7 @@ use Rattle.std.proofs.lemmas.List.Folds.{list_any-append}
 use Rattle.rs_update.specs.Concerns.{message_concerns}
 use Rattle.rs_update.specs.Covering.{covers, lists_cover}
 use Rattle.rs_update.specs.IpPrefix.{IpPrefix}
-use Rattle.rs_update.specs.Message.{MessageContent, IsOpen, IsUpdate, IsTreated, IsNotification, IsKeepAlive, IsRefresh}
+use Rattle.rs_update.specs.Message.{MessageContent, IsUpdate, IsTreated}
 use Rattle.rs_update.specs.PathAttributes.{PathAttributes}
 use Rattle.rs_update.specs.declared.fault.MessageFault.{MessageFault}
 use Rattle.rs_session.specs.Change.{Change}
@@ -16,7 +16,7 @@ use Rattle.rs_session.specs.Effect.{effect_of_message}
 use Rattle.rs_session.specs.UpdateChanges.{withdraws, announces, announcements, withdrawn_only, unicast}
 
 -- what holds of none of a list holds of none of a part of it
-none-part : {A : Type 0} (p keeps : A → Bool) (xs : List A) → list_any p xs ≡ false → list_any p (filter keeps xs) ≡ false
+pub none-part : {A : Type 0} (p keeps : A → Bool) (xs : List A) → list_any p xs ≡ false → list_any p (filter keeps xs) ≡ false
 none-part p keeps [] none = refl
 none-part {A} p keeps (x ∷ xs) none =
     let parts = or_parts (p x) (list_any p xs) none in none_if (keeps x) parts.0 (none-part p keeps xs parts.1)
@@ -62,8 +62,4 @@ module _ (prefix : IpPrefix) (until : Option ℕ) where
     pub beside_message : (answer : Result MessageContent MessageFault) → message_concerns prefix answer ≡ false → IsBeside prefix until (effect_of_message time answer)
     beside_message (Ok (IsUpdate update)) none = over-lists update.withdrawn update.nlri _ none (over-announcements update.attributes (unicast update.nlri))
     beside_message (Ok (IsTreated treated)) none = over-lists treated.withdrawn treated.nlri _ none (over-withdraws (unicast treated.nlri))
-    beside_message (Ok IsOpen) none = absurd cc
-    beside_message (Ok IsNotification) none = absurd cc
-    beside_message (Ok IsKeepAlive) none = absurd cc
-    beside_message (Ok IsRefresh) none = absurd cc
-    beside_message (Err fault) none = absurd cc
+    beside_message answer none = absurd cc

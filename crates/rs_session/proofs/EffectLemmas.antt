@@ -172,12 +172,10 @@ fine-update_by Rfc4271 time body = fine-update time body
 fine-update_by Rfc7606 time body = fine-treating time body
 
 fine-typed : (errors : Errors) (time : ℕ) (octets : List ℕ) (kind : MessageType) → 1 ≤ length octets → IsFine (length octets) (effect_of_message time (typed_message_by errors kind (drop 19 octets)))
-fine-typed errors time octets types.Open some = (refl, omega arith)
 fine-typed errors time octets types.Update some =
     IsFine-more (length (drop 19 octets)) (length octets) _ (omega (arith, length-drop 19 octets)) (fine-update_by errors time (drop 19 octets))
 fine-typed errors time octets types.Notification some = fine-loss (length octets) time some
-fine-typed errors time octets types.KeepAlive some = (refl, omega arith)
-fine-typed errors time octets types.Refresh some = (refl, omega arith)
+fine-typed errors time octets kind some = (refl, omega arith)
 
 fine-headed : (errors : Errors) (time : ℕ) (octets : List ℕ) (header : Result MessageType HeaderFault) → 1 ≤ length octets → IsFine (length octets) (effect_of_message time (elim header [ Ok kind ↦ typed_message_by errors kind (drop 19 octets) | Err fault ↦ Err (of_header fault) ]))
 fine-headed errors time octets (Ok kind) some = fine-typed errors time octets kind some

@@ -4,7 +4,7 @@ use Rattle.std.specs.Prelude.{nat_lt, nat_le}
 use Rattle.std.proofs.lemmas.Bool.Decides.{leb_tells}
 use Rattle.std.proofs.lemmas.Grind.{common_steps}
 use Rattle.std.proofs.lemmas.List.{take_all, take-take}
-use Rattle.rs_mrt.specs.Entry.{Meaning, Message, State, Other, entry_of, cut_message, message_room, FrontSaysTheSame}
+use Rattle.rs_mrt.specs.Entry.{Meaning, Message, entry_of, cut_message, message_room, FrontSaysTheSame}
 use Rattle.rs_mrt.specs.Record.{MrtRecord}
 use Rattle.rs_mrt.specs.declared.fault.MrtFault.{MrtFault}
 use Rattle.std.specs.List.{list_all}
@@ -32,8 +32,7 @@ no_length field count long = grind (arith, common_steps)
 header_fault-long : (short marked fits : Bool) (later : List (Bool × HeaderFault)) → short ≡ false → fits ≡ false → first_fault ((short, BadLength) ∷ (not marked, NotSynchronized) ∷ (not fits, BadLength) ∷ later) ≡ Some (cond marked BadLength NotSynchronized)
 header_fault-long false true false later h k = refl
 header_fault-long false false false later h k = refl
-header_fault-long false marked true later h k = cc
-header_fault-long true marked fits later h k = cc
+header_fault-long short marked fits later h k = cc
 
 message_by-long : (errors : Errors) (octets : List ℕ) → 4096 < length octets → message_by errors octets ≡ too_long (is_marked octets)
 unfolding message_by too_long
@@ -56,9 +55,7 @@ message_by-take errors n octets enough =
 
 effect-cut : (errors : Errors) (peer : PeerId) (time n : ℕ) (meaning : Result Meaning MrtFault) → 4096 < n → effect_of_entry errors peer time (cut_message n meaning) ≡ effect_of_entry errors peer time meaning
 effect-cut errors peer time n (Ok (Message asn address octets)) enough = rw (message_by-take errors n octets enough) refl
-effect-cut errors peer time n (Ok (State asn address old new)) enough = refl
-effect-cut errors peer time n (Ok Other) enough = refl
-effect-cut errors peer time n (Err fault) enough = refl
+effect-cut errors peer time n meaning enough = refl
 
 room_enough : (r : MrtRecord) → 4096 < message_room r
 room_enough r = branch (λ n. 4096 < n) (r.kind == 17) 4097 4101 (omega arith) (omega arith)

@@ -26,13 +26,11 @@ recorded_at_end (Some faults.Read) = refl
 
 -- what a record says is among the reasons for a close, however the records end
 recorded_before : (end : Option SourceFault) (reason : Reason) → is_recorded reason ≡ true → may_close end reason ≡ true
-recorded_before None reason h = h
-recorded_before (Some (faults.Mrt fault)) reason h = h
 recorded_before (Some faults.Read) reasons.EndOfFile h = refl
 recorded_before (Some faults.Read) (reasons.Bgp code subcode) h = refl
 recorded_before (Some faults.Read) (reasons.Mrt number) h = refl
-recorded_before (Some faults.Read) reasons.Memory h = h
 recorded_before (Some faults.Read) reasons.Read h = refl
+recorded_before end reason h = h
 
 closes-record : (errors : Errors) (peer : PeerId) (r : MrtRecord) (later : List MrtRecord) (end : Option SourceFault) (effect : RecordEffect) → effect_of errors peer r ≡ effect → IsFine (length r.body) effect → ClosesLast end (changes_of errors peer later end) → ClosesLast end (changes_of errors peer (r ∷ later) end)
 closes-record errors peer r later end PassesOver is fine h = record {

@@ -5,7 +5,7 @@ use Rattle.rs_mrt.specs.Record.{MrtRecord}
 use Rattle.rs_update.specs.IpPrefix.{IpPrefix}
 use Rattle.rs_session.specs.Change.{Change, change_of}
 use Rattle.rs_session.specs.Concerning.{ArePassedOver, IsBeside, KeepsBehindAll, PassesShown, SaysOn, StepsBehind, StepsOn}
-use Rattle.rs_session.specs.Effect.{RecordEffect, PassesOver, Gives, Ends, effect_of}
+use Rattle.rs_session.specs.Effect.{RecordEffect, Gives, effect_of}
 use Rattle.rs_session.specs.Stage.{Comes, Stage, May, KeepsBehind}
 use Rattle.rs_session.specs.Steps.{Fetches, GivesWaiting, Steps}
 use Rattle.rs_session.specs.declared.word.Word.{Word}
@@ -46,8 +46,7 @@ module _ {S : Type 0} (comes : Comes S) (shows : S → Option MrtRecord) (prefix
 
   passed-effect : (old new : Stage S) (r : MrtRecord) (effect : RecordEffect) → old.held ≡ true → old.closed ≡ false → old.waiting ≡ [] → shows old.source ≡ Some r → effect_of old.errors old.peer r ≡ effect → IsBeside prefix until effect → new ≡ record old { held = false } → IsBehind old new
   passed-effect old new r (Gives changes) full unclosed idle shown says beside same = record { over = changes; are_over = beside; keeps = keeps-beside old new r changes full unclosed idle shown says same }
-  passed-effect old new r PassesOver full unclosed idle shown says beside same = absurd beside
-  passed-effect old new r (Ends reason) full unclosed idle shown says beside same = absurd beside
+  passed-effect old new r effect full unclosed idle shown says beside same = absurd beside
 
   passed-shown : (old new : Stage S) (shown : Option MrtRecord) → old.held ≡ true → old.closed ≡ false → old.waiting ≡ [] → shows old.source ≡ shown → PassesShown shown prefix until old true new → IsBehind old new
   passed-shown old new (Some r) full unclosed idle shown h = passed-effect old new r (effect_of old.errors old.peer r) full unclosed idle shown refl h.0 h.1

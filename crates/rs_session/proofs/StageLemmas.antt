@@ -109,9 +109,7 @@ module _ {S : Type 0} (comes : Comes S) (shows : S → Option MrtRecord) where
     rw h.0 refl,
     rw h.2 refl,
   )
-  steps-applied old new r PassesOver (Some word) full unclosed idle shown says h = absurd h
-  steps-applied old new r (Gives changes) (Some word) full unclosed idle shown says h = absurd h
-  steps-applied old new r (Ends reason) None full unclosed idle shown says h = absurd h
+  steps-applied old new r effect given full unclosed idle shown says h = absurd h
 
   -- ---- a whole step
 
@@ -174,9 +172,8 @@ module _ {S : Type 0} (comes : Comes S) (shows : S → Option MrtRecord) where
 
 -- no more octets are held than the record is spelled with
 pub held_le : (held : Bool) (shown : Option MrtRecord) → held_octets held shown ≤ octets_of shown
-held_le false shown = omega arith
-held_le true None = omega arith
 held_le true (Some r) = omega arith
+held_le held shown = omega arith
 
 module _ {S : Type 0} (room : S → ℕ) (shows : S → Option MrtRecord) where
   fewer-applied : (old new : Stage S) (r : MrtRecord) (effect : RecordEffect) (given : Option Word) → old.waiting ≡ [] → old.held ≡ true → shows old.source ≡ Some r → IsFine (length r.body) effect → Applies r.time effect old given new → most_changes room shows new ≤ most_changes room shows old
@@ -186,9 +183,7 @@ module _ {S : Type 0} (room : S → ℕ) (shows : S → Option MrtRecord) where
       let body : held_octets old.held (shows old.source) ≡ length r.body = rw (full, shown) refl in
       rw h (omega arith)
   fewer-applied old new r (Ends reason) (Some word) idle full shown fine h = rw h.2 (omega arith)
-  fewer-applied old new r PassesOver (Some word) idle full shown fine h = absurd h
-  fewer-applied old new r (Gives changes) (Some word) idle full shown fine h = absurd h
-  fewer-applied old new r (Ends reason) None idle full shown fine h = absurd h
+  fewer-applied old new r effect given idle full shown fine h = absurd h
 
   fewer-shown : (old new : Stage S) (shown : Option MrtRecord) (given : Option Word) → old.waiting ≡ [] → old.held ≡ true → shows old.source ≡ shown → ReadsShown shown old given new → most_changes room shows new ≤ most_changes room shows old
   fewer-shown old new (Some r) given idle full shown h = fewer-applied old new r (effect_of old.errors old.peer r) given idle full shown (fine-effect old.errors old.peer r) h

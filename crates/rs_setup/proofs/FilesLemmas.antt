@@ -7,11 +7,8 @@ use Rattle.std.specs.Prelude.{codes, MatchOption}
 
 as_many : (values : Items) (peers : List Peer) (files : List (List ℕ)) → ArePeers values peers files → length files ≡ length peers
 as_many no_items [] [] all = refl
-as_many no_items [] (file ∷ files) all = absurd all
-as_many no_items (peer ∷ peers) files all = absurd all
-as_many (item value values) [] files all = absurd all
-as_many (item value values) (peer ∷ peers) [] all = absurd all
 as_many (item value values) (peer ∷ peers) (file ∷ files) all = ap suc (as_many values peers files all.1)
+as_many values peers files all = absurd all
 
 pub one_for_each : (keys : Members) (plan : Plan) (files : List (List ℕ)) → IsSetup keys plan files → length files ≡ length plan.peers
 one_for_each keys plan files set_up = found (get_member (codes "peer") keys) set_up.peers

@@ -10,7 +10,7 @@ use Rattle.std.proofs.lemmas.Slice.Eq.{bytes_eq-Decides}
 use Rattle.std.specs.List.{Contains, list_any, position_or_len, before_first, after_first}
 use Rattle.std.specs.Prelude.{IfSome, MatchOption}
 use Rattle.std.specs.Str.{bytes_eq}
-use Rattle.toml.specs.Data.{Data, string, integer, float, boolean, datetime, array, table, as_str, Items, no_items, item, push_item}
+use Rattle.toml.specs.Data.{Data, string, as_str, Items, no_items, item, push_item}
 use Rattle.toml.specs.View.{items_of}
 use Rattle.rs_choice.specs.Plan.{Peer}
 use Rattle.rs_setup.specs.Setup.{ArePeers, IsPeer}
@@ -62,12 +62,7 @@ known_key known key found =
 -- a value whose text there is is that text
 pub as_str-string : (value : Data) (text : List ℕ) → as_str value ≡ Some text → value ≡ string text
 as_str-string (string one) text found = ap string (same_Some one text found)
-as_str-string (integer number) text found = cc
-as_str-string (float number) text found = cc
-as_str-string (boolean one) text found = cc
-as_str-string (datetime one) text found = cc
-as_str-string (array values) text found = cc
-as_str-string (table keys) text found = cc
+as_str-string value text found = cc
 
 -- one more text of a list
 pub items_of-push : (texts : List (List ℕ)) (text : List ℕ) → items_of (map string (texts ++ text ∷ [])) ≡ push_item (items_of (map string texts)) (string text)
@@ -79,7 +74,4 @@ pub ArePeers-push : (values : Items) (peers : List Peer) (files : List (List ℕ
     → ArePeers values peers files → IsPeer value peer file → ArePeers (push_item values value) (peers ++ peer ∷ []) (files ++ file ∷ [])
 ArePeers-push no_items [] [] value peer file so_far is = (is, tt)
 ArePeers-push (item first values) (one ∷ peers) (path ∷ files) value peer file so_far is = (so_far.0, ArePeers-push values peers files value peer file so_far.1 is)
-ArePeers-push no_items (one ∷ peers) files value peer file so_far is = absurd so_far
-ArePeers-push no_items [] (path ∷ files) value peer file so_far is = absurd so_far
-ArePeers-push (item first values) [] files value peer file so_far is = absurd so_far
-ArePeers-push (item first values) (one ∷ peers) [] value peer file so_far is = absurd so_far
+ArePeers-push values peers files value peer file so_far is = absurd so_far

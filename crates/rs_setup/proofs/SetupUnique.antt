@@ -51,11 +51,15 @@ dotted_once text x y (octets, dotted, is) (others, also, are) =
     let (equal, _) = same_parts octets others [] [] (sym (read_ipv4_complete text octets [] dotted (lit≤ tt)) ∙ read_ipv4_complete text others [] also (lit≤ tt)) in
     is ∙ ap (from_be_bytes w32) equal ∙ sym are
 
-address_once : StandsForOne IsAddress
-address_once value x y (text, is, written) (other, are, also) =
+-- so does a value that is a text
+by_text : {A : Type 0} (Writes : List ℕ → A → Type 0) → ((text : List ℕ) (x y : A) → Writes text x → Writes text y → x ≡ y) → StandsForOne (λ value x. (text : List ℕ) × (value ≡ string text) × Writes text x)
+by_text Writes once value x y (text, is, written) (other, are, also) =
     let same : string text ≡ string other = sym is ∙ are in
     let equal : text ≡ other = cc in
-    dotted_once other x y (subst (λ (one : List ℕ). IsDottedAddress one x) equal written) also
+    once other x y (subst (λ one. Writes one x) equal written) also
+
+address_once : StandsForOne IsAddress
+address_once = by_text IsDottedAddress dotted_once
 
 slashed_once : (text : List ℕ) (x y : IpPrefix) → IsSlashedSubnet text x → IsSlashedSubnet text y → x ≡ y
 slashed_once text x y (front, address, len, spelled, (octets, dotted, is), small, prefix) (start, place, size, written, (others, also, are), low, other) =
@@ -65,17 +69,12 @@ slashed_once text x y (front, address, len, spelled, (octets, dotted, is), small
     (sym (read_ipv4_complete front octets (47 ∷ decimal len) dotted (lit≤ tt))
     ∙ ap read_ipv4 (sym one ∙ two)
     ∙ read_ipv4_complete start others (47 ∷ decimal size) also (lit≤ tt)) in
-    let equal : octets ≡ others = same.0 in
-    let lengths : decimal len ≡ decimal size = ap (drop 1) same.1 in
-    let addresses : address ≡ place = is ∙ ap (from_be_bytes w32) equal ∙ sym are in
-    let sizes : len ≡ size = decimal_injective len size (omega arith) (omega arith) lengths in
+    let addresses : address ≡ place = is ∙ ap (from_be_bytes w32) same.0 ∙ sym are in
+    let sizes : len ≡ size = decimal_injective len size (omega arith) (omega arith) (ap (drop 1) same.1) in
     prefix ∙ ap (λ a. network_of a len) addresses ∙ ap (network_of place) sizes ∙ sym other
 
 subnet_once : StandsForOne IsSubnet
-subnet_once value x y (text, is, written) (other, are, also) =
-    let same : string text ≡ string other = sym is ∙ are in
-    let equal : text ≡ other = cc in
-    slashed_once other x y (subst (λ (one : List ℕ). IsSlashedSubnet one x) equal written) also
+subnet_once = by_text IsSlashedSubnet slashed_once
 
 some_subnet_once : StandsForOne IsSomeSubnet
 some_subnet_once value None y h k = absurd h
@@ -128,20 +127,15 @@ peer_table_once value x y file other (keys, is, peer) (others, are, also) =
 
 peers_once : (values : Items) (xs ys : List Peer) (files others : List (List ℕ)) → ArePeers values xs files → ArePeers values ys others → (xs ≡ ys) × (files ≡ others)
 peers_once no_items [] [] [] [] h k = (refl, refl)
-peers_once no_items (x ∷ xs) ys files others h k = absurd h
-peers_once no_items [] (y ∷ ys) files others h k = absurd k
-peers_once no_items [] [] (file ∷ files) others h k = absurd h
-peers_once no_items [] [] [] (other ∷ others) h k = absurd k
-peers_once (item value values) [] ys files others h k = absurd h
-peers_once (item value values) (x ∷ xs) [] files others h k = absurd k
-peers_once (item value values) (x ∷ xs) (y ∷ ys) [] others h k = absurd h
-peers_once (item value values) (x ∷ xs) (y ∷ ys) (file ∷ files) [] h k = absurd k
 peers_once (item value values) (x ∷ xs) (y ∷ ys) (file ∷ files) (other ∷ others) h k =
     let here = peer_table_once value x y file other h.0 k.0 in
     let later = peers_once values xs ys files others h.1 k.1 in (
       ap (λ (one : Peer). one ∷ xs) here.0 ∙ ap (λ (more : List Peer). y ∷ more) later.0,
       ap (λ (one : List ℕ). one ∷ files) here.1 ∙ ap (λ (more : List (List ℕ)). other ∷ more) later.1,
     )
+peers_once no_items [] ys [] others h k = absurd k
+peers_once (item value values) (x ∷ xs) ys (file ∷ files) others h k = absurd k
+peers_once values xs ys files others h k = absurd h
 
 peers_of_once : StandsForOne ArePeersOf
 peers_of_once value (xs, files) (ys, others) (values, is, peers) (items, are, also) =

@@ -5,7 +5,7 @@ use Rattle.rs_mrt.specs.Record.{MrtRecord}
 use Rattle.rs_session.specs.Change.{Change, change_of, closing_word}
 use Rattle.rs_session.specs.Stage.{Comes, Stage, May}
 use Rattle.rs_session.specs.declared.word.Body.{Body}
-use Rattle.rs_session.specs.declared.word.Body.TheVariants.{Announce, Withdraw, Down, Close}
+use Rattle.rs_session.specs.declared.word.Body.TheVariants.{Close}
 use Rattle.rs_session.specs.declared.word.Reason.{Reason}
 use Rattle.rs_session.specs.declared.word.Word.{Word}
 use Rattle.rs_worker.specs.Steps.{reason_of, Ends}
@@ -13,9 +13,7 @@ use Rattle.rs_worker.specs.Worked.{HasSent, closes_any}
 
 body_closes : (body : Body) (reason : Reason) → reason_of body ≡ Some reason → body ≡ Close reason
 body_closes (Close other) reason e = cc
-body_closes (Announce prefix attributes) reason e = absurd cc
-body_closes (Withdraw prefix) reason e = absurd cc
-body_closes Down reason e = absurd cc
+body_closes body reason e = absurd cc
 
 word_closes : (word : Word) (reason : Reason) → reason_of word.body ≡ Some reason → word ≡ closing_word word.time reason
 word_closes word reason e = ap (λ (body : Body). record { time = word.time; body = body }) (body_closes word.body reason e)

@@ -10,7 +10,7 @@ use Rattle.rs_session.specs.FileChanges.{changes_of, close_at}
 use Rattle.rs_session.specs.Laws.{ClosesOnce, SomethingMayCome, may_close}
 use Rattle.rs_session.specs.Stage.{Comes, Stage, May, Says, Closes, Fewer, most_changes}
 use Rattle.rs_session.specs.declared.word.Body.{Body}
-use Rattle.rs_session.specs.declared.word.Body.TheVariants.{Announce, Withdraw, Down, Close}
+use Rattle.rs_session.specs.declared.word.Body.TheVariants.{Close}
 use Rattle.rs_session.specs.declared.word.Reason.{Reason}
 use Rattle.rs_session.specs.declared.word.Reason.TheVariants as reasons
 use Rattle.rs_session.specs.declared.word.Word.{Word}
@@ -25,13 +25,10 @@ same_reason before others time at reason other e =
 
 -- no records close a session for want of memory
 never_memory : (end : Option SourceFault) (reason : Reason) → may_close end reason ≡ true → is_memory reason ≡ false
-never_memory end reasons.EndOfFile h = refl
-never_memory end (reasons.Bgp code subcode) h = refl
-never_memory end (reasons.Mrt number) h = refl
-never_memory end reasons.Read h = refl
 never_memory None reasons.Memory h = absurd cc
 never_memory (Some (faults.Mrt fault)) reasons.Memory h = absurd cc
 never_memory (Some faults.Read) reasons.Memory h = absurd cc
+never_memory end reason h = refl
 
 module _ {S : Type 0} (comes : Comes S) (shows : S → Option MrtRecord) (law : ClosesOnce) where
   -- what may still come of an open session ends in a close that isn't for want of memory
@@ -58,14 +55,12 @@ module _ {S : Type 0} (comes : Comes S) (shows : S → Option MrtRecord) (law : 
   -- a word of the session
   module _ (room : S → ℕ) (old new : Stage S) (unclosed : old.closed ≡ false) where
     takes-body : (word : Word) (body : Body) → word.body ≡ body → Says comes shows old new (Ok (Some word)) → Closes old.closed new.closed (Ok (Some word)) → Fewer (most_changes room shows old) (most_changes room shows new) (Ok (Some word)) → SomethingMayCome comes shows new → Takes comes shows room old new word (reason_of body)
-    takes-body word (Announce prefix attributes) is says closes fewer more = record { keeps = says.0; unclosed = closes.1 ∙ rw is refl; fewer = rw is at fewer }
-    takes-body word (Withdraw prefix) is says closes fewer more = record { keeps = says.0; unclosed = closes.1 ∙ rw is refl; fewer = rw is at fewer }
-    takes-body word Down is says closes fewer more = record { keeps = says.0; unclosed = closes.1 ∙ rw is refl; fewer = rw is at fewer }
     takes-body word (Close reason) is says closes fewer more =
         let over = says.1 (rw is refl) more.0 more.1 more.2 in
         let last : May comes shows old (change_of word ∷ []) new.passed = rw over.1 at (rw over.0 at (says.0 more.0 more.1 more.2)) in
         let well = ends_well old [] word.time new.passed reason unclosed (rw is at last) in
         record { last = λ _. last; refused = λ memory. absurd (cc) }
+    takes-body word body is says closes fewer more = record { keeps = says.0; unclosed = closes.1 ∙ rw is refl; fewer = rw is at fewer }
 
     pub takes-given : (word : Word) → Says comes shows old new (Ok (Some word)) → Closes old.closed new.closed (Ok (Some word)) → Fewer (most_changes room shows old) (most_changes room shows new) (Ok (Some word)) → SomethingMayCome comes shows new → Takes comes shows room old new word (reason_of word.body)
     takes-given word says closes fewer more = takes-body word word.body refl says closes fewer more
