@@ -10,7 +10,7 @@ use Rattle.rs_session.specs.Change.{Change, body_of, body_closes, change_of, is_
 use Rattle.rs_session.specs.Stage.{Comes, Stage}
 use Rattle.rs_session.specs.declared.peer.PeerId.{PeerId}
 use Rattle.rs_session.specs.declared.word.Body.{Body}
-use Rattle.rs_session.specs.declared.word.Body.TheVariants.{Announce, Withdraw, Down, Close}
+use Rattle.rs_session.specs.declared.word.Body.TheVariants.{Close}
 use Rattle.rs_session.specs.declared.word.Reason.{Reason}
 use Rattle.rs_session.specs.declared.word.Word.{Word}
 use Rattle.rs_explain.specs.Cut.{UntilContent}
@@ -27,22 +27,16 @@ use Rattle.rs_glass.proofs.SaidLemmas.{close_in-more}
 -- ---- failed reads
 
 still-unfailed : (body : Body) (before : Option Reason) → is_read_failure body ≡ false → is_failed_read before ≡ false → is_failed_read (close_after before (body_of body)) ≡ false
-still-unfailed (Announce prefix attributes) before not_failing unfailed = unfailed
-still-unfailed (Withdraw prefix) before not_failing unfailed = unfailed
-still-unfailed Down before not_failing unfailed = unfailed
 still-unfailed (Close reason) before not_failing unfailed = not_failing
+still-unfailed body before not_failing unfailed = unfailed
 
 now-failed : (body : Body) (before : Option Reason) → is_read_failure body ≡ true → is_failed_read (close_after before (body_of body)) ≡ true
-now-failed (Announce prefix attributes) before failing = absurd cc
-now-failed (Withdraw prefix) before failing = absurd cc
-now-failed Down before failing = absurd cc
 now-failed (Close reason) before failing = failing
+now-failed body before failing = absurd cc
 
 pub failing-closes : (body : Body) → is_read_failure body ≡ true → body_closes (body_of body) ≡ true
-failing-closes (Announce prefix attributes) failing = absurd cc
-failing-closes (Withdraw prefix) failing = absurd cc
-failing-closes Down failing = absurd cc
 failing-closes (Close reason) failing = refl
+failing-closes body failing = absurd cc
 
 pub unfailed-more : (given : List Change) (word : Word) → is_read_failure word.body ≡ false → is_failed_read (close_in given) ≡ false → is_failed_read (close_in (given ++ change_of word ∷ [])) ≡ false
 unfailed-more given word not_failing unfailed = ap is_failed_read (close_in-more given (change_of word)) ∙ still-unfailed word.body (close_in given) not_failing unfailed

@@ -3,7 +3,8 @@ use Rattle.std.proofs.Common.{◌≡◌, ◌≢◌, ◌∙◌, sym, ap, subst, r
 use Rattle.std.specs.Prelude.{◌||◌, ◌&&◌, ◌==◌, filter, map, nat_lt, not}
 use Rattle.std.specs.List.{list_any}
 use Rattle.std.specs.Option.{option_to_list}
-use Rattle.std.proofs.lemmas.Bool.{cases_Bool, eq-eqb, eqb-true, ltb-true, lt-ltb, ne_eqb}
+use Rattle.std.proofs.lemmas.Bool.{and_parts, cases_Bool, eq-eqb, ltb-true, lt-ltb, ne_eqb, not-true, or_parts}
+use Rattle.std.proofs.lemmas.Bool.Decides.{eqb_tells}
 use Rattle.std.proofs.lemmas.List.{append-nil, ext_get_or, map-append}
 use Rattle.std.proofs.lemmas.List.Elements.{filter-append}
 use Rattle.std.proofs.lemmas.List.FromFn.{get_or-map-range_with_len, length-map-range_with_len}
@@ -17,10 +18,6 @@ use Rattle.rs_glass.specs.declared.happened.Happening.{Happening}
 use Rattle.rs_glass.specs.declared.history.History.{History}
 use Rattle.rs_glass.proofs.ListLemmas.{each_behind-more}
 use Rattle.rs_table.proofs.RibLemmas.{any-one_more}
-use Rattle.rs_glass.proofs.ReadingLemmas.{or-first, or-second}
-
-both-ways : {b : Bool} → b ≡ true → b ≡ false → ⊥
-both-ways holds fails = cc
 
 -- ---- changes up to the close
 
@@ -28,8 +25,9 @@ both-ways holds fails = cc
 up_to_close-open : (changes : List Change) → list_any is_close changes ≡ false → up_to_close changes ≡ changes
 up_to_close-open [] none = refl
 up_to_close-open (first ∷ later) none =
-    ap (λ (b : Bool). first ∷ cond b [] (up_to_close later)) (or-first (is_close first) (list_any is_close later) none)
-    ∙ ap (λ (rest : List Change). first ∷ rest) (up_to_close-open later (or-second (is_close first) (list_any is_close later) none))
+    let parts = or_parts (is_close first) (list_any is_close later) none in
+    ap (λ (b : Bool). first ∷ cond b [] (up_to_close later)) parts.0
+    ∙ ap (λ (rest : List Change). first ∷ rest) (up_to_close-open later parts.1)
 
 cond-same : (b : Bool) → cond {A = List Change} b [] [] ≡ []
 cond-same true = refl
@@ -39,8 +37,9 @@ cond-same false = refl
 up_to_close-more : (changes : List Change) (one : Change) → list_any is_close changes ≡ false → up_to_close (changes ++ one ∷ []) ≡ changes ++ one ∷ []
 up_to_close-more [] one none = ap (λ (rest : List Change). one ∷ rest) (cond-same (is_close one))
 up_to_close-more (first ∷ later) one none =
-    ap (λ (b : Bool). first ∷ cond b [] (up_to_close (later ++ one ∷ []))) (or-first (is_close first) (list_any is_close later) none)
-    ∙ ap (λ (rest : List Change). first ∷ rest) (up_to_close-more later one (or-second (is_close first) (list_any is_close later) none))
+    let parts = or_parts (is_close first) (list_any is_close later) none in
+    ap (λ (b : Bool). first ∷ cond b [] (up_to_close (later ++ one ∷ []))) parts.0
+    ∙ ap (λ (rest : List Change). first ∷ rest) (up_to_close-more later one parts.1)
 
 -- behind a close nothing does
 up_to_close-closed : (changes : List Change) (one : Change) → list_any is_close changes ≡ true → up_to_close (changes ++ one ∷ []) ≡ up_to_close changes
@@ -114,34 +113,28 @@ module _ (plan : Plan) where
       closed known false is = let counted : true ≡ false = sym (rw (known, is) refl) ∙ not_counted in absurd cc
 
       same : (peer : ℕ) → peer < length plan.peers → up_to_close (changes_from peer before) ≡ up_to_close (changes_from peer (before ++ one ∷ []))
-      same peer known = elim (cases_Bool (peer == one.peer)) [
-        | inl equal ↦
-            let is : peer ≡ one.peer = eqb-true peer one.peer equal in
+      same peer known = elim (eqb_tells peer one.peer) [
+        | inl told ↦
+            let is = told.1 in
             let there : nat_lt one.peer (length plan.peers) ≡ true = lt-ltb one.peer (length plan.peers) (omega (arith, known, is)) in
             let behind = closed there (list_any is_close (changes_from one.peer before)) refl in
             subst (λ (p : ℕ). up_to_close (changes_from p before) ≡ up_to_close (changes_from p (before ++ one ∷ []))) (sym is)
             (sym (ap up_to_close (changes_from-same before one) ∙ up_to_close-closed (changes_from one.peer before) (change_of one.word) behind))
-        | inr different ↦ sym (ap up_to_close (changes_from-other peer before one (λ is. both-ways (eq-eqb peer one.peer is) different)))
+        | inr told ↦ sym (ap up_to_close (changes_from-other peer before one told.1))
       ]
 
   -- what counts is taken by its peer
   taken : (before : List Happening) (one : Happening) (new : TablesContent) → counts plan before one ≡ true → Takes (tables_after plan before) one new → new ≡ tables_after plan (before ++ one ∷ [])
   taken before one new counted t = tables-same (before ++ one ∷ []) new t.plan (t.count ∙ length-map-range_with_len (rib_after before) 0 (length plan.peers)) each
     where
-      and-first : (b c : Bool) → (b && c) ≡ true → b ≡ true
-      and-first true c e = refl
-      and-first false c e = absurd cc
-
-      and-second : (b c : Bool) → (b && not c) ≡ true → c ≡ false
-      and-second true false e = refl
-      and-second true true e = absurd cc
-      and-second false c e = absurd cc
+      parts : (nat_lt one.peer (length plan.peers) ≡ true) × (not (list_any is_close (changes_from one.peer before)) ≡ true)
+      parts = and_parts (nat_lt one.peer (length plan.peers)) (not (list_any is_close (changes_from one.peer before))) counted
 
       known : one.peer < length plan.peers
-      known = ltb-true one.peer (length plan.peers) (and-first (nat_lt one.peer (length plan.peers)) (not (list_any is_close (changes_from one.peer before))) counted)
+      known = ltb-true one.peer (length plan.peers) parts.0
 
       none : list_any is_close (changes_from one.peer before) ≡ false
-      none = and-second (nat_lt one.peer (length plan.peers)) (list_any is_close (changes_from one.peer before)) counted
+      none = not-true (list_any is_close (changes_from one.peer before)) parts.1
 
       given : List Change
       given = changes_from one.peer before
@@ -159,14 +152,11 @@ module _ (plan : Plan) where
       all = ap up_to_close (changes_from-same before one) ∙ up_to_close-more given (change_of one.word) none
 
       each : (peer : ℕ) → peer < length plan.peers → rib_of new peer ≡ rib_after (before ++ one ∷ []) peer
-      each peer below = elim (cases_Bool (peer == one.peer)) [
-        | inl equal ↦
-            let is : peer ≡ one.peer = eqb-true peer one.peer equal in
+      each peer below = elim (eqb_tells peer one.peer) [
+        | inl told ↦
             let rib : rib_of new one.peer ≡ rib_left (given ++ change_of one.word ∷ []) = λ i. record { routes = routes i; closed = closed i } in
-            subst (λ (p : ℕ). rib_of new p ≡ rib_after (before ++ one ∷ []) p) (sym is) (rib ∙ ap rib_left (sym all))
-        | inr different ↦
-            let apart : peer ≢ one.peer = λ is. both-ways (eq-eqb peer one.peer is) different in
-            t.others peer apart ∙ rib_of-after before peer below ∙ ap (λ (changes : List Change). rib_left (up_to_close changes)) (sym (changes_from-other peer before one apart))
+            subst (λ (p : ℕ). rib_of new p ≡ rib_after (before ++ one ∷ []) p) (sym told.1) (rib ∙ ap rib_left (sym all))
+        | inr told ↦ t.others peer told.1 ∙ rib_of-after before peer below ∙ ap (λ (changes : List Change). rib_left (up_to_close changes)) (sym (changes_from-other peer before one told.1))
       ]
 
   -- one step

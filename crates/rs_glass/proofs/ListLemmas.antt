@@ -1,6 +1,7 @@
 -- Lists that grow by one at a time, place by place.
 use Rattle.std.proofs.Common.{◌≡◌, ℕ, zero, suc, ◌<◌, ◌+◌, List, [], ◌∷◌, ◌++◌, Some, length, refl, sym, ap, subst, ◌∙◌, arith, inl, inr, get_or, append_assoc}
 use Rattle.std.proofs.lemmas.List.{append-nil}
+use Rattle.std.proofs.lemmas.Option.{slice_get_within}
 use Rattle.std.specs.Prelude.{◌⊎◌, slice_get}
 use Rattle.std.specs.List.{enumerate_from}
 use Rattle.rs_update.specs.IpPrefix.{IpPrefix}
@@ -26,12 +27,6 @@ at-pushed (z ∷ zs) x y (suc n) e = elim (at-pushed zs x y n e) [
   | inl there ↦ inl there
   | inr last ↦ inr (ap suc last.0, last.1)
 ]
-
--- what stands at a place is in the list
-at-within : {X : Type 0} (xs : List X) (n : ℕ) (y : X) → slice_get xs n ≡ Some y → n < length xs
-at-within [] n y e = absurd cc
-at-within (z ∷ zs) zero y e = omega arith
-at-within (z ∷ zs) (suc n) y e = omega (arith, at-within zs n y e)
 
 -- a place and what stands there, of a list whose places are numbered
 pub at-enumerated_from : {X : Type 0} (from : ℕ) (xs : List X) (place : ℕ) (p : ℕ × X) → place < length (enumerate_from from xs) → p ≡ get_or (enumerate_from from xs) place p → (p.0 ≡ from + place) × (slice_get xs place ≡ Some p.1)
@@ -66,7 +61,7 @@ module _ (tables : TablesContent) (client : ℕ) (prefix : IpPrefix) (all : List
       → AreExplained tables client prefix all (count + 1) (answers ++ one ∷ [])
   explained-more count answers one so_far as_many is said number below answer at =
       elim (at-pushed answers one answer number at) [
-        | inl earlier ↦ so_far number (omega (arith, at-within answers number answer earlier, as_many)) answer earlier
+        | inl earlier ↦ so_far number (omega (arith, slice_get_within answers number answer earlier, as_many)) answer earlier
         | inr last ↦
             let place : count ≡ number = sym (last.0 ∙ as_many) in
             subst (λ (a : Answer). IsExplanation tables client number prefix a.explanation × (slice_get all number ≡ Some a.said)) last.1

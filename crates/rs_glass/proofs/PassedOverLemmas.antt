@@ -1,16 +1,16 @@
 -- Changes that don't concern a prefix are passed over: what is said of the prefix stays, and what is left on those that cover it.
-use Rattle.std.proofs.Common.{◌≡◌, ◌∙◌, sym, ap, subst, refl, ℕ, Bool, true, false, List, [], ◌∷◌, ◌++◌, Option, Some, Ok, append_assoc, inl, inr}
+use Rattle.std.proofs.Common.{◌≡◌, ◌∙◌, sym, ap, subst, refl, ℕ, Bool, true, false, List, [], ◌∷◌, ◌++◌, Option, Some, Ok, append_assoc}
 use Rattle.std.specs.Prelude.{◌||◌, cond, filter}
 use Rattle.std.specs.List.{list_any}
 use Rattle.std.specs.Option.{is_some}
-use Rattle.std.proofs.lemmas.Bool.{cases_Bool}
+use Rattle.std.proofs.lemmas.Bool.{false_from_ne_true, or_parts, true≢false}
 use Rattle.std.proofs.lemmas.List.{append-nil, append_cancel_left}
 use Rattle.std.proofs.lemmas.List.Elements.{filter-append}
 use Rattle.rs_update.specs.Covering.{covers}
 use Rattle.rs_update.specs.IpPrefix.{IpPrefix}
 use Rattle.rs_mrt.specs.Reader.{ReadEnd}
 use Rattle.rs_mrt.specs.Record.{MrtRecord}
-use Rattle.rs_session.specs.Change.{Change, ChangeBody, Announced, Withdrawn, Lost, Closed, body_closes, change_of, is_close}
+use Rattle.rs_session.specs.Change.{Change, ChangeBody, Announced, Withdrawn, Closed, body_closes, change_of, is_close}
 use Rattle.rs_session.specs.Concerning.{SaysBehind, body_concerns, concerns, is_later}
 use Rattle.rs_session.specs.Given.{IsRead}
 use Rattle.rs_session.specs.Laws.{SomethingMayCome}
@@ -28,9 +28,9 @@ use Rattle.rs_explain.proofs.SaidLemmas.{announced_before, ended_before, kept, n
 use Rattle.rs_glass.specs.Recorded.{AreInTime, IsSaid, close_after, close_in}
 use Rattle.rs_glass.specs.declared.question.Question.{Question}
 use Rattle.rs_glass.specs.declared.said.Said.{Said}
-use Rattle.rs_glass.proofs.CoveringLemmas.{same_prefix-is}
+use Rattle.rs_table.proofs.PrefixLemmas.{same_prefix-true}
 use Rattle.rs_glass.proofs.GivenLemmas.{IsGiven}
-use Rattle.rs_glass.proofs.ReadingLemmas.{IsTaken, or-first, or-second}
+use Rattle.rs_glass.proofs.ReadingLemmas.{IsTaken}
 use Rattle.rs_glass.proofs.SaidLemmas.{close_in-more}
 
 -- ---- what is said of a prefix
@@ -38,33 +38,22 @@ use Rattle.rs_glass.proofs.SaidLemmas.{close_in-more}
 module _ (prefix : IpPrefix) (itself : covers prefix prefix ≡ true) where
   -- a prefix that doesn't cover it is another one
   other-prefix : (changed : IpPrefix) → covers changed prefix ≡ false → same_prefix prefix changed ≡ false
-  other-prefix changed beside = elim (cases_Bool (same_prefix prefix changed)) [
-    | inl same ↦
-        let covering : covers changed prefix ≡ true = subst (λ (one : IpPrefix). covers one prefix ≡ true) (same_prefix-is prefix changed same) itself in
-        let clash : true ≡ false = sym covering ∙ beside in
-        absurd cc
-    | inr other ↦ other
-  ]
+  other-prefix changed beside = false_from_ne_true (same_prefix prefix changed) (λ same. true≢false (sym (subst (λ (one : IpPrefix). covers one prefix ≡ true) (same_prefix-true prefix changed same) itself) ∙ beside))
 
   -- a change that doesn't concern it neither announces it nor takes its route away
   beside-announces : (body : ChangeBody) → body_concerns prefix body ≡ false → body_announces prefix body ≡ false
   beside-announces (Announced changed attributes) beside = other-prefix changed beside
-  beside-announces (Withdrawn changed) beside = refl
-  beside-announces Lost beside = refl
-  beside-announces (Closed reason) beside = refl
+  beside-announces body beside = refl
 
   beside-ends : (body : ChangeBody) → body_concerns prefix body ≡ false → is_some (body_ends_by prefix body) ≡ false
   beside-ends (Announced changed attributes) beside = refl
   beside-ends (Withdrawn changed) beside = rw (other-prefix changed beside) refl
-  beside-ends Lost beside = absurd cc
-  beside-ends (Closed reason) beside = absurd cc
+  beside-ends body beside = absurd cc
 
   -- nor closes the session
   beside-close_after : (before : Option Reason) (body : ChangeBody) → body_concerns prefix body ≡ false → close_after before body ≡ before
-  beside-close_after before (Announced changed attributes) beside = refl
-  beside-close_after before (Withdrawn changed) beside = refl
-  beside-close_after before Lost beside = refl
   beside-close_after before (Closed reason) beside = absurd cc
+  beside-close_after before body beside = refl
 
   said_last-over : (given : List Change) (change : Change) → concerns prefix change ≡ false → (one : LastSaid) → IsSaidLast prefix given one → IsSaidLast prefix (given ++ change ∷ []) one
   said_last-over given change beside last.NeverAnnounced said = none-append (announces prefix) given (change ∷ []) said (none-one (announces prefix) change (beside-announces change.body beside))
@@ -83,15 +72,15 @@ module _ (prefix : IpPrefix) (itself : covers prefix prefix ≡ true) where
   said-over given [] said beside is = subst (λ (all : List Change). IsSaid prefix all said) (sym (append-nil given)) is
   said-over given (change ∷ over) said beside is =
       subst (λ (all : List Change). IsSaid prefix all said) (append_assoc given (change ∷ []) over)
-      (said-over (given ++ change ∷ []) over said (or-second (concerns prefix change) (list_any (concerns prefix) over) beside)
-      (said-over_one given change said (or-first (concerns prefix change) (list_any (concerns prefix) over) beside) is))
+      (said-over (given ++ change ∷ []) over said (or_parts (concerns prefix change) (list_any (concerns prefix) over) beside).1
+      (said-over_one given change said (or_parts (concerns prefix change) (list_any (concerns prefix) over) beside).0 is))
 
   none-kept : (over : List Change) → list_any (concerns prefix) over ≡ false → filter (concerns prefix) over ≡ []
   none-kept [] beside = refl
   none-kept (change ∷ over) beside =
-      let first : concerns prefix change ≡ false = or-first (concerns prefix change) (list_any (concerns prefix) over) beside in
+      let first : concerns prefix change ≡ false = (or_parts (concerns prefix change) (list_any (concerns prefix) over) beside).0 in
       ap (λ (b : Bool). cond b (change ∷ filter (concerns prefix) over) (filter (concerns prefix) over)) first
-      ∙ none-kept over (or-second (concerns prefix change) (list_any (concerns prefix) over) beside)
+      ∙ none-kept over (or_parts (concerns prefix change) (list_any (concerns prefix) over) beside).1
 
   pub taken-over : (given over : List Change) (routes : Routes) (said : Said) → list_any (concerns prefix) over ≡ false → IsTaken prefix given routes said → IsTaken prefix (given ++ over) routes said
   taken-over given over routes said beside is = record {
@@ -103,13 +92,11 @@ module _ (prefix : IpPrefix) (itself : covers prefix prefix ≡ true) where
 over-open : (prefix : IpPrefix) (over : List Change) → list_any (concerns prefix) over ≡ false → list_any is_close over ≡ false
 over-open prefix [] beside = refl
 over-open prefix (change ∷ over) beside =
-    open_one change.body (or-first (concerns prefix change) (list_any (concerns prefix) over) beside) (over-open prefix over (or-second (concerns prefix change) (list_any (concerns prefix) over) beside))
+    open_one change.body (or_parts (concerns prefix change) (list_any (concerns prefix) over) beside).0 (over-open prefix over (or_parts (concerns prefix change) (list_any (concerns prefix) over) beside).1)
   where
     open_one : (body : ChangeBody) → body_concerns prefix body ≡ false → list_any is_close over ≡ false → (body_closes body || list_any is_close over) ≡ false
-    open_one (Announced changed attributes) b later = later
-    open_one (Withdrawn changed) b later = later
-    open_one Lost b later = absurd cc
     open_one (Closed reason) b later = absurd cc
+    open_one body b later = later
 
 pub open-over : (prefix : IpPrefix) (given over : List Change) → list_any (concerns prefix) over ≡ false → list_any is_close given ≡ false → list_any is_close (given ++ over) ≡ false
 open-over prefix given over beside none = none-append is_close given over none (over-open prefix over beside)

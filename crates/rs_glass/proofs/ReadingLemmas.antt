@@ -1,6 +1,6 @@
 -- The recorded session of a peer up to a time: what its changes leave and say, change by change.
 use Rattle.std.proofs.Common.{◌≡◌, ◌∙◌, sym, ap, subst, refl, ℕ, Bool, true, false, List, [], ◌∷◌, ◌++◌, Option, None}
-use Rattle.std.specs.Prelude.{◌||◌, cond, filter}
+use Rattle.std.specs.Prelude.{cond, filter}
 use Rattle.std.specs.List.{list_any}
 use Rattle.std.specs.Option.{option_map_or}
 use Rattle.std.specs.FinMap.{empty, get}
@@ -9,7 +9,7 @@ use Rattle.std.proofs.lemmas.List.Elements.{filter-append}
 use Rattle.rs_update.specs.IpPrefix.{IpPrefix}
 use Rattle.rs_mrt.specs.Reader.{ReadEnd}
 use Rattle.rs_mrt.specs.Record.{MrtRecord}
-use Rattle.rs_session.specs.Change.{Change, ChangeBody, Announced, Withdrawn, Lost, Closed, is_close}
+use Rattle.rs_session.specs.Change.{Change, ChangeBody, Announced, Withdrawn, is_close}
 use Rattle.rs_session.specs.Stage.{Comes, Stage}
 use Rattle.rs_session.specs.declared.peer.PeerId.{PeerId}
 use Rattle.rs_table.specs.Laws.{LeftAfterOneMore, LeftByLastChanges, LeftByPart}
@@ -20,46 +20,25 @@ use Rattle.rs_session.specs.Concerning.{body_concerns, concerns}
 use Rattle.rs_glass.specs.Recorded.{AreInTime, AreTold, IsSaid, IsSaidBefore}
 use Rattle.rs_glass.specs.declared.question.Question.{Question}
 use Rattle.rs_glass.specs.declared.said.Said.{Said}
-use Rattle.rs_glass.proofs.CoveringLemmas.{same_prefix-is}
+use Rattle.rs_session.proofs.BesideLemmas.{none-part}
+use Rattle.rs_table.proofs.PrefixLemmas.{same_prefix-true}
 use Rattle.rs_table.proofs.RibLemmas.{left-nothing}
 use Rattle.rs_glass.proofs.GivenLemmas.{IsGiven}
-
--- ---- closes
-
-pub or-first : (b c : Bool) → (b || c) ≡ false → b ≡ false
-or-first false c e = refl
-or-first true c e = absurd cc
-
-pub or-second : (b c : Bool) → (b || c) ≡ false → c ≡ false
-or-second false c e = e
-or-second true c e = absurd cc
-
--- a part of a list of changes without a close has none
-pub none-part : (keeps : Change → Bool) (xs : List Change) → list_any is_close xs ≡ false → list_any is_close (filter keeps xs) ≡ false
-none-part keeps [] none = refl
-none-part keeps (x ∷ xs) none =
-    none_if (keeps x) (or-first (is_close x) (list_any is_close xs) none) (none-part keeps xs (or-second (is_close x) (list_any is_close xs) none))
-  where
-    none_if : (b : Bool) → is_close x ≡ false → list_any is_close (filter keeps xs) ≡ false → list_any is_close (cond b (x ∷ filter keeps xs) (filter keeps xs)) ≡ false
-    none_if true first later = rw (first, later) refl
-    none_if false first later = later
 
 -- ---- prefixes that cover one
 
 module _ (prefix : IpPrefix) where
   -- one on a prefix that covers it concerns it
   body_on : (wide : IpPrefix) → covers wide prefix ≡ true → (body : ChangeBody) → option_map_or (same_prefix wide) (body_prefix body) false ≡ true → body_concerns prefix body ≡ true
-  body_on wide covered (Announced changed attributes) on = subst (λ (one : IpPrefix). covers one prefix ≡ true) (same_prefix-is wide changed on) covered
-  body_on wide covered (Withdrawn changed) on = subst (λ (one : IpPrefix). covers one prefix ≡ true) (same_prefix-is wide changed on) covered
-  body_on wide covered Lost on = absurd cc
-  body_on wide covered (Closed reason) on = absurd cc
+  body_on wide covered (Announced changed attributes) on = subst (λ (one : IpPrefix). covers one prefix ≡ true) (same_prefix-true wide changed on) covered
+  body_on wide covered (Withdrawn changed) on = subst (λ (one : IpPrefix). covers one prefix ≡ true) (same_prefix-true wide changed on) covered
+  body_on wide covered body on = absurd cc
 
   -- and so does one on no prefix
   body_on_none : (body : ChangeBody) → body_prefix body ≡ None → body_concerns prefix body ≡ true
   body_on_none (Announced changed attributes) none = absurd cc
   body_on_none (Withdrawn changed) none = absurd cc
-  body_on_none Lost none = refl
-  body_on_none (Closed reason) none = refl
+  body_on_none body none = refl
 
   -- what the changes that concern it leave is what all leave on each prefix that covers it
   told : (given : List Change) (routes : Routes) (one : Said) → LeftByPart → LeftByLastChanges → left (filter (concerns prefix) given) ≡ routes → IsSaid prefix given one → AreTold prefix given routes one
@@ -88,7 +67,7 @@ module _ (prefix : IpPrefix) where
   next_left : (keeps : Bool) (change : Change) (given : List Change) (routes : Routes) → LeftAfterOneMore → list_any is_close given ≡ false → left (filter (concerns prefix) given) ≡ routes
       → left (filter (concerns prefix) given ++ cond keeps (change ∷ []) []) ≡ cond keeps (after routes change) routes
   next_left true change given routes one_more none left_is =
-      one_more (filter (concerns prefix) given) change (none-part (concerns prefix) given none) ∙ ap (λ (held : Routes). after held change) left_is
+      one_more (filter (concerns prefix) given) change (none-part is_close (concerns prefix) given none) ∙ ap (λ (held : Routes). after held change) left_is
   next_left false change given routes one_more none left_is = ap left (append-nil (filter (concerns prefix) given)) ∙ left_is
 
   -- one change more was given, where none before it was a close

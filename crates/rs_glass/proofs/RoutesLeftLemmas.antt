@@ -5,6 +5,7 @@ use Rattle.std.specs.declared.alloc.AllocError.{AllocError}
 use Rattle.std.specs.List.{list_any}
 use Rattle.std.specs.Option.{option_map_or}
 use Rattle.std.specs.FinMap as fin
+use Rattle.std.proofs.lemmas.Bool.{both_ways, not-false, not-true, or_parts}
 use Rattle.std.proofs.lemmas.List.{append-nil, map-append}
 use Rattle.std.proofs.lemmas.List.Elements.{filter-append}
 use Rattle.std.proofs.lemmas.List.Folds.{list_any-append}
@@ -15,9 +16,9 @@ use Rattle.rs_session.specs.declared.word.Word.{Word}
 use Rattle.rs_table.specs.Laws.{LeftAfterOneMore}
 use Rattle.rs_table.specs.Left.{HasNoClose, RouteLeft, Routes, after, after_body, body_prefix, is_on, left, reason_drops, same_prefix}
 use Rattle.rs_glass.specs.RoutesLeftView.{body_announces, body_ends_route, ends_route, is_announcement}
-use Rattle.rs_glass.proofs.CoveringLemmas.{prefix_cmp-IsAntisymmetric, prefix_total, same_prefix-is}
+use Rattle.rs_session.proofs.BesideLemmas.{none-part}
+use Rattle.rs_table.proofs.PrefixLemmas.{prefix_cmp-IsAntisymmetric, prefix_total, same_prefix-true}
 use Rattle.rs_table.proofs.RibLemmas.{any-one_more, left-nothing}
-use Rattle.rs_glass.proofs.ReadingLemmas.{none-part, or-first, or-second}
 
 -- ---- maps
 
@@ -78,9 +79,7 @@ remove-none q = alike _ _ (λ k.
 
 apart : (q p k : IpPrefix) → same_prefix q p ≡ false → same_prefix k q ≡ true → same_prefix k p ≡ true → ⊥
 apart q p k other first second =
-    let same : same_prefix q p ≡ true = subst (λ (x : IpPrefix). same_prefix x p ≡ true) (same_prefix-is k q first) second in
-    let clash : true ≡ false = sym same ∙ other in
-    absurd cc
+    both_ways (same_prefix q p) other (subst (λ (x : IpPrefix). same_prefix x p ≡ true) (same_prefix-true k q first) second)
 
 insert-remove : (m : Routes) (q p : IpPrefix) (r : RouteLeft) → same_prefix q p ≡ false → fin.insert (fin.remove m q) p r ≡ fin.remove (fin.insert m p r) q
 insert-remove m q p r other = alike _ _ (λ k.
@@ -100,16 +99,8 @@ remove-remove m q p = alike _ _ (λ k.
 
 -- ---- lists without the changes on a prefix
 
-not_true : (b : Bool) → not b ≡ true → b ≡ false
-not_true true e = absurd cc
-not_true false e = refl
-
-not_false : (b : Bool) → not b ≡ false → b ≡ true
-not_false true e = refl
-not_false false e = absurd cc
-
 none-first : (xs ys : List Change) → HasNoClose (xs ++ ys) → HasNoClose xs
-none-first xs ys none = or-first (list_any is_close xs) (list_any is_close ys) (sym (list_any-append is_close xs ys) ∙ none)
+none-first xs ys none = (or_parts (list_any is_close xs) (list_any is_close ys) (sym (list_any-append is_close xs ys) ∙ none)).0
 
 module _ (q : IpPrefix) where
   abbrev off : Change → Bool
@@ -117,7 +108,7 @@ module _ (q : IpPrefix) where
 
   -- a change that isn't on the prefix, before and after what was there is removed
   passes : (m : Routes) (time : ℕ) (body : ChangeBody) → not (option_map_or (same_prefix q) (body_prefix body) false) ≡ true → after_body (fin.remove m q) time body ≡ fin.remove (after_body m time body) q
-  passes m time (Announced p attributes) other = insert-remove m q p (record { time = time; attributes = attributes }) (not_true (same_prefix q p) other)
+  passes m time (Announced p attributes) other = insert-remove m q p (record { time = time; attributes = attributes }) (not-true (same_prefix q p) other)
   passes m time (Withdrawn p) other = remove-remove m q p
   passes m time Lost other = sym (remove-none q)
   passes m time (Closed reason) other = elim (reason_drops reason) as (λ b. cond b fin.empty (fin.remove m q) ≡ fin.remove (cond b fin.empty m) q) [
@@ -129,9 +120,9 @@ module _ (q : IpPrefix) where
   vanishes : (m : Routes) (time : ℕ) (body : ChangeBody) → not (option_map_or (same_prefix q) (body_prefix body) false) ≡ false → fin.remove m q ≡ fin.remove (after_body m time body) q
   vanishes m time (Announced p attributes) here =
       let r : RouteLeft = record { time = time; attributes = attributes } in
-      subst (λ (x : IpPrefix). fin.remove m q ≡ fin.remove (fin.insert m x r) q) (same_prefix-is q p (not_false (same_prefix q p) here)) (sym (remove-inserted m q r))
+      subst (λ (x : IpPrefix). fin.remove m q ≡ fin.remove (fin.insert m x r) q) (same_prefix-true q p (not-false (same_prefix q p) here)) (sym (remove-inserted m q r))
   vanishes m time (Withdrawn p) here =
-      subst (λ (x : IpPrefix). fin.remove m q ≡ fin.remove (fin.remove m x) q) (same_prefix-is q p (not_false (same_prefix q p) here)) (sym (remove-removed m q))
+      subst (λ (x : IpPrefix). fin.remove m q ≡ fin.remove (fin.remove m x) q) (same_prefix-true q p (not-false (same_prefix q p) here)) (sym (remove-removed m q))
   vanishes m time Lost here = absurd cc
   vanishes m time (Closed reason) here = absurd cc
 
@@ -142,7 +133,7 @@ module _ (q : IpPrefix) where
         ap left (filter-append off before (change ∷ [])) ∙ by_test (off change) refl ∙ sym (ap (λ (m : Routes). fin.remove m q) (one_more before change unclosed))
       where
         by_test : (b : Bool) → off change ≡ b → left (filter off before ++ cond b (change ∷ []) []) ≡ fin.remove (after (left before) change) q
-        by_test true is = one_more (filter off before) change (none-part off before unclosed) ∙ ap (λ (m : Routes). after m change) so_far ∙ passes (left before) change.time change.body is
+        by_test true is = one_more (filter off before) change (none-part is_close off before unclosed) ∙ ap (λ (m : Routes). after m change) so_far ∙ passes (left before) change.time change.body is
         by_test false is = ap left (append-nil (filter off before)) ∙ so_far ∙ vanishes (left before) change.time change.body is
 
     without-from : (before later : List Change) → HasNoClose (before ++ later) → left (filter off before) ≡ fin.remove (left before) q → left (filter off (before ++ later)) ≡ fin.remove (left (before ++ later)) q
@@ -181,7 +172,7 @@ module _ (one_more : LeftAfterOneMore) (kept : List Change) (unclosed : HasNoClo
       left (filter (λ one. not (body_ends_route body one)) kept ++ cond (body_announces body) (record { time = time; body = body } ∷ []) []) ≡ after_body (left kept) time body
   left-taken-body time (Announced p attributes) =
       let change : Change = record { time = time; body = Announced p attributes } in
-      one_more (filter (λ one. not (is_on p one)) kept) change (none-part (λ one. not (is_on p one)) kept unclosed)
+      one_more (filter (λ one. not (is_on p one)) kept) change (none-part is_close (λ one. not (is_on p one)) kept unclosed)
       ∙ ap (λ (m : Routes). after m change) (left-without p one_more kept unclosed)
       ∙ insert-removed (left kept) p (record { time = time; attributes = attributes })
   left-taken-body time (Withdrawn p) = ap left (append-nil (filter (λ one. not (is_on p one)) kept)) ∙ left-without p one_more kept unclosed
@@ -200,7 +191,7 @@ module _ (one_more : LeftAfterOneMore) (kept : List Change) (unclosed : HasNoClo
   taken-unclosed change = by_body change.time change.body
     where
       part : (body : ChangeBody) → HasNoClose (filter (λ one. not (body_ends_route body one)) kept)
-      part body = none-part (λ one. not (body_ends_route body one)) kept unclosed
+      part body = none-part is_close (λ one. not (body_ends_route body one)) kept unclosed
 
       by_body : (time : ℕ) (body : ChangeBody) → HasNoClose (filter (λ one. not (body_ends_route body one)) kept ++ cond (body_announces body) (record { time = time; body = body } ∷ []) [])
       by_body time (Announced p attributes) = any-one_more is_close (filter (λ one. not (is_on p one)) kept) (record { time = time; body = Announced p attributes }) (part (Announced p attributes))
@@ -213,8 +204,8 @@ module _ (one_more : LeftAfterOneMore) (kept : List Change) (unclosed : HasNoClo
 -- among words without a close, none is one
 pub no-close-at : (words : List Word) (n : ℕ) (word : Word) → HasNoClose (map change_of words) → n < length words → word ≡ get_or words n word → is_close (change_of word) ≡ false
 no-close-at [] n word unclosed below here = absurd (omega (arith, below))
-no-close-at (w ∷ ws) zero word unclosed below here = ap (λ (x : Word). is_close (change_of x)) here ∙ or-first (is_close (change_of w)) (list_any is_close (map change_of ws)) unclosed
-no-close-at (w ∷ ws) (suc n) word unclosed below here = no-close-at ws n word (or-second (is_close (change_of w)) (list_any is_close (map change_of ws)) unclosed) (omega (arith, below)) here
+no-close-at (w ∷ ws) zero word unclosed below here = ap (λ (x : Word). is_close (change_of x)) here ∙ (or_parts (is_close (change_of w)) (list_any is_close (map change_of ws)) unclosed).0
+no-close-at (w ∷ ws) (suc n) word unclosed below here = no-close-at ws n word (or_parts (is_close (change_of w)) (list_any is_close (map change_of ws)) unclosed).1 (omega (arith, below)) here
 
 module _ (words : List Word) (word : Word) (unclosed : HasNoClose (map change_of words)) (dropped later : List Word) (drops : dropped ≡ filter (λ kept. not (ends_route (change_of word) (change_of kept))) words) where
   abbrev rest : List Change
@@ -239,4 +230,4 @@ module _ (words : List Word) (word : Word) (unclosed : HasNoClose (map change_of
   pub words-unclosed : (one_more : LeftAfterOneMore) → (r : Result (Unit {0}) AllocError) → OnOk r (later ≡ dropped ++ cond (is_announcement (change_of word)) (word ∷ []) []) → OnErr r (later ≡ dropped) → HasNoClose (map change_of later)
   words-unclosed one_more (Ok done) grown same = subst HasNoClose (sym (later-are grown)) (taken-unclosed one_more (map change_of words) unclosed (change_of word))
   words-unclosed one_more (Err refused) grown same =
-      subst HasNoClose (sym (ap (map change_of) same ∙ dropped-are)) (none-part (λ one. not (ends_route (change_of word) one)) (map change_of words) unclosed)
+      subst HasNoClose (sym (ap (map change_of) same ∙ dropped-are)) (none-part is_close (λ one. not (ends_route (change_of word) one)) (map change_of words) unclosed)
