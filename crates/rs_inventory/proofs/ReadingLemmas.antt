@@ -50,13 +50,8 @@ inventory-whole gives old new front content is held = record {
 
 -- six octets tell whether a file is compressed
 compression-front : (octets later : List ℕ) → 6 ≤ length octets → compression_of (octets ++ later) ≡ compression_of octets
-compression-front [] later six = absurd (omega (arith, six))
-compression-front (a ∷ []) later six = absurd (omega (arith, six))
-compression-front (a ∷ b ∷ []) later six = absurd (omega (arith, six))
-compression-front (a ∷ b ∷ c ∷ []) later six = absurd (omega (arith, six))
-compression-front (a ∷ b ∷ c ∷ d ∷ []) later six = absurd (omega (arith, six))
-compression-front (a ∷ b ∷ c ∷ d ∷ e ∷ []) later six = absurd (omega (arith, six))
 compression-front (a ∷ b ∷ c ∷ d ∷ e ∷ f ∷ octets) later six = refl
+compression-front octets later six = absurd (omega (arith, six))
 
 -- as do fewer, behind which none come
 compression-taken : {R : Type 0} (gives : R → List ℕ → ReadEnd → Type 0) (front : Taken) (inner : R) (later : List ℕ) (end : ReadEnd) → is_done front ≡ true

@@ -8,7 +8,7 @@ use Rattle.std.proofs.lemmas.List.Sums.{list_all-from_AllPass}
 use Rattle.std.proofs.lemmas.List.Folds.{list_all-append}
 use Rattle.rs_update.specs.IpPrefix.{IpPrefix}
 use Rattle.rs_update.specs.PathAttributes.{PathAttributes}
-use Rattle.rs_session.specs.Change.{Change, ChangeBody, Announced, Withdrawn, Lost, Closed, is_close, body_closes}
+use Rattle.rs_session.specs.Change.{Change, ChangeBody, Announced, Withdrawn, is_close, body_closes}
 use Rattle.rs_table.proofs.PrefixLemmas.{same_prefix-true}
 use Rattle.rs_table.specs.Laws.{LeftByLastChanges, LeftByPart}
 use Rattle.rs_table.specs.Left.{Leaves, RouteLeft, announcement, body_loses, body_prefix, is_loss, is_on, left, same_prefix}
@@ -24,8 +24,7 @@ gets_own shards prefix change on = by_body change.body on
     by_body : (body : ChangeBody) → is_on prefix (record { time = change.time; body = body }) ≡ true → gets_on shards (shard_of prefix shards) (body_prefix body) ≡ true
     by_body (Announced p attributes) here = eq-eqb _ _ (ap (λ (q : IpPrefix). shard_of q shards) (sym (same_prefix-true prefix p here)))
     by_body (Withdrawn p) here = eq-eqb _ _ (ap (λ (q : IpPrefix). shard_of q shards) (sym (same_prefix-true prefix p here)))
-    by_body Lost here = refl
-    by_body (Closed reason) here = refl
+    by_body body here = refl
 
 gets_none : (shards shard : ℕ) (change : Change) → body_prefix change.body ≡ None → gets shards shard change ≡ true
 gets_none shards shard change none = ap (gets_on shards shard) none
@@ -38,8 +37,7 @@ gets_unplaced test announced withdrawn shards shard change passes = by_body chan
     by_body : (body : ChangeBody) → test body ≡ true → gets_on shards shard (body_prefix body) ≡ true
     by_body (Announced p attributes) e = absurd (cc (e, announced p attributes))
     by_body (Withdrawn p) e = absurd (cc (e, withdrawn p))
-    by_body Lost e = refl
-    by_body (Closed reason) e = refl
+    by_body body e = refl
 
 -- ---- parts of lists
 
