@@ -1,6 +1,7 @@
 -- A lane by its fields, and what each step of it keeps: for `new`, `send` and `receive` of lane.rt.
 use Rattle.std.proofs.Common.{◌≡◌, ◌∙◌, sym, ap, refl, subst, ℕ, ◌+◌, ◌-◌, ◌<◌, ◌≤◌, ◌^◌, suc, arith, List, [], ◌∷◌, ◌++◌, length, length-append}
 use Rattle.std.proofs.lemmas.List.{length-map, take-append-le}
+use Rattle.rs_ring.specs.Ends.{Receiving, Sending}
 use Rattle.rs_session.specs.Change.{Change, change_of}
 use Rattle.rs_session.specs.FileChanges.{changes_in}
 use Rattle.rs_session.specs.declared.peer.PeerId.{PeerId}
@@ -53,6 +54,16 @@ pub record LooksLike (old new : Inside) : Type 0 where
   pub room : new.sender.capacity ≡ old.sender.capacity
   pub capacity : new.capacity ≡ old.capacity
   pub receiving : new.receiver.ring ≡ old.receiver.ring
+
+-- so they are where the threads' ends were looked at beside each other, and one of them used then
+pub looks-beside : (old new : Inside) (sender : Sending Word) (receiver : Receiving Word) → sender ≡ record old.sender { room = sender.room } → receiver ≡ record old.receiver { waiting = receiver.waiting }
+    → (new.sender.ring ≡ sender.ring) × (new.sender.capacity ≡ sender.capacity) → new.receiver.ring ≡ receiver.ring → new.capacity ≡ old.capacity → LooksLike old new
+looks-beside old new sender receiver of_sender of_receiver sends receives capacity = record {
+  ring = sends.0 ∙ ap (λ (s : Sending Word). s.ring) of_sender;
+  room = sends.1 ∙ ap (λ (s : Sending Word). s.capacity) of_sender;
+  capacity = capacity;
+  receiving = receives ∙ ap (λ (r : Receiving Word). r.ring) of_receiver;
+}
 
 -- nothing went through either end, and the same is to come
 pub looked-is_lane : (old new : Inside) → IsLane old → LooksLike old new → new.sender.sent ≡ old.sender.sent → new.receiver.received ≡ old.receiver.received → new.received ≡ old.received → to_come new.session ≡ to_come old.session → IsLane new

@@ -67,11 +67,8 @@ end-of-file gives errors peer reader received end joined given = record {
 -- ---- failed reads
 
 read-is : (reason : Reason) → is_read reason ≡ true → reason ≡ reasons.Read
-read-is reasons.EndOfFile reads = absurd cc
-read-is (reasons.Bgp code subcode) reads = absurd cc
-read-is (reasons.Mrt number) reads = absurd cc
-read-is reasons.Memory reads = absurd cc
 read-is reasons.Read reads = refl
+read-is reason reads = absurd cc
 
 -- no file says that a read failed
 unread_by-file : (end : Option MrtFault) (reason : Reason) → may_close (source_end end) reason ≡ true → reason ≡ reasons.Read → ⊥

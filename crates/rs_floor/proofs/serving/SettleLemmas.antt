@@ -16,7 +16,7 @@ use Rattle.rs_worker.specs.declared.crew.Joined.{Joined}
 use Rattle.rs_floor.specs.Outcome.{IsLeastPlace, IsVerdict}
 use Rattle.rs_floor.specs.Run.{CanMerge, IsRefusal, IsWell}
 use Rattle.rs_floor.specs.declared.fault.FloorRefused.{FloorRefused}
-use Rattle.rs_floor.specs.declared.fault.FloorRefused.TheVariants.{Memory, Unsettled, Capacity, Read, Shards}
+use Rattle.rs_floor.specs.declared.fault.FloorRefused.TheVariants.{Memory, Unsettled, Read}
 
 wells : (ends : List Joined) → list_any (λ end. is_memory end.reason) ends ≡ false → All (λ v. v ≡ false) (map (λ end. is_read end.reason) ends) → All (λ v. v ≡ true) (map (λ end. end.settled) ends) → All IsWell ends
 wells [] none reads settled = All-nil IsWell
@@ -53,8 +53,7 @@ refusal ends memory whole failed settled (Read peer) is reads settles verdict = 
 }
 refusal ends memory whole failed settled (Unsettled peer) is reads settles verdict =
     omega (arith, slice_get_within settled peer false verdict.2.has, ap (λ (values : List Bool). length values) settles, length-map ends (λ (end : Joined). end.settled))
-refusal ends memory whole failed settled Capacity is reads settles verdict = absurd verdict
-refusal ends memory whole failed settled Shards is reads settles verdict = absurd verdict
+refusal ends memory whole failed settled fault is reads settles verdict = absurd verdict
 
 -- so it is of an answer that is this one
 pub refusal-of : (ends : List Joined) (memory whole : Bool) (failed settled : List Bool) (fault : FloorRefused) {A : Type 0} (result : Result A FloorRefused) → IsErrAnd result (λ found. found ≡ fault)

@@ -12,46 +12,35 @@ use Rattle.rs_floor.proofs.crew.run.Goals as goal
 
 pub give_up-requires-clause-shards : goal.give_up-requires-clause-shards
 give_up-requires-clause-shards g c =
-    let fewer = prefix-shorter (λ handle. of_shards.charged handle.promise) of_shards.charge_of c.start_shards.new.handles.items c.args.crew.rings.jobs.items c.start_shards.ensures.tied in
-    let as_many : length c.args.crew.rings.jobs.items ≡ length c.args.crew.rings.to.items = same-counted (λ (job : ShardJob). job.from.ring) (λ (sender : Sending Routed). sender.ring) c.args.crew.rings.jobs.items c.args.crew.rings.to.items c.requires.shards.rings in
-    omega (arith, fewer, as_many)
+    omega (arith, prefix-shorter (λ handle. of_shards.charged handle.promise) of_shards.charge_of c.start_shards.new.handles.items c.args.crew.rings.jobs.items c.start_shards.ensures.tied, same-counted (λ (job : ShardJob). job.from.ring) (λ (sender : Sending Routed). sender.ring) c.args.crew.rings.jobs.items c.args.crew.rings.to.items c.requires.shards.rings)
 
 pub give_up-requires-clause-few_shards : goal.give_up-requires-clause-few_shards
 give_up-requires-clause-few_shards g c =
-    let fewer = prefix-shorter (λ handle. of_shards.charged handle.promise) of_shards.charge_of c.start_shards.new.handles.items c.args.crew.rings.jobs.items c.start_shards.ensures.tied in
-    omega (arith, fewer, c.requires.shards.counted.1)
+    omega (arith, prefix-shorter (λ handle. of_shards.charged handle.promise) of_shards.charge_of c.start_shards.new.handles.items c.args.crew.rings.jobs.items c.start_shards.ensures.tied, c.requires.shards.counted.1)
 
 pub give_up-requires-then-not-start_workers-clause-workers : goal.give_up-requires-then-not-start_workers-clause-workers
 give_up-requires-then-not-start_workers-clause-workers g c =
-    let fewer = prefix-shorter (λ handle. charged handle.promise) (charge_of c.args.errors) c.start_workers.new.handles.items c.args.crew.lines.jobs.items c.start_workers.ensures.tied in
-    let as_many : length c.args.crew.lines.jobs.items ≡ length c.args.crew.lines.from.items = same-counted (λ job. job.out.ring) (λ (receiver : Receiving Word). receiver.ring) c.args.crew.lines.jobs.items c.args.crew.lines.from.items c.requires.workers.rings in
-    omega (arith, fewer, as_many)
+    omega (arith, prefix-shorter (λ handle. charged handle.promise) (charge_of c.args.errors) c.start_workers.new.handles.items c.args.crew.lines.jobs.items c.start_workers.ensures.tied, same-counted (λ job. job.out.ring) (λ (receiver : Receiving Word). receiver.ring) c.args.crew.lines.jobs.items c.args.crew.lines.from.items c.requires.workers.rings)
 
 pub give_up-requires-then-not-start_workers-clause-shards : goal.give_up-requires-then-not-start_workers-clause-shards
 give_up-requires-then-not-start_workers-clause-shards g c =
-    let fewer = prefix-shorter (λ handle. of_shards.charged handle.promise) of_shards.charge_of c.start_shards.new.handles.items c.args.crew.rings.jobs.items c.start_shards.ensures.tied in
-    let as_many : length c.args.crew.rings.jobs.items ≡ length c.args.crew.rings.to.items = same-counted (λ (job : ShardJob). job.from.ring) (λ (sender : Sending Routed). sender.ring) c.args.crew.rings.jobs.items c.args.crew.rings.to.items c.requires.shards.rings in
-    omega (arith, fewer, as_many)
+    omega (arith, prefix-shorter (λ handle. of_shards.charged handle.promise) of_shards.charge_of c.start_shards.new.handles.items c.args.crew.rings.jobs.items c.start_shards.ensures.tied, same-counted (λ (job : ShardJob). job.from.ring) (λ (sender : Sending Routed). sender.ring) c.args.crew.rings.jobs.items c.args.crew.rings.to.items c.requires.shards.rings)
 
 pub give_up-requires-then-not-start_workers-clause-few_peers : goal.give_up-requires-then-not-start_workers-clause-few_peers
 give_up-requires-then-not-start_workers-clause-few_peers g c =
-    let fewer = prefix-shorter (λ handle. charged handle.promise) (charge_of c.args.errors) c.start_workers.new.handles.items c.args.crew.lines.jobs.items c.start_workers.ensures.tied in
-    omega (arith, fewer, c.requires.few)
+    omega (arith, prefix-shorter (λ handle. charged handle.promise) (charge_of c.args.errors) c.start_workers.new.handles.items c.args.crew.lines.jobs.items c.start_workers.ensures.tied, c.requires.few)
 
 pub give_up-requires-then-not-start_workers-clause-few_shards : goal.give_up-requires-then-not-start_workers-clause-few_shards
 give_up-requires-then-not-start_workers-clause-few_shards g c =
-    let fewer = prefix-shorter (λ handle. of_shards.charged handle.promise) of_shards.charge_of c.start_shards.new.handles.items c.args.crew.rings.jobs.items c.start_shards.ensures.tied in
-    omega (arith, fewer, c.requires.shards.counted.1)
+    omega (arith, prefix-shorter (λ handle. of_shards.charged handle.promise) of_shards.charge_of c.start_shards.new.handles.items c.args.crew.rings.jobs.items c.start_shards.ensures.tied, c.requires.shards.counted.1)
 
 pub join_all-requires-clause-shards : goal.join_all-requires-clause-shards
 join_all-requires-clause-shards g c =
-    let as_many : length c.args.crew.rings.jobs.items ≡ length c.args.crew.rings.to.items = same-counted (λ (job : ShardJob). job.from.ring) (λ (sender : Sending Routed). sender.ring) c.args.crew.rings.jobs.items c.args.crew.rings.to.items c.requires.shards.rings in
-    rw (← as_many) c.requires.shards.counted
+    rw (← same-counted (λ (job : ShardJob). job.from.ring) (λ (sender : Sending Routed). sender.ring) c.args.crew.rings.jobs.items c.args.crew.rings.to.items c.requires.shards.rings) c.requires.shards.counted
 
 pub join_all-requires-clause-peers : goal.join_all-requires-clause-peers
 join_all-requires-clause-peers g c =
-    let as_many : length c.args.crew.lines.jobs.items ≡ length c.args.crew.lines.from.items = same-counted (λ job. job.out.ring) (λ (receiver : Receiving Word). receiver.ring) c.args.crew.lines.jobs.items c.args.crew.lines.from.items c.requires.workers.rings in
-    omega (arith, as_many, c.requires.few)
+    omega (arith, same-counted (λ job. job.out.ring) (λ (receiver : Receiving Word). receiver.ring) c.args.crew.lines.jobs.items c.args.crew.lines.from.items c.requires.workers.rings, c.requires.few)
 
 pub join_all-requires-clause-worker_rings : goal.join_all-requires-clause-worker_rings
 join_all-requires-clause-worker_rings g c =

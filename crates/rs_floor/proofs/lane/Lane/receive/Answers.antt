@@ -7,7 +7,7 @@ use Rattle.rs_session.specs.declared.word.Word.{Word}
 use Rattle.rs_floor.specs.Lane.{LaneContent, to_come}
 use Rattle.rs_floor.specs.declared.lane.Lane.TheInside.{Inside}
 use Rattle.rs_floor.proofs.lane.LaneLemmas.{recorded-waiting}
-use Rattle.rs_floor.proofs.lane.LaneStates.{front, received-is_lane}
+use Rattle.rs_floor.proofs.lane.LaneStates.{front, looks-beside, received-is_lane}
 use Rattle.rs_floor.proofs.lane.Lane.receive.Goals as goal
 
 pub invariant_of-self-2 : goal.invariant_of-self-2
@@ -21,12 +21,7 @@ invariant_of-self-2 c =
     let sent = ap (λ (s : Sending Word). s.sent) c.beside.ensures.sender in
     let waited = ap (λ (ws : List Word). ws ++ item ∷ found.0) (sym received) ∙ ap (λ (ws : List Word). c.beside.new.self.received ++ ws) (sym found.1) ∙ c.beside.ensures.all ∙ sent in
     received-is_lane old new item found.0 c.self.invariant
-    (record {
-      ring = ap (λ (s : Sending Word). s.ring) c.beside.ensures.sender;
-      room = ap (λ (s : Sending Word). s.capacity) c.beside.ensures.sender;
-      capacity = refl;
-      receiving = c.in_ok-item.ensures.same.0 ∙ ap (λ (r : Receiving Word). r.ring) c.beside.ensures.same;
-    })
+    (looks-beside old new c.beside.new.sender c.beside.new.self c.beside.ensures.sender c.beside.ensures.same (refl, refl) c.in_ok-item.ensures.same.0 refl)
     sent waited (c.in_ok-item.ensures.received ∙ ap (λ (r : Receiving Word). r.received ++ item ∷ []) c.beside.ensures.same) refl refl
 
 pub returns-clause-given : goal.returns-clause-given

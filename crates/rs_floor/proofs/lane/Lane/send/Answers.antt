@@ -10,7 +10,7 @@ use Rattle.rs_floor.specs.Lane.{LaneContent, to_come}
 use Rattle.rs_floor.specs.LaneView.{lane_view}
 use Rattle.rs_floor.specs.declared.lane.Lane.TheInside.{Inside}
 use Rattle.rs_floor.proofs.lane.LaneLemmas.{open-sent}
-use Rattle.rs_floor.proofs.lane.LaneStates.{looked-is_lane, unsent-view, sent-is_lane, sent-view, some-left, with_send}
+use Rattle.rs_floor.proofs.lane.LaneStates.{looked-is_lane, looks-beside, unsent-view, sent-is_lane, sent-view, some-left, with_send}
 use Rattle.rs_floor.proofs.lane.SessionLemmas.{to_come-given, to_come-kept, to_come-none}
 use Rattle.rs_floor.proofs.lane.Lane.send.Goals as goal
 
@@ -19,12 +19,7 @@ invariant_of-self-in_err-word c =
     let old : Inside = c.self.inside in
     let new : Inside = record { session = c.next_word.new.self; sender = c.beside.new.sender; receiver = c.beside.new.self; capacity = old.capacity; received = old.received } in
     looked-is_lane old new c.self.invariant
-    (record {
-      ring = ap (λ (s : Sending Word). s.ring) c.beside.ensures.sender;
-      room = ap (λ (s : Sending Word). s.capacity) c.beside.ensures.sender;
-      capacity = refl;
-      receiving = ap (λ (r : Receiving Word). r.ring) c.beside.ensures.same;
-    })
+    (looks-beside old new c.beside.new.sender c.beside.new.self c.beside.ensures.sender c.beside.ensures.same (refl, refl) refl refl)
     (ap (λ (s : Sending Word). s.sent) c.beside.ensures.sender) (ap (λ (r : Receiving Word). r.received) c.beside.ensures.same) refl
     (to_come-kept old.session c.next_word.new.self c.in_err-word.ensures.says.0)
 
@@ -35,12 +30,7 @@ returns-in_default c =
     let says = rw c.in_default.is at c.in_ok-word.ensures.says in
     let P : LaneContent → Type 0 = λ lane. lane_view new ≡ with_send lane in
     subst P c.self.view_is (unsent-view old new
-    (record {
-      ring = ap (λ (s : Sending Word). s.ring) c.beside.ensures.sender;
-      room = ap (λ (s : Sending Word). s.capacity) c.beside.ensures.sender;
-      capacity = refl;
-      receiving = ap (λ (r : Receiving Word). r.ring) c.beside.ensures.same;
-    })
+    (looks-beside old new c.beside.new.sender c.beside.new.self c.beside.ensures.sender c.beside.ensures.same (refl, refl) refl refl)
     (ap (λ (s : Sending Word). s.sent) c.beside.ensures.sender) (ap (λ (r : Receiving Word). r.received) c.beside.ensures.same)
     (ap (λ (stage : Stage Reading). to_come stage) says.1) (to_come-none old.session c.next_word.new.self says))
 
@@ -70,12 +60,7 @@ invariant_of-self-2 c =
     let says = rw c.in-Some.is at c.in_ok-word.ensures.says in
     let first = to_come-given old.session c.next_word.new.self c.in-Some.word says in
     sent-is_lane old new c.in-Some.word c.self.invariant
-    (record {
-      ring = c.in-Ok.ensures.same.0 ∙ ap (λ (s : Sending Word). s.ring) c.beside.ensures.sender;
-      room = c.in-Ok.ensures.same.1 ∙ ap (λ (s : Sending Word). s.capacity) c.beside.ensures.sender;
-      capacity = refl;
-      receiving = ap (λ (r : Receiving Word). r.ring) c.beside.ensures.same;
-    })
+    (looks-beside old new c.beside.new.sender c.beside.new.self c.beside.ensures.sender c.beside.ensures.same c.in-Ok.ensures.same refl refl)
     (c.in-Ok.ensures.sent ∙ ap (λ (s : Sending Word). s.sent ++ c.in-Some.word ∷ []) c.beside.ensures.sender) (ap (λ (r : Receiving Word). r.received) c.beside.ensures.same) refl first
 
 pub returns : goal.returns
@@ -85,20 +70,12 @@ returns c =
     let says = rw c.in-Some.is at c.in_ok-word.ensures.says in
     let first = to_come-given old.session c.next_word.new.self c.in-Some.word says in
     let received = ap (λ (r : Receiving Word). r.received) c.beside.ensures.same in
-    let sent = ap (λ (s : Sending Word). s.sent) c.beside.ensures.sender in
     let whole : length c.beside.new.self.received + length c.beside.new.self.waiting ≡ length c.beside.new.sender.sent = sym (length-append c.beside.new.self.received c.beside.new.self.waiting) ∙ ap (λ (ws : List Word). length ws) c.beside.ensures.all in
-    let received_count : length c.beside.new.self.received ≡ length old.receiver.received = ap (λ (ws : List Word). length ws) received in
-    let sent_count : length c.beside.new.sender.sent ≡ length old.sender.sent = ap (λ (ws : List Word). length ws) sent in
     let P : LaneContent → Type 0 = λ lane. lane_view new ≡ with_send lane in
     subst P c.self.view_is (sent-view old new c.in-Some.word
-    (record {
-      ring = c.in-Ok.ensures.same.0 ∙ ap (λ (s : Sending Word). s.ring) c.beside.ensures.sender;
-      room = c.in-Ok.ensures.same.1 ∙ ap (λ (s : Sending Word). s.capacity) c.beside.ensures.sender;
-      capacity = refl;
-      receiving = ap (λ (r : Receiving Word). r.ring) c.beside.ensures.same;
-    })
+    (looks-beside old new c.beside.new.sender c.beside.new.self c.beside.ensures.sender c.beside.ensures.same c.in-Ok.ensures.same refl refl)
     (c.in-Ok.ensures.sent ∙ ap (λ (s : Sending Word). s.sent ++ c.in-Some.word ∷ []) c.beside.ensures.sender) received first
-    (omega (arith, whole, received_count, sent_count, c.beside.ensures.waiting, c.if-beside-self.false)))
+    (omega (arith, whole, ap (λ (ws : List Word). length ws) received, ap (λ (s : Sending Word). length s.sent) c.beside.ensures.sender, c.beside.ensures.waiting, c.if-beside-self.false)))
 
 pub invariant_of-self : goal.invariant_of-self
 invariant_of-self c = search rules
