@@ -40,7 +40,7 @@ finds_nothing section fit past = let nowhere : ℕ = 65535 in record {
   rest_octets = fit;
   whole = length-replicate 256 nowhere;
   at_each = λ kind below. let table = get_or-replicate 256 kind nowhere 0 below in
-  (ap (λ (place : ℕ). not (eqb place 65535)) table, ap (item_from section) table ∙ item_from-past section nowhere past);
+      (ap (λ (place : ℕ). not (eqb place 65535)) table, ap (item_from section) table ∙ item_from-past section nowhere past);
   none_behind = λ kind behind. refl;
   end_fits = omega arith;
 }
