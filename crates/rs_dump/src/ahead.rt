@@ -16,6 +16,8 @@ pub(crate) struct Ahead<'a> {
     pub(crate) is_there: bool,
     // The rows behind it.
     pub(crate) later: RowBlocks<'a>,
+    // Whether one block has room for all rows, so that there is nothing to look up beside it.
+    pub(crate) is_alone: bool,
 }
 
 impl<'a> Ahead<'a> {
@@ -27,10 +29,15 @@ impl<'a> Ahead<'a> {
     ) -> Result<Ahead<'a>, AllocError>
         ensures { IfOk result (HoldsNext rows.entry) }
     {
+        let is_alone = match rows.size_hint().1 {
+            Some(most) => most <= BLOCK_LEN,
+            None => false,
+        };
         let before = Ahead {
             block: Vec::with_capacity(alloc, BLOCK_LEN)?,
             is_there: false,
             later: rows.in_blocks(alloc)?,
+            is_alone,
         };
         Ok(before.next(rt))
     }
@@ -44,12 +51,14 @@ impl<'a> Ahead<'a> {
             mut block,
             is_there: _,
             mut later,
+            is_alone,
         } = self;
         let is_there = later.next_block(rt, &mut block);
         Ahead {
             block,
             is_there,
             later,
+            is_alone,
         }
     }
 }

@@ -51,6 +51,10 @@ pub(crate) fn spell_and_find<'a, T: Threads + Sync>(
     if rows.len() <= PART_LEN {
         return (None, ahead.next(rt));
     }
+    if ahead.is_alone {
+        let parts = spell_parts(rt, alloc, time, first, rows).ok();
+        return (parts, ahead.next(rt));
+    }
     let spell = move || -> Option<Parts>
         requires { IsSync T.row × All (λ row. row.route.peer < 65536) (map row_of rows.now)
             × (first + length rows.now ≤ u32.MAX) }
