@@ -7,22 +7,15 @@
 //! Supported standards: RFC 4271, RFC 6793, RFC 1997, RFC 7606, RFC 7947, RFC 6396.
 #![tactic(auto)]
 
-ghost use Rattle.std.specs.Prelude.{◌≡◌, ◌<◌, IfOk, IfSome, length, slice_get};
-
-mod ended;
-mod files;
-mod lines;
-
-use ended::{Ended, OUT_OF_MEMORY};
-use files::open_files;
-use lines::{MEMORY_LINE, line};
-use rs_files::{open_file, read_file};
+use rs_files::open_file;
 use rs_glass::{History, Question, explain_all, read_happenings, read_sessions, replay};
+use rs_glass_ended::{
+    Ended, MEMORY_LINE, OUT_OF_MEMORY, configuration, line, open_files, peer_named,
+};
 use rs_glass_texts::{history_json, history_text, why_json, why_text};
 use rs_glass_words::{HistoryQuery, PeersQuery, Query, WhyQuery, WordsFault, read_query};
 use rs_inventory::{InventoryFault, read_inventory};
 use rs_listing::{RecordedFile, as_json, as_text, as_toml};
-use rs_setup::{Setup, a_configuration_has_a_file_for_each_peer, read_setup};
 use std::env;
 use std::env::Env;
 use std::fs::Files;
@@ -61,35 +54,6 @@ fn command_line<R: AllocGlobal + Env>(rt: &R) -> Result<Query, Ended> {
         Err(error) if error.kind() == ErrorKind::OutOfMemory => Err(Ended::Memory),
         Err(_) => Err(Ended::NotUtf8),
     }
-}
-
-// The setup of the configuration.
-fn configuration<R: AllocGlobal + Files>(rt: &R, path: &str) -> Result<Setup, Ended>
-    ensures { IfOk result (λ setup. length setup.files.items ≡ length setup.plan.value.peers) }
-{
-    a_configuration_has_a_file_for_each_peer();
-    let text = match read_file(rt, path) {
-        Ok(text) => text,
-        Err(fault) => return Err(Ended::by_file(rt.alloc(), fault, path)),
-    };
-    match read_setup(rt.alloc(), &text) {
-        Ok(setup) => Ok(setup),
-        Err(fault) => Err(Ended::Setup(fault)),
-    }
-}
-
-// The number of the peer of a name.
-fn peer_named<R: AllocGlobal>(rt: &R, setup: &Setup, name: &str) -> Result<usize, Ended>
-    ensures known { IfOk result (λ number. number < length setup.now.plan.value.peers) }
-    ensures named { IfOk result (λ number.
-        IfSome (slice_get setup.now.plan.value.peers number) (λ peer. peer.name ≡ name.now)) }
-{
-    for number in 0..setup.plan.count() {
-        if setup.plan.peer(number).name.as_str() == name {
-            return Ok(number);
-        }
-    }
-    Err(Ended::NoPeer(String::from_str(rt.alloc(), name)?))
 }
 
 // Why a client has each peer's route, or not.

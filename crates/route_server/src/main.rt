@@ -9,26 +9,17 @@
 ghost use Rattle.std.specs.Prelude.{◌≡◌, ◌≤◌, None, Some, IfErr, IfOk, length};
 ghost use Rattle.rs_ended.specs.Texts.{CanTell};
 
-mod copied;
-mod file_identity;
-mod files;
-mod folder_outlet;
-mod notes;
-mod overwritten;
-mod read_once;
-mod tried;
-
-use copied::Copied;
-use files::{ended_at, octets_of, open_files};
-use folder_outlet::FolderOutlet;
-use notes::print_notes;
+use rs_disk::{
+    Copied, FolderOutlet, ended_at, first_unwritable, octets_of, open_files, print_notes,
+};
 use rs_ended::{Ended, FAILED, MEMORY_LINE, NOT_UTF_8, OUT_OF_MEMORY, OUTPUT_LINE, line, status};
 use rs_files::read_file;
 use rs_lines::on_one_line;
 use rs_mrt::IoWriter;
 use rs_options::{Options, WordsFault};
+use rs_outlet::RunFault;
 use rs_progress::{Cleared, Progress};
-use rs_run::{RunFault, run};
+use rs_run::run;
 use rs_setup::{Setup, a_configuration_has_a_file_for_each_peer, read_setup};
 use rs_words::read_words;
 use std::env::Env;
@@ -38,7 +29,6 @@ use std::process::ExitCode;
 use std::sync::Wait;
 use std::thread::Threads;
 use std::{env, io};
-use tried::first_unwritable;
 
 fn main(rt: HostRuntime) -> ExitCode {
     let options = match command_line(&rt) {

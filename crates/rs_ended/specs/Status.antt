@@ -4,7 +4,7 @@ use Rattle.rs_choice.specs.declared.fault.PlanFault.TheVariants as plan
 use Rattle.rs_ended.specs.declared.ended.Ended.{Ended}
 use Rattle.rs_ended.specs.declared.ended.Ended.TheVariants.{Words, Setup, Unread, Memory, Run}
 use Rattle.rs_options.specs.declared.options.WordsFault.TheVariants as words
-use Rattle.rs_run.specs.declared.run_fault.RunFault.TheVariants as run
+use Rattle.rs_outlet.specs.declared.run_fault.RunFault.TheVariants as run
 use Rattle.rs_setup.specs.declared.setup.SetupFault.TheVariants as setup
 
 -- all is done, or help or the version was shown

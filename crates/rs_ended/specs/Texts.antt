@@ -10,8 +10,8 @@ use Rattle.rs_lines.specs.Line.{Text, named as named_by, one_line, out_of_memory
 use Rattle.rs_lines.specs.Refusal.{setup_line}
 use Rattle.rs_options.specs.declared.options.Options.{Options}
 use Rattle.rs_options.specs.declared.options.WordsFault.TheVariants as words
-use Rattle.rs_run.specs.declared.run_fault.RunFault.{RunFault}
-use Rattle.rs_run.specs.declared.run_fault.RunFault.TheVariants as run
+use Rattle.rs_outlet.specs.declared.run_fault.RunFault.{RunFault}
+use Rattle.rs_outlet.specs.declared.run_fault.RunFault.TheVariants as run
 use Rattle.rs_setup.specs.declared.setup.Setup.{Setup as SetUp}
 
 abbrev pub program : Text

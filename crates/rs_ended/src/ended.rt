@@ -6,7 +6,7 @@ ghost use Rattle.rs_ended.specs.declared.ended.Ended.TheVariants.{Memory};
 
 use rs_choice::PlanFault;
 use rs_options::WordsFault;
-use rs_run::RunFault;
+use rs_outlet::RunFault;
 use rs_setup::SetupFault;
 use std::alloc::AllocError;
 use thiserror::Error;

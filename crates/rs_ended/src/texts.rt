@@ -7,7 +7,7 @@ use crate::ended::Ended;
 use crate::paths::path_in;
 use rs_lines::{on_one_line, setup_line};
 use rs_options::{Options, WordsFault};
-use rs_run::RunFault;
+use rs_outlet::RunFault;
 use rs_setup::Setup;
 use std::alloc::{AllocError, Global};
 

@@ -15,11 +15,11 @@ use Rattle.rs_mrt.specs.Reader.{ReadEnd}
 use Rattle.rs_table.specs.Content.{TablesContent}
 use Rattle.rs_table.specs.Table.{table_of}
 use Rattle.rs_update.specs.declared.errors.Errors.{Errors}
-use Rattle.rs_run.specs.Outlet.{KeptDump, Grows}
+use Rattle.rs_outlet.specs.Outlet.{KeptDump, Grows}
 use Rattle.rs_run.specs.Recorded.{OverFiles, tables_of_files}
 use Rattle.rs_run.specs.Report.{peer_lines, table_line, table_line_of, report_of}
-use Rattle.rs_run.specs.declared.run_fault.RunFault.{RunFault}
-use Rattle.rs_run.specs.declared.run_fault.RunFault.TheVariants.{Memory, Unsettled, Dump, Report, Read}
+use Rattle.rs_outlet.specs.declared.run_fault.RunFault.{RunFault}
+use Rattle.rs_outlet.specs.declared.run_fault.RunFault.TheVariants.{Memory, Unsettled, Dump, Report, Read}
 use Rattle.rs_run.specs.Run.{dump_name, kept_dump_of, dumps_of, GrowsByBeginning, IsFaultAt, IsStop, KeepsBeginning}
 use Rattle.rs_run.specs.SessionEnd.{end_in, ends_of_files}
 use Rattle.rs_run.proofs.ListingLemmas.{flat_map-one_more, lines-one_more, slice_get-enumerated, take-one_more}

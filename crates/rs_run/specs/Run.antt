@@ -7,9 +7,9 @@ use Rattle.rs_table.specs.Table.{table_of}
 use Rattle.rs_update.specs.declared.errors.Errors.{Errors}
 use Rattle.std.specs.List.{enumerate_from}
 use Rattle.rs_choice.specs.Plan.{Peer, Plan}
-use Rattle.rs_run.specs.declared.run_fault.RunFault.{RunFault}
-use Rattle.rs_run.specs.declared.run_fault.RunFault.TheVariants.{Memory, Unsettled, Dump, Report, Read}
-use Rattle.rs_run.specs.Outlet.{KeptDump, Grows}
+use Rattle.rs_outlet.specs.declared.run_fault.RunFault.{RunFault}
+use Rattle.rs_outlet.specs.declared.run_fault.RunFault.TheVariants.{Memory, Unsettled, Dump, Report, Read}
+use Rattle.rs_outlet.specs.Outlet.{KeptDump, Grows}
 use Rattle.rs_run.specs.Recorded.{FailsAt, OverFiles, tables_of_files}
 
 -- the name under which a client's dump is kept

@@ -5,7 +5,8 @@ ghost use Rattle.std.specs.Prelude.{◌<◌};
 
 use rs_mrt::{Limits, MemoryReader, MemoryWriter, ReadLimits};
 use rs_options::Options;
-use rs_run::{Kept, MemoryOutlet, OutletLimits, RunFault, run};
+use rs_outlet::{Kept, MemoryOutlet, OutletLimits, RunFault};
+use rs_run::run;
 use rs_setup::read_setup;
 use rs_update::Errors;
 use spelled_in_hex::octets;

@@ -6,7 +6,7 @@ ghost use Rattle.rs_ended.specs.Texts.{CanTell};
 use rs_choice::PlanFault;
 use rs_ended::{Ended, MEMORY_LINE, line, path_in, status};
 use rs_options::{Options, WordsFault};
-use rs_run::RunFault;
+use rs_outlet::RunFault;
 use rs_setup::{Setup, SetupFault, read_setup};
 use rs_update::Errors;
 use std::alloc::{AllocError, Global};

@@ -3,7 +3,7 @@
 use rs_choice::PlanFault;
 use rs_ended::Ended;
 use rs_options::WordsFault;
-use rs_run::RunFault;
+use rs_outlet::RunFault;
 use rs_setup::SetupFault;
 use std::alloc::Global;
 use std::fmt::Display;

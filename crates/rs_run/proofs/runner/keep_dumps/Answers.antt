@@ -4,7 +4,7 @@ use Rattle.std.specs.Prelude.{string_bytes}
 use Rattle.rs_choice.specs.Plan.{peer_of}
 use Rattle.rs_dump.specs.Dump.{dumped}
 use Rattle.rs_table.specs.Table.{table_of}
-use Rattle.rs_run.specs.Outlet.{KeptDump, Grows}
+use Rattle.rs_outlet.specs.Outlet.{KeptDump, Grows}
 use Rattle.rs_run.specs.Run.{dump_name, dumps_of, IsFaultAt}
 use Rattle.rs_run.proofs.RunLemmas.{kept-one_more, kept-all, reported-one_more, reported-all, Grows-none, stop-client, stop-memory}
 use Rattle.rs_run.proofs.runner.keep_dumps.Goals as goal

@@ -1,6 +1,6 @@
 use Rattle.std.proofs.Common.{◌≡◌, ◌++◌, take, string_bytes}
 use Rattle.std.specs.List.{flat_map, enumerate_from}
-use Rattle.rs_run.specs.Outlet.{Grows}
+use Rattle.rs_outlet.specs.Outlet.{Grows}
 use Rattle.rs_run.specs.Report.{peer_lines, table_line_of}
 use Rattle.rs_run.specs.Run.{dumps_of}
 use Rattle.rs_run.proofs.runner.keep_dumps.Given as goal

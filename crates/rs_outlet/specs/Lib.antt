@@ -1,0 +1,2 @@
+-- Where the dumps of a run go:
+pub mod Outlet  -- what an outlet has kept
