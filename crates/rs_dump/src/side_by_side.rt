@@ -26,8 +26,8 @@ use std::thread::{Threads, join, map_chunks};
 // How many rows are spelled on one thread.
 const PART_LEN: usize = 2048;
 
-// For how many octets of each row memory is taken at first: few rows take more.
-const USUAL_ROW_LEN: usize = 128;
+// The most octets that a record has beside the attributes.
+const SHORT_ROW_LEN: usize = 31;
 
 // The records of rows, a part from each thread, where there was memory for it.
 pub(crate) type Parts = Vec<Result<Vec<u8>, AllocError>>;
@@ -80,7 +80,7 @@ fn spell_parts<T: Threads + Sync>(
     ensures { IfOk result (λ parts. ArePartsOf time first rows.now parts.items) }
 {
     let spell = |start: usize, part: &[Row]| -> Result<Vec<u8>, AllocError>
-        requires { (first + start + length part.now ≤ u32.MAX)
+        requires { (first + start + length part.now ≤ u32.MAX) × (length part.now ≤ PART_LEN)
             × All (λ row. row.route.peer < 65536) (map row_of part.now) }
         ensures { IfOk result (λ octets. octets.items
             ≡ spelled_rows time (first + start) (map row_of part.entry.now)) }
@@ -88,13 +88,27 @@ fn spell_parts<T: Threads + Sync>(
     map_chunks(rt, alloc, rows, PART_LEN, &spell)
 }
 
+// How many octets the records of rows have at most, and room for one more record. It looks at the attributes of all
+// rows before the first record is spelled: a loop as short as this waits for many of them at once, and spelling finds
+// them at hand.
+fn room_for(rows: &[Row]) -> usize
+    requires { length rows.now ≤ PART_LEN }
+{
+    let mut room = MAX_ROW_LEN;
+    for row in rows {
+        room += SHORT_ROW_LEN + row.route.attributes.written_len();
+    }
+    room
+}
+
 // The records of rows, of which the first has this place among all rows of the dump.
 fn spell_rows(alloc: Global, time: u32, first: u32, rows: &[Row]) -> Result<Vec<u8>, AllocError>
     requires peers_known { All (λ row. row.route.peer < 65536) (map row_of rows.now) }
+    requires few { length rows.now ≤ PART_LEN }
     requires numbered { first + length rows.now ≤ u32.MAX }
     ensures { IfOk result (λ octets. octets.items ≡ spelled_rows time first (map row_of rows.now)) }
 {
-    let mut octets = Vec::with_capacity(alloc, rows.len() * USUAL_ROW_LEN)?;
+    let mut octets = Vec::with_capacity(alloc, room_for(rows))?;
     for place in 0..rows.len() {
         octets.reserve(MAX_ROW_LEN)?;
         spell_row(&mut octets, time, first + place as u32, &rows[place]);

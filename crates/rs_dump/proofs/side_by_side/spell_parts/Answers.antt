@@ -11,4 +11,4 @@ map_chunks-requires-clause-accepts g c =
     let P : TableRow → Type 0 = λ row. row.route.peer < 65536 in
     let Q : List Row → Type 0 = λ rows. All P (map row_of rows) in
     let numbered : c.args.first + start + length part.now ≤ 4294967295 = omega (arith, c.requires.numbered, chunk.in_bounds) in
-    (numbered, subst Q (sym chunk.value) (All-part P c.args.rows.now start 2048 c.requires.peers_known))
+    (numbered, chunk.at_most_size, subst Q (sym chunk.value) (All-part P c.args.rows.now start 2048 c.requires.peers_known))
