@@ -39,12 +39,12 @@ impl Exchange {
     /// Writes for each client the number of the peer whose route it gets of those held on one prefix, or its
     /// own number where it gets none: the choice among those that are eligible and that export policy permits
     /// to it. No client gets a route of its own. It takes no memory.
-    pub fn choose_for_all(&self, held: &[HeldRoute], bests: &mut Vec<u8>)
+    pub fn choose_for_all(&self, held: &[HeldRoute], bests: &mut [u8])
         requires judged { All (IsJudged self.now) held.now }
         requires bound { length held.now ≤ MAX_PEERS }
-        requires count { length bests.old.items ≡ length self.now.peers }
-        ensures count { length bests.new.items ≡ length self.now.peers }
-        ensures best { AreBest self.now (map sent_of_held held.now) bests.new.items }
+        requires count { length bests.old ≡ length self.now.peers }
+        ensures count { length bests.new ≡ length self.now.peers }
+        ensures best { AreBest self.now (map sent_of_held held.now) bests.new }
     {
         let mut groups = NeighbourGroups::new();
         let shared = self.share(held, &mut groups);

@@ -47,14 +47,14 @@ impl Exchange {
     /// Writes the same as `choose_for_all`, where each client's peer stands that it had before a change of
     /// one peer's route. There is a decision anew for those clients alone to which the change may be of
     /// matter. It takes no memory.
-    pub fn choose_after(&self, held: &[HeldRoute], change: &RouteChange, bests: &mut Vec<u8>)
+    pub fn choose_after(&self, held: &[HeldRoute], change: &RouteChange, bests: &mut [u8])
         requires judged { All (IsJudged self.now) held.now }
         requires bound { length held.now ≤ MAX_PEERS }
-        requires count { length bests.old.items ≡ length self.now.peers }
+        requires count { length bests.old ≡ length self.now.peers }
         requires known { IsKnown self.now held.now change.now }
-        requires change { IsChange self.now held.now change.now bests.old.items }
-        ensures count { length bests.new.items ≡ length self.now.peers }
-        ensures best { AreBest self.now (map sent_of_held held.now) bests.new.items }
+        requires change { IsChange self.now held.now change.now bests.old }
+        ensures count { length bests.new ≡ length self.now.peers }
+        ensures best { AreBest self.now (map sent_of_held held.now) bests.new }
     {
         if !self.are_for_named(held, change) {
             self.choose_for_touched(held, change, &[], bests);
@@ -73,17 +73,17 @@ impl Exchange {
         held: &[HeldRoute],
         change: &RouteChange,
         recipients: &[bool],
-        bests: &mut Vec<u8>,
+        bests: &mut [u8],
     )
         requires judged { All (IsJudged self.now) held.now }
         requires bound { length held.now ≤ MAX_PEERS }
-        requires count { length bests.old.items ≡ length self.now.peers }
+        requires count { length bests.old ≡ length self.now.peers }
         requires known { IsKnown self.now held.now change.now }
-        requires change { IsChange self.now held.now change.now bests.old.items }
+        requires change { IsChange self.now held.now change.now bests.old }
         requires recipients { AreRecipients self.now held.now change.now recipients.now }
         requires marks { HaveMarks self.now recipients.now }
-        ensures count { length bests.new.items ≡ length self.now.peers }
-        ensures best { AreBest self.now (map sent_of_held held.now) bests.new.items }
+        ensures count { length bests.new ≡ length self.now.peers }
+        ensures best { AreBest self.now (map sent_of_held held.now) bests.new }
     {
         let count = self.count();
         let mut known = KnownBest {

@@ -15,16 +15,21 @@ ghost use Rattle.rs_table.specs.Table.{sent_by};
 
 use crate::route::Route;
 use rs_choice::{Exchange, HeldRoute, RouteChange, is_at, place_of_peer};
+use smallvec::SmallVec;
 use std::alloc::{AllocError, Global};
 use std::marker::Model;
 use std::mem::replace;
+
+// How many clients have their octets in the cell itself: a small exchange takes no block of memory for them. More
+// would make each cell larger, and with it the map.
+const CLIENTS_INSIDE: usize = 16;
 
 // The routes on a prefix, in ascending order of their peers, and for each client the number of the peer whose
 // route it gets: its own number where it gets none, since no client gets a route of its own.
 #[derive(Drop)]
 pub(crate) struct Cell {
     held: Vec<HeldRoute>,
-    bests: Vec<u8>,
+    bests: SmallVec<u8, CLIENTS_INSIDE>,
 }
 
 impl Model for Cell {
@@ -49,8 +54,7 @@ impl Cell {
         ensures cell { IfOk result (λ cell. IsCell plan.now cell) }
     {
         let count = plan.count();
-        let mut bests = Vec::with_capacity(alloc, count)?;
-        bests.resize(count, 0)?;
+        let bests = SmallVec::from_elem(alloc, 0, count)?;
         let mut held = Vec::with_capacity(alloc, count)?;
         held.push(route)?;
         let mut cell = Cell { held, bests };

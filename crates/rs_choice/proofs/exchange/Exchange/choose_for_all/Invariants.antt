@@ -7,6 +7,6 @@ use Rattle.rs_choice.proofs.exchange.Exchange.choose_for_all.Given as goal
 -- the first clients are decided
 abbrev pub invariant-loop-client : goal.invariant-loop-client
 invariant-loop-client l = record {
-  count : length l.bests.items ≡ length l.self.peers;
-  best : (k : ℕ) → k < l.client → slice_index_or l.bests.items k 0 ≡ best_peer_for l.self k (map sent_of_held l.held);
+  count : length l.bests ≡ length l.self.peers;
+  best : (k : ℕ) → k < l.client → slice_index_or l.bests k 0 ≡ best_peer_for l.self k (map sent_of_held l.held);
 }

@@ -8,8 +8,8 @@ pub returns-then-client-count-clause-best : goal.returns-then-client-count-claus
 returns-then-client-count-clause-best c = λ k known.
     let plan = c.args.self.now in
     let held = c.args.held.now in
-    let bests = c.args.bests.now.items in
-    let next : IsNextTouched plan held c.args.change.now bests 0 c.next_touched-client.result = subst (λ list. IsNextTouched plan held c.args.change.now list 0 c.next_touched-client.result) c.deref.ensures.value c.next_touched-client.ensures.next in
+    let bests = c.args.bests.now in
+    let next = c.next_touched-client.ensures.next in
     further plan held c.args.change.now bests c.requires.change c.requires.judged bests 0 c.next_touched-client.result next
     (λ k below. absurd (omega (arith, below))) (λ k above. refl) k (omega (arith, known, c.if-client-count.true, c.count-count.ensures.value))
 
@@ -17,8 +17,8 @@ pub loop-client-init : goal.loop-client-init
 loop-client-init c =
     let plan = c.args.self.now in
     let held = c.args.held.now in
-    let bests = c.args.bests.now.items in
-    let next : IsNextTouched plan held c.args.change.now bests 0 c.next_touched-client.result = subst (λ list. IsNextTouched plan held c.args.change.now list 0 c.next_touched-client.result) c.deref.ensures.value c.next_touched-client.ensures.next in
+    let bests = c.args.bests.now in
+    let next = c.next_touched-client.ensures.next in
     record {
       count = c.requires.count;
       within = next.within;
@@ -32,13 +32,12 @@ pub loop-client-preserved : goal.loop-client-preserved
 loop-client-preserved c =
     let plan = c.args.self.now in
     let held = c.args.held.now in
-    let bests = c.args.bests.now.items in
+    let bests = c.args.bests.now in
     let client = c.loop-client.client in
-    let items = c.loop-client.bests.items in
+    let items = c.loop-client.bests in
     let more = set items client c.choose_again.result in
     let within : client < length items = omega (arith, c.loop-client-test.true, c.count-count.ensures.value, c.loop-client.invariant.count) in
-    let next : IsNextTouched plan held c.args.change.now more (client + 1) c.next_touched-client-in-loop-client.result =
-    subst (λ list. IsNextTouched plan held c.args.change.now list (client + 1) c.next_touched-client-in-loop-client.result) c.deref-in-loop-client.ensures.value c.next_touched-client-in-loop-client.ensures.next in
+    let next = c.next_touched-client-in-loop-client.ensures.next in
     let later = later_stay items bests client c.choose_again.result c.loop-client.invariant.later in
     record {
       count = length-set items client c.choose_again.result ∙ c.loop-client.invariant.count;
@@ -51,12 +50,7 @@ loop-client-preserved c =
 
 pub choose_again-requires-clause-had : goal.choose_again-requires-clause-had
 choose_again-requires-clause-had c =
-    let bests = c.args.bests.now.items in
-    let client = c.loop-client.client in
-    let items = c.loop-client.bests.items in
-    let within : client < length items = omega (arith, c.loop-client-test.true, c.count-count.ensures.value, c.loop-client.invariant.count) in
-    let read = get_or_read items client c.index-best.result.now within c.index-best.ensures 0 in
-    (bests, c.requires.change, sym (read ∙ c.loop-client.invariant.later client (omega arith)))
+    (c.args.bests.now, c.requires.change, sym (c.loop-client.invariant.later c.loop-client.client (omega arith)))
 
 pub loop-client-smaller : goal.loop-client-smaller
 loop-client-smaller c = search rules

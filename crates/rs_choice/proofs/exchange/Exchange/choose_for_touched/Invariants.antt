@@ -8,10 +8,10 @@ use Rattle.rs_choice.proofs.exchange.Exchange.choose_for_touched.Given as goal
 -- the first clients are decided, and for the others stands what stood for them
 abbrev pub invariant-loop-client : goal.invariant-loop-client
 invariant-loop-client l = record {
-  count : length l.bests.items ≡ length l.self.peers;
+  count : length l.bests ≡ length l.self.peers;
   within : l.client ≤ length l.self.peers;
-  best : (k : ℕ) → k < l.client → slice_index_or l.bests.items k 0 ≡ best_peer_for l.self k (map sent_of_held l.held);
-  later : (k : ℕ) → l.client ≤ k → slice_index_or l.bests.items k 0 ≡ slice_index_or l.fn.bests.items k 0;
+  best : (k : ℕ) → k < l.client → slice_index_or l.bests k 0 ≡ best_peer_for l.self k (map sent_of_held l.held);
+  later : (k : ℕ) → l.client ≤ k → slice_index_or l.bests k 0 ≡ slice_index_or l.fn.bests k 0;
   knows : KnowsBest l.self l.held l.change l.known;
 }
 
