@@ -11,5 +11,6 @@ judged_alike plan one other alike peer attributes judged = record {
   known = rw peer judged.known;
   eligible = rw (alike.candidacy, peer, attributes) judged.eligible;
   unrestricted = rw (alike.candidacy, peer, attributes) judged.unrestricted;
+  plain = rw (alike.candidacy, peer, attributes) judged.plain;
   standing = rw (alike.candidacy, alike.path_length, peer, attributes) judged.standing;
 }

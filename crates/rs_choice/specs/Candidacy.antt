@@ -8,6 +8,12 @@ use Rattle.rs_choice.specs.declared.candidacy.Candidacy.TheVariants as is
 -- eligible: it may be a candidate
 abbrev pub is_candidate : Candidacy → Bool
 is_candidate is.Ineligible = false
+is_candidate is.PlainRestrictedIgp = true
+is_candidate is.PlainRestrictedEgp = true
+is_candidate is.PlainRestrictedIncomplete = true
+is_candidate is.PlainOpenIgp = true
+is_candidate is.PlainOpenEgp = true
+is_candidate is.PlainOpenIncomplete = true
 is_candidate is.RestrictedIgp = true
 is_candidate is.RestrictedEgp = true
 is_candidate is.RestrictedIncomplete = true
@@ -18,6 +24,12 @@ is_candidate is.OpenIncomplete = true
 -- eligible, and permitted to every client but its sender
 abbrev pub is_open_candidate : Candidacy → Bool
 is_open_candidate is.Ineligible = false
+is_open_candidate is.PlainRestrictedIgp = false
+is_open_candidate is.PlainRestrictedEgp = false
+is_open_candidate is.PlainRestrictedIncomplete = false
+is_open_candidate is.PlainOpenIgp = true
+is_open_candidate is.PlainOpenEgp = true
+is_open_candidate is.PlainOpenIncomplete = true
 is_open_candidate is.RestrictedIgp = false
 is_open_candidate is.RestrictedEgp = false
 is_open_candidate is.RestrictedIncomplete = false
@@ -25,9 +37,31 @@ is_open_candidate is.OpenIgp = true
 is_open_candidate is.OpenEgp = true
 is_open_candidate is.OpenIncomplete = true
 
+-- eligible, and its neighbour AS is its sender's AS, its MED 0 or missing
+abbrev pub is_plain_candidate : Candidacy → Bool
+is_plain_candidate is.Ineligible = false
+is_plain_candidate is.PlainRestrictedIgp = true
+is_plain_candidate is.PlainRestrictedEgp = true
+is_plain_candidate is.PlainRestrictedIncomplete = true
+is_plain_candidate is.PlainOpenIgp = true
+is_plain_candidate is.PlainOpenEgp = true
+is_plain_candidate is.PlainOpenIncomplete = true
+is_plain_candidate is.RestrictedIgp = false
+is_plain_candidate is.RestrictedEgp = false
+is_plain_candidate is.RestrictedIncomplete = false
+is_plain_candidate is.OpenIgp = false
+is_plain_candidate is.OpenEgp = false
+is_plain_candidate is.OpenIncomplete = false
+
 -- the origin of an eligible route
 abbrev pub origin_of_candidacy : Candidacy → Origin
 origin_of_candidacy is.Ineligible = Incomplete
+origin_of_candidacy is.PlainRestrictedIgp = Igp
+origin_of_candidacy is.PlainRestrictedEgp = Egp
+origin_of_candidacy is.PlainRestrictedIncomplete = Incomplete
+origin_of_candidacy is.PlainOpenIgp = Igp
+origin_of_candidacy is.PlainOpenEgp = Egp
+origin_of_candidacy is.PlainOpenIncomplete = Incomplete
 origin_of_candidacy is.RestrictedIgp = Igp
 origin_of_candidacy is.RestrictedEgp = Egp
 origin_of_candidacy is.RestrictedIncomplete = Incomplete
@@ -35,8 +69,9 @@ origin_of_candidacy is.OpenIgp = Igp
 origin_of_candidacy is.OpenEgp = Egp
 origin_of_candidacy is.OpenIncomplete = Incomplete
 
--- that of an eligible route with an origin, permitted to every client but its sender or not
-pub record CandidacyOf (unrestricted : Bool) (origin : Origin) (candidacy : Candidacy) : Type 0 where
+-- that of an eligible route with an origin, permitted to every client but its sender or not, plain or not
+pub record CandidacyOf (unrestricted : Bool) (origin : Origin) (plain : Bool) (candidacy : Candidacy) : Type 0 where
   pub eligible : is_candidate candidacy ≡ true
   pub open_agrees : is_open_candidate candidacy ≡ unrestricted
+  pub plain_agrees : is_plain_candidate candidacy ≡ plain
   pub origin_agrees : origin_of_candidacy candidacy ≡ origin

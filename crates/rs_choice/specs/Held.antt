@@ -1,12 +1,12 @@
 -- Routes as they are held for decisions.
-use Rattle.std.specs.Prelude.{◌≡◌, ◌≢◌, ◌<◌, ◌↔◌, ℕ, IsTrue, List, length, slice_get, slice_index_or, unwrap_or}
+use Rattle.std.specs.Prelude.{◌≡◌, ◌≢◌, ◌<◌, ◌↔◌, ℕ, IfSome, IsTrue, List, length, slice_get, slice_index_or, unwrap_or}
 use Rattle.std.specs.List.{All}
 use Rattle.std.specs.Option.{option_map_or}
 use Rattle.rs_update.specs.AsPath.{neighbour_of}
 use Rattle.rs_update.specs.PathAttributes.{PathAttributes}
 use Rattle.rs_choice.specs.declared.candidate.Standing.{Standing}
 use Rattle.rs_choice.specs.declared.held_route.HeldRoute.{HeldRoute}
-use Rattle.rs_choice.specs.Candidacy.{is_candidate, is_open_candidate, origin_of_candidacy}
+use Rattle.rs_choice.specs.Candidacy.{is_candidate, is_open_candidate, is_plain_candidate, origin_of_candidacy}
 use Rattle.rs_choice.specs.Decision.{SentRoute, no_standing, standing_of}
 use Rattle.rs_choice.specs.Eligibility.{is_eligible}
 use Rattle.rs_choice.specs.Plan.{Peer, Plan}
@@ -20,6 +20,12 @@ sent_of_held held = record { peer = held.peer; time = held.time; attributes = he
 abbrev pub IsOpen : Plan → ℕ → PathAttributes → Type 0
 IsOpen plan peer attributes =
     (client : ℕ) → client < length plan.peers → client ≢ peer → IsTrue (is_permitted plan client peer attributes)
+
+-- the neighbour AS is the sender's AS, and MED compares as 0 (RFC 4271, section 9.1.2.2, c)
+abbrev pub IsPlain : Plan → ℕ → PathAttributes → Type 0
+IsPlain plan peer attributes =
+    IfSome (slice_get plan.peers peer)
+    (λ sender. (neighbour_of attributes.path sender.asn ≡ sender.asn) × (unwrap_or attributes.med 0 ≡ 0))
 
 -- routes come in strictly ascending order of the numbers of their peers
 abbrev pub AscendByPeer : List HeldRoute → Type 0
@@ -58,4 +64,6 @@ pub record IsJudged (plan : Plan) (held : HeldRoute) : Type 0 where
   pub eligible : is_candidate held.candidacy ≡ is_eligible plan held.peer held.attributes.value
   pub unrestricted : IsTrue (is_open_candidate held.candidacy)
       ↔ (IsTrue (is_eligible plan held.peer held.attributes.value) × IsOpen plan held.peer held.attributes.value)
+  pub plain : IsTrue (is_plain_candidate held.candidacy)
+      ↔ (IsTrue (is_eligible plan held.peer held.attributes.value) × IsPlain plan held.peer held.attributes.value)
   pub standing : IsTrue (is_candidate held.candidacy) → held_standing plan held ≡ standing_of plan (sent_of_held held)

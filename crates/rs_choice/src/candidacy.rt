@@ -1,42 +1,61 @@
 //! What decisions ask of a route before they look at the others, in one octet.
 
 ghost use Rattle.std.specs.Prelude.{◌≡◌};
-ghost use Rattle.rs_choice.specs.Candidacy.{origin_of_candidacy, is_candidate, is_open_candidate, CandidacyOf};
+ghost use Rattle.rs_choice.specs.Candidacy.{origin_of_candidacy, is_candidate, is_open_candidate, is_plain_candidate, CandidacyOf};
 
 use rs_update::Origin;
 
-/// Whether a route may be a candidate at all, whether it may be one of every client but its sender, and with
-/// which ORIGIN. One octet holds it, where a flag for each would take three.
+/// Whether a route may be a candidate at all, whether it may be one of every client but its sender, its ORIGIN, and
+/// whether it is plain: its neighbour AS is its sender's AS, and its MED is 0 or missing. One octet holds it, where a
+/// flag for each would take four.
 #[derive(Clone, Copy, Debug, PartialEq, Eq)]
 pub enum Candidacy {
     /// It isn't eligible (RFC 4271, section 9.1.2): it is a candidate of no client.
     Ineligible,
-    /// Export policy (RFC 7947, section 2.3) refuses it to some client; its ORIGIN is IGP.
+    /// It isn't plain, and export policy (RFC 7947, section 2.3) refuses it to some client; its ORIGIN is IGP.
     RestrictedIgp,
     /// The same; its ORIGIN is EGP.
     RestrictedEgp,
     /// The same; its ORIGIN is INCOMPLETE.
     RestrictedIncomplete,
-    /// Export policy permits it to every client but its sender; its ORIGIN is IGP.
+    /// It isn't plain, and export policy permits it to every client but its sender; its ORIGIN is IGP.
     OpenIgp,
     /// The same; its ORIGIN is EGP.
     OpenEgp,
     /// The same; its ORIGIN is INCOMPLETE.
     OpenIncomplete,
+    /// It is plain, and export policy refuses it to some client; its ORIGIN is IGP.
+    PlainRestrictedIgp,
+    /// The same; its ORIGIN is EGP.
+    PlainRestrictedEgp,
+    /// The same; its ORIGIN is INCOMPLETE.
+    PlainRestrictedIncomplete,
+    /// It is plain, and export policy permits it to every client but its sender; its ORIGIN is IGP.
+    PlainOpenIgp,
+    /// The same; its ORIGIN is EGP.
+    PlainOpenEgp,
+    /// The same; its ORIGIN is INCOMPLETE.
+    PlainOpenIncomplete,
 }
 
 impl Candidacy {
-    // That of an eligible route, which export policy may permit to every client but its sender.
-    pub(crate) fn of(unrestricted: bool, origin: Origin) -> Candidacy
-        ensures { CandidacyOf unrestricted origin result }
+    // That of an eligible route, which export policy may permit to every client but its sender, and which may be plain.
+    pub(crate) fn of(unrestricted: bool, origin: Origin, plain: bool) -> Candidacy
+        ensures { CandidacyOf unrestricted origin plain result }
     {
-        match (unrestricted, origin) {
-            (false, Origin::Igp) => Candidacy::RestrictedIgp,
-            (false, Origin::Egp) => Candidacy::RestrictedEgp,
-            (false, Origin::Incomplete) => Candidacy::RestrictedIncomplete,
-            (true, Origin::Igp) => Candidacy::OpenIgp,
-            (true, Origin::Egp) => Candidacy::OpenEgp,
-            (true, Origin::Incomplete) => Candidacy::OpenIncomplete,
+        match (unrestricted, origin, plain) {
+            (false, Origin::Igp, true) => Candidacy::PlainRestrictedIgp,
+            (false, Origin::Egp, true) => Candidacy::PlainRestrictedEgp,
+            (false, Origin::Incomplete, true) => Candidacy::PlainRestrictedIncomplete,
+            (true, Origin::Igp, true) => Candidacy::PlainOpenIgp,
+            (true, Origin::Egp, true) => Candidacy::PlainOpenEgp,
+            (true, Origin::Incomplete, true) => Candidacy::PlainOpenIncomplete,
+            (false, Origin::Igp, false) => Candidacy::RestrictedIgp,
+            (false, Origin::Egp, false) => Candidacy::RestrictedEgp,
+            (false, Origin::Incomplete, false) => Candidacy::RestrictedIncomplete,
+            (true, Origin::Igp, false) => Candidacy::OpenIgp,
+            (true, Origin::Egp, false) => Candidacy::OpenEgp,
+            (true, Origin::Incomplete, false) => Candidacy::OpenIncomplete,
         }
     }
 
@@ -44,30 +63,37 @@ impl Candidacy {
     pub fn is_eligible(self) -> bool
         ensures { result ≡ is_candidate self }
     {
-        match self {
-            Candidacy::Ineligible => false,
-            Candidacy::RestrictedIgp => true,
-            Candidacy::RestrictedEgp => true,
-            Candidacy::RestrictedIncomplete => true,
-            Candidacy::OpenIgp => true,
-            Candidacy::OpenEgp => true,
-            Candidacy::OpenIncomplete => true,
-        }
+        !matches!(self, Candidacy::Ineligible)
     }
 
     /// Whether it is eligible, and export policy permits it to every client but its sender.
     pub fn is_open(self) -> bool
         ensures { result ≡ is_open_candidate self }
     {
-        match self {
-            Candidacy::Ineligible => false,
-            Candidacy::RestrictedIgp => false,
-            Candidacy::RestrictedEgp => false,
-            Candidacy::RestrictedIncomplete => false,
-            Candidacy::OpenIgp => true,
-            Candidacy::OpenEgp => true,
-            Candidacy::OpenIncomplete => true,
-        }
+        matches!(
+            self,
+            Candidacy::PlainOpenIgp
+                | Candidacy::PlainOpenEgp
+                | Candidacy::PlainOpenIncomplete
+                | Candidacy::OpenIgp
+                | Candidacy::OpenEgp
+                | Candidacy::OpenIncomplete
+        )
+    }
+
+    /// Whether it is eligible and plain.
+    pub fn is_plain(self) -> bool
+        ensures { result ≡ is_plain_candidate self }
+    {
+        matches!(
+            self,
+            Candidacy::PlainRestrictedIgp
+                | Candidacy::PlainRestrictedEgp
+                | Candidacy::PlainRestrictedIncomplete
+                | Candidacy::PlainOpenIgp
+                | Candidacy::PlainOpenEgp
+                | Candidacy::PlainOpenIncomplete
+        )
     }
 
     // The ORIGIN of an eligible route.
@@ -75,13 +101,19 @@ impl Candidacy {
         ensures { result ≡ origin_of_candidacy self }
     {
         match self {
-            Candidacy::Ineligible => Origin::Incomplete,
-            Candidacy::RestrictedIgp => Origin::Igp,
-            Candidacy::RestrictedEgp => Origin::Egp,
-            Candidacy::RestrictedIncomplete => Origin::Incomplete,
-            Candidacy::OpenIgp => Origin::Igp,
-            Candidacy::OpenEgp => Origin::Egp,
-            Candidacy::OpenIncomplete => Origin::Incomplete,
+            Candidacy::PlainRestrictedIgp
+            | Candidacy::PlainOpenIgp
+            | Candidacy::RestrictedIgp
+            | Candidacy::OpenIgp => Origin::Igp,
+            Candidacy::PlainRestrictedEgp
+            | Candidacy::PlainOpenEgp
+            | Candidacy::RestrictedEgp
+            | Candidacy::OpenEgp => Origin::Egp,
+            Candidacy::Ineligible
+            | Candidacy::PlainRestrictedIncomplete
+            | Candidacy::PlainOpenIncomplete
+            | Candidacy::RestrictedIncomplete
+            | Candidacy::OpenIncomplete => Origin::Incomplete,
         }
     }
 }

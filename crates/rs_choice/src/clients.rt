@@ -223,7 +223,7 @@ impl Exchange {
 
     // Whether another candidate, if there is one, outdoes a route.
     fn is_outdone(&self, one: &HeldRoute, other: &Option<Standing>) -> bool
-        requires { one.now.peer < length self.now.peers }
+        requires { IsJudged self.now one.now }
         ensures { IsTrue result ↔ IsOutdone (held_standing self.now one.now) other.now }
     {
         match other {

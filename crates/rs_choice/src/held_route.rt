@@ -5,10 +5,10 @@
 
 ghost use Rattle.std.specs.Prelude.{◌≡◌, ◌<◌, ◌↔◌, IsTrue, length};
 ghost use Rattle.rs_update.specs.AsPath.{path_length_of};
-ghost use Rattle.rs_choice.specs.Candidacy.{is_candidate, is_open_candidate, origin_of_candidacy};
+ghost use Rattle.rs_choice.specs.Candidacy.{is_candidate, is_open_candidate, is_plain_candidate, origin_of_candidacy};
 ghost use Rattle.rs_choice.specs.Clients.{is_sent_to};
 ghost use Rattle.rs_choice.specs.Eligibility.{is_eligible};
-ghost use Rattle.rs_choice.specs.Held.{held_standing, sent_of_held, without_med, IsJudged, IsOpen};
+ghost use Rattle.rs_choice.specs.Held.{held_standing, sent_of_held, without_med, IsJudged, IsOpen, IsPlain};
 ghost use Rattle.rs_choice.specs.Comparison.{IsAhead, Outdoes};
 
 use crate::candidacy::Candidacy;
@@ -63,24 +63,44 @@ impl Exchange {
         ensures unrestricted { IsTrue (is_open_candidate result)
             ↔ (IsTrue (is_eligible self.now peer attributes.now) × IsOpen self.now peer attributes.now) }
         ensures origin { IsTrue (is_candidate result) → origin_of_candidacy result ≡ attributes.now.origin }
+        ensures plain { IsTrue (is_plain_candidate result)
+            ↔ (IsTrue (is_eligible self.now peer attributes.now) × IsPlain self.now peer attributes.now) }
     {
         if self.eligible(peer, attributes) {
-            Candidacy::of(self.is_open(peer, attributes), attributes.origin())
+            let plain = self.is_plain(peer, attributes);
+            Candidacy::of(self.is_open(peer, attributes), attributes.origin(), plain)
         } else {
             Candidacy::Ineligible
         }
     }
 
-    // What the decision process asks of a held route.
+    // Whether the neighbour AS of a route is its sender's AS, and its MED is 0 or missing.
+    fn is_plain(&self, peer: usize, attributes: &Attributes) -> bool
+        requires { peer < length self.now.peers }
+        ensures { IsTrue result ↔ IsPlain self.now peer attributes.now }
+    {
+        let asn = self.peer(peer).asn;
+        attributes.neighbour(asn) == asn && attributes.compared_med() == 0
+    }
+
+    // What the decision process asks of a held route. The pointer to attributes, which most often lie far away, is
+    // followed only for a route that isn't plain.
     pub(crate) fn held_standing(&self, held: &HeldRoute) -> Standing
-        requires { held.now.peer < length self.now.peers }
+        requires { IsJudged self.now held.now }
         ensures { result ≡ held_standing self.now held.now }
     {
         let sender = self.peer(usize::from(held.peer));
+        let standing = self.standing_without_med(held);
+        if held.candidacy.is_plain() {
+            return Standing {
+                neighbour: sender.asn,
+                ..standing
+            };
+        }
         Standing {
             neighbour: held.attributes.neighbour(sender.asn),
             med: held.attributes.compared_med(),
-            ..self.standing_without_med(held)
+            ..standing
         }
     }
 
@@ -124,7 +144,7 @@ impl Exchange {
     // Between different neighbour ASes the first three alone say so, since a third route of its AS may remove
     // it by MED. The pointer to attributes is followed only where the first three steps leave both.
     pub(crate) fn is_outdone_by(&self, one: &HeldRoute, best: &Standing) -> bool
-        requires { one.now.peer < length self.now.peers }
+        requires { IsJudged self.now one.now }
         ensures { IsTrue result ↔ Outdoes best.now (held_standing self.now one.now) }
     {
         let front = self.standing_without_med(one);
@@ -134,8 +154,8 @@ impl Exchange {
 
     // Whether one held route outdoes another, in the same way.
     pub(crate) fn held_outdoes(&self, one: &HeldRoute, other: &HeldRoute) -> bool
-        requires one_known { one.now.peer < length self.now.peers }
-        requires other_known { other.now.peer < length self.now.peers }
+        requires one_judged { IsJudged self.now one.now }
+        requires other_judged { IsJudged self.now other.now }
         ensures { IsTrue result ↔ Outdoes (held_standing self.now one.now) (held_standing self.now other.now) }
     {
         let front = self.standing_without_med(one);

@@ -256,7 +256,7 @@ impl Exchange {
     fn are_behind(&self, held: &[HeldRoute], change: &RouteChange, best: &HeldRoute) -> bool
         requires judged { All (IsJudged self.now) held.now }
         requires known { IsKnown self.now held.now change.now }
-        requires best_known { best.now.peer < length self.now.peers }
+        requires best_judged { IsJudged self.now best.now }
         ensures { IsTrue result → AreBehindAll self.now held.now change.now (held_standing self.now best.now) }
     {
         let old_is_behind = match &change.old {
@@ -272,8 +272,8 @@ impl Exchange {
 
     // Whether a route is no candidate of any client, or another one outdoes it.
     fn is_behind(&self, one: &HeldRoute, best: &HeldRoute) -> bool
-        requires one_known { one.now.peer < length self.now.peers }
-        requires best_known { best.now.peer < length self.now.peers }
+        requires one_judged { IsJudged self.now one.now }
+        requires best_judged { IsJudged self.now best.now }
         ensures { IsTrue result → IsTrue (is_candidate one.now.candidacy)
             → Outdoes (held_standing self.now best.now) (held_standing self.now one.now) }
     {

@@ -262,24 +262,30 @@ fn each_client_gets_its_own_best(rt: HostRuntime) -> Result<(), Fail> {
 
 // Attributes of a route of a, and what decisions ask of it before they look at the others.
 const HELD: &[(&[&str], Candidacy)] = &[
-    (&[IGP, PATH_64501_65010, NEXT_HOP_A], Candidacy::OpenIgp),
-    (&[EGP, PATH_64501_65010, NEXT_HOP_A], Candidacy::OpenEgp),
+    (
+        &[IGP, PATH_64501_65010, NEXT_HOP_A],
+        Candidacy::PlainOpenIgp,
+    ),
+    (
+        &[EGP, PATH_64501_65010, NEXT_HOP_A],
+        Candidacy::PlainOpenEgp,
+    ),
     (
         &[INCOMPLETE, PATH_64501_65010, NEXT_HOP_A],
-        Candidacy::OpenIncomplete,
+        Candidacy::PlainOpenIncomplete,
     ),
     (&[IGP, PATH_64500, NEXT_HOP_A], Candidacy::Ineligible),
     (
         &[IGP, PATH_64501_65010, NEXT_HOP_A, NOT_TO_B],
-        Candidacy::RestrictedIgp,
+        Candidacy::PlainRestrictedIgp,
     ),
     (
         &[EGP, PATH_64501_65010, NEXT_HOP_A, TO_NONE],
-        Candidacy::RestrictedEgp,
+        Candidacy::PlainRestrictedEgp,
     ),
     (
         &[INCOMPLETE, PATH_64501_65010, NEXT_HOP_A, TO_B_ALONE],
-        Candidacy::RestrictedIncomplete,
+        Candidacy::PlainRestrictedIncomplete,
     ),
     (
         &[IGP, PATH_64500, NEXT_HOP_A, TO_NONE],
@@ -288,20 +294,52 @@ const HELD: &[(&[&str], Candidacy)] = &[
     // A community that refuses to nobody but its sender, or to nobody.
     (
         &[IGP, PATH_64501_65010, NEXT_HOP_A, NOT_TO_A],
-        Candidacy::OpenIgp,
+        Candidacy::PlainOpenIgp,
     ),
     (
         &[IGP, PATH_64501_65010, NEXT_HOP_A, NOT_TO_A_STRANGER],
-        Candidacy::OpenIgp,
+        Candidacy::PlainOpenIgp,
     ),
     (
         &[IGP, PATH_64501_65010, NEXT_HOP_A, TO_ALL_BY_NAME],
-        Candidacy::OpenIgp,
+        Candidacy::PlainOpenIgp,
     ),
     // (64500, 64502), which refuses nothing.
     (
         &[IGP, PATH_64501_65010, NEXT_HOP_A, "C00804 FBF4FBF6"],
-        Candidacy::OpenIgp,
+        Candidacy::PlainOpenIgp,
+    ),
+    // The path begins with another AS than a's, or is empty.
+    (&[IGP, PATH_64502_65010, NEXT_HOP_A], Candidacy::OpenIgp),
+    (
+        &[EGP, PATH_64502_65010, NEXT_HOP_A, TO_NONE],
+        Candidacy::RestrictedEgp,
+    ),
+    (&[IGP, "400200", NEXT_HOP_A], Candidacy::PlainOpenIgp),
+    // A MED, which may be 0.
+    (
+        &[EGP, PATH_64501_65010, NEXT_HOP_A, MED_10],
+        Candidacy::OpenEgp,
+    ),
+    (
+        &[INCOMPLETE, PATH_64501_65010, NEXT_HOP_A, MED_10],
+        Candidacy::OpenIncomplete,
+    ),
+    (
+        &[IGP, PATH_64501_65010, NEXT_HOP_A, MED_10, NOT_TO_B],
+        Candidacy::RestrictedIgp,
+    ),
+    (
+        &[INCOMPLETE, PATH_64501_65010, NEXT_HOP_A, MED_10, TO_B_ALONE],
+        Candidacy::RestrictedIncomplete,
+    ),
+    (
+        &[IGP, PATH_64501_65010, NEXT_HOP_A, "800404 00000000"],
+        Candidacy::PlainOpenIgp,
+    ),
+    (
+        &[IGP, PATH_64500, NEXT_HOP_A, MED_10],
+        Candidacy::Ineligible,
     ),
 ];
 

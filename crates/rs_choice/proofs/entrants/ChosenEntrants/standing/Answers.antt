@@ -9,7 +9,7 @@ pub bounds-self-inside-place : goal.bounds-self-inside-place
 bounds-self-inside-place c = held_there c.self.inside c.args.self.now c.self.invariant c.self.view_is c.args.place c.place.result c.place.ensures.value
 
 pub held_standing-requires : goal.held_standing-requires
-held_standing-requires c = (judged_there c.self.inside c.args.self.now c.self.invariant c.self.view_is c.args.place c.place.result c.place.ensures.value c.index-self-place.result).known
+held_standing-requires c = judged_there c.self.inside c.args.self.now c.self.invariant c.self.view_is c.args.place c.place.result c.place.ensures.value c.index-self-place.result
 
 pub returns : goal.returns
 returns c =
