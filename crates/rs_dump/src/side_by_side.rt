@@ -16,7 +16,7 @@ ghost use Rattle.rs_dump.specs.Parts.{ArePartsOf};
 ghost use Rattle.rs_dump.specs.UnderWay.{IsUnderWay};
 
 use crate::ahead::Ahead;
-use crate::rib::{MAX_ROW_LEN, spell_row};
+use crate::rib::{MAX_LEN_BESIDE_ATTRIBUTES, MAX_ROW_LEN, spell_row};
 use crate::under_way::{BUFFER_LEN, add_octets, add_rows};
 use rs_mrt::{Failed, Write};
 use rs_table::{BLOCK_LEN, Row};
@@ -25,9 +25,6 @@ use std::thread::{Threads, join, map_chunks};
 
 // How many rows are spelled on one thread.
 const PART_LEN: usize = 2048;
-
-// The most octets that a record has beside the attributes.
-const SHORT_ROW_LEN: usize = 31;
 
 // The records of rows, a part from each thread, where there was memory for it.
 pub(crate) type Parts = Vec<Result<Vec<u8>, AllocError>>;
@@ -96,7 +93,7 @@ fn room_for(rows: &[Row]) -> usize
 {
     let mut room = MAX_ROW_LEN;
     for row in rows {
-        room += SHORT_ROW_LEN + row.route.attributes.written_len();
+        room += MAX_LEN_BESIDE_ATTRIBUTES + row.route.attributes.written_len();
     }
     room
 }
