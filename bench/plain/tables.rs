@@ -81,9 +81,12 @@ impl Cell {
     }
 }
 
-// The place of the route of a peer among routes in ascending order of their peers, or where it would stand: that of
-// the peer's number, where all lower ones have a route; else by halves.
+// The place of the route of a peer among routes in ascending order of their peers, or where it would stand: of up to 16
+// all are looked at; among more that of the peer's number, where all lower ones have a route; else by halves.
 fn place_of(held: &[Held], peer: u8) -> usize {
+    if held.len() <= 16 {
+        return held.iter().map(|route| usize::from(route.peer < peer)).sum();
+    }
     let own = usize::from(peer);
     if held.get(own).is_some_and(|route| route.peer == peer) {
         own

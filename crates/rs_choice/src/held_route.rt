@@ -1,7 +1,8 @@
 //! Routes as they are held for decisions: what most decisions ask of a route by itself is found once, when
 //! the route comes, and stands beside it. A decision among held routes looks at no attributes but those of a
 //! route that export policy refuses to someone, and of those among which MED may decide: routes that
-//! preference, path length and origin leave.
+//! preference, path length and origin leave, and whose neighbour AS is another than the sender's or whose MED
+//! isn't 0.
 
 ghost use Rattle.std.specs.Prelude.{◌≡◌, ◌<◌, ◌↔◌, IsTrue, length};
 ghost use Rattle.rs_update.specs.AsPath.{path_length_of};

@@ -1,6 +1,5 @@
-use Rattle.std.proofs.Common.{◌<◌, ◌+◌, ◌∙◌, sym, subst, refl, arith, length, set, rules}
-use Rattle.std.proofs.lemmas.List.{get_or_read, length-set}
-use Rattle.rs_choice.specs.RouteChanges.{IsNextTouched}
+use Rattle.std.proofs.Common.{◌<◌, ◌+◌, ◌∙◌, sym, refl, arith, length, set, rules}
+use Rattle.std.proofs.lemmas.List.{length-set}
 use Rattle.rs_choice.proofs.clients.StayLemmas.{found_more, later_stay, further}
 use Rattle.rs_choice.proofs.exchange.Exchange.choose_for_touched.Goals as goal
 
