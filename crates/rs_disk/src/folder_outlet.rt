@@ -1,4 +1,8 @@
 //! An outlet over a folder: each dump becomes a file in it. It doesn't tell what it has kept.
+//!
+//! Our choice: ahead of its turn a dump becomes a new file, in place of one that stands there already, so that two
+//! dumps that are written beside each other are never one file. Where something else than a file stands there, such as
+//! a pipe or a link, it is opened in its turn.
 
 ghost use Rattle.std.specs.Prelude.{◌≡◌, None};
 
@@ -6,8 +10,9 @@ use rs_ended::path_in;
 use rs_mrt::IoWriter;
 use rs_outlet::{Outlet, Unopened};
 use std::alloc::Global;
+use std::fs;
 use std::fs::{File, Files};
-use std::io::Write;
+use std::io::{ErrorKind, Write};
 use std::marker::Model;
 
 /// Keeps dumps as the files of a folder, which must exist.
@@ -41,7 +46,10 @@ impl<'a, R: Files> FolderOutlet<'a, R> {
     }
 }
 
-impl<'a, R: Files> Outlet for FolderOutlet<'a, R> {
+impl<'a, R: Files> Outlet for FolderOutlet<'a, R>
+where
+    R::File: Send,
+{
     type Out = IoWriter<R::File>;
 
     ghost kept = { λ _. None };
@@ -55,6 +63,18 @@ impl<'a, R: Files> Outlet for FolderOutlet<'a, R> {
                 self.failures += 1;
                 Err(refused)
             }
+        }
+    }
+
+    fn start_ahead(&mut self, name: &str) -> Option<IoWriter<R::File>> {
+        let path = path_in(self.alloc, self.folder, name).ok()?;
+        let file = create_anew(self.rt, path.as_str())?;
+        Some(IoWriter::new(file))
+    }
+
+    fn give_back(&mut self, name: &str, _out: IoWriter<R::File>) {
+        if let Ok(path) = path_in(self.alloc, self.folder, name) {
+            let _ = fs::remove_file(self.rt, path.as_str());
         }
     }
 
@@ -79,4 +99,16 @@ fn create<R: Files>(rt: &R, alloc: Global, folder: &str, name: &str) -> Result<R
         return Err(Unopened);
     };
     File::create(rt, path.as_str()).map_err(|_| Unopened)
+}
+
+// Makes a file that isn't there, or takes the place of one that is; none where something else is there, or where this
+// is refused.
+fn create_anew<R: Files>(rt: &R, path: &str) -> Option<R::File> {
+    match fs::symlink_metadata(rt, path) {
+        Ok(found) if found.is_file() => fs::remove_file(rt, path).ok()?,
+        Ok(_) => return None,
+        Err(error) if error.kind() == ErrorKind::NotFound => {}
+        Err(_) => return None,
+    }
+    File::create_new(rt, path).ok()
 }
