@@ -4,4 +4,6 @@ pub mod DumpLemmas
 pub mod LawLemmas
 pub mod PeerLemmas
 pub mod PlanLemmas
+pub mod SideLemmas
+pub mod TurnLemmas
 pub mod UnderWayLemmas

@@ -11,6 +11,11 @@ pub OnErr-always : {T E A : Type 0} (result : Result T E) → A → OnErr result
 OnErr-always (Ok x) held = tt
 OnErr-always (Err e) held = held
 
+-- what follows from what holds of an error
+pub OnErr-then : {T E A B : Type 0} (result : Result T E) → (A → B) → OnErr result A → OnErr result B
+OnErr-then (Ok x) follows held = tt
+OnErr-then (Err e) follows held = follows held
+
 -- octets that are known grow twice
 Appends-append : (old mid new : Option (List ℕ)) (first second : List ℕ) → Appends old mid first → Appends mid new second → Appends old new (first ++ second)
 Appends-append None mid new first second before after = tt

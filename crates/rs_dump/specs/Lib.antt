@@ -6,8 +6,9 @@ pub mod Laws  -- a dump in the words of the file that it is
 -- How it is written:
 pub mod Buffer  -- records that wait
 pub mod UnderWay  -- a dump that is being written
-pub mod Parts  -- rows that are spelled side by side
-pub mod Ahead  -- rows that are found beside them
+pub mod TableDump  -- one of a table
+pub mod TableDumpView  -- the same by its fields
+pub mod SideBySide  -- several beside each other
 -- What the contracts name of the crates below:
 pub use Rattle.rs_choice.specs.Plan
 pub use Rattle.rs_mrt.specs.Endian

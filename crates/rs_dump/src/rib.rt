@@ -29,9 +29,6 @@ const FIXED_LEN: usize = 15;
 /// The most octets that the record can have.
 pub(crate) const MAX_ROW_LEN: usize = 4104;
 
-/// The most octets that it can have beside the attributes: the common header, these, and an address.
-pub(crate) const MAX_LEN_BESIDE_ATTRIBUTES: usize = 31;
-
 // Appends the record of a row, whose place among the rows is its Sequence Number.
 pub(crate) fn spell_row(buffer: &mut Vec<u8>, time: u32, sequence: u32, row: &Row)
     requires peer_known { row.now.route.peer < 65536 }

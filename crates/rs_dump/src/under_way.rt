@@ -92,28 +92,6 @@ pub(crate) fn add_rows<W: Write>(
     Ok(())
 }
 
-// Adds octets that are spelled: what waits is written first, and then these are.
-pub(crate) fn add_octets<W: Write>(
-    out: &mut W,
-    buffer: &mut Vec<u8>,
-    octets: &[u8],
-) -> Result<(), Failed>
-    requires failures { W.failures out.old < u64.MAX }
-    requires capacity { BUFFER_LEN ≤ vec_capacity buffer.old }
-    ensures ok { OnOk result (IsUnderWay (W.taken out.old) (W.taken out.new) buffer.new.items
-        (buffer.old.items ++ octets.now)) }
-    ensures ok_failures { OnOk result (W.failures out.new ≡ W.failures out.old) }
-    ensures err { OnErr result (AppendsBeginning (W.taken out.old) (W.taken out.new)
-        (buffer.old.items ++ octets.now)) }
-    ensures err_failures { OnErr result (W.failures out.new ≡ W.failures out.old + 1) }
-    ensures capacity { BUFFER_LEN ≤ vec_capacity buffer.new }
-{
-    write_all(out, buffer)?;
-    buffer.clear();
-    write_all(out, octets)?;
-    Ok(())
-}
-
 // Makes room for a record: writes what waits, where that is a piece.
 fn make_room<W: Write>(out: &mut W, buffer: &mut Vec<u8>) -> Result<(), Failed>
     requires failures { W.failures out.old < u64.MAX }
