@@ -1,3 +1,4 @@
 pub mod EndLemmas
 pub mod ListingLemmas
 pub mod RunLemmas
+pub mod WrittenLemmas

@@ -1,5 +1,5 @@
 -- A run, client by client: what is kept, and what the report says.
-use Rattle.std.proofs.Common.{◌≡◌, ℕ, ◌+◌, ◌≤◌, List, [], ◌∷◌, ◌++◌, Option, Some, None, length, take, refl, sym, ap, subst, ◌∙◌, append_assoc, arith, Result, Ok, Err, inr}
+use Rattle.std.proofs.Common.{◌≡◌, ℕ, ◌+◌, ◌≤◌, List, [], ◌∷◌, ◌++◌, Option, Some, None, length, take, refl, sym, ap, subst, ◌∙◌, append_assoc, arith, Result, Ok, Err, inl, inr}
 use Rattle.std.specs.Prelude.{slice_get, ◌<◌, IfErr}
 use Rattle.std.specs.Result.{IsErrAnd, IsErrOf}
 use Rattle.std.specs.List.{flat_map, enumerate_from, zip}
@@ -15,13 +15,14 @@ use Rattle.rs_mrt.specs.Reader.{ReadEnd}
 use Rattle.rs_table.specs.Content.{TablesContent}
 use Rattle.rs_table.specs.Table.{table_of}
 use Rattle.rs_update.specs.declared.errors.Errors.{Errors}
-use Rattle.rs_outlet.specs.Outlet.{KeptDump, Grows}
+use Rattle.rs_outlet.specs.Outlet.{KeptDump, Grows, KeepsTaken}
 use Rattle.rs_run.specs.Recorded.{OverFiles, tables_of_files}
 use Rattle.rs_run.specs.Report.{peer_lines, table_line, table_line_of, report_of}
 use Rattle.rs_outlet.specs.declared.run_fault.RunFault.{RunFault}
 use Rattle.rs_outlet.specs.declared.run_fault.RunFault.TheVariants.{Memory, Unsettled, Dump, Report, Read}
 use Rattle.rs_run.specs.Run.{dump_name, kept_dump_of, dumps_of, GrowsByBeginning, IsFaultAt, IsStop, KeepsBeginning}
 use Rattle.rs_run.specs.SessionEnd.{end_in, ends_of_files}
+use Rattle.rs_run.specs.Written.{TellsTaken}
 use Rattle.rs_run.proofs.ListingLemmas.{flat_map-one_more, lines-one_more, slice_get-enumerated, take-one_more}
 
 -- a told list grows twice
@@ -32,10 +33,18 @@ Grows-then (Some kept) (Some more) None first second before after = absurd after
 Grows-then (Some kept) (Some more) (Some most) first second before after =
     after ∙ ap (λ dumps. dumps ++ second) before ∙ append_assoc kept first second
 
+-- it grows by what a writer tells that it has taken
+keeps-told : (old mid new : Option (List KeptDump)) (first : List KeptDump) (name octets : List ℕ) (taken : Option (List ℕ)) → Grows old mid first → TellsTaken old taken octets → KeepsTaken mid new name taken → Grows old new (first ++ record { name = name; octets = octets } ∷ [])
+keeps-told None mid new first name octets taken before told keeps = tt
+keeps-told (Some kept) None new first name octets taken before told keeps = absurd before
+keeps-told (Some kept) (Some more) new first name octets taken before told keeps =
+    let P : Option (List ℕ) → Type 0 = λ taken. KeepsTaken (Some more) new name taken in
+    Grows-then (Some kept) (Some more) new first (record { name = name; octets = octets } ∷ []) before (subst P told keeps)
+
 -- the dump of one client more was kept
-pub kept-one_more : (plan : Plan) (tables : TablesContent) (time client : ℕ) (peer : Peer) (old mid new : Option (List KeptDump)) (name octets : List ℕ) → slice_get plan.peers client ≡ Some peer → name ≡ dump_name peer.name → octets ≡ dumped plan client (table_of tables client) time
-    → Grows old mid (take client (dumps_of plan tables time)) → Grows mid new (record { name = name; octets = octets } ∷ []) → Grows old new (take (client + 1) (dumps_of plan tables time))
-kept-one_more plan tables time client peer old mid new name octets here name_is octets_are before one =
+pub kept-one_more : (plan : Plan) (tables : TablesContent) (time client : ℕ) (peer : Peer) (old mid new : Option (List KeptDump)) (name octets : List ℕ) (taken : Option (List ℕ)) → slice_get plan.peers client ≡ Some peer → name ≡ dump_name peer.name → octets ≡ dumped plan client (table_of tables client) time
+    → Grows old mid (take client (dumps_of plan tables time)) → TellsTaken old taken octets → KeepsTaken mid new name taken → Grows old new (take (client + 1) (dumps_of plan tables time))
+kept-one_more plan tables time client peer old mid new name octets taken here name_is octets_are before told keeps =
     let of = kept_dump_of plan tables time in
     let dumps = dumps_of plan tables time in
     let dump : KeptDump = record { name = name; octets = octets } in
@@ -43,7 +52,7 @@ kept-one_more plan tables time client peer old mid new name octets here name_is 
     let at_client : slice_get dumps client ≡ Some (of (client, peer)) = slice_get-map of (enumerate_from 0 plan.peers) client ∙ ap (option_map of) (slice_get-enumerated plan.peers client peer here) in
     let P : List KeptDump → Type 0 = λ all. Grows old new all in
     let all : take client dumps ++ dump ∷ [] ≡ take (client + 1) dumps = ap (λ last. take client dumps ++ last ∷ []) same ∙ sym (take-one_more dumps client (of (client, peer)) at_client) in
-    subst P all (Grows-then old mid new (take client dumps) (dump ∷ []) before one)
+    subst P all (keeps-told old mid new (take client dumps) name octets taken before told keeps)
 
 -- the dumps of all clients
 pub kept-all : (plan : Plan) (tables : TablesContent) (time client : ℕ) → length plan.peers ≤ client → take client (dumps_of plan tables time) ≡ dumps_of plan tables time
@@ -87,8 +96,17 @@ pub stop-memory : (plan : Plan) (tables : TablesContent) (time : ℕ) (old new :
 stop-memory plan tables time old new before after (Ok value) is grown same = tt
 stop-memory plan tables time old new before after (Err fault) is grown same = subst (IsStop plan tables time old new before after) (sym is) (grown, same)
 
+-- of a dump of no rows a fault is one of any rows
+pub fault-of-any : (client rows before after : ℕ) (fault : RunFault) → IsFaultAt client 0 before after fault → IsFaultAt client rows before after fault
+fault-of-any client rows before after Memory is = is
+fault-of-any client rows before after (Dump at) (same, inl counted) = (same, inl counted)
+fault-of-any client rows before after (Dump at) (same, inr (stays, many)) = absurd (omega (arith, many))
+fault-of-any client rows before after (Unsettled peer) is = absurd is
+fault-of-any client rows before after Report is = absurd is
+fault-of-any client rows before after (Read peer) is = absurd is
+
 -- the dumps of the clients before one were kept, and its own was not
-stop-at : (plan : Plan) (tables : TablesContent) (time client before after : ℕ) (old new : Option (List KeptDump)) (fault : RunFault) → client < length plan.peers → Grows old new (take client (dumps_of plan tables time))
+pub stop-at : (plan : Plan) (tables : TablesContent) (time client before after : ℕ) (old new : Option (List KeptDump)) (fault : RunFault) → client < length plan.peers → Grows old new (take client (dumps_of plan tables time))
     → IsFaultAt client (length (table_of tables client)) before after fault → IsStop plan tables time old new before after fault
 stop-at plan tables time client before after old new Memory known grown is = ((client, grown), is)
 stop-at plan tables time client before after old new (Dump at) known grown is =

@@ -4,29 +4,26 @@
 //! started; all dumps are kept, in the order of the plan, before the first line of the report is written; the
 //! first failure ends the run.
 
-ghost use Rattle.std.specs.Prelude.{◌≡◌, ◌+◌, ◌<◌, ◌≤◌, ℕ, [], ◌∷◌, All, IfOk, IfErr, OnOk, OnErr, IsErrOf, length};
+ghost use Rattle.std.specs.Prelude.{◌≡◌, ◌+◌, ◌<◌, ◌≤◌, ℕ, All, IfOk, IfErr, OnOk, IsErrOf, length};
 ghost use Rattle.std.specs.Prelude.{string_bytes, take};
 ghost use Rattle.std.specs.Io.KnownBytes.{Appends};
-ghost use Rattle.rs_dump.specs.Dump.{dumped};
 ghost use Rattle.rs_mrt.specs.Stream.{AppendsBeginning};
 ghost use Rattle.rs_table.specs.Table.{table_of};
 ghost use Rattle.rs_outlet.specs.Outlet.{Grows};
 ghost use Rattle.rs_run.specs.Recorded.{FailsAt, OverFiles, tables_of_files};
 ghost use Rattle.rs_run.specs.Report.{report_of, report_of_files};
-ghost use Rattle.rs_run.specs.Run.{dump_name, dumps_of, dumps_of_files, IsDumpFailure, IsFaultAt, IsReadStop, IsStop};
-ghost use Rattle.rs_run.specs.Run.{KeepsBeginning};
+ghost use Rattle.rs_run.specs.Run.{dumps_of, dumps_of_files, IsDumpFailure, IsReadStop, IsStop, KeepsBeginning};
 ghost use Rattle.rs_run.specs.SessionEnd.{ends_of_files};
 
-use crate::report::{add_peer_lines, add_table_line};
+use crate::dumps::{dump_files, give_back_all, keep, refill};
+use crate::report::add_peer_lines;
 use rs_choice::Exchange;
-use rs_dump::{DumpFault, write_table_dump};
 use rs_floor::{FloorRefused, Open, Served, serve_by};
 use rs_mrt::{Read, Write, write_all};
 use rs_options::Options;
 use rs_outlet::{Outlet, RunFault};
 use rs_session::a_session_closes_once;
 use rs_setup::Setup;
-use rs_table::Tables;
 use std::alloc::Global;
 use std::sync::{Arc, Wait};
 use std::thread::{Threads, spawn};
@@ -185,51 +182,29 @@ fn keep_dumps<T: Threads + Sync, O: Outlet>(
 {
     let mut text = String::with_capacity(alloc, plan.count() * LINES_LEN)?;
     add_peer_lines(&mut text, plan, served)?;
+    let files = dump_files(alloc, plan)?;
+    let tables = served.tables();
+    let mut written = Vec::new(alloc).into_iter();
     for client in 0..plan.count() {
+        refill(
+            rt,
+            alloc,
+            tables,
+            client,
+            &files,
+            time,
+            outlet,
+            &mut written,
+        )?;
+        let Some(writing) = written.next() else {
+            unreachable!();
+        };
         let name = plan.peer(client).name.as_str();
-        let rows = keep_dump(rt, alloc, served.tables(), client, name, time, outlet)?;
-        add_table_line(&mut text, name, rows)?;
+        let file = files[client].name.as_str();
+        if let Err(fault) = keep(outlet, client, name, file, writing, &mut text) {
+            give_back_all(outlet, client + 1, &files, written);
+            return Err(fault);
+        }
     }
     Ok(text)
-}
-
-// Writes and keeps the dump of one client, of this name, and answers how many rows its table has.
-fn keep_dump<T: Threads + Sync, O: Outlet>(
-    rt: &T,
-    alloc: Global,
-    tables: &Tables,
-    client: usize,
-    name: &str,
-    time: u32,
-    outlet: &mut O,
-) -> Result<u32, RunFault>
-    requires client_known { client < length tables.now.plan.peers }
-    requires failures { O.failures outlet.old < u64.MAX }
-    ensures count { IfOk result (λ rows. rows ≡ length (table_of tables.now client)) }
-    ensures kept { OnOk result (Grows (O.kept outlet.old) (O.kept outlet.new)
-        (record {
-          name = dump_name name.now;
-          octets = dumped tables.now.plan client (table_of tables.now client) time;
-        } ∷ [])) }
-    ensures no_failure { OnOk result (O.failures outlet.new ≡ O.failures outlet.old) }
-    ensures refused { OnErr result (O.kept outlet.new ≡ O.kept outlet.old) }
-    ensures fault { IfErr result (IsFaultAt client (length (table_of tables.now client)) (O.failures outlet.old)
-        (O.failures outlet.new)) }
-{
-    let file = format!(in alloc; "{name}.mrt")?;
-    let Ok(mut out) = outlet.start(file.as_str()) else {
-        return Err(RunFault::Dump(client));
-    };
-    match write_table_dump(rt, alloc, &mut out, tables, client, time) {
-        Ok(count) => match outlet.keep(file.as_str(), out) {
-            Ok(()) => Ok(count),
-            Err(_) => Err(RunFault::Dump(client)),
-        },
-        Err(DumpFault::Write) => {
-            outlet.lost(out);
-            Err(RunFault::Dump(client))
-        }
-        Err(DumpFault::TooManyRows) => Err(RunFault::Dump(client)),
-        Err(DumpFault::Memory) => Err(RunFault::Memory),
-    }
 }

@@ -1,29 +1,15 @@
 -- One client more: its dump is kept, and the report tells of its table. After the last one all is kept and told.
-use Rattle.std.proofs.Common.{ℕ, ◌+◌, ◌<◌, ◌≤◌, List, Option, length, take, refl, sym, ap, subst, ◌∙◌, arith, rules}
+use Rattle.std.proofs.Common.{◌≡◌, ℕ, ◌<◌, ◌≤◌, List, Option, length, take, refl, sym, ap, subst, ◌∙◌, arith, rules}
+use Rattle.std.specs.Vec.Iter.{into_iter_items}
 use Rattle.std.specs.Prelude.{string_bytes}
-use Rattle.rs_choice.specs.Plan.{peer_of}
+use Rattle.rs_choice.specs.Plan.{Plan, peer_of}
 use Rattle.rs_dump.specs.Dump.{dumped}
 use Rattle.rs_table.specs.Table.{table_of}
 use Rattle.rs_outlet.specs.Outlet.{KeptDump, Grows}
-use Rattle.rs_run.specs.Run.{dump_name, dumps_of, IsFaultAt}
-use Rattle.rs_run.proofs.RunLemmas.{kept-one_more, kept-all, reported-one_more, reported-all, Grows-none, stop-client, stop-memory}
+use Rattle.rs_run.specs.Run.{dumps_of, IsFaultAt}
+use Rattle.rs_run.proofs.RunLemmas.{kept-one_more, kept-all, reported-one_more, reported-all, Grows-none, fault-of-any, stop-at, stop-client, stop-memory}
+use Rattle.rs_run.proofs.WrittenLemmas.{file-at, files-count, first-of, none-of, others-of, some-left}
 use Rattle.rs_run.proofs.runner.keep_dumps.Goals as goal
-
-pub loop-client-preserved : goal.loop-client-preserved
-loop-client-preserved g c =
-    let O = g.O.Outlet in
-    let plan = c.args.plan.now in
-    let time = c.args.time in
-    let client = c.loop-client.client in
-    let peer = peer_of c.peer.result.now in
-    let tables = c.args.served.now.tables in
-    let name = c.as_str-name.result.now in
-    record {
-      kept = kept-one_more plan tables time client peer (O.kept c.args.outlet.now) (O.kept c.loop-client.outlet) (O.kept c.keep_dump.new.outlet) (dump_name name) (dumped tables.plan client (table_of tables client) time)
-          c.peer.ensures (ap dump_name c.as_str-name.ensures.value) (ap (λ of. dumped of client (table_of tables client) time) c.requires.plan) c.loop-client.invariant.kept (rw c.tables.ensures at c.in_ok-rows.ensures.kept);
-      failures = c.in_ok-rows.ensures.no_failure ∙ c.loop-client.invariant.failures;
-      report = reported-one_more plan c.args.served.now.ends tables client c.in_ok-rows.rows peer (string_bytes c.loop-client.text) (string_bytes c.add_table_line.new.report) name c.peer.ensures c.as_str-name.ensures.value (rw c.tables.ensures at c.in_ok-rows.ensures.count) c.loop-client.invariant.report c.in_ok-add_table_line.ensures;
-    }
 
 pub returns-in_err-text-clause-fault : goal.returns-in_err-text-clause-fault
 returns-in_err-text-clause-fault g c =
@@ -32,32 +18,6 @@ returns-in_err-text-clause-fault g c =
 pub returns-in_err-add_peer_lines-clause-fault : goal.returns-in_err-add_peer_lines-clause-fault
 returns-in_err-add_peer_lines-clause-fault g c =
     stop-memory c.args.plan.now c.args.served.now.tables c.args.time _ _ _ _ c.from_residual-in_err-add_peer_lines.result c.from_residual-in_err-add_peer_lines.ensures.1 (0, Grows-none (g.O.Outlet.kept c.args.outlet.now)) refl
-
-pub returns-in_err-rows-clause-fault : goal.returns-in_err-rows-clause-fault
-returns-in_err-rows-clause-fault g c =
-    let O = g.O.Outlet in
-    let plan = c.args.plan.now in
-    let time = c.args.time in
-    let client = c.loop-client.client in
-    let tables = c.args.served.now.tables in
-    let known : client < length plan.peers = omega (arith, c.count-client-end.ensures.value) in
-    let P : Option (List KeptDump) → Type 0 = λ kept. Grows (O.kept c.args.outlet.now) kept (take client (dumps_of plan tables time)) in
-    let R : ℕ → Type 0 = λ before. IsFaultAt client (length (table_of tables client)) before (O.failures c.keep_dump.new.outlet) c.in_err-rows.field-0.0 in
-    stop-client plan tables time client (O.failures c.args.outlet.now) (O.failures c.keep_dump.new.outlet) (O.kept c.args.outlet.now) (O.kept c.keep_dump.new.outlet) c.in_err-rows.field-0.0 c.from_residual-in_err-rows.result c.from_residual-in_err-rows.ensures.1
-    known (subst P (sym c.in_err-rows.ensures.refused) c.loop-client.invariant.kept) (subst R c.loop-client.invariant.failures (rw c.tables.ensures at c.in_err-rows.ensures.fault))
-
-pub returns-in_err-add_table_line-clause-fault : goal.returns-in_err-add_table_line-clause-fault
-returns-in_err-add_table_line-clause-fault g c =
-    let O = g.O.Outlet in
-    let plan = c.args.plan.now in
-    let time = c.args.time in
-    let client = c.loop-client.client in
-    let peer = peer_of c.peer.result.now in
-    let tables = c.args.served.now.tables in
-    let name = c.as_str-name.result.now in
-    let kept = kept-one_more plan tables time client peer (O.kept c.args.outlet.now) (O.kept c.loop-client.outlet) (O.kept c.keep_dump.new.outlet) (dump_name name) (dumped tables.plan client (table_of tables client) time)
-    c.peer.ensures (ap dump_name c.as_str-name.ensures.value) (ap (λ of. dumped of client (table_of tables client) time) c.requires.plan) c.loop-client.invariant.kept (rw c.tables.ensures at c.in_ok-rows.ensures.kept) in
-    stop-memory plan tables time _ _ _ _ c.from_residual-in_err-add_table_line.result c.from_residual-in_err-add_table_line.ensures.1 (client + 1, kept) (c.in_ok-rows.ensures.no_failure ∙ c.loop-client.invariant.failures)
 
 pub returns-clause-kept : goal.returns-clause-kept
 returns-clause-kept g c =
@@ -72,9 +32,6 @@ returns-clause-report g c =
     let plan = c.args.plan.now in
     let past : length plan.peers ≤ c.loop-client.client = omega (arith, c.count-client-end.ensures.value) in
     reported-all plan c.args.served.now.ends c.args.served.now.tables c.loop-client.client (string_bytes c.loop-client.text) past c.loop-client.invariant.report
-
-pub loop-client-init : goal.loop-client-init
-loop-client-init g c = search rules
 
 pub loop-client-smaller : goal.loop-client-smaller
 loop-client-smaller g c = search rules
@@ -94,24 +51,6 @@ returns-in_err-add_peer_lines-clause-no_failure g c = search rules
 pub returns-in_err-add_peer_lines-clause-report : goal.returns-in_err-add_peer_lines-clause-report
 returns-in_err-add_peer_lines-clause-report g c = search rules
 
-pub returns-in_err-add_table_line-clause-kept : goal.returns-in_err-add_table_line-clause-kept
-returns-in_err-add_table_line-clause-kept g c = search rules
-
-pub returns-in_err-add_table_line-clause-no_failure : goal.returns-in_err-add_table_line-clause-no_failure
-returns-in_err-add_table_line-clause-no_failure g c = search rules
-
-pub returns-in_err-add_table_line-clause-report : goal.returns-in_err-add_table_line-clause-report
-returns-in_err-add_table_line-clause-report g c = search rules
-
-pub returns-in_err-rows-clause-kept : goal.returns-in_err-rows-clause-kept
-returns-in_err-rows-clause-kept g c = search rules
-
-pub returns-in_err-rows-clause-no_failure : goal.returns-in_err-rows-clause-no_failure
-returns-in_err-rows-clause-no_failure g c = search rules
-
-pub returns-in_err-rows-clause-report : goal.returns-in_err-rows-clause-report
-returns-in_err-rows-clause-report g c = search rules
-
 pub returns-in_err-text-clause-kept : goal.returns-in_err-text-clause-kept
 returns-in_err-text-clause-kept g c = search rules
 
@@ -120,3 +59,95 @@ returns-in_err-text-clause-no_failure g c = search rules
 
 pub returns-in_err-text-clause-report : goal.returns-in_err-text-clause-report
 returns-in_err-text-clause-report g c = search rules
+
+pub loop-client-init : goal.loop-client-init
+loop-client-init g c =
+    let Out = g.O.Out.Write in
+    let kept = g.O.Outlet.kept c.args.outlet.now in
+    let none : length (into_iter_items c.into_iter-written.result) ≡ 0 = search rules in
+    record {
+      kept = Grows-none kept;
+      failures = refl;
+      report = search rules;
+      written = none-of Out.taken Out.failures c.args.served.now.tables c.args.time kept 0 (into_iter_items c.into_iter-written.result) none (omega arith);
+    }
+
+pub keep-requires-clause-lost : goal.keep-requires-clause-lost
+keep-requires-clause-lost g c κs within =
+    let O = g.O.Outlet in
+    let Out = g.O.Out.Write in
+    let plan = c.args.plan.now in
+    let time = c.args.time in
+    let client = c.loop-client.client in
+    let tables = c.args.served.now.tables in
+    let left = some-left Out.taken Out.failures tables time (O.kept c.args.outlet.now) (O.kept c.loop-client.outlet) (take client (dumps_of plan tables time)) client (into_iter_items c.loop-client.written) (into_iter_items c.refill.new.written) c.in-Some.writing
+    (into_iter_items c.next.new.self) c.loop-client.invariant.kept c.loop-client.invariant.written (λ some. ap into_iter_items (c.refill.ensures.left some)) (λ none. rw c.tables-tables.ensures at (c.in_ok-refill.ensures.written none)) c.in-Some.ensures.cases.0 in
+    (first-of Out.taken Out.failures tables time (O.kept c.args.outlet.now) client c.in-Some.writing (into_iter_items c.next.new.self) left).lost
+
+pub give_back_all-requires-after_bounds : goal.give_back_all-requires-after_bounds
+give_back_all-requires-after_bounds g c =
+    let O = g.O.Outlet in
+    let Out = g.O.Out.Write in
+    let plan = c.args.plan.now in
+    let time = c.args.time in
+    let client = c.loop-client.client in
+    let tables = c.args.served.now.tables in
+    let left = some-left Out.taken Out.failures tables time (O.kept c.args.outlet.now) (O.kept c.loop-client.outlet) (take client (dumps_of plan tables time)) client (into_iter_items c.loop-client.written) (into_iter_items c.refill.new.written) c.in-Some.writing
+    (into_iter_items c.next.new.self) c.loop-client.invariant.kept c.loop-client.invariant.written (λ some. ap into_iter_items (c.refill.ensures.left some)) (λ none. rw c.tables-tables.ensures at (c.in_ok-refill.ensures.written none)) c.in-Some.ensures.cases.0 in
+    omega (arith, left.known, ap (λ (of : Plan). length of.peers) c.requires.plan, files-count plan c.in_ok-files.files.items c.in_ok-files.ensures, ap length c.deref-in-Err.ensures.value)
+
+pub returns-in_err-refill-clause-fault : goal.returns-in_err-refill-clause-fault
+returns-in_err-refill-clause-fault g c =
+    let O = g.O.Outlet in
+    let plan = c.args.plan.now in
+    let time = c.args.time in
+    let client = c.loop-client.client in
+    let tables = c.args.served.now.tables in
+    let known : client < length plan.peers = omega (arith, c.count-client-end.ensures.value) in
+    let P : Option (List KeptDump) → Type 0 = λ kept. Grows (O.kept c.args.outlet.now) kept (take client (dumps_of plan tables time)) in
+    let R : ℕ → Type 0 = λ before. IsFaultAt client (length (table_of tables client)) before (O.failures c.refill.new.outlet) c.in_err-refill.field-0.0 in
+    stop-client plan tables time client (O.failures c.args.outlet.now) (O.failures c.refill.new.outlet) (O.kept c.args.outlet.now) (O.kept c.refill.new.outlet) c.in_err-refill.field-0.0 c.from_residual-in_err-refill.result c.from_residual-in_err-refill.ensures.1
+    known (subst P (sym c.refill.ensures.kept) c.loop-client.invariant.kept) (subst R c.loop-client.invariant.failures (rw c.tables-tables.ensures at c.in_err-refill.ensures.fault))
+
+pub returns-in-Err-clause-fault : goal.returns-in-Err-clause-fault
+returns-in-Err-clause-fault g c =
+    let O = g.O.Outlet in
+    let plan = c.args.plan.now in
+    let time = c.args.time in
+    let client = c.loop-client.client in
+    let tables = c.args.served.now.tables in
+    let known : client < length plan.peers = omega (arith, c.count-client-end.ensures.value) in
+    let kept : O.kept c.give_back_all.new.outlet ≡ O.kept c.loop-client.outlet = c.give_back_all.ensures.kept ∙ c.in-Err.ensures.refused ∙ c.refill.ensures.kept in
+    let P : Option (List KeptDump) → Type 0 = λ kept. Grows (O.kept c.args.outlet.now) kept (take client (dumps_of plan tables time)) in
+    let R : ℕ → Type 0 = λ before. IsFaultAt client (length (table_of tables client)) before (O.failures c.give_back_all.new.outlet) c.in-Err.fault in
+    let Q : ℕ → Type 0 = λ after. IsFaultAt client (length (table_of tables client)) (O.failures c.refill.new.outlet) after c.in-Err.fault in
+    stop-at plan tables time client (O.failures c.args.outlet.now) (O.failures c.give_back_all.new.outlet) (O.kept c.args.outlet.now) (O.kept c.give_back_all.new.outlet) c.in-Err.fault known (subst P (sym kept) c.loop-client.invariant.kept)
+    (subst R (c.in_ok-refill.ensures.no_failure ∙ c.loop-client.invariant.failures) (subst Q (sym c.give_back_all.ensures.no_failure)
+    (fault-of-any client (length (table_of tables client)) (O.failures c.refill.new.outlet) (O.failures c.keep.new.outlet) c.in-Err.fault c.in-Err.ensures.fault)))
+
+pub loop-client-preserved : goal.loop-client-preserved
+loop-client-preserved g c =
+    let O = g.O.Outlet in
+    let Out = g.O.Out.Write in
+    let plan = c.args.plan.now in
+    let time = c.args.time in
+    let client = c.loop-client.client in
+    let tables = c.args.served.now.tables in
+    let peer = peer_of c.peer.result.now in
+    let name = c.as_str-name.result.now in
+    let file = c.as_str-file.result.now in
+    let writing = c.in-Some.writing in
+    let others = into_iter_items c.next.new.self in
+    let left = some-left Out.taken Out.failures tables time (O.kept c.args.outlet.now) (O.kept c.loop-client.outlet) (take client (dumps_of plan tables time)) client (into_iter_items c.loop-client.written) (into_iter_items c.refill.new.written) c.in-Some.writing
+    (into_iter_items c.next.new.self) c.loop-client.invariant.kept c.loop-client.invariant.written (λ some. ap into_iter_items (c.refill.ensures.left some)) (λ none. rw c.tables-tables.ensures at (c.in_ok-refill.ensures.written none)) c.in-Some.ensures.cases.0 in
+    let first = first-of Out.taken Out.failures tables time (O.kept c.args.outlet.now) client writing others left in
+    let P : Option (List KeptDump) → Type 0 = λ kept. Grows (O.kept c.args.outlet.now) kept (take client (dumps_of plan tables time)) in
+    record {
+      kept = kept-one_more plan tables time client peer (O.kept c.args.outlet.now) (O.kept c.refill.new.outlet) (O.kept c.keep.new.outlet) file (dumped tables.plan client (table_of tables client) time) (Out.taken writing.out)
+          c.peer.ensures (c.as_str-file.ensures.value ∙ file-at plan c.in_ok-files.files.items client c.index.result.now peer c.in_ok-files.ensures (search rules) c.peer.ensures) (ap (λ of. dumped of client (table_of tables client) time) c.requires.plan)
+          (subst P (sym c.refill.ensures.kept) c.loop-client.invariant.kept) (first.told c.in_default-keep.ensures.whole) c.in_default-keep.ensures.kept;
+      failures = c.in_default-keep.ensures.no_failure ∙ c.in_ok-refill.ensures.no_failure ∙ c.loop-client.invariant.failures;
+      report = reported-one_more plan c.args.served.now.ends tables client writing.dump.spelled peer (string_bytes c.loop-client.text) (string_bytes c.keep.new.report) name c.peer.ensures c.as_str-name.ensures.value
+          (first.rows c.in_default-keep.ensures.whole) c.loop-client.invariant.report c.in_default-keep.ensures.line;
+      written = others-of Out.taken Out.failures tables time (O.kept c.args.outlet.now) client writing others left;
+    }
