@@ -11,7 +11,6 @@ pub mod ByPeer  -- routes on one prefix, by their peers
 pub mod Cell  -- what is kept of one prefix
 pub mod Cells  -- the cells of all prefixes
 pub mod ClientRowsView  -- the rows of a client still to come, by their fields
-pub mod RowBlocksView  -- the same in blocks, by their fields
 pub mod CellView  -- a cell by its fields
 pub mod TablesView  -- the tables by their fields
 pub mod RouteView  -- routes and rows by their fields

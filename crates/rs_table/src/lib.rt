@@ -4,9 +4,9 @@
 //! for each client, its export policy before its decision).
 //!
 //! Reading order: `tables` (what each peer has left, and what a client gets on a prefix), `route` (what is
-//! answered), `client_rows`, `listing` and `row_blocks` (a client's whole table), `why` (and why not), `merge`
-//! (parts made one), `laws` (of the definitions). Below them `cells` (of all prefixes) and `cell` (of one; who
-//! gets which route on it is decided in `rs_choice`).
+//! answered), `client_rows` and `listing` (a client's whole table), `why` (and why not), `merge` (parts made
+//! one), `laws` (of the definitions). Below them `cells` (of all prefixes) and `cell` (of one; who gets which
+//! route on it is decided in `rs_choice`).
 #![tactic(auto)]
 
 mod cell;
@@ -16,7 +16,6 @@ mod laws;
 mod listing;
 mod merge;
 mod route;
-mod row_blocks;
 mod tables;
 mod why;
 
@@ -25,6 +24,5 @@ pub use laws::{
     examples_hold, left_after_one_more, left_by_last_changes, left_by_part, table_is_computed,
 };
 pub use route::{Route, Row};
-pub use row_blocks::{BLOCK_LEN, RowBlocks};
 pub use tables::Tables;
 pub use why::Why;

@@ -1,8 +1,6 @@
 //! A client's whole table.
 
 use super::*;
-use rs_table::BLOCK_LEN;
-use std::thread::Threads;
 
 #[test]
 fn rows_ascend_and_show_the_last_announcement(rt: HostRuntime) {
@@ -39,32 +37,6 @@ fn one_after_another(alloc: Global, tables: &Tables, client: usize) -> Option<Ve
     Some(rows)
 }
 
-// Whether there is a block of rows of a client's table, which rows are in it, and whether there is another.
-fn first_block(
-    rt: &(impl Threads + Sync),
-    alloc: Global,
-    tables: &Tables,
-    client: usize,
-) -> Option<(bool, Vec<Shown>, bool)> {
-    let mut blocks = tables.iter_rows(client).in_blocks(alloc).ok()?;
-    let mut block = Vec::with_capacity(alloc, BLOCK_LEN).ok()?;
-    let has_rows = blocks.next_block(rt, &mut block);
-    let rows = block
-        .iter()
-        .map(|row| (row.prefix, row.route.peer, row.route.time))
-        .collect(alloc)
-        .ok()?;
-    Some((has_rows, rows, blocks.next_block(rt, &mut block)))
-}
-
-// A client's few rows are all in one block, as in the list.
-fn check_block<T: Abort + Threads + Sync>(rt: &T, alloc: Global, tables: &Tables, client: usize) {
-    let listed = shown(alloc, tables, client).expect(rt, "rows");
-    let wanted = (!listed.is_empty(), listed, false);
-    let block = first_block(rt, alloc, tables, client);
-    assert_eq!(rt; block, Some(wanted), "client {client}");
-}
-
 // A client's rows come one after another as in the list, which has so many.
 fn check_iterated(rt: &impl Abort, alloc: Global, tables: &Tables, client: usize, count: usize) {
     assert_eq!(rt; tables.iter_rows(client).size_hint(), (0, Some(2)));
@@ -75,7 +47,7 @@ fn check_iterated(rt: &impl Abort, alloc: Global, tables: &Tables, client: usize
 }
 
 #[test]
-fn rows_come_one_after_another_and_in_blocks_as_in_the_list(rt: HostRuntime) {
+fn rows_come_one_after_another_as_in_the_list(rt: HostRuntime) {
     let alloc = rt.alloc();
     let ten = ten().expect(&rt, "a prefix");
     let other = documentation().expect(&rt, "a prefix");
@@ -87,6 +59,5 @@ fn rows_come_one_after_another_and_in_blocks_as_in_the_list(rt: HostRuntime) {
     let tables = announced_on(&rt, alloc, &sent);
     for (client, count) in [(A, 1), (B, 2), (C, 2), (D, 2), (4, 0)] {
         check_iterated(&rt, alloc, &tables, client, count);
-        check_block(&rt, alloc, &tables, client);
     }
 }

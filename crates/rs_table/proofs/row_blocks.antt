@@ -1,2 +1,0 @@
--- The rows of a client's table, block by block.
-pub mod BlockLemmas
