@@ -9,6 +9,7 @@ mod listings;
 mod merged_parts;
 mod random_changes;
 mod refusals;
+mod side_by_side;
 mod slow_reading;
 mod worked_exchanges;
 mod writers;

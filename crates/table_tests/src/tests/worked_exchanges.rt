@@ -6,7 +6,8 @@ ghost use Rattle.table_tests.specs.Parts.{IsEmpty, IsOpen, IsOnPrefix};
 
 use super::*;
 use refusals::{Fixed, dump_again, exchange_again, octets_again};
-use rs_dump::{DumpFault, write_table_dump};
+use rs_dump::{DumpFault, TableDump, Writing, write_side_by_side};
+use side_by_side::answer_of;
 use std::thread::Threads;
 
 // The path 64501, not to AS 64502, and the path 64503 65010 of c's.
@@ -139,8 +140,7 @@ fn are_dumped<T: Abort + Threads + Sync>(
     let wanted = octets_again(rt, alloc, &[INDEX, name, PEERS, rows]);
     let (listed, rows, out) = list_dump(rt, alloc, tables, client);
     out.check(rt, &wanted, "list", name);
-    let (count, out) = table_dump(rt, alloc, tables, client);
-    out.check(rt, &wanted, "table", name);
+    let count = dump_table(rt, alloc, tables, client, (name, &wanted));
     assert_eq!(rt; (listed as usize, count as usize), (rows, rows));
 }
 
@@ -160,21 +160,40 @@ fn list_dump(
     (count, rows.len(), out)
 }
 
-// The dump of a client's table, without a list of its rows, and how many they are.
-fn table_dump<T: Abort + Threads + Sync>(
+// A client's table is dumped as wanted, without a list of its rows; answers how many they are.
+fn dump_table<T: Abort + Threads + Sync>(
     rt: &T,
     alloc: Global,
     tables: &Tables,
     client: usize,
-) -> (u32, Fixed) {
+    (name, wanted): (&str, &[u8]),
+) -> u32 {
+    let mut writings = [Writing {
+        dump: begun_again(rt, alloc, tables, client),
+        out: Fixed::new(),
+        failed: false,
+    }];
+    write_side_by_side(rt, &mut writings);
+    let [writing] = &writings;
+    writing.out.check(rt, wanted, "table", name);
+    answer_of(writing).expect(rt, "a dump")
+}
+
+// The dump of a client's table before anything of it is written, begun once more where memory is refused.
+fn begun_again<'a>(
+    rt: &impl Abort,
+    alloc: Global,
+    tables: &'a Tables,
+    client: usize,
+) -> TableDump<'a> {
     assert!(rt; client < tables.count());
-    let mut out = Fixed::new();
-    let mut answer = write_table_dump(rt, alloc, &mut out, tables, client, 0);
-    if answer == Err(DumpFault::Memory) {
-        out.check(rt, &[], "table", "refused");
-        answer = write_table_dump(rt, alloc, &mut out, tables, client, 0);
+    match TableDump::begin(alloc, tables, client, 0) {
+        Ok(dump) => dump,
+        Err(fault) => {
+            assert_eq!(rt; fault, DumpFault::Memory);
+            TableDump::begin(alloc, tables, client, 0).expect(rt, "a dump")
+        }
     }
-    (answer.expect(rt, "a dump"), out)
 }
 
 // Each client's rows are dumped as it gets them.

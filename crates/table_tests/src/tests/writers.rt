@@ -2,9 +2,10 @@
 
 use super::*;
 use dumps::{PLAIN_DUMP, check_octets, dump, row};
-use rs_dump::{DumpFault, write_table_dump};
+use rs_dump::{DumpFault, TableDump, Writing, write_side_by_side};
 use rs_mrt::{Limits, MemoryWriter};
 use rs_table::Row;
+use side_by_side::answer_of;
 use std::thread::Threads;
 
 // A writer that takes so many octets at a call.
@@ -66,8 +67,8 @@ fn a_writer_may_take_one_octet_a_call(rt: HostRuntime) {
     }
 }
 
-// Writes the dump of the table of a client to memory within the limits; answers what `write_table_dump` does,
-// and what the writer has taken then.
+// Writes the dump of the table of a client to memory within the limits; answers what `write_dump` does with its
+// rows, and what the writer has taken then.
 fn table_dump<T: Abort + Threads + Sync>(
     rt: &T,
     alloc: Global,
@@ -76,9 +77,16 @@ fn table_dump<T: Abort + Threads + Sync>(
     client: usize,
 ) -> (Result<u32, DumpFault>, Vec<u8>) {
     assert!(rt; client < tables.count());
-    let mut out = MemoryWriter::new(alloc, limits);
-    let answer = write_table_dump(rt, alloc, &mut out, tables, client, 0);
-    (answer, out.into_octets())
+    let dump = TableDump::begin(alloc, tables, client, 0).expect(rt, "a dump");
+    let mut writings = [Writing {
+        dump,
+        out: MemoryWriter::new(alloc, limits),
+        failed: false,
+    }];
+    write_side_by_side(rt, &mut writings);
+    let [writing] = &writings;
+    let taken = writing.out.octets().to_vec(alloc).expect(rt, "octets");
+    (answer_of(writing), taken)
 }
 
 #[test]
@@ -146,12 +154,12 @@ fn check_no_rows<T: Abort + Threads + Sync>(rt: &T, alloc: Global, tables: &Tabl
     assert_eq!(rt; answer, Ok(0));
 }
 
-// 18,500 rows are dumped in a block of eight parts and one of two, and 2,049 in two parts, which are spelled side
-// by side: with the octets of the same rows in a list. Writes are refused in turn, the last of each dump among them.
+// 256 rows are spelled in one turn, 257 in two and 18,500 in 73: with the octets of the same rows in a list. Writes
+// are refused in turn, the last of each dump among them.
 #[test]
 fn many_rows_are_dumped_as_they_are_listed(rt: HostRuntime) {
     let alloc = rt.alloc();
-    for (count, first, writes) in [(2048, 0, 2), (2049, 0, 3), (18500, 9, 11)] {
+    for (count, first, writes) in [(256, 0, 1), (257, 0, 1), (2049, 0, 2), (18500, 13, 15)] {
         let tables = many_routes(&rt, alloc, count);
         check_no_rows(&rt, alloc, &tables);
         let whole = whole_dump(&rt, alloc, Limits::none(), &tables, count);
