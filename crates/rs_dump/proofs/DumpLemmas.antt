@@ -1,9 +1,9 @@
--- The octets of rows, part by part. The proofs of what writes rows rest on it: add_rows, spell_rows, add_parts, write_dump and write_table_dump.
-use Rattle.std.proofs.Common.{◌≡◌, ℕ, suc, ◌+◌, ◌∙◌, List, [], ◌∷◌, ◌++◌, All, length, map, take, drop, get_or, ◌<◌, ◌≤◌, ◌-◌, min, length-append, length-take, length-take-le, length-drop, refl, ap, sym, subst, append_assoc, arith}
-use Rattle.std.specs.List.{flat_map, enumerate_from, drop-map}
+-- The octets of rows, part by part. The proofs of what writes rows rest on it: add_rows, write_dump and the turns of TableDump.
+use Rattle.std.proofs.Common.{◌≡◌, ℕ, suc, ◌+◌, ◌∙◌, List, [], ◌∷◌, ◌++◌, All, length, map, take, drop, get_or, ◌<◌, ◌≤◌, length-take-le, refl, ap, sym, subst, arith}
+use Rattle.std.specs.List.{flat_map, enumerate_from}
 use Rattle.std.proofs.lemmas.Grind.{flat_map-append}
-use Rattle.std.proofs.lemmas.List.{append-nil, length-map, map-append, take_more, take-append-drop, take-take, drop-take, take_min, take-map, drop_at, take_at}
-use Rattle.std.proofs.lemmas.List.Elements.{All-take, All-drop}
+use Rattle.std.proofs.lemmas.List.{append-nil, length-map, map-append, take_more, take-append-drop, drop_at}
+use Rattle.std.proofs.lemmas.List.Elements.{All-drop}
 use Rattle.rs_mrt.specs.Record.{record_spelling}
 use Rattle.rs_choice.specs.Plan.{Plan}
 use Rattle.rs_table.specs.declared.route.Row.{Row}
@@ -41,22 +41,6 @@ spelled-cut time first rows place within =
     spelled-split time first rows place
     ∙ ap (λ number. spelled_rows time first before ++ spelled_rows time (first + number) (map row_of (drop place rows))) count
 
--- so many rows more, or all that there are
-pub spelled-part : (time first : ℕ) (rows : List Row) (place count : ℕ) → place ≤ length rows → spelled_rows time first (map row_of (take (place + count) rows)) ≡ spelled_rows time first (map row_of (take place rows)) ++ spelled_rows time (first + place) (map row_of (take count (drop place rows)))
-spelled-part time first rows place count within =
-    let later : place ≤ place + count = omega arith in
-    let front = take (place + count) rows in
-    let fits : place ≤ length front = omega (arith, length-take (place + count) rows, within) in
-    spelled-cut time first front place fits
-    ∙ ap (λ (before : List Row). spelled_rows time first (map row_of before) ++ spelled_rows time (first + place) (map row_of (drop place front))) (take-take place (place + count) rows later)
-    ∙ ap (λ (after : List Row). spelled_rows time first (map row_of (take place rows)) ++ spelled_rows time (first + place) (map row_of after)) (drop-take place count rows)
-
--- the rows from one place to another, of which the later is at most the end
-pub rows-between : (rows : List Row) (start size end : ℕ) → start ≤ length rows → end ≡ min (length rows) (start + size) → take (end - start) (drop start rows) ≡ take size (drop start rows)
-rows-between rows start size end within is =
-    let count : end - start ≡ min size (length (drop start rows)) = omega (arith, length-drop start rows, within, is) in
-    ap (λ n. take n (drop start rows)) count ∙ take_min size (drop start rows)
-
 -- one row more
 pub spelled-next : (time first : ℕ) (rows : List Row) (place : ℕ) (row : Row) → place < length rows → row ≡ get_or rows place row → spelled_rows time first (map row_of (take (place + 1) rows)) ≡ spelled_rows time first (map row_of (take place rows)) ++ record_spelling (row_record time (first + place, row_of row))
 spelled-next time first rows place row bound is =
@@ -81,37 +65,8 @@ unfolding dumped
 dumped-rows plan client rows time =
     ap (λ octets. octets ++ spelled_rows time 0 rows) (sym (append-nil (record_spelling (index_record plan client time))))
 
-pub dumped-append : (plan : Plan) (client : ℕ) (rows later : List TableRow) (time : ℕ) → dumped plan client (rows ++ later) time ≡ dumped plan client rows time ++ spelled_rows time (length rows) later
-dumped-append plan client rows later time =
-    let none = dumped plan client [] time in
-    let from : 0 + length rows ≡ length rows = omega arith in
-    dumped-rows plan client (rows ++ later) time
-    ∙ ap (λ octets. none ++ octets) (spelled-append time 0 rows later)
-    ∙ ap (λ number. none ++ (spelled_rows time 0 rows ++ spelled_rows time number later)) from
-    ∙ sym (append_assoc none (spelled_rows time 0 rows) (spelled_rows time (length rows) later))
-    ∙ ap (λ octets. octets ++ spelled_rows time (length rows) later) (sym (dumped-rows plan client rows time))
-
--- what holds of all rows holds of those of a part
-pub All-part : (P : TableRow → Type 0) (rows : List Row) (start count : ℕ) → All P (map row_of rows) → All P (map row_of (take count (drop start rows)))
-All-part P rows start count all =
-    let Q : List TableRow → Type 0 = λ part. All P part in
-    subst Q (ap (λ part. take count part) (drop-map row_of start rows) ∙ take-map row_of count (drop start rows))
-    (All-take P count (drop start (map row_of rows)) (All-drop P start (map row_of rows) all))
-
--- what holds of all rows holds of the first ones
-pub All-before : (P : TableRow → Type 0) (rows later : List TableRow) → All P (rows ++ later) → All P rows
-All-before P rows later all =
-    let Q : List TableRow → Type 0 = λ part. All P part in
-    subst Q (take_at rows later (length rows) refl) (All-take P (length rows) (rows ++ later) all)
-
 -- what holds of all rows holds of the later ones
 pub All-behind : (P : TableRow → Type 0) (rows later : List TableRow) → All P (rows ++ later) → All P later
 All-behind P rows later all =
     let Q : List TableRow → Type 0 = λ part. All P part in
     subst Q (drop_at rows later (length rows) refl) (All-drop P (length rows) (rows ++ later) all)
-
--- rows that were written and those of a block are no more than the table has
-pub no-more : (written to_come table later : List TableRow) (block : List Row) → written ++ to_come ≡ table → to_come ≡ map row_of block ++ later
-    → length written + length block ≤ length table
-no-more written to_come table later block all is =
-    omega (arith, ap length all, ap length is, length-append written to_come, length-append (map row_of block) later, length-map block row_of)

@@ -1,9 +1,8 @@
 -- Dumps that are written beside each other, turn by turn.
-use Rattle.std.proofs.Common.{◌≡◌, ℕ, ◌+◌, ◌<◌, ◌≤◌, ◌∙◌, List, [], get_or, set, length, Option, None, Some, IsFalse, inl, inr, refl, ap, sym, subst, arith}
+use Rattle.std.proofs.Common.{◌≡◌, ℕ, ◌+◌, ◌<◌, ◌≤◌, ◌∙◌, List, [], get_or, set, length, Option, IsFalse, inl, inr, ap, sym, subst, arith}
 use Rattle.std.proofs.lemmas.Bool.{both_ways, cases_Bool, cases_eq}
 use Rattle.std.proofs.lemmas.List.{append-nil, get_or_default, get_or-set_other, get_or-set_same}
 use Rattle.rs_dump.specs.SideBySide.{GoesOn, Goes, IsLost, IsWritten, IsWrittenFrom}
-use Rattle.rs_dump.specs.UnderWay.{IsUnderWay}
 use Rattle.rs_dump.specs.declared.side_by_side.Writing.{Writing}
 use Rattle.rs_dump.proofs.UnderWayLemmas.{Appends-whole, AppendsBeginning-part, IsUnderWay-then}
 
@@ -26,21 +25,7 @@ module _ {X : Type 0} (R : X → X → Type 0) (old now : List X) (n : ℕ) (nex
   pub to_do-also : ((k : ℕ) (d : X) → n ≤ k → get_or now k d ≡ get_or old k d) → (k : ℕ) (d : X) → n + 1 ≤ k → get_or (set now n new) k d ≡ get_or old k d
   to_do-also to_do k d later = get_or-set_other now n k new d (λ same. omega (arith, same, later)) ∙ to_do k d (omega (arith, later))
 
--- nothing was written
-IsUnderWay-none : (now : Option (List ℕ)) (waiting : List ℕ) → IsUnderWay now now waiting waiting
-IsUnderWay-none None waiting = record { sent = []; taken = tt; follows = refl }
-IsUnderWay-none (Some octets) waiting = record { sent = []; taken = sym (append-nil octets); follows = refl }
-
 module _ {W : Type 0} (taken : W → Option (List ℕ)) (failures : W → ℕ) where
-  pub on-none : (a : Writing W) → IsFalse a.failed → GoesOn taken failures a a
-  on-none a ok =
-      record {
-        sent = λ _. IsUnderWay-none (taken a.out) a.dump.octets;
-        no_failure = λ _. refl;
-        rows = λ _. refl;
-        lost = λ err. absurd (both_ways a.failed ok err);
-      }
-
   -- a write of a dump fails of which some rows were written
   lost-then : (a b c : Writing W) → GoesOn taken failures a b → IsFalse b.failed → IsLost taken failures b c → IsLost taken failures a c
   lost-then a b c before ok lost =

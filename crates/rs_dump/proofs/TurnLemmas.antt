@@ -7,7 +7,7 @@ use Rattle.rs_table.specs.declared.route.Row.{Row}
 use Rattle.rs_table.specs.RouteView.{row_of}
 use Rattle.rs_table.specs.Table.{TableRow}
 use Rattle.rs_dump.specs.Dump.{spelled_rows}
-use Rattle.rs_dump.proofs.DumpLemmas.{All-before, All-behind, spelled-append}
+use Rattle.rs_dump.proofs.DumpLemmas.{All-behind, spelled-append}
 
 -- a beginning of the front is a beginning of the whole
 pub AppendsBeginning-front : (old now : Option (List ℕ)) (front rest all : List ℕ) → AppendsBeginning old now front → front ++ rest ≡ all → AppendsBeginning old now all
@@ -29,11 +29,6 @@ module _ (time spelled : ℕ) (rows later : List TableRow) (turn : List Row) (ta
   -- those that are spelled and those to come are as many as before
   pub same-count : (spelled + length turn) + length later ≡ spelled + length rows
   same-count = omega (arith, rows-counted)
-
-  pub known-turn : (P : TableRow → Type 0) → All P rows → All P (map row_of turn)
-  known-turn P all =
-      let Q : List TableRow → Type 0 = λ some. All P some in
-      All-before P (map row_of turn) later (subst Q taken all)
 
   pub known-later : (P : TableRow → Type 0) → All P rows → All P later
   known-later P all =

@@ -1,7 +1,7 @@
 -- A dump that is being written, step by step.
-use Rattle.std.proofs.Common.{◌≡◌, ℕ, ◌≤◌, ◌+◌, ◌∙◌, List, [], ◌++◌, length, take, Option, None, Some, Result, Ok, Err, OnErr, refl, ap, sym, subst, append_assoc, arith, length-append}
+use Rattle.std.proofs.Common.{◌≡◌, ℕ, ◌≤◌, ◌+◌, ◌∙◌, List, ◌++◌, length, take, Option, None, Some, Result, Ok, Err, OnErr, refl, ap, sym, subst, append_assoc, arith, length-append}
 use Rattle.std.specs.Io.KnownBytes.{Appends}
-use Rattle.std.proofs.lemmas.List.{append-nil, take-append-le}
+use Rattle.std.proofs.lemmas.List.{take-append-le}
 use Rattle.std.proofs.Math.Seq.{take-append-add}
 use Rattle.rs_mrt.specs.Stream.{AppendsBeginning}
 use Rattle.rs_dump.specs.UnderWay.{IsUnderWay}
@@ -70,23 +70,3 @@ AppendsBeginning-part old mid now waiting whole rest all before part is =
 pub IsUnderWay-also : (old mid now : Option (List ℕ)) (waiting later whole more : List ℕ) → IsUnderWay old mid waiting whole → IsUnderWay mid now later (waiting ++ more) → IsUnderWay old now later (whole ++ more)
 IsUnderWay-also old mid now waiting later whole more before after =
     IsUnderWay-then old mid now (waiting ++ more) later (whole ++ more) (IsUnderWay-more old mid waiting more whole before) after
-
--- a beginning of what waited and of what was to be added is sent
-pub AppendsBeginning-also : (old mid now : Option (List ℕ)) (waiting whole more rest all : List ℕ) → IsUnderWay old mid waiting whole → AppendsBeginning mid now (waiting ++ more) → all ≡ whole ++ more ++ rest → AppendsBeginning old now all
-AppendsBeginning-also old mid now waiting whole more rest all before part is =
-    AppendsBeginning-part old mid now (waiting ++ more) (whole ++ more) rest all (IsUnderWay-more old mid waiting more whole before) part is
-
--- what waited is sent, and then octets more
-pub IsUnderWay-both : (old mid now : Option (List ℕ)) (waiting octets : List ℕ) → Appends old mid waiting → Appends mid now octets → IsUnderWay old now [] (waiting ++ octets)
-IsUnderWay-both old mid now waiting octets before after =
-    record {
-      sent = waiting ++ octets;
-      taken = Appends-append old mid now waiting octets before after;
-      follows = append-nil (waiting ++ octets);
-    }
-
--- what waited is sent, and then a beginning of octets more
-pub AppendsBeginning-both : (old mid now : Option (List ℕ)) (waiting octets : List ℕ) → Appends old mid waiting → AppendsBeginning mid now octets → AppendsBeginning old now (waiting ++ octets)
-AppendsBeginning-both old mid now waiting octets before part =
-    let sent : IsUnderWay old mid [] waiting = record { sent = waiting; taken = before; follows = append-nil waiting } in
-    AppendsBeginning-part old mid now octets (waiting ++ octets) [] (waiting ++ octets) (IsUnderWay-more old mid [] octets waiting sent) part (sym (append-nil (waiting ++ octets)))
