@@ -1,5 +1,6 @@
 -- Dumps that are begun, written and kept. Nothing here is of a standard: all of it is our choice.
-use Rattle.std.specs.Prelude.{◌≡◌, ◌≢◌, ℕ, ⊤, ◌+◌, ◌<◌, ◌≤◌, List, Option, None, Some, IsFalse, IsTrue, length, map, slice_index_or, string_bytes}
+use Rattle.std.specs.Prelude.{◌≡◌, ◌≢◌, ℕ, ⊤, ◌+◌, ◌<◌, ◌≤◌, List, Option, None, Some, IsFalse, IsTrue}
+use Rattle.std.specs.Prelude.{length, map, slice_index_or, string_bytes}
 use Rattle.rs_choice.specs.Plan.{Plan}
 use Rattle.rs_dump.specs.Dump.{dumped}
 use Rattle.rs_dump.specs.declared.side_by_side.Writing.{Writing}
@@ -22,7 +23,8 @@ abbrev pub TellsTaken : Option (List KeptDump) → Option (List ℕ) → List �
 TellsTaken None taken octets = ⊤
 TellsTaken (Some kept) taken octets = taken ≡ Some octets
 
-module _ {W : Type 0} (taken : W → Option (List ℕ)) (failures : W → ℕ) (kept : Option (List KeptDump)) (tables : TablesContent) (time : ℕ) where
+module _ {W : Type 0} (taken : W → Option (List ℕ)) (failures : W → ℕ) (kept : Option (List KeptDump))
+    (tables : TablesContent) (time : ℕ) where
   -- the dump of a client is begun, and nothing of it is written
   pub record IsBegun (client : ℕ) (writing : Writing W) : Type 0 where
     pub not_failed : IsFalse writing.failed
@@ -33,7 +35,8 @@ module _ {W : Type 0} (taken : W → Option (List ℕ)) (failures : W → ℕ) (
 
   -- it is written, unless a write of it failed
   pub record IsWrittenOf (client : ℕ) (writing : Writing W) : Type 0 where
-    pub told : IsFalse writing.failed → TellsTaken kept (taken writing.out) (dumped tables.plan client (table_of tables client) time)
+    pub told : IsFalse writing.failed
+        → TellsTaken kept (taken writing.out) (dumped tables.plan client (table_of tables client) time)
     pub rows : IsFalse writing.failed → writing.dump.spelled ≡ length (table_of tables client)
     pub lost : IsTrue writing.failed → failures writing.out ≢ 0
 
