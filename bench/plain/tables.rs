@@ -3,13 +3,16 @@
 //! ask of a route by itself is found when it comes, and stands beside it. One pass by neighbour groups chooses among
 //! all eligible routes, and that choice is shared by the clients to which the few routes on which it rests
 //! are permitted; each other client has a pass of its own. After a change only the clients are decided anew
-//! that it may touch: of a route for named clients alone these are found by the communities.
+//! that it may touch: of a route for named clients alone these are found by the communities, which mark their ASes,
+//! and one pass finds the routes among which their candidates are.
 use crate::update::{Attributes, Prefix};
 use std::cmp::{Ordering, Reverse};
 use std::collections::BTreeMap;
 use std::sync::Arc;
 
 pub const MAX_PEERS: usize = 256;
+// One mark for each value of the low eight bits of an AS number.
+const MARKS: usize = 256;
 
 pub struct Peer {
     pub asn: u32,
@@ -235,8 +238,8 @@ impl Plan {
         }
     }
 
-    // The groups of the eligible routes that take part.
-    fn groups(&self, held: &[Held], takes_part: impl Fn(&Held) -> bool) -> Groups {
+    // The groups of those of the routes at some places that take part.
+    fn groups(&self, held: &[Held], places: &Places, takes_part: impl Fn(&Held) -> bool) -> Groups {
         let mut groups = Groups {
             neighbours: [0; MAX_PEERS],
             places: [0; MAX_PEERS],
@@ -244,8 +247,9 @@ impl Plan {
             len: 0,
         };
         let mut leader: Option<Standing> = None;
-        for (place, route) in held.iter().enumerate() {
-            if !route.candidacy.is_eligible() || !takes_part(route) {
+        for place in places.iter() {
+            let route = &held[place];
+            if !takes_part(route) {
                 continue;
             }
             let front = self.front(route);
@@ -290,8 +294,8 @@ impl Plan {
     }
 
     // What all clients share: the places of the routes on which the choice rests, and the peer that is chosen.
-    fn share(&self, held: &[Held]) -> (Groups, usize, Option<u8>) {
-        let mut groups = self.groups(held, |_| true);
+    fn share(&self, held: &[Held], eligible: &Places) -> (Groups, usize, Option<u8>) {
+        let mut groups = self.groups(held, eligible, |_| true);
         let first = self.first(held, &groups);
         // The choice rests on the chosen route, and on those that keep out another one of their neighbour AS.
         let mut len = 0;
@@ -306,11 +310,11 @@ impl Plan {
         (groups, len, shared)
     }
 
-    fn choose_for(&self, held: &[Held], weighing: &[u8], shared: Option<u8>, client: usize) -> u8 {
+    fn choose_for(&self, held: &[Held], eligible: &Places, weighing: &[u8], shared: Option<u8>, client: usize) -> u8 {
         let peer = if weighing.iter().all(|place| self.permits_held(client, &held[usize::from(*place)])) {
             shared
         } else {
-            self.choose_among(held, client)
+            self.choose_among(held, eligible, client)
         };
         peer.unwrap_or(client as u8)
     }
@@ -321,14 +325,14 @@ impl Plan {
             self.decide_touched(held, change, &[], bests);
             return;
         }
-        let mut recipients = [false; MAX_PEERS];
+        let mut recipients = [false; MARKS];
         for route in change.both(held).filter(|route| route.candidacy.is_eligible()) {
             self.mark(route, &mut recipients);
         }
         self.decide_touched(held, change, &recipients, bests);
     }
 
-    // The same where it is known which clients it may reach: those that have a mark, or all where there are no marks.
+    // The same where it is known which clients it may reach: those whose AS has a mark, or all where there are no marks.
     fn decide_touched(&self, held: &[Held], change: &Change, recipients: &[bool], bests: &mut [u8]) {
         let mut known = (change.peer, false);
         let peers = self.peers.len();
@@ -336,15 +340,17 @@ impl Plan {
         if client == peers {
             return;
         }
-        let shared = recipients.is_empty().then(|| self.share(held));
+        let mut places = recipients.is_empty().then(|| Places::of(held, |route| route.candidacy.is_eligible()));
+        let shared = places.as_ref().map(|eligible| self.share(held, eligible));
         while client < peers {
-            bests[client] = match &shared {
-                Some((groups, len, shared)) => self.choose_for(held, &groups.places[..*len], *shared, client),
-                None => match self.new_best(held, change, client, bests[client]) {
-                    Some(peer) => peer,
-                    None => self.choose_among(held, client).unwrap_or(client as u8),
-                },
-            };
+            let known_best = if shared.is_none() { self.new_best(held, change, client, bests[client]) } else { None };
+            bests[client] = known_best.unwrap_or_else(|| {
+                let places = places.get_or_insert_with(|| Places::of(held, |route| self.reaches_marked(route, recipients)));
+                match &shared {
+                    Some((groups, len, peer)) => self.choose_for(held, places, &groups.places[..*len], *peer, client),
+                    None => self.choose_among(held, places, client).unwrap_or(client as u8),
+                }
+            });
             client = self.next_touched(held, change, bests, client + 1, recipients, &mut known);
         }
     }
@@ -376,9 +382,9 @@ impl Plan {
         recipients: &[bool],
         known: &mut (u8, bool),
     ) -> usize {
-        let mut client = next_reached(bests, recipients, from, known);
+        let mut client = self.next_reached(bests, recipients, from, known);
         while client < bests.len() && !self.is_touched(held, change, client, bests[client], known) {
-            client = next_reached(bests, recipients, client + 1, known);
+            client = self.next_reached(bests, recipients, client + 1, known);
         }
         client
     }
@@ -389,20 +395,49 @@ impl Plan {
             || (!route.candidacy.is_open() && has_community(&route.attributes, 0, self.asn))
     }
 
-    // Marks the clients of which a route for named clients may be a candidate: those that a community (server's AS,
-    // client's AS) names.
-    fn mark(&self, route: &Held, marks: &mut [bool; MAX_PEERS]) {
+    // Marks the ASes of the clients of which a route for named clients may be a candidate: those that a community
+    // (server's AS, client's AS) names.
+    fn mark(&self, route: &Held, marks: &mut [bool; MARKS]) {
         for value in route.attributes.communities().filter(|value| value >> 16 == self.asn) {
-            for (peer, mark) in self.peers.iter().zip(marks.iter_mut()) {
-                *mark = *mark || peer.asn == value & 0xffff;
-            }
+            marks[mark_of(value)] = true;
         }
     }
 
-    // The peer of the choice among those that a client may get.
-    fn choose_among(&self, held: &[Held], client: usize) -> Option<u8> {
-        let own = self.groups(held, |route| self.permits_held(client, route));
+    // Whether a route is eligible, and may be a candidate of a client whose AS has a mark.
+    fn reaches_marked(&self, route: &Held, marks: &[bool]) -> bool {
+        if !route.candidacy.is_eligible() || route.candidacy.is_open() {
+            return route.candidacy.is_eligible();
+        }
+        let mut is_for_named = false;
+        for value in route.attributes.communities() {
+            if value >> 16 == self.asn && marks[mark_of(value)] {
+                return true;
+            }
+            is_for_named = is_for_named || value == self.asn;
+        }
+        !is_for_named
+    }
+
+    // The peer of the choice among those of the routes at some places that a client may get.
+    fn choose_among(&self, held: &[Held], places: &Places, client: usize) -> Option<u8> {
+        let own = self.groups(held, places, |route| self.permits_held(client, route));
         self.first(held, &own).map(|place| held[usize::from(place)].peer)
+    }
+
+    // The next client, from one on, that isn't passed over: one whose AS has a mark; where there are no marks, one that
+    // didn't get the route of which it is known that it outdoes both, or the peer of that route itself.
+    fn next_reached(&self, bests: &[u8], recipients: &[bool], from: usize, known: &(u8, bool)) -> usize {
+        let count = bests.len();
+        if !recipients.is_empty() {
+            return (from..count).find(|client| recipients[mark_of(self.peers[*client].asn)]).unwrap_or(count);
+        }
+        let (peer, outdoes) = *known;
+        if !outdoes {
+            return from;
+        }
+        let own = usize::from(peer);
+        let end = if own < from { count } else { own.min(count) };
+        (from..end).find(|client| bests[*client] != peer).unwrap_or(end)
     }
 
     // Whether it may be of matter to a client that got the route of a peer. Of one peer it is known whether
@@ -432,20 +467,33 @@ impl Plan {
     }
 }
 
-// The next client, from one on, that isn't passed over: one with a mark; where there are no marks, one that didn't get
-// the route of which it is known that it outdoes both, or the peer of that route itself.
-fn next_reached(bests: &[u8], recipients: &[bool], from: usize, known: &(u8, bool)) -> usize {
-    let count = bests.len();
-    if !recipients.is_empty() {
-        return (from..count).find(|client| recipients[*client]).unwrap_or(count);
+// The mark of an AS.
+fn mark_of(asn: u32) -> usize {
+    asn as usize % MARKS
+}
+
+// Some of the places of held routes.
+struct Places {
+    places: [u8; MAX_PEERS],
+    len: usize,
+}
+
+impl Places {
+    // Those of the routes that pass a test.
+    fn of(held: &[Held], passes: impl Fn(&Held) -> bool) -> Places {
+        let mut places = Places { places: [0; MAX_PEERS], len: 0 };
+        for place in 0..held.len() {
+            if passes(&held[place]) {
+                places.places[places.len] = place as u8;
+                places.len += 1;
+            }
+        }
+        places
     }
-    let (peer, outdoes) = *known;
-    if !outdoes {
-        return from;
+
+    fn iter(&self) -> impl Iterator<Item = usize> + '_ {
+        self.places[..self.len].iter().map(|place| usize::from(*place))
     }
-    let own = usize::from(peer);
-    let end = if own < from { count } else { own.min(count) };
-    (from..end).find(|client| bests[*client] != peer).unwrap_or(end)
 }
 
 // A change of one peer's route: the one that went, and the place of the one that came.

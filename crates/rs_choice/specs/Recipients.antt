@@ -1,12 +1,14 @@
--- The clients that a change may reach, by a mark for each (RFC 7947, section 2.3).
-use Rattle.std.specs.Prelude.{◌≡◌, ◌≢◌, ◌<◌, ◌≤◌, ◌⊎◌, ℕ, Bool, true, false, IsTrue, List, length}
-use Rattle.std.specs.Prelude.{Some, slice_get, slice_index_or}
+-- The clients that a change may reach, by marks of their ASes (RFC 7947, section 2.3).
+use Rattle.std.specs.Prelude.{◌≡◌, ◌≢◌, ◌<◌, ◌≤◌, ◌%◌, ◌⊎◌, ℕ, Bool, true, false, IsTrue, IsFalse, List, length}
+use Rattle.std.specs.Prelude.{slice_get, slice_index_or}
+use Rattle.std.specs.Option.{option_map_or}
 use Rattle.rs_update.specs.Community.{has_community_in, has_value}
 use Rattle.rs_choice.specs.Candidacy.{is_candidate}
 use Rattle.rs_choice.specs.declared.held_route.HeldRoute.{HeldRoute}
 use Rattle.rs_choice.specs.declared.route_change.RouteChange.{RouteChange}
 use Rattle.rs_choice.specs.declared.route_change.KnownBest.{KnownBest}
-use Rattle.rs_choice.specs.Plan.{Peer, Plan}
+use Rattle.rs_choice.specs.declared.recipients.TheConstants.{MARKS}
+use Rattle.rs_choice.specs.Plan.{Plan}
 use Rattle.rs_choice.specs.RouteChanges.{AreNoCandidates, IsNoCandidate, IsOneOf}
 
 -- a route, if it may be a candidate at all, is for named clients alone: it has the community (0, server's AS)
@@ -19,48 +21,60 @@ IsForNamed plan one =
 abbrev pub AreForNamed : Plan → List HeldRoute → RouteChange → Type 0
 AreForNamed plan held change = (one : HeldRoute) → IsOneOf held change one → IsForNamed plan one
 
--- there are marks for all clients or none
-abbrev pub HaveMarks : Plan → List Bool → Type 0
-HaveMarks plan marks = 0 < length marks → length plan.peers ≤ length marks
+-- the mark of an AS stands at the low eight bits of its number; where there are no marks each AS has one
+abbrev pub place_of_mark : ℕ → ℕ
+place_of_mark asn = asn % MARKS
 
--- a client has a mark, or there is none for it
-abbrev pub IsMarked : List Bool → ℕ → Type 0
-IsMarked marks client = IsTrue (slice_index_or marks client true)
+abbrev pub mark_of : List Bool → ℕ → Bool
+mark_of marks asn = slice_index_or marks (place_of_mark asn) true
+
+-- a client has that of its AS
+abbrev pub mark_of_client : Plan → List Bool → ℕ → Bool
+mark_of_client plan marks client = option_map_or (λ one. mark_of marks one.asn) (slice_get plan.peers client) true
+
+abbrev pub IsMarked : Plan → List Bool → ℕ → Type 0
+IsMarked plan marks client = IsTrue (mark_of_client plan marks client)
 
 -- all that have a mark keep it
 abbrev pub KeepMarks : List Bool → List Bool → Type 0
-KeepMarks before after = (client : ℕ) → IsMarked before client → IsMarked after client
+KeepMarks before after = (asn : ℕ) → IsTrue (mark_of before asn) → IsTrue (mark_of after asn)
 
--- the peers of an AS have one
-abbrev pub AreMarked : Plan → ℕ → List Bool → Type 0
-AreMarked plan asn marks =
-    (client : ℕ) (one : Peer) → slice_get plan.peers client ≡ Some one → one.asn ≡ asn → IsMarked marks client
+-- the ASes have one that a value names, as (server's AS, client's AS)
+abbrev pub AreNamedMarked : ℕ → List ℕ → List Bool → Type 0
+AreNamedMarked server values marks = (asn : ℕ) → IsTrue (has_value values server asn) → IsTrue (mark_of marks asn)
 
--- the clients have one that a value names, as (server's AS, client's AS)
-abbrev pub AreNamedMarked : Plan → List ℕ → List Bool → Type 0
-AreNamedMarked plan values marks =
-    (client : ℕ) (one : Peer) → slice_get plan.peers client ≡ Some one
-    → IsTrue (has_value values plan.local.asn one.asn) → IsMarked marks client
+-- values refuse a route to all but whom they name, and name no AS that has one
+abbrev pub AreForUnmarked : ℕ → List ℕ → List Bool → Type 0
+AreForUnmarked server values marks =
+    IsTrue (has_value values 0 server)
+    × ((asn : ℕ) → IsTrue (mark_of marks asn) → IsFalse (has_value values server asn))
 
 -- the clients have one of which a route may be a candidate
 abbrev pub AreReached : Plan → HeldRoute → List Bool → Type 0
 AreReached plan one marks =
-    (client : ℕ) → client < length plan.peers → IsMarked marks client ⊎ IsNoCandidate plan client one
+    (client : ℕ) → client < length plan.peers → IsMarked plan marks client ⊎ IsNoCandidate plan client one
 
 -- and so those of which one of the routes of a change may be
 abbrev pub AreRecipients : Plan → List HeldRoute → RouteChange → List Bool → Type 0
 AreRecipients plan held change marks =
-    (client : ℕ) → client < length plan.peers → IsMarked marks client ⊎ AreNoCandidates plan held change client
+    (client : ℕ) → client < length plan.peers → IsMarked plan marks client ⊎ AreNoCandidates plan held change client
+
+-- a route is a candidate of no client that has one
+abbrev pub ReachesNoMarked : Plan → List Bool → HeldRoute → Type 0
+ReachesNoMarked plan marks one =
+    (client : ℕ) → client < length plan.peers → IsMarked plan marks client → IsNoCandidate plan client one
 
 -- a client is passed over: it has no mark, or it got the route of a peer, not its own, that is known to outdo
 -- both routes of a change
-abbrev pub IsPassed : List ℕ → List Bool → KnownBest → ℕ → Type 0
-IsPassed bests marks known client =
-    (slice_index_or marks client true ≡ false)
+abbrev pub IsPassed : Plan → List ℕ → List Bool → KnownBest → ℕ → Type 0
+IsPassed plan bests marks known client =
+    (mark_of_client plan marks client ≡ false)
     ⊎ (IsTrue known.outdoes × (slice_index_or bests client 0 ≡ known.peer) × (known.peer ≢ client))
 
--- the next client, from one on, that isn't: all between are
-pub record IsNextReached (bests : List ℕ) (marks : List Bool) (known : KnownBest) (from next : ℕ) : Type 0 where
+-- the next client, from one on, that isn't: all between are, and it has a mark
+pub record IsNextReached (plan : Plan) (bests : List ℕ) (marks : List Bool) (known : KnownBest) (from next : ℕ)
+    : Type 0 where
   pub after : from ≤ next
-  pub within : next ≤ length bests
-  pub passed : (client : ℕ) → client < next → from ≤ client → IsPassed bests marks known client
+  pub within : next ≤ length plan.peers
+  pub passed : (client : ℕ) → client < next → from ≤ client → IsPassed plan bests marks known client
+  pub marked : next < length plan.peers → IsMarked plan marks next

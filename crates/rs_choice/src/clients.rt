@@ -11,7 +11,7 @@ ghost use Rattle.std.specs.List.{All};
 ghost use Rattle.std.specs.Option.{option_map};
 ghost use Rattle.rs_choice.specs.Candidacy.{is_candidate};
 ghost use Rattle.rs_choice.specs.Clients.{best_peer_for, is_sent_to, peer_or_own, AreBest};
-ghost use Rattle.rs_choice.specs.Contenders.{AreContenders, Contends, IsOutdone};
+ghost use Rattle.rs_choice.specs.Contenders.{AreContenders, Contends, HoldCandidates, IsCommon, IsOutdone};
 ghost use Rattle.rs_choice.specs.Decision.{choice, member_at, standing_of};
 ghost use Rattle.rs_choice.specs.Entrants.{chosen_of};
 ghost use Rattle.rs_choice.specs.Held.{held_standing, sent_of_held, AreEligible, IsJudged};
@@ -25,6 +25,17 @@ use crate::held_route::HeldRoute;
 use crate::neighbour_groups::{Group, NeighbourGroups};
 use crate::places::Places;
 use crate::plan::MAX_PEERS;
+
+// What the decisions after a change have in common.
+#[derive(Drop)]
+pub(crate) struct Common<'a> {
+    // Marks of the ASes whose clients the change may reach; none where it may reach all.
+    pub(crate) marks: &'a [bool],
+    // The places of the routes that may be candidates of these clients, once they are asked for.
+    pub(crate) places: Option<Places>,
+    // What is decided among all eligible routes, where there are no marks.
+    pub(crate) shared: Option<Shared>,
+}
 
 // What is decided among all eligible routes.
 #[derive(Drop)]
@@ -47,69 +58,81 @@ impl Exchange {
         ensures best { AreBest self.now (map sent_of_held held.now) bests.new }
     {
         let mut groups = NeighbourGroups::new();
-        let shared = self.share(held, &mut groups);
+        let eligible = eligible(held);
+        let shared = self.share(held, &eligible, &mut groups);
         for client in 0..self.count() {
-            bests[client] = self.choose_for(held, &shared, client, &mut groups);
+            bests[client] = self.choose_for(held, &eligible, &shared, client, &mut groups);
+        }
+    }
+
+    // What the decisions after a change have in common, where it is known which clients it may reach.
+    pub(crate) fn common<'a>(
+        &self,
+        held: &[HeldRoute],
+        marks: &'a [bool],
+        groups: &mut NeighbourGroups,
+    ) -> Common<'a>
+        requires judged { All (IsJudged self.now) held.now }
+        requires bound { length held.now ≤ MAX_PEERS }
+        ensures common { IsCommon self.now held.now result }
+        ensures marks { result.marks.now ≡ marks.now }
+    {
+        if !marks.is_empty() {
+            return Common {
+                marks,
+                places: None,
+                shared: None,
+            };
+        }
+        let eligible = eligible(held);
+        let shared = self.share(held, &eligible, groups);
+        Common {
+            marks,
+            places: Some(eligible),
+            shared: Some(shared),
         }
     }
 
     // What is decided among all eligible routes. The groups are those of some other decision before and of
     // this one after: so their arrays are filled once for all clients.
-    pub(crate) fn share(&self, held: &[HeldRoute], groups: &mut NeighbourGroups) -> Shared
+    fn share(&self, held: &[HeldRoute], eligible: &Places, groups: &mut NeighbourGroups) -> Shared
         requires judged { All (IsJudged self.now) held.now }
-        requires bound { length held.now ≤ MAX_PEERS }
+        requires places { ArePlaces held.now eligible.now }
+        requires eligible { chosen_of held.now eligible.now ≡ filter (λ held. is_candidate held.candidacy) held.now }
         ensures { IsShared self.now held.now result }
     {
-        let eligible = eligible(held);
         let _count = eligible.len();
         let entrants = Chosen {
             plan: self,
             held,
-            places: &eligible,
+            places: eligible,
         };
         group_all(&entrants, groups);
         let first = first_of(&entrants, groups);
-        let weighing = weighing(&eligible, groups, &first);
-        let peer = first_peer(held, &eligible, &first);
+        let weighing = weighing(eligible, groups, &first);
+        let peer = first_peer(held, eligible, &first);
         Shared { peer, weighing }
     }
 
-    // The same where it is wanted.
-    pub(crate) fn share_if(
-        &self,
-        is_wanted: bool,
-        held: &[HeldRoute],
-        groups: &mut NeighbourGroups,
-    ) -> Option<Shared>
-        requires judged { All (IsJudged self.now) held.now }
-        requires bound { length held.now ≤ MAX_PEERS }
-        ensures { IfSome result (IsShared self.now held.now) }
-    {
-        if is_wanted {
-            Some(self.share(held, groups))
-        } else {
-            None
-        }
-    }
-
     // The number of the peer whose route a client gets, or its own number where it gets none, with what is
-    // shared or without it.
+    // shared or without it. Its candidates are among the routes at some places.
     pub(crate) fn choose_with(
         &self,
         held: &[HeldRoute],
+        places: &Places,
         shared: &Option<Shared>,
         client: usize,
         groups: &mut NeighbourGroups,
     ) -> u8
         requires judged { All (IsJudged self.now) held.now }
-        requires bound { length held.now ≤ MAX_PEERS }
+        requires candidates { HoldCandidates self.now client held.now places.now }
         requires shared { IfSome shared.now (IsShared self.now held.now) }
         requires client_known { client < length self.now.peers }
         ensures { result ≡ best_peer_for self.now client (map sent_of_held held.now) }
     {
         match shared {
-            None => self.choose_alone(held, client, groups),
-            Some(shared) => self.choose_for(held, shared, client, groups),
+            None => self.choose_alone(held, places, client, groups),
+            Some(shared) => self.choose_for(held, places, shared, client, groups),
         }
     }
 
@@ -117,12 +140,13 @@ impl Exchange {
     fn choose_for(
         &self,
         held: &[HeldRoute],
+        places: &Places,
         shared: &Shared,
         client: usize,
         groups: &mut NeighbourGroups,
     ) -> u8
         requires judged { All (IsJudged self.now) held.now }
-        requires bound { length held.now ≤ MAX_PEERS }
+        requires candidates { HoldCandidates self.now client held.now places.now }
         requires shared { IsShared self.now held.now shared.now }
         requires client_known { client < length self.now.peers }
         ensures { result ≡ best_peer_for self.now client (map sent_of_held held.now) }
@@ -131,18 +155,24 @@ impl Exchange {
         if self.are_permitted(held, &shared.weighing, client) {
             return number(shared.peer, client);
         }
-        self.choose_alone(held, client, groups)
+        self.choose_alone(held, places, client, groups)
     }
 
     // The same by a decision of its own.
-    fn choose_alone(&self, held: &[HeldRoute], client: usize, groups: &mut NeighbourGroups) -> u8
+    fn choose_alone(
+        &self,
+        held: &[HeldRoute],
+        places: &Places,
+        client: usize,
+        groups: &mut NeighbourGroups,
+    ) -> u8
         requires judged { All (IsJudged self.now) held.now }
-        requires bound { length held.now ≤ MAX_PEERS }
+        requires candidates { HoldCandidates self.now client held.now places.now }
         requires client_known { client < length self.now.peers }
         ensures { result ≡ best_peer_for self.now client (map sent_of_held held.now) }
     {
         let _peers = self.count();
-        let contenders = self.contenders(held, client);
+        let contenders = self.contenders(held, places, client);
         number(self.chosen_peer(held, &contenders, groups), client)
     }
 
@@ -186,17 +216,18 @@ impl Exchange {
         true
     }
 
-    // The places of a client's candidates without those that one before them outdoes: of these it isn't asked
-    // whether they are permitted to the client.
-    fn contenders(&self, held: &[HeldRoute], client: usize) -> Places
+    // The places of a client's candidates, which are among the routes at some places, without those that one
+    // before them outdoes: of these it isn't asked whether they are permitted to the client.
+    fn contenders(&self, held: &[HeldRoute], places: &Places, client: usize) -> Places
         requires judged { All (IsJudged self.now) held.now }
-        requires bound { length held.now ≤ MAX_PEERS }
+        requires candidates { HoldCandidates self.now client held.now places.now }
         requires client_known { client < length self.now.peers }
         ensures { AreContenders self.now client held.now result }
     {
         let mut contenders = Places::new();
         let mut last = None;
-        for place in 0..held.len() {
+        for number in 0..places.len() {
+            let place = places.place(number);
             if let Some(standing) = self.contends(client, &held[place], &last) {
                 contenders.push(place);
                 last = Some(standing);
@@ -205,16 +236,14 @@ impl Exchange {
         contenders
     }
 
-    // What the decision process asks of a route, where it is a candidate of a client that the last candidate
-    // doesn't outdo.
+    // What the decision process asks of an eligible route, where it is permitted to a client and the last candidate
+    // doesn't outdo it.
     fn contends(&self, client: usize, one: &HeldRoute, last: &Option<Standing>) -> Option<Standing>
         requires client_known { client < length self.now.peers }
         requires judged { IsJudged self.now one.now }
+        requires eligible { IsTrue (is_candidate one.now.candidacy) }
         ensures { Contends self.now client (sent_of_held one.now) last.now result }
     {
-        if !one.candidacy.is_eligible() {
-            return None;
-        }
         if self.is_outdone(one, last) || !self.permits_held(client, one) {
             return None;
         }

@@ -1,21 +1,31 @@
 //! The clients that a change may reach: a route for named clients alone, of which a community (0, server's
 //! AS) and communities (server's AS, client's AS) tell, reaches no other, and no more is asked of it for
 //! these.
+//!
+//! The clients are marked by their ASes, so that a community marks whom it names without a look at the plan.
+//! ASes whose numbers are equal in the low eight bits share a mark: a client may be marked that the change
+//! doesn't reach, of which it is found out then, but none is passed over that it reaches.
 
-ghost use Rattle.std.specs.Prelude.{◌<◌, IsTrue};
+ghost use Rattle.std.specs.Prelude.{◌≡◌, ◌≤◌, length, IsTrue, IsFalse};
 ghost use Rattle.std.specs.List.{All};
 ghost use Rattle.rs_update.specs.Shapes.{numbers_in};
+ghost use Rattle.rs_choice.specs.Candidacy.{is_candidate};
+ghost use Rattle.rs_choice.specs.Contenders.{AreForMarked};
 ghost use Rattle.rs_choice.specs.Held.{IsJudged};
-ghost use Rattle.rs_choice.specs.Recipients.{AreForNamed, AreMarked, AreNamedMarked, AreReached};
-ghost use Rattle.rs_choice.specs.Recipients.{AreRecipients, IsForNamed, KeepMarks};
+ghost use Rattle.rs_choice.specs.Recipients.{mark_of, place_of_mark, AreForNamed, AreForUnmarked, AreNamedMarked};
+ghost use Rattle.rs_choice.specs.Recipients.{AreReached, AreRecipients, IsForNamed, KeepMarks, ReachesNoMarked};
 ghost use Rattle.rs_choice.specs.RouteChanges.{IsKnown};
 
 use crate::exchange::Exchange;
 use crate::held_route::HeldRoute;
+use crate::places::Places;
 use crate::plan::MAX_PEERS;
 use crate::policy::HALF;
 use crate::route_change::RouteChange;
 use rs_update::Numbers;
+
+/// How many marks there are, one for each value of the low eight bits of an AS number.
+pub(crate) const MARKS: usize = 256;
 
 impl Exchange {
     // Whether both routes of a change are for named clients alone.
@@ -47,7 +57,7 @@ impl Exchange {
         &self,
         held: &[HeldRoute],
         change: &RouteChange,
-        marks: &mut [bool; MAX_PEERS],
+        marks: &mut [bool; MARKS],
     )
         requires judged { All (IsJudged self.now) held.now }
         requires known { IsKnown self.now held.now change.now }
@@ -63,7 +73,7 @@ impl Exchange {
     }
 
     // Marks the clients of which a route may be a candidate; the others keep what they have.
-    fn mark(&self, one: &HeldRoute, marks: &mut [bool; MAX_PEERS])
+    fn mark(&self, one: &HeldRoute, marks: &mut [bool; MARKS])
         requires judged { IsJudged self.now one.now }
         requires named { IsForNamed self.now one.now }
         ensures reached { AreReached self.now one.now marks.new }
@@ -77,29 +87,80 @@ impl Exchange {
         }
     }
 
-    // Marks the clients that communities name, as (server's AS, client's AS).
-    fn mark_named(&self, values: Numbers<'_>, marks: &mut [bool; MAX_PEERS])
-        ensures named { AreNamedMarked self.now (numbers_in values.entry) marks.new }
+    // Marks the ASes that communities name, as (server's AS, client's AS).
+    fn mark_named(&self, values: Numbers<'_>, marks: &mut [bool; MARKS])
+        ensures named { AreNamedMarked self.now.local.asn (numbers_in values.entry) marks.new }
         ensures kept { KeepMarks marks.old marks.new }
     {
         let server = self.local().asn;
         let mut rest = values;
         while let Some(value) = rest.next() {
             if value / HALF == server {
-                self.mark_peers_of(value % HALF, marks);
+                marks[place_of_mark(value % HALF)] = true;
             }
         }
     }
 
-    // Marks the peers of an AS.
-    fn mark_peers_of(&self, asn: u32, marks: &mut [bool; MAX_PEERS])
-        ensures marked { AreMarked self.now asn marks.new }
-        ensures kept { KeepMarks marks.old marks.new }
+    // The places of the eligible routes that may be candidates of clients that have a mark. Their attributes
+    // are looked at once, for all these clients.
+    pub(crate) fn places_for_marked(&self, held: &[HeldRoute], marks: &[bool]) -> Places
+        requires judged { All (IsJudged self.now) held.now }
+        requires bound { length held.now ≤ MAX_PEERS }
+        ensures { AreForMarked self.now marks.now held.now result }
     {
-        for client in 0..self.count() {
-            if self.peer(client).asn == asn {
-                marks[client] = true;
+        let mut places = Places::new();
+        for place in 0..held.len() {
+            if self.reaches_marked(&held[place], marks) {
+                places.push(place);
             }
         }
+        places
     }
+
+    // Whether a route is eligible, and may be a candidate of a client that has a mark.
+    fn reaches_marked(&self, one: &HeldRoute, marks: &[bool]) -> bool
+        requires { IsJudged self.now one.now }
+        ensures eligible { IsTrue result → IsTrue (is_candidate one.now.candidacy) }
+        ensures unreached { IsFalse result → ReachesNoMarked self.now marks.now one.now }
+    {
+        one.candidacy.is_eligible()
+            && (one.candidacy.is_open()
+                || one
+                    .attributes
+                    .communities()
+                    .is_none_or(|list| self.name_marked(list.values, marks)))
+    }
+
+    // Whether communities name an AS that has a mark, or permit a route to all that they don't name.
+    fn name_marked(&self, values: Numbers<'_>, marks: &[bool]) -> bool
+        ensures { IsFalse result → AreForUnmarked self.now.local.asn (numbers_in values.entry) marks.now }
+    {
+        let server = self.local().asn;
+        let mut is_for_named = false;
+        let mut rest = values;
+        while let Some(value) = rest.next() {
+            if value / HALF == server && has_mark(marks, value % HALF) {
+                return true;
+            }
+            is_for_named = is_for_named || (value == server && value < HALF);
+        }
+        !is_for_named
+    }
+}
+
+// Whether an AS has a mark; where there are no marks each has one.
+pub(crate) fn has_mark(marks: &[bool], asn: u32) -> bool
+    ensures { result ≡ mark_of marks.now asn }
+{
+    match marks.get(place_of_mark(asn)) {
+        None => true,
+        Some(mark) => *mark,
+    }
+}
+
+// The place of the mark of an AS.
+fn place_of_mark(asn: u32) -> usize
+    ensures { result ≡ place_of_mark asn }
+{
+    asn as usize % MARKS
 }

@@ -6,24 +6,25 @@
 //! anew, or the new route is seen to be the choice (`new_route`).
 
 ghost use Rattle.std.specs.Prelude.{◌≡◌, ◌≢◌, ◌<◌, ◌≤◌, ◌&&◌, ◌||◌, IfSome, IsTrue, IsFalse, Some, length};
-ghost use Rattle.std.specs.Prelude.{map, slice_index_or, true, false, ℕ};
+ghost use Rattle.std.specs.Prelude.{map, slice_index_or, false, ℕ};
 ghost use Rattle.std.specs.List.{All};
 ghost use Rattle.rs_choice.specs.declared.held_route.HeldRoute.{HeldRoute};
 ghost use Rattle.rs_choice.specs.Candidacy.{is_candidate};
 ghost use Rattle.rs_choice.specs.Clients.{best_peer_for, is_sent_to, AreBest};
 ghost use Rattle.rs_choice.specs.Comparison.{Outdoes};
 ghost use Rattle.rs_choice.specs.Held.{held_standing, sent_of_held, IsJudged};
-ghost use Rattle.rs_choice.specs.Recipients.{AreRecipients, HaveMarks, IsNextReached};
+ghost use Rattle.rs_choice.specs.Contenders.{IsCommon};
+ghost use Rattle.rs_choice.specs.Recipients.{mark_of_client, AreRecipients, IsMarked, IsNextReached};
 ghost use Rattle.rs_choice.specs.RouteChanges.{AreBehind, AreBehindAll, AreNoCandidates, IsAt, IsChange, IsKnown};
 ghost use Rattle.rs_choice.specs.RouteChanges.{HadBest, IsNextTouched, IsUntouched, KnowsBest};
-ghost use Rattle.rs_choice.specs.Sharing.{IsShared};
 
-use crate::clients::Shared;
+use crate::clients::Common;
 use crate::exchange::Exchange;
 use crate::held_order::{is_at, place_of_peer};
 use crate::held_route::HeldRoute;
 use crate::neighbour_groups::NeighbourGroups;
 use crate::plan::MAX_PEERS;
+use crate::recipients::{MARKS, has_mark};
 
 /// A change of the route that one peer has left on a prefix.
 #[derive(Drop)]
@@ -61,12 +62,12 @@ impl Exchange {
             return;
         }
         let _peers = self.count();
-        let mut recipients = [false; MAX_PEERS];
+        let mut recipients = [false; MARKS];
         self.mark_recipients(held, change, &mut recipients);
         self.choose_for_touched(held, change, &recipients, bests);
     }
 
-    // The same where it is known which clients the change may reach: those that have a mark, or all where
+    // The same where it is known which clients the change may reach: those whose AS has a mark, or all where
     // there are no marks.
     fn choose_for_touched(
         &self,
@@ -81,7 +82,6 @@ impl Exchange {
         requires known { IsKnown self.now held.now change.now }
         requires change { IsChange self.now held.now change.now bests.old }
         requires recipients { AreRecipients self.now held.now change.now recipients.now }
-        requires marks { HaveMarks self.now recipients.now }
         ensures count { length bests.new ≡ length self.now.peers }
         ensures best { AreBest self.now (map sent_of_held held.now) bests.new }
     {
@@ -95,40 +95,47 @@ impl Exchange {
             return;
         }
         let mut groups = NeighbourGroups::new();
-        // Where there are marks few clients are touched, and each has a decision of its own if it needs one.
-        let shared = self.share_if(recipients.is_empty(), held, &mut groups);
+        let mut common = self.common(held, recipients, &mut groups);
         while client < count {
             let best = bests[client];
-            bests[client] = self.choose_again(held, change, &shared, client, best, &mut groups);
+            bests[client] = self.choose_again(held, change, client, best, &mut common, &mut groups);
             client = self.next_touched(held, change, bests, client + 1, recipients, &mut known);
         }
     }
 
     // The number of the peer whose route a client gets, or its own number where it gets none, where it got
-    // that of a peer before. A decision of its own is spared where the new route is seen to be the choice.
+    // that of a peer before. Where there are marks few clients are touched, and each has a decision of its
+    // own, unless the new route is seen to be the choice.
     fn choose_again(
         &self,
         held: &[HeldRoute],
         change: &RouteChange,
-        shared: &Option<Shared>,
         client: usize,
         best: u8,
+        common: &mut Common<'_>,
         groups: &mut NeighbourGroups,
     ) -> u8
         requires judged { All (IsJudged self.now) held.now }
         requires bound { length held.now ≤ MAX_PEERS }
         requires known { IsKnown self.now held.now change.now }
-        requires shared { IfSome shared.now (IsShared self.now held.now) }
         requires client_known { client < length self.now.peers }
+        requires marked { IsMarked self.now common.old.marks.now client }
         requires had { HadBest self.now held.now change.now client best }
-        ensures { result ≡ best_peer_for self.now client (map sent_of_held held.now) }
+        requires common { IsCommon self.now held.now common.old }
+        ensures common { IsCommon self.now held.now common.new }
+        ensures marks { common.new.marks.now ≡ common.old.marks.now }
+        ensures best { result ≡ best_peer_for self.now client (map sent_of_held held.now) }
     {
-        if shared.is_none()
+        if common.shared.is_none()
             && let Some(peer) = self.new_best(held, change, client, best)
         {
             return peer;
         }
-        self.choose_with(held, shared, client, groups)
+        let marks = common.marks;
+        let places = common
+            .places
+            .get_or_insert_with(|| self.places_for_marked(held, marks));
+        self.choose_with(held, places, &common.shared, client, groups)
     }
 
     // The first client, from one on, to which a change may be of matter; the count of clients where there is
@@ -147,18 +154,18 @@ impl Exchange {
         requires known { IsKnown self.now held.now change.now }
         requires from { from ≤ length self.now.peers }
         requires recipients { AreRecipients self.now held.now change.now recipients.now }
-        requires marks { HaveMarks self.now recipients.now }
         requires knows { KnowsBest self.now held.now change.now known.old }
         ensures knows { KnowsBest self.now held.now change.now known.new }
         ensures next { IsNextTouched self.now held.now change.now bests.now from result }
+        ensures marked { result < length self.now.peers → IsMarked self.now recipients.now result }
     {
         let count = self.count();
-        let mut client = next_reached(bests, recipients, from, known);
+        let mut client = self.next_reached(bests, recipients, from, known);
         while client < count {
             if self.is_touched(held, change, client, bests[client], known) {
                 return client;
             }
-            client = next_reached(bests, recipients, client + 1, known);
+            client = self.next_reached(bests, recipients, client + 1, known);
         }
         count
     }
@@ -279,6 +286,50 @@ impl Exchange {
     {
         !one.candidacy.is_eligible() || self.held_outdoes(best, one)
     }
+
+    // The next client, from one on, that isn't passed over. Where a change reaches all, most clients got the
+    // route of one peer, of which it is known that it outdoes both: only those that got another one are looked
+    // for, and that peer itself, which gets no route of its own.
+    fn next_reached(
+        &self,
+        bests: &[u8],
+        recipients: &[bool],
+        from: usize,
+        known: &KnownBest,
+    ) -> usize
+        requires count { length bests.now ≡ length self.now.peers }
+        requires from { from ≤ length self.now.peers }
+        ensures { IsNextReached self.now bests.now recipients.now known.now from result }
+    {
+        let count = self.count();
+        if !recipients.is_empty() {
+            return self.next_marked(recipients, from, count);
+        }
+        if !known.outdoes {
+            return from;
+        }
+        let own = known.peer;
+        let end = if own < from { count } else { count.min(own) };
+        next_other(bests, from, end, own)
+    }
+
+    // The first client whose AS has a mark, from one on and before another one; the other one where there is
+    // none.
+    fn next_marked(&self, marks: &[bool], from: usize, to: usize) -> usize
+        requires from { from ≤ to }
+        requires to { to ≤ length self.now.peers }
+        ensures after { from ≤ result }
+        ensures within { result ≤ to }
+        ensures passed { (k : ℕ) → k < result → from ≤ k → mark_of_client self.now marks.now k ≡ false }
+        ensures marked { result < to → IsMarked self.now marks.now result }
+    {
+        for client in from..to {
+            if has_mark(marks, self.peer(client).asn) {
+                return client;
+            }
+        }
+        to
+    }
 }
 
 // The place of the route of a peer.
@@ -291,42 +342,6 @@ pub(crate) fn place_from(held: &[HeldRoute], peer: usize) -> Option<usize>
     } else {
         None
     }
-}
-
-// The next client, from one on, that isn't passed over. Where a change reaches all, most clients got the route
-// of one peer, of which it is known that it outdoes both: only those that got another one are looked for, and
-// that peer itself, which gets no route of its own.
-fn next_reached(bests: &[u8], recipients: &[bool], from: usize, known: &KnownBest) -> usize
-    requires from { from ≤ length bests.now }
-    requires marks { 0 < length recipients.now → length bests.now ≤ length recipients.now }
-    ensures { IsNextReached bests.now recipients.now known.now from result }
-{
-    let count = bests.len();
-    if !recipients.is_empty() {
-        return next_marked(recipients, from, count);
-    }
-    if !known.outdoes {
-        return from;
-    }
-    let own = known.peer;
-    let end = if own < from { count } else { count.min(own) };
-    next_other(bests, from, end, own)
-}
-
-// The first client that has a mark, from one on and before another one; the other one where there is none.
-fn next_marked(marks: &[bool], from: usize, to: usize) -> usize
-    requires from { from ≤ to }
-    requires to { to ≤ length marks.now }
-    ensures after { from ≤ result }
-    ensures within { result ≤ to }
-    ensures passed { (k : ℕ) → k < result → from ≤ k → slice_index_or marks.now k true ≡ false }
-{
-    for client in from..to {
-        if marks[client] {
-            return client;
-        }
-    }
-    to
 }
 
 // The first client that didn't get the route of a peer, from one on and before another one; the other one

@@ -1,8 +1,10 @@
--- What is shared of the decisions of all clients, from the groups of the eligible routes: for `share` and `chosen_peer` of clients.rt.
-use Rattle.std.proofs.Common.{◌≡◌, ◌∙◌, sym, ap, refl, ℕ, ◌<◌, arith, Bool, true, cond, List, [], ◌∷◌, length, map, get_or, Option, Some, None}
+-- What is shared of the decisions of all clients, from the groups of the eligible routes: for `share` and `chosen_peer` of clients.rt;
+-- and the places of the eligible routes, for `choose_for_all` and `common`.
+use Rattle.std.proofs.Common.{◌≡◌, ◌∙◌, sym, ap, subst, refl, ℕ, ◌<◌, arith, Bool, true, cond, List, [], ◌∷◌, length, map, get_or, Option, Some, None}
 use Rattle.std.specs.Prelude.{slice_get, filter, IfSome}
 use Rattle.std.specs.List.{All, Contains}
-use Rattle.std.specs.Option.{option_map}
+use Rattle.std.specs.Option.{option_map, MatchOption}
+use Rattle.std.proofs.lemmas.Bool.{cond_both}
 use Rattle.std.proofs.lemmas.List.{length-map}
 use Rattle.std.proofs.lemmas.List.Elements.{All-tail, filter_passes}
 use Rattle.std.proofs.lemmas.Option.{slice_get-get_or, slice_get_within}
@@ -11,7 +13,8 @@ use Rattle.rs_choice.specs.declared.candidate.Placed.{Placed}
 use Rattle.rs_choice.specs.declared.held_route.HeldRoute.{HeldRoute}
 use Rattle.rs_choice.specs.declared.neighbour_groups.Group.{Group}
 use Rattle.rs_choice.specs.Candidacy.{is_candidate}
-use Rattle.rs_choice.specs.Clients.{eligible_among}
+use Rattle.rs_choice.specs.Clients.{candidates_among, eligible_among, is_sent_to}
+use Rattle.rs_choice.specs.Contenders.{HoldCandidates}
 use Rattle.rs_choice.specs.Decision.{SentRoute, choice, member_at, standing_of}
 use Rattle.rs_choice.specs.Eligibility.{is_eligible}
 use Rattle.rs_choice.specs.Entrants.{chosen_of, standing_of_held}
@@ -47,6 +50,30 @@ eligible_sents plan held places all is =
 
 pub eligible_all : (plan : Plan) (routes : List SentRoute) → AreEligible plan (eligible_among plan routes)
 eligible_all plan routes = filter_passes (λ (sent : SentRoute). is_eligible plan sent.peer sent.attributes) routes
+
+-- a test passes all that it left
+filter_twice : {X : Type 0} (p : X → Bool) (xs : List X) → filter p (filter p xs) ≡ filter p xs
+filter_twice p [] = refl
+filter_twice p (x ∷ xs) = cond_both (p x) (x ∷ filter p xs) (filter p xs) (λ list. filter p list ≡ list)
+    (λ passes. ap (λ b. cond b (x ∷ filter p (filter p xs)) (filter p (filter p xs))) passes ∙ ap (λ list. x ∷ list) (filter_twice p xs))
+    (λ fails. filter_twice p xs)
+
+-- the candidates of each client are among the eligible routes
+pub eligible_hold : (plan : Plan) (held : List HeldRoute) (places : List ℕ) → All (IsJudged plan) held → ArePlaces held places →
+    chosen_of held places ≡ filter (λ (one : HeldRoute). is_candidate one.candidacy) held → (client : ℕ) → HoldCandidates plan client held places
+eligible_hold plan held places judged within is client =
+    let same = eligible_sents plan held places judged is in
+    record {
+      within = within;
+      eligible = subst (AreEligible plan) (sym same) (eligible_all plan (map sent_of_held held));
+      same = ap (candidates_among plan client) same
+          ∙ ap (filter (is_sent_to plan client)) (filter_twice (λ (sent : SentRoute). is_eligible plan sent.peer sent.attributes) (map sent_of_held held));
+    }
+
+-- what holds of what was found, and of what is put where nothing was, holds of what is there then
+pub there : {X : Type 0} {Q : Type 0} (P : X → Type 0) (found : Option X) (one : X) → MatchOption found Q (λ x. one ≡ x) → (Q → P one) → IfSome found P → P one
+there P None one put holds found = holds put
+there P (Some x) one same holds found = subst P (sym same) found
 
 pub weighing_places : (held : List HeldRoute) (eligible weighing : List ℕ) → ArePlaces held eligible → All (λ place. Contains eligible place) weighing → ArePlaces held weighing
 weighing_places held eligible weighing all among k d within =

@@ -1,14 +1,23 @@
--- A client's candidates, gone over one after another, without those that one before them outdoes: for `contenders` of clients.rt.
-use Rattle.std.proofs.Common.{◌≡◌, ◌∙◌, sym, ap, Bool, true, false, ◌⊎◌, inl, inr, List, [], ◌∷◌, ◌++◌, Option, Some, None, ℕ}
+-- A client's candidates, gone over one after another, without those that one before them outdoes: for `contenders` of clients.rt; and
+-- the places of routes among which they are: for `places_for_marked` of recipients.rt.
+use Rattle.std.proofs.Common.{◌≡◌, ◌∙◌, sym, ap, subst, Bool, true, false, ◌⊎◌, inl, inr, List, [], ◌∷◌, ◌++◌, Option, Some, None, ℕ}
 use Rattle.std.proofs.lemmas.Bool.{cases_Bool}
+use Rattle.std.specs.Prelude.{slice_get}
+use Rattle.std.specs.Option.{option_map}
 use Rattle.std.proofs.lemmas.List.{append-nil, append_assoc}
+use Rattle.std.proofs.lemmas.Option.{get_or_from_slice_get, slice_get-map, slice_get_within}
+use Rattle.rs_choice.specs.declared.held_route.HeldRoute.{HeldRoute}
 use Rattle.rs_choice.specs.declared.candidate.Standing.{Standing}
 use Rattle.rs_choice.specs.Clients.{candidates_among, is_sent_to}
 use Rattle.rs_choice.specs.Comparison.{Outdoes}
-use Rattle.rs_choice.specs.Contenders.{Contends}
+use Rattle.rs_choice.specs.Contenders.{Contends, HoldCandidates}
 use Rattle.rs_choice.specs.Decision.{SentRoute, choice, standing_of}
 use Rattle.rs_choice.specs.Eligibility.{is_eligible}
+use Rattle.rs_choice.specs.Entrants.{chosen_of}
+use Rattle.rs_choice.specs.Held.{sent_of_held}
 use Rattle.rs_choice.specs.Plan.{Plan}
+use Rattle.rs_choice.specs.Sharing.{sents_at}
+use Rattle.rs_choice.proofs.clients.ChosenLemmas.{chosen_at}
 use Rattle.rs_choice.proofs.decision.BehindLemmas.{candidates_with, no_candidate, outdone}
 use Rattle.rs_choice.proofs.Members.{Mem, mem-append_left}
 
@@ -26,11 +35,11 @@ module _ (plan : Plan) (client : ℕ) (routes : List SentRoute) (one : SentRoute
   abbrev is_fit : SentRoute → Bool
   is_fit sent = is_eligible plan sent.peer sent.attributes
 
-  with_candidate : is_fit one ≡ true → is_sent_to plan client one ≡ true →
+  pub with_candidate : is_fit one ≡ true → is_sent_to plan client one ≡ true →
       candidates_among plan client (routes ++ one ∷ []) ≡ candidates_among plan client routes ++ one ∷ []
   with_candidate = candidates_with is_fit (is_sent_to plan client) routes [] one
 
-  without_candidate : (is_fit one ≡ false) ⊎ (is_sent_to plan client one ≡ false) → candidates_among plan client (routes ++ one ∷ []) ≡ candidates_among plan client routes
+  pub without_candidate : (is_fit one ≡ false) ⊎ (is_sent_to plan client one ≡ false) → candidates_among plan client (routes ++ one ∷ []) ≡ candidates_among plan client routes
   without_candidate fails = no_candidate is_fit (is_sent_to plan client) routes [] one fails ∙ ap (candidates_among plan client) (append-nil routes)
 
   module _ (some : List SentRoute) (same : ChooseSame plan some (candidates_among plan client routes)) where
@@ -64,8 +73,32 @@ module _ (plan : Plan) (client : ℕ) (routes : List SentRoute) (one : SentRoute
 
     -- one that doesn't contend is left out
     pub without_one : (last : Option Standing) → HasLast plan some last → Contends plan client one last None → ChooseSame plan some (candidates_among plan client (routes ++ one ∷ []))
-    without_one last has (inl ineligible) = as_before (inl ineligible)
-    without_one last has (inr (inl refused)) = as_before (inr refused)
-    without_one None has (inr (inr outdone)) = absurd outdone
-    without_one (Some standing) has (inr (inr outdoes)) =
+    without_one last has (inl refused) = as_before (inr refused)
+    without_one None has (inr outdone) = absurd outdone
+    without_one (Some standing) has (inr outdoes) =
         without_outdone has.0 has.1 (rw has.2 at outdoes)
+
+-- one more eligible route is a candidate among some routes and among all, or among neither
+pub both_more : (plan : Plan) (client : ℕ) (some routes : List SentRoute) (one : SentRoute) → is_eligible plan one.peer one.attributes ≡ true →
+    candidates_among plan client some ≡ candidates_among plan client routes →
+    candidates_among plan client (some ++ one ∷ []) ≡ candidates_among plan client (routes ++ one ∷ [])
+both_more plan client some routes one eligible same = elim (cases_Bool (is_sent_to plan client one)) [
+  | inl permitted ↦
+      with_candidate plan client some one eligible permitted
+      ∙ ap (λ list. list ++ one ∷ []) same
+      ∙ sym (with_candidate plan client routes one eligible permitted)
+  | inr refused ↦
+      without_candidate plan client some one (inr refused)
+      ∙ same
+      ∙ sym (without_candidate plan client routes one (inr refused))
+]
+
+-- a route at one of the places among which candidates are is eligible
+pub eligible_at : (plan : Plan) (client : ℕ) (held : List HeldRoute) (places : List ℕ) → HoldCandidates plan client held places →
+    (i place : ℕ) (one : HeldRoute) → slice_get places i ≡ Some place → slice_get held place ≡ Some one → is_eligible plan one.peer one.attributes.value ≡ true
+eligible_at plan client held places among i place one at_places at =
+    let sents = sents_at held places in
+    let sent : slice_get sents i ≡ Some (sent_of_held one) =
+    slice_get-map sent_of_held (chosen_of held places) i ∙ ap (option_map sent_of_held) (chosen_at held places among.within i place at_places ∙ at) in
+    subst (λ (sent : SentRoute). is_eligible plan sent.peer sent.attributes ≡ true) (get_or_from_slice_get sents i (sent_of_held one) (sent_of_held one) sent)
+    (among.eligible i (sent_of_held one) (slice_get_within sents i (sent_of_held one) sent))

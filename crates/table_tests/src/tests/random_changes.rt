@@ -8,22 +8,23 @@ const CHANGES: u32 = 500;
 
 const ROUND: u32 = 100;
 
-// Six peers: three of AS 64501, so that MED decides between them, and one that refuses all routes of another.
+// Six peers: three of AS 64501, so that MED decides between them, and one that refuses all routes of another, of
+// an AS whose number has the low eight bits of 64501.
 const SIX_PEERS: Peers<'static> = &[
     ("a", 64501, 0xC000_020B, 9, ""),
     ("b", 64501, 0xC000_020C, 4, ""),
     ("c", 64502, 0xC000_020D, 5, ""),
     ("d", 64503, 0xC000_020E, 6, ""),
     ("e", 64501, 0xC000_020F, 1, ""),
-    ("f", 64504, 0xC000_0210, 7, "a"),
+    ("f", 64757, 0xC000_0210, 7, "a"),
 ];
 
-// The path 64502 for the peers of AS 64501 and 64503 alone, and the path 64501 for those of AS 64504 alone.
+// The path 64502 for the peers of AS 64501 and 64503 alone, and the path 64501 for those of AS 64757 alone.
 const TO_TWO_ASES: &str =
     "40010100 4002060201 0000FBF6 400304C000020B C0080C 0000FBF4 FBF4FBF5 FBF4FBF7";
 
-const TO_64504: &str =
-    "40010100 4002060201 0000FBF5 400304C000020B C0080C 0000FBF4 FBF4FBF8 0000FBF5";
+const TO_64757: &str =
+    "40010100 4002060201 0000FBF5 400304C000020B C0080C 0000FBF4 FBF4FCF5 0000FBF5";
 
 // Path lengths 1 and 2, three neighbour ASes, with and without MED, one refused to AS 64502, one to all, two
 // for named clients alone, and one not eligible.
@@ -36,7 +37,7 @@ const ROUTES: [&str; 10] = [
     NOT_TO_64502,
     TO_NOBODY,
     TO_TWO_ASES,
-    TO_64504,
+    TO_64757,
     VIA_THE_SERVER,
 ];
 

@@ -1,6 +1,10 @@
--- Each answer is one search, so that a wrong body is refused soon.
 use Rattle.std.proofs.Common.{rules}
+use Rattle.rs_choice.proofs.clients.ClientLemmas.{eligible_hold}
 use Rattle.rs_choice.proofs.exchange.Exchange.choose_for_all.Goals as goal
+
+pub choose_for-requires-clause-candidates : goal.choose_for-requires-clause-candidates
+choose_for-requires-clause-candidates c =
+    eligible_hold c.args.self.now c.args.held.now c.eligible-eligible.result c.requires.judged c.eligible-eligible.ensures.places c.eligible-eligible.ensures.eligible c.loop-client.client
 
 pub loop-client-preserved : goal.loop-client-preserved
 loop-client-preserved c = search rules

@@ -1,5 +1,6 @@
-use Rattle.std.proofs.Common.{◌<◌, ◌+◌, ◌∙◌, sym, refl, arith, length, set, rules}
+use Rattle.std.proofs.Common.{◌<◌, ◌+◌, ◌∙◌, sym, subst, refl, arith, Bool, List, length, set, rules}
 use Rattle.std.proofs.lemmas.List.{length-set}
+use Rattle.rs_choice.specs.Recipients.{IsMarked}
 use Rattle.rs_choice.proofs.clients.StayLemmas.{found_more, later_stay, further}
 use Rattle.rs_choice.proofs.exchange.Exchange.choose_for_touched.Goals as goal
 
@@ -25,6 +26,9 @@ loop-client-init c =
           (λ k below. absurd (omega (arith, below))) (λ k above. refl);
       later = λ k above. refl;
       knows = c.next_touched-client.ensures.knows;
+      common = c.common-common.ensures.common;
+      marks = c.common-common.ensures.marks;
+      marked = c.next_touched-client.ensures.marked;
     }
 
 pub loop-client-preserved : goal.loop-client-preserved
@@ -42,14 +46,22 @@ loop-client-preserved c =
       count = length-set items client c.choose_again.result ∙ c.loop-client.invariant.count;
       within = next.within;
       best = further plan held c.args.change.now bests c.requires.change c.requires.judged more (client + 1) c.next_touched-client-in-loop-client.result next
-          (found_more items _ client c.choose_again.result within c.choose_again.ensures c.loop-client.invariant.best) later;
+          (found_more items _ client c.choose_again.result within c.choose_again.ensures.best c.loop-client.invariant.best) later;
       later = λ k above. later k (omega (arith, above, next.after));
       knows = c.next_touched-client-in-loop-client.ensures.knows;
+      common = c.choose_again.ensures.common;
+      marks = c.choose_again.ensures.marks ∙ c.loop-client.invariant.marks;
+      marked = c.next_touched-client-in-loop-client.ensures.marked;
     }
 
 pub choose_again-requires-clause-had : goal.choose_again-requires-clause-had
 choose_again-requires-clause-had c =
     (c.args.bests.now, c.requires.change, sym (c.loop-client.invariant.later c.loop-client.client (omega arith)))
+
+pub choose_again-requires-clause-marked : goal.choose_again-requires-clause-marked
+choose_again-requires-clause-marked c =
+    subst (λ (marks : List Bool). IsMarked c.args.self.now marks c.loop-client.client) (sym c.loop-client.invariant.marks)
+    (c.loop-client.invariant.marked (omega (arith, c.loop-client-test.true, c.count-count.ensures.value)))
 
 pub loop-client-smaller : goal.loop-client-smaller
 loop-client-smaller c = search rules

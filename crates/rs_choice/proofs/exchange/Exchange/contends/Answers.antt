@@ -2,9 +2,6 @@
 use Rattle.std.proofs.Common.{rules}
 use Rattle.rs_choice.proofs.exchange.Exchange.contends.Goals as goal
 
-pub returns-then-not-is_eligible : goal.returns-then-not-is_eligible
-returns-then-not-is_eligible c = search rules
-
 pub returns-then-is_outdone : goal.returns-then-is_outdone
 returns-then-is_outdone c = search rules
 

@@ -1,32 +1,36 @@
-use Rattle.std.proofs.Common.{◌∙◌, sym, ap, inl, inr, List, ℕ, rules}
+use Rattle.std.proofs.Common.{◌∙◌, ◌<◌, sym, ap, arith, inl, inr, length, List, ℕ, rules}
 use Rattle.std.proofs.lemmas.Bool.{both_ways}
 use Rattle.rs_update.specs.Community.{has_value}
 use Rattle.rs_choice.specs.declared.plan.Local.{Local}
+use Rattle.rs_choice.specs.Recipients.{place_of_mark}
 use Rattle.rs_choice.proofs.plan.CommunityLemmas.{first_or_later}
-use Rattle.rs_choice.proofs.clients.RecipientLemmas.{none_of_none}
+use Rattle.rs_choice.proofs.clients.RecipientLemmas.{marked_now, marked_still, none_of_none}
 use Rattle.rs_choice.proofs.exchange.Exchange.mark_named.Goals as goal
 
 pub loop-value-preserved-then-value-server : goal.loop-value-preserved-then-value-server
 loop-value-preserved-then-value-server c =
     let server = c.args.self.now.local.asn in
+    let marks = c.loop-value.marks in
+    let place = c.place_of_mark.result in
+    let within : place < length marks = omega (arith, c.place_of_mark.ensures) in
     record {
-      named = λ client one at named. elim (c.loop-value.invariant.named client one at named) [
-        | inl marked ↦ inl (c.mark_peers_of.ensures.kept client marked)
-        | inr listed ↦ elim (first_or_later c.in-Some.value _ _ server one.asn c.in-Some.ensures.steps listed) [
-          | inl first ↦ inl (c.mark_peers_of.ensures.marked client one at (sym first.1))
+      named = λ asn named. elim (c.loop-value.invariant.named asn named) [
+        | inl marked ↦ inl (marked_still marks place within asn marked)
+        | inr listed ↦ elim (first_or_later c.in-Some.value _ _ server asn c.in-Some.ensures.steps listed) [
+          | inl first ↦ inl (marked_now marks place asn (c.place_of_mark.ensures ∙ ap place_of_mark first.1) within)
           | inr later ↦ inr later
         ]
       ];
-      kept = λ client marked. c.mark_peers_of.ensures.kept client (c.loop-value.invariant.kept client marked);
+      kept = λ asn marked. marked_still marks place within asn (c.loop-value.invariant.kept asn marked);
     }
 
 pub loop-value-preserved : goal.loop-value-preserved
 loop-value-preserved c =
     let server = c.args.self.now.local.asn in
     record {
-      named = λ client one at named. elim (c.loop-value.invariant.named client one at named) [
+      named = λ asn named. elim (c.loop-value.invariant.named asn named) [
         | inl marked ↦ inl marked
-        | inr listed ↦ elim (first_or_later c.in-Some.value _ _ server one.asn c.in-Some.ensures.steps listed) [
+        | inr listed ↦ elim (first_or_later c.in-Some.value _ _ server asn c.in-Some.ensures.steps listed) [
           | inl first ↦ absurd (c.if-value-server.false (first.0 ∙ sym (ap (λ (local : Local). local.asn) c.local.ensures)))
           | inr later ↦ inr later
         ]
@@ -35,11 +39,11 @@ loop-value-preserved c =
     }
 
 pub returns-clause-named : goal.returns-clause-named
-returns-clause-named c = λ client one at named. elim (c.loop-value.invariant.named client one at named) [
+returns-clause-named c = λ asn named. elim (c.loop-value.invariant.named asn named) [
   | inl marked ↦ marked
   | inr listed ↦
       let server = c.args.self.now.local.asn in
-      absurd (both_ways _ (ap (λ (list : List ℕ). has_value list server one.asn) c.in_default.ensures.steps.0 ∙ none_of_none server one.asn) listed)
+      absurd (both_ways _ (ap (λ (list : List ℕ). has_value list server asn) c.in_default.ensures.steps.0 ∙ none_of_none server asn) listed)
 ]
 
 pub loop-value-init : goal.loop-value-init

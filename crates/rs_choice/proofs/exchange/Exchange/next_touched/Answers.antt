@@ -10,11 +10,12 @@ loop-client-init c =
     let next = c.next_reached-client.ensures in
     record {
       after = next.after;
-      within = omega (arith, next.within, c.requires.count);
+      within = next.within;
       untouched = λ k below above.
           passed_untouched c.args.self.now c.args.held.now c.args.change.now c.args.bests.now c.args.recipients.now _ c.requires.recipients c.requires.knows
-          k (omega (arith, below, next.within, c.requires.count)) (next.passed k below above);
+          k (omega (arith, below, next.within)) (next.passed k below above);
       knows = c.requires.knows;
+      marked = next.marked;
     }
 
 pub loop-client-preserved : goal.loop-client-preserved
@@ -27,12 +28,13 @@ loop-client-preserved c =
     let next = c.next_reached-client-in-loop-client.ensures in
     record {
       after = omega (arith, next.after, c.loop-client.invariant.after);
-      within = omega (arith, next.within, c.requires.count);
+      within = next.within;
       untouched = of_all_below (λ k. c.args.from ≤ k → IsUntouched plan held change k (slice_index_or bests k 0)) client c.next_reached-client-in-loop-client.result
           c.loop-client.invariant.untouched
           (λ above. c.is_touched.ensures.untouched c.if-is_touched.false)
           (λ k below after above.
           passed_untouched plan held change bests c.args.recipients.now _ c.requires.recipients c.is_touched.ensures.knows
-          k (omega (arith, below, next.within, c.requires.count)) (next.passed k below after));
+          k (omega (arith, below, next.within)) (next.passed k below after));
       knows = c.is_touched.ensures.knows;
+      marked = next.marked;
     }

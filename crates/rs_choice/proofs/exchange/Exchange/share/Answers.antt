@@ -10,39 +10,39 @@ pub invariant_of-entrants : goal.invariant_of-entrants
 invariant_of-entrants c =
     let plan = c.args.self.now in
     let held = c.args.held.now in
-    let eligible = c.eligible-eligible.result in
+    let eligible = c.args.eligible.now in
     record {
-      within = c.eligible-eligible.ensures.places;
+      within = c.requires.places;
       judged = c.requires.judged;
-      eligible = subst (AreEligible plan) (sym (eligible_sents plan held eligible c.requires.judged c.eligible-eligible.ensures.eligible)) (eligible_all plan (map sent_of_held held));
+      eligible = subst (AreEligible plan) (sym (eligible_sents plan held eligible c.requires.judged c.requires.eligible)) (eligible_all plan (map sent_of_held held));
     }
 
 pub group_all-requires : goal.group_all-requires
 group_all-requires c =
-    let n = view_length c.args.self.now c.args.held.now c.eligible-eligible.result c.eligible-eligible.ensures.places in
+    let n = view_length c.args.self.now c.args.held.now c.args.eligible.now c.requires.places in
     record { bound = omega (arith, n, c.len-count.ensures.value, c.len-count.ensures.bound) }
 
 pub weighing-weighing-requires : goal.weighing-weighing-requires
 weighing-weighing-requires c =
-    groups_within c.args.self.now c.args.held.now c.eligible-eligible.result c.group_all.new.groups c.eligible-eligible.ensures.places c.group_all.ensures
+    groups_within c.args.self.now c.args.held.now c.args.eligible.now c.group_all.new.groups c.requires.places c.group_all.ensures
 
 pub first_peer-peer-requires-clause-first : goal.first_peer-peer-requires-clause-first
 first_peer-peer-requires-clause-first c =
-    first_within c.args.self.now c.args.held.now c.eligible-eligible.result c.group_all.new.groups _ c.first_of-first.result
-    c.eligible-eligible.ensures.places c.group_all.ensures c.first_of-first.ensures
+    first_within c.args.self.now c.args.held.now c.args.eligible.now c.group_all.new.groups _ c.first_of-first.result
+    c.requires.places c.group_all.ensures c.first_of-first.ensures
 
 pub returns : goal.returns
 returns c =
     let plan = c.args.self.now in
     let held = c.args.held.now in
-    let eligible = c.eligible-eligible.result in
-    let weighing = weighing_places held eligible c.weighing-weighing.result c.eligible-eligible.ensures.places c.weighing-weighing.ensures.among in
-    let same = eligible_sents plan held eligible c.requires.judged c.eligible-eligible.ensures.eligible in
+    let eligible = c.args.eligible.now in
+    let weighing = weighing_places held eligible c.weighing-weighing.result c.requires.places c.weighing-weighing.ensures.among in
+    let same = eligible_sents plan held eligible c.requires.judged c.requires.eligible in
     record {
       peer = c.first_peer-peer.ensures ∙ chosen_is plan held eligible c.group_all.new.groups c.first_of-first.result c.group_all.ensures c.first_of-first.ensures
           ∙ ap (λ list. option_map (λ (sent : SentRoute). sent.peer) (choice (standing_of plan) list)) same;
       weighing = weighing;
       rests = subst (λ list. RestsOn plan list (sents_at held c.weighing-weighing.result)) same
-          (rests plan held eligible c.group_all.new.groups c.first_of-first.result c.weighing-weighing.result c.eligible-eligible.ensures.places weighing
+          (rests plan held eligible c.group_all.new.groups c.first_of-first.result c.weighing-weighing.result c.requires.places weighing
           c.group_all.ensures c.first_of-first.ensures c.weighing-weighing.ensures);
     }
