@@ -93,7 +93,7 @@ fn permitted_by_list(local_asn: u32, client_asn: u32, list: Communities<'_>) -> 
 }
 
 // Whether a value is the community (`high`, `low`).
-fn is_community(value: u32, high: u32, low: u32) -> bool
+pub(crate) fn is_community(value: u32, high: u32, low: u32) -> bool
     ensures { result ≡ has_value (value ∷ []) high low }
 {
     high < HALF && low < HALF && value == high * HALF + low

@@ -20,7 +20,7 @@ use crate::exchange::Exchange;
 use crate::held_route::HeldRoute;
 use crate::places::Places;
 use crate::plan::MAX_PEERS;
-use crate::policy::HALF;
+use crate::policy::{HALF, is_community};
 use crate::route_change::RouteChange;
 use rs_update::Numbers;
 
@@ -142,7 +142,7 @@ impl Exchange {
             if value / HALF == server && has_mark(marks, value % HALF) {
                 return true;
             }
-            is_for_named = is_for_named || (value == server && value < HALF);
+            is_for_named = is_for_named || is_community(value, 0, server);
         }
         !is_for_named
     }
