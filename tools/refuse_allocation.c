@@ -1,5 +1,5 @@
-/* Refuses one allocation of a program: the one whose number, from 1, is in REFUSE_ALLOCATION. Preloaded by `refuse_each_allocation`.
-   Where it was refused, the file named by REFUSED_FILE is made. */
+/* Refuses one allocation of a program: the one whose number, from 1, is in REFUSE_ALLOCATION. Preloaded by `refuse_each_allocation`,
+   `refuse_in_tests` and `refuse_in_a_run`. Where it was refused, the file named by REFUSED_FILE is made. */
 #define _GNU_SOURCE
 #include <dlfcn.h>
 #include <errno.h>
