@@ -95,10 +95,26 @@ strength AttributeDiscard = 1
 strength TreatAsWithdraw = 2
 strength (SessionReset fault) = 3
 
--- no attribute of a section, and not what is left over, asks for more than is done
+-- none of these attributes asks for as much
+abbrev pub AskForLess : List Item → Handling → Type 0
+AskForLess items handling =
+    (before : List Item) (item : Item) (after : List Item) → items ≡ before ++ item ∷ after
+    → strength (handling_behind before item) < strength handling
+
+-- the first of these attributes that asks for as much asks for this
+abbrev pub IsFirstAsked : List Item → Handling → Type 0
+IsFirstAsked items handling =
+    (before : List Item) × (item : Item) × (after : List Item)
+    × (items ≡ before ++ item ∷ after) × (handling_behind before item ≡ handling) × AskForLess before handling
+
+-- no attribute of a section, and not what is left over, asks for more than is done; and what is done is what the
+-- first of those asks for that ask for as much, or what is left over where no attribute does, or nothing
 abbrev pub StrongestIsFound : Type 0
 StrongestIsFound =
-    (section : List ℕ) (before : List Item) (item : Item) (after : List Item)
-    → items_of section ≡ before ++ item ∷ after
-    → (strength (handling_behind before item) ≤ strength (strongest_in section))
+    (section : List ℕ)
+    → ((before : List Item) (item : Item) (after : List Item) → items_of section ≡ before ++ item ∷ after
+    → strength (handling_behind before item) ≤ strength (strongest_in section))
     × (strength (handling_of_rest (rest_of section)) ≤ strength (strongest_in section))
+    × (IsFirstAsked (items_of section) (strongest_in section)
+    ⊎ (AskForLess (items_of section) (strongest_in section) × (handling_of_rest (rest_of section) ≡ strongest_in section))
+    ⊎ (strongest_in section ≡ Keep))

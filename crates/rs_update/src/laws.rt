@@ -76,7 +76,8 @@ pub fn without_a_fault_both_standards_agree()
 {}
 
 /// By RFC 7606 the strongest of what is found counts, wherever it stands in a section: nothing in it asks for
-/// more than is done (RFC 7606, sections 2 and 3).
+/// more than is done, and what is done is what the first asks for that asks for as much (RFC 7606, sections 2
+/// and 3).
 pub fn the_strongest_that_is_found_counts()
     ensures { StrongestIsFound }
 {}

@@ -1,24 +1,25 @@
 -- RFC 7606 beside RFC 4271: where nothing is at fault they agree, and the strongest of what is found counts.
 -- For `without_a_fault_both_standards_agree` and `the_strongest_that_is_found_counts` of laws.rt.
-use Rattle.std.proofs.Common.{◌≡◌, ℕ, ◌≤◌, List, [], ◌∷◌, ◌++◌, drop, Option, Some, None, Result, Ok, Err, refl, ap, ◌∙◌, arith, append_assoc}
+use Rattle.std.proofs.Common.{◌≡◌, ℕ, ◌<◌, ◌≤◌, List, [], ◌∷◌, ◌++◌, ◌⊎◌, inl, inr, drop, Option, Some, None, Result, Ok, Err, refl, sym, ap, subst, ◌∙◌, arith, append_assoc}
 use Rattle.std.proofs.lemmas.List.{append-nil}
 use Rattle.rs_update.specs.declared.errors.Errors.TheVariants.{Rfc7606}
 use Rattle.rs_update.specs.declared.fault.HeaderFault.{HeaderFault}
 use Rattle.rs_update.specs.declared.fault.MessageFault.{MessageFault}
 use Rattle.rs_update.specs.declared.fault.UpdateFault.{UpdateFault}
 use Rattle.rs_update.specs.declared.handling.Handling.{Handling}
-use Rattle.rs_update.specs.declared.handling.Handling.TheVariants.{Keep}
+use Rattle.rs_update.specs.declared.handling.Handling.TheVariants.{Keep, AttributeDiscard, TreatAsWithdraw, SessionReset}
 use Rattle.rs_update.specs.declared.header.MessageType.{MessageType}
 use Rattle.rs_update.specs.Fault.{first_fault, of_header}
 use Rattle.rs_update.specs.Handling.{stronger, handling_behind, strongest_behind, handling_of_rest, strongest_in, kept_of}
 use Rattle.rs_update.specs.Header.{header_of}
 use Rattle.rs_update.specs.IpPrefix.{IpPrefix}
-use Rattle.rs_update.specs.Laws.{StandardsAgree, StrongestIsFound, strength}
+use Rattle.rs_update.specs.Laws.{StandardsAgree, StrongestIsFound, AskForLess, IsFirstAsked, strength}
 use Rattle.rs_update.specs.Message.{MessageContent, UpdateContent, IsUpdate, length_tests, listed_prefixes, announced_attributes, withdrawn_field, section_field, nlri_field, update_of, typed_message, message_of}
 use Rattle.rs_update.specs.PathAttributes.{PathAttributes}
 use Rattle.rs_update.specs.Section.{Item, items_of, rest_of, fault_behind, first_item_fault, section_fault}
 use Rattle.rs_update.specs.Treating.{reset_of, kept_attributes, standing_attributes, treating_update_of, typed_message_by, message_by}
 use Rattle.rs_update.proofs.message.MessageLemmas.{steps}
+use Rattle.rs_update.proofs.section.FirstFaultLemmas.{nothing_before}
 use Rattle.rs_update.proofs.treating.HandlingLemmas.{nothing_discarded}
 use Rattle.rs_update.proofs.treating.TreatingLemmas.{treating_steps}
 use Rattle.rs_update.proofs.section.SoundLemmas.{neither, section_without}
@@ -85,10 +86,84 @@ each_counts earlier (first ∷ before) item after =
     let moved : strength (handling_behind (earlier ++ first ∷ before) item) ≤ strength (strongest_behind (earlier ++ first ∷ []) (before ++ item ∷ after)) = rw (append_assoc earlier (first ∷ []) before) at later in
     omega (arith, moved, later_counts (handling_behind earlier first) (strongest_behind (earlier ++ first ∷ []) (before ++ item ∷ after)))
 
+-- the stronger of two is the first where the second isn't stronger
+stronger_of : (a b : Handling) → ((strength b ≤ strength a) × (stronger a b ≡ a)) ⊎ ((strength a < strength b) × (stronger a b ≡ b))
+stronger_of Keep Keep = inl (omega arith, refl)
+stronger_of Keep AttributeDiscard = inr (omega arith, refl)
+stronger_of Keep TreatAsWithdraw = inr (omega arith, refl)
+stronger_of Keep (SessionReset fault) = inr (omega arith, refl)
+stronger_of AttributeDiscard Keep = inl (omega arith, refl)
+stronger_of AttributeDiscard AttributeDiscard = inl (omega arith, refl)
+stronger_of AttributeDiscard TreatAsWithdraw = inr (omega arith, refl)
+stronger_of AttributeDiscard (SessionReset fault) = inr (omega arith, refl)
+stronger_of TreatAsWithdraw Keep = inl (omega arith, refl)
+stronger_of TreatAsWithdraw AttributeDiscard = inl (omega arith, refl)
+stronger_of TreatAsWithdraw TreatAsWithdraw = inl (omega arith, refl)
+stronger_of TreatAsWithdraw (SessionReset fault) = inr (omega arith, refl)
+stronger_of (SessionReset fault) Keep = inl (omega arith, refl)
+stronger_of (SessionReset fault) AttributeDiscard = inl (omega arith, refl)
+stronger_of (SessionReset fault) TreatAsWithdraw = inl (omega arith, refl)
+stronger_of (SessionReset fault) (SessionReset other) = inl (omega arith, refl)
+
+-- the same of attributes that stand behind others
+abbrev AskForLessBehind : List Item → List Item → Handling → Type 0
+AskForLessBehind earlier items handling = (before : List Item) (item : Item) (after : List Item) → items ≡ before ++ item ∷ after → strength (handling_behind (earlier ++ before) item) < strength handling
+
+abbrev IsFirstAskedBehind : List Item → List Item → Handling → Type 0
+IsFirstAskedBehind earlier items handling =
+    (before : List Item) × (item : Item) × (after : List Item)
+    × (items ≡ before ++ item ∷ after) × (handling_behind (earlier ++ before) item ≡ handling) × AskForLessBehind earlier before handling
+
+less_cons : (earlier : List Item) (first : Item) (items : List Item) (handling : Handling) → strength (handling_behind earlier first) < strength handling → AskForLessBehind (earlier ++ first ∷ []) items handling → AskForLessBehind earlier (first ∷ items) handling
+less_cons earlier first items handling here later [] item after e =
+    let same : first ≡ item = cc in
+    rw append-nil (subst (λ (one : Item). strength (handling_behind earlier one) < strength handling) same here)
+less_cons earlier first items handling here later (other ∷ before) item after e =
+    let same : first ≡ other = cc in
+    let rest : items ≡ before ++ item ∷ after = cc in
+    rw (← same, ← append_assoc earlier (first ∷ []) before) (later before item after rest)
+
+first_asked : (earlier items : List Item) → (strongest_behind earlier items ≡ Keep) ⊎ IsFirstAskedBehind earlier items (strongest_behind earlier items)
+unfolding strongest_behind
+first_asked earlier [] = inl refl
+first_asked earlier (first ∷ items) =
+    let behind = strongest_behind (earlier ++ first ∷ []) items in
+    elim (stronger_of (handling_behind earlier first) behind) [
+      | inl here ↦ inr ([], first, items, refl, rw append-nil (sym here.1), λ before item after e. absurd (nothing_before before item after e))
+      | inr later ↦
+          elim (first_asked (earlier ++ first ∷ []) items) [
+            | inl kept ↦
+                let none : strength behind ≡ 0 = ap strength kept in
+                absurd (omega (arith, later.0, none))
+            | inr asked ↦
+                let less : AskForLessBehind earlier (first ∷ asked.0) behind = less_cons earlier first asked.0 behind later.0 asked.5 in
+                inr (
+                  first ∷ asked.0,
+                  asked.1,
+                  asked.2,
+                  ap (λ (xs : List Item). first ∷ xs) asked.3,
+                  rw (← append_assoc earlier (first ∷ []) asked.0) (asked.4 ∙ sym later.1),
+                  subst (AskForLessBehind earlier (first ∷ asked.0)) (sym later.1) less,
+                )
+          ]
+    ]
+
 pub strongest_counts : StrongestIsFound
-strongest_counts section before item after e =
+strongest_counts section =
+    let items = items_of section in
+    let behind = strongest_behind [] items in
     let rest = handling_of_rest (rest_of section) in
-    let here : strength (handling_behind before item) ≤ strength (strongest_behind [] (items_of section)) = rw e (each_counts [] before item after) in (
-      omega (arith, here, first_counts (strongest_behind [] (items_of section)) rest),
-      later_counts (strongest_behind [] (items_of section)) rest,
+    let each : (before : List Item) (item : Item) (after : List Item) → items ≡ before ++ item ∷ after → strength (handling_behind before item) ≤ strength behind =
+    λ before item after e. rw e (each_counts [] before item after) in (
+      λ before item after e. omega (arith, each before item after e, first_counts behind rest),
+      later_counts behind rest,
+      elim (stronger_of behind rest) [
+        | inl here ↦
+            elim (first_asked [] items) [
+              | inl kept ↦ inr (inr (here.1 ∙ kept))
+              | inr asked ↦ inl (subst (IsFirstAsked items) (sym here.1) asked)
+            ]
+        | inr later ↦
+            inr (inl (subst (AskForLess items) (sym later.1) (λ before item after e. omega (arith, each before item after e, later.0)), sym later.1))
+      ],
     )
