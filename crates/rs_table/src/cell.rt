@@ -73,7 +73,8 @@ impl Cell {
         self.decide_after(plan, &change);
     }
 
-    // Removes a peer's route, if it has one; answers whether a route is left.
+    // Removes a peer's route, if it has one; answers whether a route is left. Where the peer has none, nothing is
+    // decided.
     pub(crate) fn withdraw(&mut self, plan: &Exchange, peer: usize) -> bool
         requires { IsCell plan.now self.old }
         ensures routes { routes_in self.new ≡ without_route (routes_in self.old) peer }
@@ -81,6 +82,9 @@ impl Cell {
         ensures none { IsFalse result → routes_in self.new ≡ [] }
     {
         let change = take_out(&mut self.held, peer);
+        if change.old.is_none() {
+            return true;
+        }
         if self.held.is_empty() {
             return false;
         }

@@ -206,6 +206,12 @@ module _ (plan : Plan) (cell : CellContent) (is : IsCell plan cell) (held : List
     best = is.best;
   }
 
+  -- a peer had no route that could go
+  pub take-none : (peer : ℕ) → held ≡ without_one peer_of cell.held peer → IsTaken cell.held peer change.old → change.old ≡ None → IsCell plan (record cell { held = held })
+  take-none peer made was none =
+      let same : cell.held ≡ held = without-none 0 (length plan.peers) peer cell.held is.held.row (subst (IsTaken cell.held peer) none was) ∙ sym made in
+      subst (λ held. IsCell plan (record cell { held = held })) same is
+
   -- the route of a peer went
   pub take-known : (peer : ℕ) → IsTaken cell.held peer change.old → change.new ≡ None → IsKnown plan held change
   take-known peer taken none = record { old = known_old peer change.old taken; new = subst (λ new. IfSome new (λ place. place < length held)) (sym none) tt }

@@ -4,7 +4,7 @@ use Rattle.rs_table.specs.ByPeer.{without_route}
 use Rattle.rs_table.specs.Cell.{IsCell}
 use Rattle.rs_choice.specs.Held.{sent_of_held}
 use Rattle.rs_table.specs.CellView.{cell_view}
-use Rattle.rs_table.proofs.cell.ChangeLemmas.{take-change, take-known}
+use Rattle.rs_table.proofs.cell.ChangeLemmas.{take-change, take-known, take-none}
 use Rattle.rs_table.proofs.cell.HeldLemmas.{held-without, routes-without}
 use Rattle.rs_table.proofs.cell.Cell.withdraw.Goals as goal
 
@@ -13,6 +13,17 @@ take_out-change-requires c =
     let plan = c.args.plan.now in
     let cell : IsCell plan (cell_view c.self.inside) = subst (IsCell plan) (sym c.self.view_is) c.requires in
     (length plan.peers, cell.held.row)
+
+pub returns-then-is_none-clause-routes : goal.returns-then-is_none-clause-routes
+returns-then-is_none-clause-routes c =
+    routes-without c.self.inside.held.items c.take_out-change.new.held.items c.args.peer c.take_out-change.ensures.held
+    ∙ ap (λ cell. without_route (map sent_of_held cell.held) c.args.peer) c.self.view_is
+
+pub returns-then-is_none-clause-some : goal.returns-then-is_none-clause-some
+returns-then-is_none-clause-some c kept =
+    let plan = c.args.plan.now in
+    let cell : IsCell plan (cell_view c.self.inside) = subst (IsCell plan) (sym c.self.view_is) c.requires in
+    take-none plan (cell_view c.self.inside) cell c.take_out-change.new.held.items c.take_out-change.result c.args.peer c.take_out-change.ensures.held c.take_out-change.ensures.old (search rules)
 
 pub returns-then-is_empty-clause-routes : goal.returns-then-is_empty-clause-routes
 returns-then-is_empty-clause-routes c =
@@ -44,6 +55,15 @@ returns-clause-routes c =
     ∙ routes-without c.self.inside.held.items c.take_out-change.new.held.items c.args.peer c.take_out-change.ensures.held
     ∙ ap (λ cell. without_route (map sent_of_held cell.held) c.args.peer) c.self.view_is
 
+pub invariant_of-self : goal.invariant_of-self
+invariant_of-self c =
+    let plan = c.args.plan.now in
+    let cell : IsCell plan (cell_view c.self.inside) = subst (IsCell plan) (sym c.self.view_is) c.requires in
+    record {
+      room = omega (arith, c.self.invariant.room, c.take_out-change.ensures.capacity);
+      ascending = (length plan.peers, (held-without plan c.self.inside.held.items c.take_out-change.new.held.items c.args.peer cell.held c.take_out-change.ensures.held).row);
+    }
+
 pub invariant_of-self-2 : goal.invariant_of-self-2
 invariant_of-self-2 c =
     let plan = c.args.plan.now in
@@ -52,9 +72,6 @@ invariant_of-self-2 c =
       room = omega (arith, c.self.invariant.room, c.take_out-change.ensures.capacity);
       ascending = (length plan.peers, (held-without plan c.self.inside.held.items c.take_out-change.new.held.items c.args.peer cell.held c.take_out-change.ensures.held).row);
     }
-
-pub invariant_of-self : goal.invariant_of-self
-invariant_of-self c = grind (arith, common_steps)
 
 pub returns-clause-none : goal.returns-clause-none
 returns-clause-none g c = search rules
