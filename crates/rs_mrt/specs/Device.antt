@@ -1,7 +1,7 @@
--- A writer of std as a writer of ours (our choice).
+-- A reader or a writer of std as one of ours (our choice).
 use Rattle.std.specs.Prelude.{ℕ}
 
--- std's writer, and how many calls have failed
+-- std's reader or writer, and how many calls have failed
 pub record Device (W : Type 0) : Type 0 where
   pub inner : W
   pub failures : ℕ

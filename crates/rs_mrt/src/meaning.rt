@@ -7,7 +7,7 @@ pub enum Entry<'a> {
     Message {
         /// The peer's AS number.
         peer_as: u32,
-        /// The peer's IPv4 address.
+        /// The peer's IPv4 address, in host order.
         peer: u32,
         /// The octets of the BGP message, none included.
         message: &'a [u8],
@@ -16,7 +16,7 @@ pub enum Entry<'a> {
     State {
         /// The peer's AS number.
         peer_as: u32,
-        /// The peer's IPv4 address.
+        /// The peer's IPv4 address, in host order.
         peer: u32,
         /// The state before, as 6 for Established.
         old: u16,

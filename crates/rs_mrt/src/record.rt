@@ -63,7 +63,9 @@ impl<'a> Records<'a> {
         }
     }
 
-    /// Gives the next record. At the end it answers none from then on, after a fault that fault. Nothing is copied.
+    /// Gives the next record. The fault is `HeaderCutShort` where 1 to 11 octets are left, and `BodyCutShort` where
+    /// fewer are left behind a header than its Length. At the end it answers none from then on, after a fault that
+    /// fault. Nothing is copied.
     pub fn next(&mut self) -> Result<Option<Record<'a>>, MrtFault>
         ensures answer { seen record_of result ≡ next_of self.old.left self.old.end }
         ensures left { self.new ≡ after_next self.old.left self.old }

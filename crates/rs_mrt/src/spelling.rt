@@ -9,7 +9,8 @@ use byteorder::{BigEndian, ByteOrder};
 use std::alloc::AllocError;
 
 /// Appends the header of a record whose body has `body_len` octets: 12 octets, which the Length doesn't
-/// count. `time` is in seconds since 1970. Refused, `out` is as before.
+/// count. `time` is in seconds since 1970. Refused memory, `out` is as before; where it has room for them, no
+/// memory is taken, and the call succeeds.
 pub fn write_header(
     out: &mut Vec<u8>,
     time: u32,
