@@ -1,4 +1,5 @@
--- The buffer in which records are spelled before they are written. Its memory is taken once, and then it takes no more.
+-- The buffer in which records are spelled before they are written. Its memory is taken once, and then it takes no more
+-- (our choice).
 use Rattle.std.specs.Prelude.{◌≡◌, ℕ, ◌+◌, ◌≤◌, List, ◌++◌, length, vec_len, vec_capacity}
 use Rattle.std.specs.Global.{Vec}
 

@@ -1,4 +1,4 @@
--- A dump that is being written, by its fields.
+-- A dump that is being written, by its fields (our choice).
 use Rattle.std.specs.Prelude.{◌+◌, ◌<◌, ◌≤◌, ◌++◌, All, length, vec_capacity}
 use Rattle.rs_dump.specs.declared.table_dump.TableDump.TheInside.{Inside}
 use Rattle.rs_dump.specs.declared.table_dump.TheConstants.{TURN_LEN}

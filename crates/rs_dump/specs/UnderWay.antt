@@ -1,4 +1,4 @@
--- A dump that is being written: a part is out, and what waits in the buffer follows it.
+-- A dump that is being written: a part is out, and what waits in the buffer follows it (our choice).
 use Rattle.std.specs.Prelude.{◌≡◌, ℕ, List, ◌++◌, Option}
 use Rattle.std.specs.Io.KnownBytes.{Appends}
 

@@ -58,7 +58,8 @@ fn write_in_turns<W: Write>(writings: &mut [Writing<'_, W>])
     write_rests(writings);
 }
 
-// How many turns the longest of the dumps has, or a few less: what is left then is written behind them.
+// How many turns are written of each dump, by how many rows there can be at most: all that the longest dump has but
+// maybe the last, which is written behind them, and maybe more, which find no row.
 fn most_turns<W>(writings: &[Writing<'_, W>]) -> usize {
     let mut most = 0;
     for writing in writings {
