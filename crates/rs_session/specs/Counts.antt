@@ -1,4 +1,4 @@
--- Counting records in 64 bits.
+-- Counting records in 64 bits (our choice).
 use Rattle.std.specs.Prelude.{ℕ, ◌+◌, ◌^◌, ◌<◌, Bool, true, false}
 
 abbrev pub held_count : Bool → ℕ

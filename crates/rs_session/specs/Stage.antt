@@ -1,4 +1,4 @@
--- A session that is being read, over any source of records.
+-- A session that is being read, over any source of records. Nothing here is of a standard: all of it is our choice.
 use Rattle.std.specs.Prelude.{◌≡◌, ◌↔◌, ℕ, ◌+◌, ◌≤◌, Bool, true, false, List, [], ◌∷◌, ◌++◌, length, Option, Some}
 use Rattle.std.specs.Prelude.{None, Result, Ok, Err, if◌then◌else◌}
 use Rattle.std.specs.Option.{option_to_list}

@@ -1,4 +1,4 @@
--- One step in the reading of a session: a record is fetched, and what it says is applied.
+-- One step in the reading of a session: a record is fetched, and what it says is applied (our choice).
 use Rattle.std.specs.Prelude.{◌≡◌, ℕ, ◌+◌, Bool, true, false, List, [], ◌∷◌, Option, Some, None, Result, Ok, Err}
 use Rattle.std.specs.declared.alloc.AllocError.{AllocError}
 use Rattle.rs_mrt.specs.Record.{MrtRecord}

@@ -41,7 +41,7 @@ pub enum Reason {
     },
     /// The recording is at fault: 1 to 4, the number of the fault (RFC 6396; the numbers are our choice).
     Mrt(u8),
-    /// Memory was refused. No session says so by itself: its reader does.
+    /// Memory was refused. No session says so by itself: the worker that reads it does.
     Memory,
     /// The recording could not be read to its end.
     Read,
