@@ -7,7 +7,9 @@ ghost use Rattle.std.specs.Prelude.{◌≡◌, IfOk, Some, map, string_bytes};
 ghost use Rattle.toml.specs.Data.{Members};
 ghost use Rattle.toml.specs.Parse.{parse_document};
 ghost use Rattle.toml.specs.View.{table_view};
+ghost use Rattle.rs_setup.specs.Fault.{of_plan};
 ghost use Rattle.rs_setup.specs.Setup.{IsSetup};
+ghost use Rattle.rs_setup.specs.declared.setup.SetupFault.TheVariants.{Memory};
 
 use crate::keys::{Place, Section};
 use crate::peers::{read_peers, read_server};
@@ -50,18 +52,24 @@ pub enum SetupFault {
 }
 
 impl From<AllocError> for SetupFault {
+    ghost from_gives = { λ _ fault. fault ≡ Memory };
+
     fn from(_refused: AllocError) -> SetupFault {
         SetupFault::Memory
     }
 }
 
 impl<T: Drop> From<AllocFailed<T>> for SetupFault {
+    ghost from_gives = { λ _ fault. fault ≡ Memory };
+
     fn from(_refused: AllocFailed<T>) -> SetupFault {
         SetupFault::Memory
     }
 }
 
 impl From<PlanFault> for SetupFault {
+    ghost from_gives = { λ fault given. given ≡ of_plan fault };
+
     fn from(fault: PlanFault) -> SetupFault {
         match fault {
             PlanFault::Memory => SetupFault::Memory,
