@@ -1,3 +1,4 @@
 pub mod FilesLemmas
+pub mod NoneLemmas
 pub mod SetupLemmas
 pub mod SetupUnique

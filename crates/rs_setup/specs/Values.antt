@@ -7,8 +7,12 @@ use Rattle.std.specs.List.{Contains}
 use Rattle.std.specs.Net.Grammar.{IsDotted}
 use Rattle.rs_update.specs.IpPrefix.{IpPrefix}
 use Rattle.rs_update.specs.Prefix.{network_of}
-use Rattle.toml.specs.Data.{Data, integer, string, array, Members, no_members, member, get_member}
+use Rattle.toml.specs.Data.{Data, integer, string, array, Items, Members, no_members, member, get_member}
 use Rattle.toml.specs.View.{items_of}
+
+-- a value or a text stands for nothing of a sort
+abbrev pub StandsForNone : {V A : Type 0} → (V → A → Type 0) → V → Type 0
+StandsForNone {V} {A} StandsFor value = (found : A) → ¬ (StandsFor value found)
 
 -- a whole number of 32 bits
 abbrev pub IsWholeNumber : Data → ℕ → Type 0
@@ -42,6 +46,10 @@ IsSomeSubnet value subnet = IsSomeAnd subnet (IsSubnet value)
 -- a text
 abbrev pub IsText : Data → List ℕ → Type 0
 IsText value text = value ≡ string text
+
+-- items that are texts
+abbrev pub AreTexts : Items → List (List ℕ) → Type 0
+AreTexts items texts = items ≡ items_of (map string texts)
 
 -- a list of texts
 abbrev pub IsTexts : Data → List (List ℕ) → Type 0

@@ -1,10 +1,10 @@
 //! What the values of a configuration stand for: whole numbers, addresses, subnets and texts (our choice: RFC
 //! 4271 leaves configuration to the implementation).
 
-ghost use Rattle.std.specs.Prelude.{◌≡◌, ◌++◌, IfOk, IfSome, codes, decimal, map, string_bytes};
-ghost use Rattle.toml.specs.Data.{string};
-ghost use Rattle.toml.specs.View.{items_of, items_view, view};
-ghost use Rattle.rs_setup.specs.Values.{IsAddress, IsDottedAddress, IsSlashedSubnet, IsSubnet, IsTexts, IsWholeNumber};
+ghost use Rattle.std.specs.Prelude.{◌≡◌, ◌++◌, IfNone, IfOk, IfSome, codes, decimal, map, string_bytes};
+ghost use Rattle.toml.specs.View.{items_view, view};
+ghost use Rattle.rs_setup.specs.Values.{AreTexts, IsAddress, IsDottedAddress, IsSlashedSubnet, IsSubnet, IsTexts};
+ghost use Rattle.rs_setup.specs.Values.{IsWholeNumber, StandsForNone};
 
 use rs_update::Prefix;
 use std::alloc::{AllocError, Global};
@@ -13,7 +13,8 @@ use toml::Value;
 
 /// The whole number, from 0 to 4,294,967,295, that a value is.
 pub fn whole_number(value: &Value) -> Option<u32>
-    ensures { IfSome result (IsWholeNumber (view value.now)) }
+    ensures found { IfSome result (IsWholeNumber (view value.now)) }
+    ensures none { IfNone result (StandsForNone IsWholeNumber (view value.now)) }
 {
     match value.as_integer() {
         Some(number) => u32::try_from(number).ok(),
@@ -24,7 +25,8 @@ pub fn whole_number(value: &Value) -> Option<u32>
 /// The address, in host order, that a value writes as four decimal numbers from 0 to 255 with dots between
 /// them and without needless zeros.
 pub fn address(value: &Value) -> Option<u32>
-    ensures { IfSome result (IsAddress (view value.now)) }
+    ensures found { IfSome result (IsAddress (view value.now)) }
+    ensures none { IfNone result (StandsForNone IsAddress (view value.now)) }
 {
     match value.as_str() {
         Some(text) => dotted_address(text),
@@ -47,7 +49,9 @@ pub fn subnet(value: &Value) -> Option<Prefix>
 ///
 /// Fails where memory is refused.
 pub fn texts(alloc: Global, value: &Value) -> Result<Option<Vec<String>>, AllocError>
-    ensures { IfOk result (λ found. IfSome found (λ texts. IsTexts (view value.now) (map string_bytes texts.items))) }
+    ensures found { IfOk result (λ found. IfSome found
+        (λ texts. IsTexts (view value.now) (map string_bytes texts.items))) }
+    ensures none { IfOk result (λ found. IfNone found (StandsForNone IsTexts (view value.now))) }
 {
     match value.as_array() {
         Some(values) => list_of_texts(alloc, values),
@@ -57,8 +61,9 @@ pub fn texts(alloc: Global, value: &Value) -> Result<Option<Vec<String>>, AllocE
 
 // The texts that the values are; none where one of them isn't a text.
 fn list_of_texts(alloc: Global, values: &[Value]) -> Result<Option<Vec<String>>, AllocError>
-    ensures { IfOk result (λ found. IfSome found
-        (λ texts. items_view values.now ≡ items_of (map string (map string_bytes texts.items)))) }
+    ensures found { IfOk result (λ found. IfSome found
+        (λ texts. AreTexts (items_view values.now) (map string_bytes texts.items))) }
+    ensures none { IfOk result (λ found. IfNone found (StandsForNone AreTexts (items_view values.now))) }
 {
     let mut texts = Vec::with_capacity(alloc, values.len())?;
     for value in values {
@@ -72,7 +77,8 @@ fn list_of_texts(alloc: Global, values: &[Value]) -> Result<Option<Vec<String>>,
 
 // The address, in host order, that a text writes with dots.
 fn dotted_address(text: &str) -> Option<u32>
-    ensures { IfSome result (IsDottedAddress text.now) }
+    ensures found { IfSome result (IsDottedAddress text.now) }
+    ensures none { IfNone result (StandsForNone IsDottedAddress text.now) }
 {
     match text.parse::<Ipv4Addr>() {
         Ok(address) => Some(address.to_bits()),

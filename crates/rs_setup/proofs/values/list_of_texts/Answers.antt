@@ -1,9 +1,11 @@
 use Rattle.std.proofs.Common.{◌≡◌, ◌∙◌, ◌+◌, [], ◌∷◌, ◌++◌, map, take, ap, sym, string_bytes, arith, rules}
 use Rattle.std.proofs.lemmas.Grind.{common_steps}
 use Rattle.std.proofs.lemmas.List.{take_more, map-append}
+use Rattle.std.specs.Option.{option_copied}
 use Rattle.toml.specs.Data.{string}
 use Rattle.toml.specs.View.{items_view, view}
 use Rattle.toml.proofs.Views.{items_view-push}
+use Rattle.rs_setup.proofs.NoneLemmas.{no_text_at}
 use Rattle.rs_setup.proofs.SetupLemmas.{as_str-string, items_of-push}
 use Rattle.rs_setup.proofs.values.list_of_texts.Goals as goal
 
@@ -28,8 +30,10 @@ loop-value-smaller c = search rules
 pub returns : goal.returns
 returns c = grind (arith, common_steps)
 
-pub returns-in_default : goal.returns-in_default
-returns-in_default c = search rules
+pub returns-in_default-clause-none : goal.returns-in_default-clause-none
+returns-in_default-clause-none c =
+    no_text_at c.args.values.now c.loop-value.value-index c.value-item.result c.loop-value-test.true c.value-item.is
+    (sym c.as_str.ensures ∙ ap option_copied c.in_default.is)
 
 pub returns-in_err-from_str : goal.returns-in_err-from_str
 returns-in_err-from_str c = search rules

@@ -2,8 +2,14 @@
 use Rattle.std.proofs.Common.{rules}
 use Rattle.rs_setup.proofs.values.texts.Goals as goal
 
-pub returns-in-None : goal.returns-in-None
-returns-in-None c = search rules
+pub returns-in-None-clause-found : goal.returns-in-None-clause-found
+returns-in-None-clause-found c = search rules
 
-pub returns-in-Some : goal.returns-in-Some
-returns-in-Some c = search rules
+pub returns-in-None-clause-none : goal.returns-in-None-clause-none
+returns-in-None-clause-none c = search rules
+
+pub returns-in-Some-clause-found : goal.returns-in-Some-clause-found
+returns-in-Some-clause-found c = search rules
+
+pub returns-in-Some-clause-none : goal.returns-in-Some-clause-none
+returns-in-Some-clause-none c = search rules
