@@ -1,4 +1,5 @@
--- Eligible routes (RFC 4271, section 9.1.2; the second and third condition are our choice).
+-- Eligible routes: the server's AS isn't in AS_PATH (RFC 4271, section 9.1.2), and NEXT_HOP is semantically correct
+-- (section 6.3). That the subnet of the exchange is configured is our choice.
 use Rattle.std.specs.Prelude.{ℕ, ◌==◌, Bool, true, false, not, ◌&&◌, ◌||◌, Option, None, Some, slice_get}
 use Rattle.std.specs.Option.{option_map_or}
 use Rattle.rs_update.specs.IpPrefix.{IpPrefix}

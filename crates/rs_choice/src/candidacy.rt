@@ -10,7 +10,7 @@ use rs_update::Origin;
 /// flag for each would take four.
 #[derive(Clone, Copy, Debug, PartialEq, Eq)]
 pub enum Candidacy {
-    /// It isn't eligible (RFC 4271, section 9.1.2): it is a candidate of no client.
+    /// It isn't eligible (RFC 4271, sections 6.3 and 9.1.2): it is a candidate of no client.
     Ineligible,
     /// It isn't plain, and export policy (RFC 7947, section 2.3) refuses it to some client; its ORIGIN is IGP.
     RestrictedIgp,

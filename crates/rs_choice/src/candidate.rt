@@ -29,9 +29,9 @@ pub struct Standing {
     pub neighbour: u32,
     /// MULTI_EXIT_DISC, 0 where it is missing.
     pub med: u32,
-    /// The BGP Identifier of the sending peer.
+    /// The BGP Identifier of the sending peer, in host order: lower is better.
     pub id: u32,
-    /// The address of the sending peer.
+    /// The address of the sending peer, in host order: lower is better.
     pub address: u32,
 }
 

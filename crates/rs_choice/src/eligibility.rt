@@ -1,6 +1,8 @@
-//! Which routes may be candidates at all (RFC 4271, section 9.1.2).
+//! Which routes may be candidates at all: those without an AS loop (RFC 4271, section 9.1.2) whose NEXT_HOP is
+//! semantically correct (section 6.3). The others are ignored, and the session stays.
 //!
-//! A route that isn't eligible still takes the place of the peer's earlier route (our choice).
+//! The subnet that the server shares with its peers is configured, and without one any address may be on the
+//! exchange (our choice). A route that isn't eligible still takes the place of the peer's earlier route (our choice).
 
 ghost use Rattle.std.specs.Prelude.{◌≡◌, ◌<◌, length};
 ghost use Rattle.rs_choice.specs.Eligibility.{is_eligible, is_inside, is_on_exchange};
@@ -11,7 +13,7 @@ use rs_update::{Attributes, Prefix};
 impl Exchange {
     /// Whether a route of the peer of number `peer` is eligible: the server's AS isn't in its AS_PATH (RFC
     /// 4271, section 9.1.2), and its NEXT_HOP isn't the server's address, and, where a subnet is configured,
-    /// its NEXT_HOP is the peer's address or inside the subnet (section 5.1.3). It takes no memory.
+    /// its NEXT_HOP is the peer's address or inside the subnet (section 6.3). It takes no memory.
     pub fn eligible(&self, peer: usize, attributes: &Attributes) -> bool
         requires { peer < length self.now.peers }
         ensures { result ≡ is_eligible self.now peer attributes.now }

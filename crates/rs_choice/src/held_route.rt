@@ -24,7 +24,8 @@ use std::sync::Arc;
 pub struct HeldRoute {
     /// The number of the peer that sent it.
     pub peer: u8,
-    /// Whether it is eligible, whether export policy permits it to every client but its sender, and its ORIGIN.
+    /// Whether it is eligible, whether export policy permits it to every client but its sender, its ORIGIN, and whether
+    /// it is plain: its neighbour AS is its sender's AS, and its MED is 0 or missing.
     pub candidacy: Candidacy,
     /// AS numbers in AS_PATH, an AS_SET counting 1.
     pub path_length: u16,
