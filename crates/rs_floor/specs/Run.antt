@@ -58,15 +58,25 @@ pub record IsAnswer (ends : List Joined) (parts : List TablesContent) (whole : B
   pub merged : IsMerged parts served.tables
   pub one_for_each : length served.tables.ribs ≡ length served.tables.plan.peers
 
--- a read of this peer's file failed and none of the peers before it, and no worker was refused memory
-pub record IsFirstRead (ends : List Joined) (peer : ℕ) : Type 0 where
+-- a read of this peer's file failed and none of the peers before it; no worker was refused memory, and the
+-- tables of all shards are there
+pub record IsFirstRead (ends : List Joined) (whole : Bool) (peer : ℕ) : Type 0 where
+  pub whole_is : whole ≡ true
   pub remember : All (λ end. is_memory end.reason ≡ false) ends
   pub least : IsLeastPlace true false (map (λ end. is_read end.reason) ends) peer
 
+-- this peer's worker isn't settled and those of the peers before it are; no worker was refused memory, the
+-- tables of all shards are there, and no read failed
+pub record IsFirstUnsettled (ends : List Joined) (whole : Bool) (peer : ℕ) : Type 0 where
+  pub whole_is : whole ≡ true
+  pub remember : All (λ end. is_memory end.reason ≡ false) ends
+  pub read : All (λ end. is_read end.reason ≡ false) ends
+  pub least : IsLeastPlace false true (map (λ end. end.settled) ends) peer
+
 -- why all isn't well
-abbrev pub IsRefusal : List Joined → FloorRefused → Type 0
-IsRefusal ends Memory = ⊤
-IsRefusal ends (Read peer) = IsFirstRead ends peer
-IsRefusal ends (Unsettled peer) = peer < length ends
-IsRefusal ends Capacity = ⊥
-IsRefusal ends Shards = ⊥
+abbrev pub IsRefusal : List Joined → Bool → FloorRefused → Type 0
+IsRefusal ends whole Memory = ⊤
+IsRefusal ends whole (Read peer) = IsFirstRead ends whole peer
+IsRefusal ends whole (Unsettled peer) = IsFirstUnsettled ends whole peer
+IsRefusal ends whole Capacity = ⊥
+IsRefusal ends whole Shards = ⊥

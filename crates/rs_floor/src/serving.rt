@@ -106,7 +106,7 @@ fn has_place(shards: usize) -> bool
 fn settle(alloc: Global, ran: Ran) -> Result<Served, FloorRefused>
     requires { IsTrue ran.whole → CanMerge (length ran.ends.items) ran.parts.items }
     ensures served { IfOk result (IsAnswer ran.ends.items ran.parts.items ran.whole) }
-    ensures refused { IfErr result (IsRefusal ran.ends.items) }
+    ensures refused { IfErr result (IsRefusal ran.ends.items ran.whole) }
 {
     let Ran { ends, parts, whole } = ran;
     let memory = is_refused_memory(&ends, whole);

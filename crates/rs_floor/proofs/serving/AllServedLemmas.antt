@@ -217,7 +217,7 @@ module _ {R : Type 0} (gives : R → List ℕ → ReadEnd → Type 0) (errors : 
       )
 
   -- the first peer of which a read failed had a reader that may fail, and those of the peers before it may give files
-  pub fails-first : ClosesOnce → (peer : ℕ) → IsFirstRead ends peer → MayFailAt gives errors (map id_of plan.peers) readers peer
+  pub fails-first : ClosesOnce → (peer : ℕ) → IsFirstRead ends whole peer → MayFailAt gives errors (map id_of plan.peers) readers peer
   fails-first once peer first =
       let within : peer < length ends = omega (arith, slice_get_within (map (λ (end : Joined). is_read end.reason) ends) peer true first.least.has, length-map ends (λ (end : Joined). is_read end.reason)) in
       let here = here-at peer (within-peers peer within) in

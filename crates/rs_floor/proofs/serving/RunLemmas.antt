@@ -1,6 +1,6 @@
 -- A run, from the start of its threads to their join: for crew.rt, `open_lines` of lines.rt, and `serve_by` and `serve` of serving.rt.
 use mathlib.Core.List.{IsPrefix, map-map}
-use Rattle.std.proofs.Common.{◌≡◌, ◌∙◌, sym, ap, subst, ℕ, ◌<◌, ◌≤◌, ◌⊎◌, inl, inr, arith, Result, Ok, Err, Bool, true, List, [], ◌++◌, length, map, get_or, append-nil, length-append}
+use Rattle.std.proofs.Common.{◌≡◌, ◌∙◌, sym, ap, subst, ℕ, ◌<◌, ◌≤◌, ◌⊎◌, inl, inr, arith, Result, Ok, Err, Bool, true, false, List, [], ◌++◌, length, map, get_or, append-nil, length-append}
 use Rattle.std.specs.Prelude.{IfErr}
 use Rattle.std.specs.Result.{IsErrOf}
 use Rattle.std.proofs.lemmas.List.{length-map, nil_from_length}
@@ -27,7 +27,7 @@ use Rattle.rs_worker.specs.declared.crew.Job.{Job}
 use Rattle.rs_worker.specs.declared.crew.Joined.{Joined}
 use Rattle.rs_floor.specs.FloorContent.{id_of}
 use Rattle.rs_floor.specs.Lines.{AreLines, AreRings}
-use Rattle.rs_floor.specs.Run.{HasRun, CanMerge, IsAnswer, IsFirstRead, IsRefusal}
+use Rattle.rs_floor.specs.Run.{HasRun, CanMerge, IsAnswer, IsFirstRead, IsFirstUnsettled, IsRefusal}
 use Rattle.rs_floor.specs.Served.{ServedContent, IsServedBy}
 use Rattle.rs_floor.specs.declared.fault.FloorRefused.{FloorRefused}
 use Rattle.rs_floor.specs.declared.fault.FloorRefused.TheVariants.{Capacity, Read, Shards, Unsettled}
@@ -76,11 +76,11 @@ has-run gives workers of_shards routed joined sent ends parts whole closed cuts 
 }
 
 -- a run of which all threads were joined isn't refused for its limits
-pub not-limits : (ends : List Joined) {A : Type 0} (result : Result A FloorRefused) → IfErr result (IsRefusal ends) → IsErrOf result Capacity ⊎ IsErrOf result Shards → ⊥
-not-limits ends (Ok answer) refused (inl is) = absurd cc
-not-limits ends (Ok answer) refused (inr is) = absurd cc
-not-limits ends (Err fault) refused (inl is) = let same : fault ≡ Capacity = cc in subst (IsRefusal ends) same refused
-not-limits ends (Err fault) refused (inr is) = let same : fault ≡ Shards = cc in subst (IsRefusal ends) same refused
+pub not-limits : (ends : List Joined) (whole : Bool) {A : Type 0} (result : Result A FloorRefused) → IfErr result (IsRefusal ends whole) → IsErrOf result Capacity ⊎ IsErrOf result Shards → ⊥
+not-limits ends whole (Ok answer) refused (inl is) = absurd cc
+not-limits ends whole (Ok answer) refused (inr is) = absurd cc
+not-limits ends whole (Err fault) refused (inl is) = let same : fault ≡ Capacity = cc in subst (IsRefusal ends whole) same refused
+not-limits ends whole (Err fault) refused (inr is) = let same : fault ≡ Shards = cc in subst (IsRefusal ends whole) same refused
 
 module _ {R : Type 0} (gives : R → List ℕ → ReadEnd → Type 0) (errors : Errors) (plan : Plan) (readers : List R) (jobs : List (Job (RecordReading R))) (lines : List (Receiving Word))
     (of_shards : List ShardJob) (senders : List (Sending Routed)) (ends : List Joined) (parts : List TablesContent) (whole : Bool)
@@ -119,21 +119,23 @@ module _ {R : Type 0} (gives : R → List ℕ → ReadEnd → Type 0) (errors : 
       ((merge plan (received_lists run.receivers) parts (whole-shards law answer.whole_is)).1 served.tables answer.merged answer.one_for_each)
 
   -- where a run is refused for a failed read, the reader of that peer may fail
-  pub run-fails : ClosesOnce → FailedReadCloses → {A : Type 0} (result : Result A FloorRefused) → IfErr result (IsRefusal ends) → (peer : ℕ) → IsErrOf result (Read peer) → MayFailAt gives errors (map id_of plan.peers) readers peer
+  pub run-fails : ClosesOnce → FailedReadCloses → {A : Type 0} (result : Result A FloorRefused) → IfErr result (IsRefusal ends whole) → (peer : ℕ) → IsErrOf result (Read peer) → MayFailAt gives errors (map id_of plan.peers) readers peer
   run-fails once closes (Ok answer) refused peer is = absurd cc
   run-fails once closes (Err fault) refused peer is =
       let same : fault ≡ Read peer = cc in
-      fails-first gives errors plan readers jobs lines of_shards ends parts whole are closes run once peer (subst (IsRefusal ends) same refused)
+      fails-first gives errors plan readers jobs lines of_shards ends parts whole are closes run once peer (subst (IsRefusal ends whole) same refused)
 
   -- and it is a peer of the plan, as the one is for which a run is refused as unsettled
-  pub run-names : FailedReadCloses → {A : Type 0} (result : Result A FloorRefused) → IfErr result (IsRefusal ends) → (peer : ℕ) → IsErrOf result (Read peer) ⊎ IsErrOf result (Unsettled peer) → peer < length plan.peers
+  pub run-names : FailedReadCloses → {A : Type 0} (result : Result A FloorRefused) → IfErr result (IsRefusal ends whole) → (peer : ℕ) → IsErrOf result (Read peer) ⊎ IsErrOf result (Unsettled peer) → peer < length plan.peers
   run-names closes (Ok answer) refused peer (inl is) = absurd cc
   run-names closes (Ok answer) refused peer (inr is) = absurd cc
   run-names closes (Err fault) refused peer (inl is) =
       let same : fault ≡ Read peer = cc in
-      let first : IsFirstRead ends peer = subst (IsRefusal ends) same refused in
+      let first : IsFirstRead ends whole peer = subst (IsRefusal ends whole) same refused in
       within-peers gives errors plan readers jobs lines of_shards ends parts whole are closes run peer
       (omega (arith, slice_get_within (map (λ (end : Joined). is_read end.reason) ends) peer true first.least.has, length-map ends (λ (end : Joined). is_read end.reason)))
   run-names closes (Err fault) refused peer (inr is) =
       let same : fault ≡ Unsettled peer = cc in
-      within-peers gives errors plan readers jobs lines of_shards ends parts whole are closes run peer (subst (IsRefusal ends) same refused)
+      let first : IsFirstUnsettled ends whole peer = subst (IsRefusal ends whole) same refused in
+      within-peers gives errors plan readers jobs lines of_shards ends parts whole are closes run peer
+      (omega (arith, slice_get_within (map (λ (end : Joined). end.settled) ends) peer false first.least.has, length-map ends (λ (end : Joined). end.settled)))

@@ -1,11 +1,9 @@
 -- The answer to a run of which all threads were joined: for `settle` of serving.rt.
-use Rattle.std.proofs.Common.{◌≡◌, ◌∙◌, sym, ap, subst, arith, ℕ, zero, Bool, true, false, not, List, [], ◌∷◌, All, length, map, Result, Ok, Err}
+use Rattle.std.proofs.Common.{◌≡◌, ◌∙◌, sym, ap, subst, ℕ, zero, Bool, true, false, not, List, [], ◌∷◌, All, length, map, Result, Ok, Err}
 use Rattle.std.specs.Prelude.{◌||◌, IfErr}
 use Rattle.std.specs.Result.{IsErrAnd}
 use Rattle.std.specs.List.{list_any}
 use Rattle.std.proofs.lemmas.Bool.{not-false, or_parts}
-use Rattle.std.proofs.lemmas.List.{length-map}
-use Rattle.std.proofs.lemmas.Option.{slice_get_within}
 use Rattle.std.proofs.lemmas.List.Elements.{All-nil, All-cons, All-head, All-tail}
 use Rattle.rs_choice.specs.Plan.{Plan}
 use Rattle.rs_session.specs.Change.{is_read}
@@ -43,21 +41,35 @@ remembers (e ∷ es) none =
     let parts = or_parts (is_memory e.reason) (list_any (λ (end : Joined). is_memory end.reason) es) none in
     All-cons (λ end. is_memory end.reason ≡ false) e es parts.0 (remembers es parts.1)
 
+no-reads : (ends : List Joined) → All (λ v. v ≡ false) (map (λ end. is_read end.reason) ends) → All (λ end. is_read end.reason ≡ false) ends
+no-reads [] none = All-nil (λ end. is_read end.reason ≡ false)
+no-reads (e ∷ es) none =
+    All-cons (λ end. is_read end.reason ≡ false) e es
+    (All-head (λ v. v ≡ false) (is_read e.reason) (map (λ (end : Joined). is_read end.reason) es) none)
+    (no-reads es (All-tail (λ v. v ≡ false) (is_read e.reason) (map (λ (end : Joined). is_read end.reason) es) none))
+
 -- where it isn't, the verdict says why
 pub refusal : (ends : List Joined) (memory whole : Bool) (failed settled : List Bool) (fault : FloorRefused) → memory ≡ (list_any (λ end. is_memory end.reason) ends || not whole) → failed ≡ map (λ end. is_read end.reason) ends → settled ≡ map (λ end. end.settled) ends
-    → IsVerdict memory failed settled (Err fault) → IsRefusal ends fault
+    → IsVerdict memory failed settled (Err fault) → IsRefusal ends whole fault
 refusal ends memory whole failed settled Memory is reads settles verdict = tt
-refusal ends memory whole failed settled (Read peer) is reads settles verdict = record {
-  remember = remembers ends ((or_parts (list_any (λ (end : Joined). is_memory end.reason) ends) (not whole) (sym is ∙ verdict.0)).0);
-  least = subst (λ (values : List Bool). IsLeastPlace true false values peer) reads verdict.1;
-}
+refusal ends memory whole failed settled (Read peer) is reads settles verdict =
+    let parts = or_parts (list_any (λ (end : Joined). is_memory end.reason) ends) (not whole) (sym is ∙ verdict.0) in record {
+      whole_is = not-false whole parts.1;
+      remember = remembers ends parts.0;
+      least = subst (λ (values : List Bool). IsLeastPlace true false values peer) reads verdict.1;
+    }
 refusal ends memory whole failed settled (Unsettled peer) is reads settles verdict =
-    omega (arith, slice_get_within settled peer false verdict.2.has, ap (λ (values : List Bool). length values) settles, length-map ends (λ (end : Joined). end.settled))
+    let parts = or_parts (list_any (λ (end : Joined). is_memory end.reason) ends) (not whole) (sym is ∙ verdict.0) in record {
+      whole_is = not-false whole parts.1;
+      remember = remembers ends parts.0;
+      read = no-reads ends (rw reads at verdict.1);
+      least = subst (λ (values : List Bool). IsLeastPlace false true values peer) settles verdict.2;
+    }
 refusal ends memory whole failed settled fault is reads settles verdict = absurd verdict
 
 -- so it is of an answer that is this one
 pub refusal-of : (ends : List Joined) (memory whole : Bool) (failed settled : List Bool) (fault : FloorRefused) {A : Type 0} (result : Result A FloorRefused) → IsErrAnd result (λ found. found ≡ fault)
     → memory ≡ (list_any (λ end. is_memory end.reason) ends || not whole) → failed ≡ map (λ end. is_read end.reason) ends → settled ≡ map (λ end. end.settled) ends
-    → IsVerdict memory failed settled (Err fault) → IfErr result (IsRefusal ends)
+    → IsVerdict memory failed settled (Err fault) → IfErr result (IsRefusal ends whole)
 refusal-of ends memory whole failed settled fault (Ok answer) same is reads settles verdict = tt
-refusal-of ends memory whole failed settled fault (Err found) same is reads settles verdict = subst (IsRefusal ends) (sym same) (refusal ends memory whole failed settled fault is reads settles verdict)
+refusal-of ends memory whole failed settled fault (Err found) same is reads settles verdict = subst (IsRefusal ends whole) (sym same) (refusal ends memory whole failed settled fault is reads settles verdict)

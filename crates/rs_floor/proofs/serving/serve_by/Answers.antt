@@ -28,10 +28,10 @@ returns-in-Some-clause-unsettled_known g c = λ peer is.
     run-names g.R.Read.gives c.args.errors c.args.plan.now.value c.args.readers.items c.in_ok-crew.crew.lines.jobs.items c.in_ok-crew.crew.lines.from.items c.in_ok-crew.crew.rings.jobs.items c.in_ok-crew.crew.rings.to.items c.in-Some.ran.ends.items c.in-Some.ran.parts.items c.in-Some.ran.whole c.in_ok-crew.ensures.lines c.in_ok-crew.ensures.rings c.in-Some.ensures.1 c.a_failed_read_closes_last.ensures c.settle.result c.settle.ensures.refused peer (inr is)
 
 pub returns-in-Some-clause-capacity_only : goal.returns-in-Some-clause-capacity_only
-returns-in-Some-clause-capacity_only g c = λ is. absurd (not-limits c.in-Some.ran.ends.items c.settle.result c.settle.ensures.refused (inl is))
+returns-in-Some-clause-capacity_only g c = λ is. absurd (not-limits c.in-Some.ran.ends.items c.in-Some.ran.whole c.settle.result c.settle.ensures.refused (inl is))
 
 pub returns-in-Some-clause-shards_only : goal.returns-in-Some-clause-shards_only
-returns-in-Some-clause-shards_only g c = λ is. absurd (not-limits c.in-Some.ran.ends.items c.settle.result c.settle.ensures.refused (inr is))
+returns-in-Some-clause-shards_only g c = λ is. absurd (not-limits c.in-Some.ran.ends.items c.in-Some.ran.whole c.settle.result c.settle.ensures.refused (inr is))
 
 pub invariant_of-ready : goal.invariant_of-ready
 invariant_of-ready g c = search rules
