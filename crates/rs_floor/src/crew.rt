@@ -224,9 +224,22 @@ fn give_up<T: Threads + Wait, R: Read>(
     if !shards.is_empty() {
         route(rt, &mut from[..workers.len()], &mut to[..shards.len()]);
     }
+    join_each_worker(rt, workers);
+    join_each_shard(rt, shards);
+}
+
+// Joins workers in their order, whatever they did.
+fn join_each_worker<R: Read>(
+    rt: &impl Threads,
+    workers: Vec<PromisedHandle<WorkerEnd, WorkerOf<RecordReader<R>>>>,
+) {
     for worker in workers {
         worker.join(rt);
     }
+}
+
+// Joins shards in their order, whatever they did.
+fn join_each_shard(rt: &impl Threads, shards: Vec<PromisedHandle<ShardEnd, ShardOf>>) {
     for shard in shards {
         shard.join(rt);
     }
