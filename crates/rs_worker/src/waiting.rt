@@ -1,6 +1,6 @@
-//! How a thread waits for another one at a ring: some tens of tries, then it leaves the processor to others,
-//! then it sleeps, longer each time up to a limit. A thread that goes on soon loses little, and one that
-//! waits for long burns no processor.
+//! How a thread waits for another one at a ring: seven times it spins, twice as long each time, then four times
+//! it leaves the processor to others, then it sleeps, twice as long each time up to a limit. A thread that goes
+//! on soon loses little, and one that waits for long burns no processor.
 //!
 //! Nothing is claimed of time.
 
@@ -76,12 +76,6 @@ impl Patience {
     pub fn reset(&mut self) {
         self.backoff.reset();
         self.sleep = FIRST_SLEEP;
-    }
-}
-
-impl Default for Patience {
-    fn default() -> Patience {
-        Patience::new()
     }
 }
 
