@@ -21,7 +21,8 @@ use Rattle.rs_floor.specs.declared.fault.FloorRefused.{FloorRefused}
 use Rattle.rs_floor.specs.declared.fault.FloorRefused.TheVariants.{Memory, Unsettled, Capacity, Read, Shards}
 
 -- What all receivers and shards took: each peer's changes up to its close, those of a settled worker being
--- all that it sent; each shard its cut of them, which its tables hold, unless a shard was refused memory.
+-- all that it sent; each shard its cut of them, which its tables hold, unless a shard was refused memory or
+-- left an item waiting.
 pub record HasRun {R : Type 0} (gives : R → List ℕ → ReadEnd → Type 0) (workers : List (Charge (RecordReading R)))
     (of_shards : List shards.Charge)
     (ends : List Joined) (parts : List TablesContent) (whole : Bool) : Type 0 where

@@ -63,9 +63,9 @@ pub(crate) struct Ready<R: Read> {
 pub(crate) struct Ran {
     // How each peer's session ended, in the order of the peers.
     pub(crate) ends: Vec<Joined>,
-    // The tables of the shards, in their order, but those of shards that were refused memory.
+    // The tables of the shards, in their order, without those that were refused memory or left an item waiting.
     pub(crate) parts: Vec<Tables>,
-    // Whether no shard was refused memory.
+    // Whether no shard was refused memory, and none left an item waiting.
     pub(crate) whole: bool,
 }
 

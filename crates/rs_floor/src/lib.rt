@@ -1,6 +1,6 @@
-//! The floor of the exchange, where the rings of all peers meet its tables: recorded changes go through the
-//! rings into the tables, in one thread in any order that a schedule gives, or on a thread for each peer and
-//! for each shard of the tables.
+//! Runs the recorded sessions of all peers of an exchange: the changes of their routes go through rings into the
+//! tables, in one thread in any order that a schedule gives, or on a thread for each peer and for each shard of
+//! the tables.
 //!
 //! Reading order: `turn` (one step of a schedule), `identity` (who a peer is), `counts` and `lane` (one peer's
 //! session and ring), `opening` (of all peers), `steps` (their turns), `schedule` (a whole schedule in one

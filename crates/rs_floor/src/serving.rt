@@ -119,7 +119,7 @@ fn settle(alloc: Global, ran: Ran) -> Result<Served, FloorRefused>
     Ok(Served::new(tables, ends))
 }
 
-// Whether a worker or a shard was refused memory.
+// Whether a worker was refused memory, or the tables of a shard are missing.
 fn is_refused_memory(ends: &[Joined], whole: bool) -> bool
     ensures { result ≡ (list_any (λ end. spec.is_memory end.reason) ends.now || not whole) }
 {
