@@ -33,7 +33,7 @@ floor_code =
 abbrev pub id_of : Peer → PeerId
 id_of peer = record { address = peer.address; asn = peer.asn }
 
--- the changes that each peer's file says, in the order of the peers
+-- the changes in each peer's file, in the order of the peers
 abbrev pub recorded_by : Plan → List (List ℕ) → List (List Change)
 recorded_by plan files = map (λ (peer, file). changes_in (id_of peer) file) (zip plan.peers files)
 
@@ -57,7 +57,8 @@ pub record IsPeerReplayed (changes : List Change) (counts : Counts) (floor : Flo
   pub counts_are : slice_get floor.counts peer ≡ Some counts
   pub rib : slice_get floor.tables.ribs peer ≡ Some (rib_left (take counts.received changes))
 
--- the end of a schedule of peers that say so: each has come as far as the turns say, from nothing sent
+-- the end of a schedule of peers of which this is recorded: each has come as far as the turns say, from
+-- nothing sent
 pub record IsReplayed (plan : Plan) (recorded : List (List Change)) (capacity : ℕ) (turns : List Turn)
     (floor : FloorContent) : Type 0 where
   pub plan_is : floor.tables.plan ≡ plan

@@ -12,7 +12,7 @@ use Rattle.rs_floor.specs.Schedule.{at_start, after_turn, after_turns}
 use Rattle.rs_floor.specs.declared.counts.Counts.{Counts}
 use Rattle.rs_floor.specs.declared.turn.Turn.{Turn}
 
--- all changes that the peer's file says, the capacity of its ring, and how far the peer has come
+-- all changes in the peer's file, the capacity of its ring, and how far the peer has come
 pub record LaneContent : Type 0 where
   pub recorded : List Change
   pub capacity : ℕ
@@ -25,7 +25,7 @@ to_come stage =
 
 -- the changes that were sent
 abbrev pub sent_changes : List Word → List Change
-sent_changes words = map change_of words
+sent_changes sent = map change_of sent
 
 -- none closes before the last one
 abbrev pub NoneClosesBefore : List Change → Type 0

@@ -14,11 +14,11 @@ IsDrained recorded floor =
     → slice_get floor.counts peer ≡ Some counts
     → counts.received ≡ length changes
 
--- the tables of a plan whose peers say so, whatever the order
+-- the tables of a plan of whose peers this is recorded, whatever the order
 abbrev pub tables_of : Plan → List (List Change) → TablesContent
 tables_of plan recorded = record { plan = plan; ribs = map rib_left recorded }
 
--- where all was received, the tables are those of what the peers say, whatever the capacity and the turns
+-- where all was received, the tables are those of what is recorded, whatever the capacity and the turns
 abbrev pub DrainedSchedulesAgree : Type 0
 DrainedSchedulesAgree =
     (plan : Plan) (files : List (List ℕ)) (capacity : ℕ) (turns : List Turn) (floor : FloorContent)

@@ -33,12 +33,12 @@ served_code =
     code_by (TablesContent × List PeerEnd) (coded× tables_code (coded_list end_code)) (λ s. (s.tables, s.ends))
     (λ p. record { tables = p.0; ends = p.1 }) (λ _. refl)
 
--- the changes that each peer's file says, in the order of the peers, faults in messages being handled by one
--- of the standards
+-- the changes in each peer's file, in the order of the peers, faults in messages being handled by one of the
+-- standards
 abbrev pub said_by : Errors → Plan → List (List ℕ) → List (List Change)
 said_by errors plan files = map (λ (peer, file). changes_in_by errors (id_of peer) file) (zip plan.peers files)
 
--- how the session ends that a file says: its last change is the close
+-- how the session in a file ends: its last change is the close
 pub record IsEndOf (errors : Errors) (peer : PeerId) (file : List ℕ) (end : PeerEnd) : Type 0 where
   pub before : List Change
   pub time : ℕ
@@ -46,7 +46,7 @@ pub record IsEndOf (errors : Errors) (peer : PeerId) (file : List ℕ) (end : Pe
   pub passed_are : end.passed ≡ passed_in_by errors peer file
   pub closes : changes_in_by errors peer file ≡ before ++ close_at time end.reason ∷ []
 
--- the tables are those of the files alone, and each peer's session ended as its file says
+-- the tables are those of the files alone, and each peer's session ended as it does in its file
 pub record IsServed (errors : Errors) (plan : Plan) (files : List (List ℕ)) (served : ServedContent) : Type 0 where
   pub tables_are : served.tables ≡ tables_of plan (said_by errors plan files)
   pub counted : length served.ends ≡ length plan.peers

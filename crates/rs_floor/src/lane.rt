@@ -41,7 +41,7 @@ impl<'a> Model for Lane<'a> {
 }
 
 impl<'a> Lane<'a> {
-    // The lane of a peer whose file says so, before anything was sent. Refused where memory is.
+    // The lane of a peer with this file, before anything was sent. Refused where memory is.
     pub(crate) fn new(
         alloc: Global,
         file: &'a [u8],

@@ -7,26 +7,26 @@ use Rattle.rs_session.specs.Change.{Change, change_of}
 use Rattle.rs_session.specs.FileChanges.{changes_in, passed_in, default_standard}
 use Rattle.rs_session.specs.Stage.{May, fresh}
 use Rattle.rs_session.specs.declared.peer.PeerId.{PeerId}
-use Rattle.rs_worker.specs.Worked.{Saying, HasWorked, just}
+use Rattle.rs_worker.specs.Worked.{MayGive, HasWorked, just}
 use Rattle.rs_worker.specs.declared.work.WorkerEnd.{WorkerEnd}
 use Rattle.rs_session.proofs.StageLemmas.{says_just-file}
 
--- what is sent of a session is sent of any other that may say the same
-has_worked-said : (may other : Saying) → ((changes : List Change) (passed : ℕ) → may changes passed → other changes passed) → (ring : Ring) (end : WorkerEnd) → HasWorked may ring end → HasWorked other ring end
-has_worked-said may other says ring end h = record {
+-- what is sent of a session is sent of any other that may give the same
+has_worked-given : (may other : MayGive) → ((changes : List Change) (passed : ℕ) → may changes passed → other changes passed) → (ring : Ring) (end : WorkerEnd) → HasWorked may ring end → HasWorked other ring end
+has_worked-given may other gives ring end h = record {
   sent = h.sent;
-  said = record {
-    before = h.said.before;
-    time = h.said.time;
-    splits = h.said.splits;
-    unclosed = h.said.unclosed;
-    whole = λ reason. says (map change_of h.sent) end.passed (h.said.whole reason);
+  sends = record {
+    before = h.sends.before;
+    time = h.sends.time;
+    splits = h.sends.splits;
+    unclosed = h.sends.unclosed;
+    whole = λ reason. gives (map change_of h.sent) end.passed (h.sends.whole reason);
     cut_short = λ reason.
-        let cut = h.said.cut_short reason in record {
+        let cut = h.sends.cut_short reason in record {
           given = cut.given;
           rest = cut.rest;
           total = cut.total;
-          said = says (cut.given ++ cut.rest) cut.total cut.said;
+          may_come = gives (cut.given ++ cut.rest) cut.total cut.may_come;
           unfinished = cut.unfinished;
           splits = cut.splits;
           passed_within = cut.passed_within;
@@ -36,7 +36,7 @@ has_worked-said may other says ring end h = record {
   token = h.token;
 }
 
--- only what the file says may come
+-- only the changes of the file may come
 pub has_worked-file : (peer : PeerId) (file : List ℕ) (ring : Ring) (end : WorkerEnd) → HasWorked (May (λ s later end. IsLeft s later end) (λ s. s.shown) (fresh (reading_of None file) peer default_standard)) ring end → HasWorked (just (changes_in peer file) (passed_in peer file)) ring end
 has_worked-file peer file ring end h =
-    has_worked-said (May (λ s later end. IsLeft s later end) (λ s. s.shown) (fresh (reading_of None file) peer default_standard)) (just (changes_in peer file) (passed_in peer file)) (λ changes passed m. (says_just-file default_standard peer file changes passed).0 m) ring end h
+    has_worked-given (May (λ s later end. IsLeft s later end) (λ s. s.shown) (fresh (reading_of None file) peer default_standard)) (just (changes_in peer file) (passed_in peer file)) (λ changes passed m. (says_just-file default_standard peer file changes passed).0 m) ring end h

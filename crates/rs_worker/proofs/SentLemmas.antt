@@ -19,7 +19,7 @@ word_closes : (word : Word) (reason : Reason) → reason_of word.body ≡ Some r
 word_closes word reason e = ap (λ (body : Body). record { time = word.time; body = body }) (body_closes word.body reason e)
 
 module _ {S : Type 0} (comes : Comes S) (shows : S → Option MrtRecord) where
-  -- the last word follows what was sent before
+  -- the last change follows what was sent before
   pub sent-closes : (first old new : Stage S) (before : List Word) (word : Word) (reason : Reason) → ((changes : List Change) (passed : ℕ) → May comes shows old changes passed → May comes shows first (map change_of before ++ changes) passed) → closes_any before ≡ false → reason_of word.body ≡ Some reason → Ends comes shows old new word reason → HasSent (May comes shows first) (before ++ word ∷ []) reason new.passed
   sent-closes first old new before word reason begun open_yet closing ends = record {
     before = before;
@@ -32,7 +32,7 @@ module _ {S : Type 0} (comes : Comes S) (shows : S → Option MrtRecord) where
           given = map change_of before;
           rest = refused.1.rest;
           total = refused.1.total;
-          said = begun refused.1.rest refused.1.total refused.1.may_come;
+          may_come = begun refused.1.rest refused.1.total refused.1.may_come;
           unfinished = refused.1.some_rest;
           splits = map-append change_of before (word ∷ []) ∙ ap (λ (last : Word). map change_of before ++ change_of last ∷ []) refused.0;
           passed_within = refused.1.passed_within;

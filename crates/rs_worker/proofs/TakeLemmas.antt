@@ -1,4 +1,4 @@
--- What the next answer of a session is, as a word to send.
+-- What the next answer of a session is, as a change to send.
 use Rattle.std.proofs.Common.{◌≡◌, ◌∙◌, sym, ap, refl, ℕ, ◌≤◌, arith, true, false, List, [], ◌∷◌, ◌++◌, length, Option, Some, None, Ok, Err, append_assoc, length-append}
 use Rattle.std.specs.declared.alloc.AllocError.{AllocError}
 use Rattle.std.proofs.lemmas.List.{same_from_push}
@@ -52,7 +52,7 @@ module _ {S : Type 0} (comes : Comes S) (shows : S → Option MrtRecord) (law : 
         length-append closes.before (close_at closes.time closes.reason ∷ []),
       )
 
-  -- a word of the session
+  -- a change of the session
   module _ (room : S → ℕ) (old new : Stage S) (unclosed : old.closed ≡ false) where
     takes-body : (word : Word) (body : Body) → word.body ≡ body → Says comes shows old new (Ok (Some word)) → Closes old.closed new.closed (Ok (Some word)) → Fewer (most_changes room shows old) (most_changes room shows new) (Ok (Some word)) → SomethingMayCome comes shows new → Takes comes shows room old new word (reason_of body)
     takes-body word (Close reason) is says closes fewer more =

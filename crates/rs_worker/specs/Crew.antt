@@ -7,7 +7,7 @@ use Rattle.rs_session.specs.Stage.{Comes, May, fresh}
 use Rattle.rs_session.specs.declared.word.Word.{Word}
 use Rattle.rs_session.specs.declared.peer.PeerId.{PeerId}
 use Rattle.rs_update.specs.declared.errors.Errors.{Errors}
-use Rattle.rs_worker.specs.Worked.{Saying, HasSent}
+use Rattle.rs_worker.specs.Worked.{MayGive, HasSent}
 use Rattle.rs_worker.specs.declared.crew.Job.{Job}
 use Rattle.rs_worker.specs.declared.crew.Joined.{Joined}
 use Rattle.rs_worker.specs.declared.crew.WorkerOf.{WorkerOf}
@@ -26,21 +26,21 @@ abbrev pub charged : {S : Type 0} → WorkerOf S → Charge S
 charged promise =
     record { source = promise.source.value; peer = promise.id; errors = promise.errors; ring = promise.out.value.ring }
 
--- what the session may say with which a worker is charged
-abbrev pub said_by : {S : Type 0} → Comes S → (S → Option MrtRecord) → Charge S → Saying
-said_by comes shows charge = May comes shows (fresh charge.source charge.peer charge.errors)
+-- what the session may give with which a worker is charged
+abbrev pub given_by : {S : Type 0} → Comes S → (S → Option MrtRecord) → Charge S → MayGive
+given_by comes shows charge = May comes shows (fresh charge.source charge.peer charge.errors)
 
 -- what a worker sent, and how many changes these are; where it settled, they are what was received
-pub record HasJoined (may : Saying) (received : List Word) (end : Joined) : Type 0 where
+pub record HasJoined (may : MayGive) (received : List Word) (end : Joined) : Type 0 where
   pub sent : List Word
-  pub said : HasSent may sent end.reason end.passed
+  pub sends : HasSent may sent end.reason end.passed
   pub counted : end.changes ≡ length sent
   pub settles : end.settled ≡ true → received ≡ sent
 
--- each worker sent what its session says, and what it tells of that is so of its peer's receiver
+-- each worker sent what its session may give, and what it tells of that is so of its peer's receiver
 abbrev pub AllJoined : {S : Type 0} → Comes S → (S → Option MrtRecord) → List (Charge S) → List (Receiving Word)
     → List Joined → Type 0
 AllJoined {S = S} comes shows charges from ends =
     (peer : ℕ) (charge : Charge S) (receiver : Receiving Word) (end : Joined) →
     slice_get charges peer ≡ Some charge → slice_get from peer ≡ Some receiver → slice_get ends peer ≡ Some end →
-    HasJoined (said_by comes shows charge) receiver.received end
+    HasJoined (given_by comes shows charge) receiver.received end

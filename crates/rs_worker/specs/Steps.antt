@@ -1,4 +1,4 @@
--- One step of a worker: the next word of its session.
+-- One step of a worker: the next change of its session.
 use Rattle.std.specs.Prelude.{◌≡◌, ℕ, ◌+◌, ◌≤◌, true, false, List, [], ◌∷◌, length, Option, Some, None}
 use Rattle.rs_mrt.specs.Record.{MrtRecord}
 use Rattle.rs_session.specs.Change.{Change, change_of, closing_word}
@@ -17,7 +17,7 @@ reason_of (Announce prefix attributes) = None
 reason_of (Withdraw prefix) = None
 reason_of Down = None
 
--- something is still to come, though no word is given
+-- something is still to come, though no change is given
 pub record IsUnfinished {S : Type 0} (comes : Comes S) (shows : S → Option MrtRecord) (old : Stage S)
     (passed : ℕ) : Type 0 where
   pub rest : List Change
@@ -26,21 +26,21 @@ pub record IsUnfinished {S : Type 0} (comes : Comes S) (shows : S → Option Mrt
   pub some_rest : 1 ≤ length rest
   pub passed_within : passed ≤ total
 
--- a word that doesn't close is the next one of an open session
+-- a change that doesn't close is the next one of an open session
 pub record GoesOn {S : Type 0} (comes : Comes S) (shows : S → Option MrtRecord) (room : S → ℕ) (old new : Stage S)
     (word : Word) : Type 0 where
   pub keeps : KeepsBehind comes shows (change_of word) old new
   pub unclosed : new.closed ≡ false
   pub fewer : most_changes room shows new + 1 ≤ most_changes room shows old
 
--- a word that closes is the last one of the session; or memory is refused, and it tells so
+-- a change that closes is the last one of the session; or memory is refused, and it tells so
 pub record Ends {S : Type 0} (comes : Comes S) (shows : S → Option MrtRecord) (old new : Stage S) (word : Word)
     (reason : Reason) : Type 0 where
   pub last : is_memory reason ≡ false → May comes shows old (change_of word ∷ []) new.passed
   pub refused : is_memory reason ≡ true
       → (word ≡ closing_word 0 reasons.Memory) × IsUnfinished comes shows old new.passed
 
--- the next word of a session
+-- the next change of a session
 abbrev pub Takes : {S : Type 0} → Comes S → (S → Option MrtRecord) → (S → ℕ) → Stage S → Stage S → Word
     → Option Reason → Type 0
 Takes comes shows room old new word None = GoesOn comes shows room old new word

@@ -9,12 +9,12 @@ use Rattle.rs_session.specs.declared.word.Reason.TheVariants as reasons
 use Rattle.rs_session.specs.declared.word.Word.{Word}
 use Rattle.rs_worker.specs.declared.work.WorkerEnd.{WorkerEnd}
 
--- these changes, the close being the last one, may be all that a session says, and so many records passed over
-abbrev pub Saying : Type 1
-Saying = List Change → ℕ → Type 0
+-- a session may give just these changes, the close being the last one, and pass over so many records
+abbrev pub MayGive : Type 1
+MayGive = List Change → ℕ → Type 0
 
--- just these are said
-abbrev pub just : List Change → ℕ → Saying
+-- one that gives just these changes, and passes over just so many records
+abbrev pub just : List Change → ℕ → MayGive
 just whole total = λ changes passed. (changes ≡ whole) × (passed ≡ total)
 
 -- whether memory was refused to the reader of a session
@@ -22,24 +22,24 @@ abbrev pub is_memory : Reason → Bool
 is_memory reasons.Memory = true
 is_memory other = false
 
--- whether one of the words closes the session
+-- whether one of the changes sent closes the session
 abbrev pub closes_any : List Word → Bool
-closes_any words = has_close (λ word. is_close (change_of word)) words
+closes_any sent = has_close (λ one. is_close (change_of one)) sent
 
--- the changes are a beginning of what the session may say, without its close, and a close that tells of the
+-- the changes are a beginning of what the session may give, without its close, and a close that tells of the
 -- want of memory
-pub record IsCutShort (may : Saying) (changes : List Change) (passed : ℕ) : Type 0 where
+pub record IsCutShort (may : MayGive) (changes : List Change) (passed : ℕ) : Type 0 where
   pub given : List Change
   pub rest : List Change
   pub total : ℕ
-  pub said : may (given ++ rest) total
+  pub may_come : may (given ++ rest) total
   pub unfinished : 1 ≤ length rest
   pub splits : changes ≡ given ++ close_at 0 reasons.Memory ∷ []
   pub passed_within : passed ≤ total
 
--- the words sent: some that don't close, and then the close for this reason; they are all that the session
--- may say, or cut short
-pub record HasSent (may : Saying) (sent : List Word) (reason : Reason) (passed : ℕ) : Type 0 where
+-- the changes sent: some that don't close, and then the close for this reason; they are all that the session
+-- may give, or cut short
+pub record HasSent (may : MayGive) (sent : List Word) (reason : Reason) (passed : ℕ) : Type 0 where
   pub before : List Word
   pub time : ℕ
   pub splits : sent ≡ before ++ closing_word time reason ∷ []
@@ -47,10 +47,10 @@ pub record HasSent (may : Saying) (sent : List Word) (reason : Reason) (passed :
   pub whole : is_memory reason ≡ false → may (map change_of sent) passed
   pub cut_short : is_memory reason ≡ true → IsCutShort may (map change_of sent) passed
 
--- what a worker answers: it tells how many words it sent and why the last one closes, and its token, where
+-- what a worker answers: it tells how many changes it sent and why the last one closes, and its token, where
 -- one came, shows them
-pub record HasWorked (may : Saying) (ring : Ring) (end : WorkerEnd) : Type 0 where
+pub record HasWorked (may : MayGive) (ring : Ring) (end : WorkerEnd) : Type 0 where
   pub sent : List Word
-  pub said : HasSent may sent end.reason end.passed
+  pub sends : HasSent may sent end.reason end.passed
   pub counted : end.changes ≡ length sent
   pub token : IfSome end.finished (λ (token : Sent Word). token ≡ record { ring = ring; sent = sent })

@@ -3,7 +3,7 @@
 ghost use Rattle.std.specs.Prelude.{◌≡◌, ◌≤◌, ◌^◌, [], All, IfSome, IsTrue, map, vec_len, vec_capacity};
 ghost use mathlib.Core.List.{IsPrefix};
 ghost use Rattle.rs_session.specs.Stage.{May, fresh};
-ghost use Rattle.rs_worker.specs.Crew.{charge_of, charged, said_by, HasJoined, AllJoined};
+ghost use Rattle.rs_worker.specs.Crew.{charge_of, charged, given_by, HasJoined, AllJoined};
 ghost use Rattle.rs_worker.specs.Worked.{HasWorked};
 
 use crate::gate::Gate;
@@ -123,7 +123,7 @@ fn join_worker<S: Source>(
     from: &mut Receiver<Word>,
 ) -> Joined
     requires { (charged handle.promise).ring ≡ from.old.ring }
-    ensures joined { HasJoined (said_by S.comes S.shows (charged handle.promise)) from.new.received result }
+    ensures joined { HasJoined (given_by S.comes S.shows (charged handle.promise)) from.new.received result }
     ensures same { (from.new.ring ≡ from.old.ring) × (from.new.received ≡ from.old.received) }
 {
     let WorkerEnd {

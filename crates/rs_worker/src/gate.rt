@@ -3,7 +3,7 @@
 /// What the threads of a run pass: each worker before it sends a change, and each shard before it handles an item.
 ///
 /// A gate may hold its caller for a while, so that a test can bring about an order of events. No call changes
-/// what is said, sent or held.
+/// what is given, sent or held.
 pub trait Gate: Sync {
     /// A worker of this peer is about to send its next change, which has this number, from 0. It is called
     /// once for each change, before the first try to send it.

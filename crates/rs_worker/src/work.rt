@@ -27,7 +27,7 @@ pub struct WorkerEnd {
     pub reason: Reason,
 }
 
-/// Sends the changes that the source's session says through a ring, one after another, and the close as the
+/// Sends the changes that the source's session gives through a ring, one after another, and the close as the
 /// last one; then it ends the sending. Faults in messages are handled by one of the standards.
 ///
 /// It passes the gate once for each change, before the first try to send it, and tries again while the ring

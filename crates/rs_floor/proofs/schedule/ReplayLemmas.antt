@@ -22,14 +22,14 @@ use Rattle.rs_worker.proofs.PlaceLemmas.{map-get, some-at}
 use Rattle.rs_floor.proofs.ListLemmas.{same-places, zip-counted}
 
 -- the peer and the file whose changes stand at a place
-pub record IsSaidAt (peers : List Peer) (files : List (List ℕ)) (at : ℕ) (changes : List Change) : Type 0 where
+pub record IsRecordedAt (peers : List Peer) (files : List (List ℕ)) (at : ℕ) (changes : List Change) : Type 0 where
   pub peer : Peer
   pub file : List ℕ
   pub peer_at : slice_get peers at ≡ Some peer
   pub file_at : slice_get files at ≡ Some file
   pub says : changes_in (id_of peer) file ≡ changes
 
-pub recorded-at : (peers : List Peer) (files : List (List ℕ)) (at : ℕ) (changes : List Change) → slice_get (map (λ (peer, file). changes_in (id_of peer) file) (zip peers files)) at ≡ Some changes → IsSaidAt peers files at changes
+pub recorded-at : (peers : List Peer) (files : List (List ℕ)) (at : ℕ) (changes : List Change) → slice_get (map (λ (peer, file). changes_in (id_of peer) file) (zip peers files)) at ≡ Some changes → IsRecordedAt peers files at changes
 recorded-at [] files at changes e = absurd cc
 recorded-at (p ∷ peers) [] at changes e = absurd cc
 recorded-at (p ∷ peers) (f ∷ files) zero changes e = record { peer = p; file = f; peer_at = refl; file_at = refl; says = cc }

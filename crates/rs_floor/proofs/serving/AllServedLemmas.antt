@@ -142,8 +142,8 @@ module _ {R : Type 0} (gives : R → List ℕ → ReadEnd → Type 0) (errors : 
         (as_many ∙ sym (same-counted (λ (job : Job (RecordReading R)). job.id) id_of jobs plan.peers peers) ∙ same-counted (λ (job : Job (RecordReading R)). job.source) unread jobs readers sources)
         (λ place file file_at. let found = at place file file_at in let here = found.here in record { peer = id_of here.peer; reader = here.reader; peer_at = get-map id_of plan.peers place here.peer here.peer_at; reader_at = here.reader_at; given = found.given })
 
-    said-same : said_by errors plan files ≡ map (λ receiver. map change_of receiver.received) receivers
-    said-same = same-places (map (λ (receiver : Receiving Word). map change_of receiver.received) receivers) (said_by errors plan files) lengths places
+    recorded-same : said_by errors plan files ≡ map (λ receiver. map change_of receiver.received) receivers
+    recorded-same = same-places (map (λ (receiver : Receiving Word). map change_of receiver.received) receivers) (said_by errors plan files) lengths places
       where
         lengths : length (map (λ (receiver : Receiving Word). map change_of receiver.received) receivers) ≡ length (said_by errors plan files)
         lengths =
@@ -210,7 +210,7 @@ module _ {R : Type 0} (gives : R → List ℕ → ReadEnd → Type 0) (errors : 
         chosen.0,
         are-given gives errors plan readers jobs run.receivers ends are.sources are.peers counted joined chosen.0 chosen.1 chosen.2,
         record {
-          tables_are = tables ∙ ap (λ (ribs : List RibContent). let t : TablesContent = record { plan = plan; ribs = ribs } in t) (ribs-same run.receivers ∙ ap (map rib_left) (sym (said-same gives errors plan readers jobs run.receivers ends are.sources are.peers counted joined chosen.0 chosen.1 chosen.2)));
+          tables_are = tables ∙ ap (λ (ribs : List RibContent). let t : TablesContent = record { plan = plan; ribs = ribs } in t) (ribs-same run.receivers ∙ ap (map rib_left) (sym (recorded-same gives errors plan readers jobs run.receivers ends are.sources are.peers counted joined chosen.0 chosen.1 chosen.2)));
           counted = ap length answer.ends_are ∙ length-map ends end_of ∙ joined ∙ as_peers;
           ends_are = ends-same gives errors plan readers jobs run.receivers ends are.sources are.peers counted joined chosen.0 chosen.1 chosen.2 served.ends answer.ends_are;
         },

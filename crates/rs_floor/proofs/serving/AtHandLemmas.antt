@@ -59,8 +59,8 @@ module _ {R : Type 0} (f : R → List ℕ) (errors : Errors) (plan : Plan) (read
   of-zip : (files : List (List ℕ)) → length files ≡ length plan.peers → length (said_by errors plan files) ≡ length plan.peers
   of-zip files counts = length-map (zip plan.peers files) (λ (peer, file). changes_in_by errors (id_of peer) file) ∙ zip-counted plan.peers files counts
 
-  said-at : (files : List (List ℕ)) (place : ℕ) (peer : Peer) (file : List ℕ) → slice_get plan.peers place ≡ Some peer → slice_get files place ≡ Some file → slice_get (said_by errors plan files) place ≡ Some (changes_in_by errors (id_of peer) file)
-  said-at files place peer file ep ef = get-map (λ (p, o). changes_in_by errors (id_of p) o) (zip plan.peers files) place (peer, file) (zip-at plan.peers files place peer file ep ef)
+  recorded-at : (files : List (List ℕ)) (place : ℕ) (peer : Peer) (file : List ℕ) → slice_get plan.peers place ≡ Some peer → slice_get files place ≡ Some file → slice_get (said_by errors plan files) place ≡ Some (changes_in_by errors (id_of peer) file)
+  recorded-at files place peer file ep ef = get-map (λ (p, o). changes_in_by errors (id_of p) o) (zip plan.peers files) place (peer, file) (zip-at plan.peers files place peer file ep ef)
 
   said : said_by errors plan s.0 ≡ said_by errors plan (map f readers)
   said = same-places (said_by errors plan (map f readers)) (said_by errors plan s.0) (of-zip (map f readers) (length-map readers f ∙ as_many) ∙ sym (of-zip s.0 files-counted)) places
@@ -73,7 +73,7 @@ module _ {R : Type 0} (f : R → List ℕ) (errors : Errors) (plan : Plan) (read
           let reader = some-at readers place (omega (arith, within, total, as_many)) in
           let file = some-at s.0 place (omega (arith, within, total, files-counted)) in
           let one = same place peer.0 reader.0 file.0 peer.1 reader.1 file.1 in
-          said-at s.0 place peer.0 file.0 peer.1 file.1 ∙ ap Some one.changes ∙ sym (said-at (map f readers) place peer.0 (f reader.0) peer.1 (get-map f readers place reader.0 reader.1)) ∙ e
+          recorded-at s.0 place peer.0 file.0 peer.1 file.1 ∙ ap Some one.changes ∙ sym (recorded-at (map f readers) place peer.0 (f reader.0) peer.1 (get-map f readers place reader.0 reader.1)) ∙ e
 
   ends : (place : ℕ) (peer : Peer) (whole : List ℕ) (end : PeerEnd) → slice_get plan.peers place ≡ Some peer → slice_get (map f readers) place ≡ Some whole → slice_get served.ends place ≡ Some end → IsEndOf errors (id_of peer) whole end
   ends place peer whole end ep ew ee =

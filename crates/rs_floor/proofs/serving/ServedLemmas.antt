@@ -31,9 +31,9 @@ JoinedOver gives errors peer reader received end = HasJoined (May (MayCome gives
 
 -- the changes that a worker sent, the last one being its close
 pub ends-so : {R : Type 0} (gives : R → List ℕ → ReadEnd → Type 0) (errors : Errors) (peer : PeerId) (reader : R) (received : List Word) (end : Joined) → (joined : JoinedOver gives errors peer reader received end)
-    → map change_of joined.sent ≡ map change_of joined.said.before ++ close_at joined.said.time end.reason ∷ []
+    → map change_of joined.sent ≡ map change_of joined.sends.before ++ close_at joined.sends.time end.reason ∷ []
 ends-so gives errors peer reader received end joined =
-    ap (map change_of) joined.said.splits ∙ map-append change_of joined.said.before (closing_word joined.said.time end.reason ∷ [])
+    ap (map change_of) joined.sends.splits ∙ map-append change_of joined.sends.before (closing_word joined.sends.time end.reason ∷ [])
 
 -- a worker that ended well sent what a file says that its reader may give
 pub says-file : {R : Type 0} (gives : R → List ℕ → ReadEnd → Type 0) (errors : Errors) (peer : PeerId) (reader : R) (received : List Word) (end : Joined)
@@ -41,14 +41,14 @@ pub says-file : {R : Type 0} (gives : R → List ℕ → ReadEnd → Type 0) (er
     → is_memory end.reason ≡ false → is_read end.reason ≡ false
     → SaysGiven gives errors peer reader (map change_of joined.sent) end.passed
 says-file gives errors peer reader received end file_or_fails closes joined remembers reads =
-    elim (file_or_fails errors peer (map change_of joined.sent) end.passed (joined.said.whole remembers)) [ inl given ↦ given | inr failed ↦ absurd (no_read failed) ]
+    elim (file_or_fails errors peer (map change_of joined.sent) end.passed (joined.sends.whole remembers)) [ inl given ↦ given | inr failed ↦ absurd (no_read failed) ]
   where
     no_read : SaysFailed gives errors peer reader (map change_of joined.sent) end.passed → ⊥
     no_read failed =
         let close : ClosesByRead (changes_of errors peer (records_of failed.came) (Some faults.Read)) = closes errors peer failed.came failed.fails.no_end in
         let ends = ends-so gives errors peer reader received end joined in
-        let same : map change_of joined.said.before ++ close_at joined.said.time end.reason ∷ [] ≡ close.before ++ close_at 0 reasons.Read ∷ [] = sym ends ∙ failed.says ∙ close.splits in
-        let reason : end.reason ≡ reasons.Read = same_reason (map change_of joined.said.before) close.before joined.said.time 0 end.reason reasons.Read same in
+        let same : map change_of joined.sends.before ++ close_at joined.sends.time end.reason ∷ [] ≡ close.before ++ close_at 0 reasons.Read ∷ [] = sym ends ∙ failed.says ∙ close.splits in
+        let reason : end.reason ≡ reasons.Read = same_reason (map change_of joined.sends.before) close.before joined.sends.time 0 end.reason reasons.Read same in
         let read : is_read end.reason ≡ true = ap is_read reason in
         cc
 
@@ -57,8 +57,8 @@ pub end-of-file : {R : Type 0} (gives : R → List ℕ → ReadEnd → Type 0) (
     → (given : SaysGiven gives errors peer reader (map change_of joined.sent) end.passed)
     → IsEndOf errors peer given.file (run.end_of end)
 end-of-file gives errors peer reader received end joined given = record {
-  before = map change_of joined.said.before;
-  time = joined.said.time;
+  before = map change_of joined.sends.before;
+  time = joined.sends.time;
   changes_are = joined.counted ∙ sym (length-map joined.sent change_of) ∙ ap length given.says;
   passed_are = given.counts;
   closes = sym given.says ∙ ends-so gives errors peer reader received end joined;
@@ -80,14 +80,14 @@ pub may-fail : {R : Type 0} (gives : R → List ℕ → ReadEnd → Type 0) (err
     → GivesFileOrFails gives reader → ClosesOnce → JoinedOver gives errors peer reader received end → is_read end.reason ≡ true → MayFail gives errors peer reader
 may-fail gives errors peer reader received end file_or_fails once joined reads =
     let read : end.reason ≡ reasons.Read = read-is end.reason reads in
-    elim (file_or_fails errors peer (map change_of joined.sent) end.passed (joined.said.whole (ap is_memory read))) [ inl given ↦ absurd (no_file read given) | inr failed ↦ (failed.came, failed.fails) ]
+    elim (file_or_fails errors peer (map change_of joined.sent) end.passed (joined.sends.whole (ap is_memory read))) [ inl given ↦ absurd (no_file read given) | inr failed ↦ (failed.came, failed.fails) ]
   where
     no_file : end.reason ≡ reasons.Read → SaysGiven gives errors peer reader (map change_of joined.sent) end.passed → ⊥
     no_file read given =
         let close = once errors peer (records_of given.file) (source_end (end_of given.file)) in
         let ends = ends-so gives errors peer reader received end joined in
-        let same : map change_of joined.said.before ++ close_at joined.said.time end.reason ∷ [] ≡ close.before ++ close_at close.time close.reason ∷ [] = sym ends ∙ given.says ∙ close.splits in
-        let reason : end.reason ≡ close.reason = same_reason (map change_of joined.said.before) close.before joined.said.time close.time end.reason close.reason same in
+        let same : map change_of joined.sends.before ++ close_at joined.sends.time end.reason ∷ [] ≡ close.before ++ close_at close.time close.reason ∷ [] = sym ends ∙ given.says ∙ close.splits in
+        let reason : end.reason ≡ close.reason = same_reason (map change_of joined.sends.before) close.before joined.sends.time close.time end.reason close.reason same in
         unread_by-file (end_of given.file) close.reason close.recorded (sym reason ∙ read)
 
 -- ---- lists by places

@@ -1,4 +1,4 @@
--- The next word of an open session, or the close that tells that memory was refused.
+-- The next change of an open session, or the close that tells that memory was refused.
 use Rattle.rs_worker.proofs.TakeLemmas.{takes-given, takes-refused}
 use Rattle.rs_worker.proofs.sending.next_change.Goals as goal
 

@@ -1,4 +1,4 @@
--- What may come of a file's records is just what the file says.
+-- What may come of a file's records are just the changes of the file.
 use Rattle.rs_worker.proofs.FileLemmas.{has_worked-file}
 use Rattle.rs_worker.proofs.work.worker.Goals as goal
 
