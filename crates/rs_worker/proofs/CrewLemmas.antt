@@ -1,5 +1,5 @@
 -- Joining one worker after another.
-use Rattle.std.proofs.Common.{◌≡◌, ◌∙◌, sym, ℕ, ◌+◌, arith, List, [], ◌∷◌, ◌++◌, length, length-append, length-set, Option, Some}
+use Rattle.std.proofs.Common.{◌≡◌, ◌∙◌, sym, ℕ, arith, List, [], ◌∷◌, ◌++◌, length, length-append, length-set, Option, Some}
 use Rattle.std.specs.Prelude.{slice_get, slice_set}
 use Rattle.std.proofs.lemmas.Option.{slice_get_within}
 use borrow.Author.Count.{below_more}

@@ -1,5 +1,5 @@
 -- One peer's changes on their way through its ring: for `new`, `send` and `receive` of lane.rt, and LaneStates.
-use Rattle.std.proofs.Common.{◌≡◌, ◌∙◌, sym, ap, refl, ℕ, ◌+◌, ◌-◌, ◌<◌, ◌≤◌, suc, arith, Bool, true, false, List, [], ◌∷◌, ◌++◌, length, take, Option, Some, append_assoc, length-append}
+use Rattle.std.proofs.Common.{◌≡◌, ◌∙◌, sym, ap, refl, ℕ, ◌+◌, ◌-◌, ◌<◌, ◌≤◌, suc, arith, Bool, false, List, [], ◌∷◌, ◌++◌, length, take, Option, Some, append_assoc, length-append}
 use Rattle.std.specs.Prelude.{slice_get, ◌||◌, nat_lt}
 use Rattle.std.specs.List.{list_any}
 use Rattle.std.proofs.lemmas.Bool.{and_from, and_left, cond-false, cond-true, le-ltb, lt-ltb}

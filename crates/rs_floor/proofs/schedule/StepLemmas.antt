@@ -1,5 +1,5 @@
 -- The lanes of all peers, turn by turn: for `receive` of steps.rt.
-use Rattle.std.proofs.Common.{◌≡◌, ◌≢◌, sym, ap, refl, ℕ, true, false}
+use Rattle.std.proofs.Common.{◌≡◌, ◌≢◌, sym, ap, refl, ℕ}
 use Rattle.std.specs.Prelude.{◌==◌}
 use Rattle.std.proofs.lemmas.Bool.{cond-false, cond-true, eq-eqb, ne_eqb}
 use Rattle.rs_floor.specs.Lane.{LaneContent, lane_after}

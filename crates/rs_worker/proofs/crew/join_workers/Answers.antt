@@ -1,5 +1,5 @@
 -- Each worker that is joined tells what its peer's receiver received.
-use Rattle.std.proofs.Common.{◌≡◌, ◌∙◌, sym, refl, arith, drop, length, length-append, [], ◌∷◌, rules}
+use Rattle.std.proofs.Common.{◌≡◌, ◌∙◌, sym, refl, arith, length, length-append, [], ◌∷◌, rules}
 use Rattle.std.specs.Vec.Iter.{into_iter_items}
 use Rattle.rs_ring.specs.Ends.{Receiving}
 use Rattle.rs_session.specs.declared.word.Word.{Word}
