@@ -1,6 +1,7 @@
 //! An outlet over memory, which tells what it has kept. It can be made to fail, for tests of those who write dumps.
 
-ghost use Rattle.std.specs.Prelude.{◌≡◌, ◌+◌, ◌∷◌, ◌++◌, [], Some, map, OnOk, OnErr};
+ghost use Rattle.std.specs.Prelude.{◌≡◌, ◌+◌, ◌∷◌, ◌++◌, [], Some, None, map, OnOk, OnErr};
+ghost use Rattle.rs_mrt.specs.Memory.{limits_of};
 ghost use Rattle.rs_outlet.specs.Outlet.{InMemory, dump_of};
 
 use crate::outlet::{Outlet, Unopened};
@@ -31,7 +32,12 @@ pub struct OutletLimits {
 
 impl OutletLimits {
     /// Gives no limit but that of memory.
-    pub fn none() -> OutletLimits {
+    pub fn none() -> OutletLimits
+        ensures calls { result.calls_before_refusal ≡ None }
+        ensures dumps { result.dumps_before_limits ≡ 0 }
+        ensures writer { limits_of result.writer
+            ≡ record { before_failure = None; room = usize.MAX; piece = usize.MAX } }
+    {
         OutletLimits {
             calls_before_refusal: None,
             dumps_before_limits: 0,
