@@ -1,4 +1,5 @@
--- What callers see of the attributes of a route: each of them as it is read from their written form.
+-- What callers see of the attributes of a route: each of them as it is read from their written form (RFC 4271,
+-- sections 4.3 and 5; RFC 6793; RFC 1997).
 use Rattle.std.specs.Prelude.{◌≡◌, ℕ, ◌<◌, ◌≤◌, List, [], length, drop, slice_index, Option, Some, None}
 use Rattle.std.specs.Prelude.{is_some, unwrap_or}
 use Rattle.std.specs.Option.{option_map}

@@ -1,4 +1,4 @@
--- Attributes where they stand in a message, by what they are.
+-- Attributes where they stand in a message, by what they are (RFC 4271, section 4.3).
 use Rattle.std.specs.Prelude.{ℕ, List}
 use Rattle.std.specs.Borrow.{Bor}
 use Rattle.rs_update.specs.declared.item.Item.{Item as ItemThere}

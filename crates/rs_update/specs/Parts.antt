@@ -1,4 +1,5 @@
--- Parts that stand one after another in a field: prefixes, path attributes, segments of an AS_PATH.
+-- Parts that stand one after another in a field: prefixes, path attributes, segments of an AS_PATH (RFC 4271,
+-- section 4.3).
 use Rattle.std.specs.Prelude.{◌≡◌, ℕ, zero, suc, ◌<◌, List, [], ◌∷◌, ◌++◌, Option, Some, None, length, slice_index}
 
 -- numbers that are octets

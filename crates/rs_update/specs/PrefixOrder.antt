@@ -1,4 +1,4 @@
--- The order of prefixes: by address, then by length.
+-- The order of prefixes: by address, then by length (our choice).
 use Rattle.std.specs.Ordering.{nat_cmp, ordering_then}
 use Rattle.std.specs.declared.cmp.Ordering.{Ordering}
 use Rattle.rs_update.specs.IpPrefix.{IpPrefix}

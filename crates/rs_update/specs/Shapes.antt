@@ -1,4 +1,4 @@
--- Attributes by their values, where they stand in a written form.
+-- Attributes by their values, where they stand in a written form (RFC 4271, sections 4.3 and 5; RFC 6793; RFC 1997).
 use Rattle.std.specs.Prelude.{ℕ, List, map, filter}
 use Rattle.rs_update.specs.declared.as_path.SegmentView.{SegmentView}
 use Rattle.rs_update.specs.declared.as_path.SegmentView.TheVariants.{Set, Sequence}

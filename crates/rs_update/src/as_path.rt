@@ -61,7 +61,7 @@ impl<'a> Iterator for Segments<'a> {
 }
 
 impl SegmentView<'_> {
-    /// The segment in memory of its own.
+    /// The segment in memory of its own. Fails where memory is refused.
     pub fn to_segment(&self, alloc: Global) -> Result<Segment, AllocError>
         ensures { IfOk result (λ segment. segment_of segment ≡ segment_in self.now) }
     {

@@ -96,9 +96,10 @@ impl<'a> Iterator for Others<'a> {
     }
 }
 
-/// The path attributes of one UPDATE, as read: made by `read_message` alone. Their written form is all that
-/// they keep in memory of their own, and all is read from it when it is asked for, but for what is asked for
-/// again and again: beside it stand ORIGIN, MED and neighbour AS for decisions, and where COMMUNITIES begins.
+/// The path attributes of one UPDATE, as read: made by `read_message` and `read_message_by` alone. Their written
+/// form is all that they keep in memory of their own, and all is read from it when it is asked for, but for what
+/// is asked for again and again: beside it stand ORIGIN, MED and neighbour AS for decisions, and where
+/// COMMUNITIES begins.
 #[derive(Debug, Drop)]
 pub struct Attributes {
     pub(crate) spelling: Vec<u8>,

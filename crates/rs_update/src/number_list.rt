@@ -52,7 +52,7 @@ impl Numbers<'_> {
         self.count
     }
 
-    /// The numbers in a list of one's own.
+    /// The numbers in a list of one's own. Fails where memory is refused.
     pub fn to_vec(&self, alloc: Global) -> Result<Vec<u32>, AllocError>
         ensures { IfOk result (λ numbers. numbers.items ≡ numbers_at self.now.count self.now.octets.now) }
     {

@@ -5,7 +5,7 @@
 ghost use Rattle.std.specs.Prelude.{◌≡◌};
 ghost use Rattle.rs_update.specs.Section.{origin_of, is_origin as is_origin_value, is_next_hop as is_next_hop_value};
 
-// The least first octet of an address that isn't a host's: multicast begins here.
+// The least first octet but 0 of an address that isn't a host's: multicast begins here.
 const MULTICAST: u8 = 224;
 
 /// The origin of a route's path information (RFC 4271, section 5.1.1). Lower is preferred, in this order.
