@@ -1,8 +1,9 @@
 -- A reader whose first octets were taken gives what it might have given before.
-use Rattle.std.proofs.Common.{◌≡◌, ℕ, zero, suc, ◌<◌, false, List, [], ◌∷◌, ◌++◌, length, take, drop, min, Result, Ok, Err, refl, sym, ap, subst, ◌∙◌, arith, append_assoc, take-append-drop, ltb, ltb-false}
+use Rattle.std.proofs.Common.{◌≡◌, ℕ, zero, suc, ◌<◌, ◌||◌, nat_le, Bool, true, false, List, [], ◌∷◌, ◌++◌, length, take, drop, min, Result, Ok, Err, refl, sym, ap, subst, ◌∙◌, arith, append_assoc, take-append-drop, ltb, ltb-false}
+use Rattle.std.specs.Prelude.{OnErr}
 use Rattle.rs_mrt.specs.declared.stream.Failed.{Failed}
-use Rattle.rs_mrt.specs.Reader.{ReadEnd, ReadGives}
-use Rattle.rs_inventory.specs.Front.{Rewound, RewoundGives}
+use Rattle.rs_mrt.specs.Reader.{ReadEnd, ReadFails, ReadGives}
+use Rattle.rs_inventory.specs.Front.{GivesUnlessEnded, ReadMayFail, Rewound, RewoundGives, Taken, front_len, is_done, rewound}
 
 module _ {R : Type 0} (gives : R → List ℕ → ReadEnd → Type 0) where
   -- the reader is asked once all that was taken was given again
@@ -40,6 +41,19 @@ module _ {R : Type 0} (gives : R → List ℕ → ReadEnd → Type 0) where
       subst (λ (w : Rewound R). ReadGives (RewoundGives gives w) (RewoundGives gives new) result piece) (sym (inner-of old held ended))
       (subst (λ (w : Rewound R). ReadGives (RewoundGives gives (record { held = []; ended = false; inner = old.inner })) (RewoundGives gives w) result piece) (sym (inner-of new held_after ended_after))
       (inner-gives old.inner new.inner result piece read))
+
+  -- a failed read while octets are taken is one after these
+  pub front-fails : (front : Taken) (inner : R) → is_done front ≡ false → gives inner [] ReadFails → ReadMayFail (RewoundGives gives) (rewound front inner)
+  front-fails front inner unfinished failed = (front.octets ++ [], record { later = []; splits = refl; given = unless front.ended unfinished })
+    where
+      unless : (ended : Bool) → (ended || nat_le front_len (length front.octets)) ≡ false → GivesUnlessEnded gives ended inner [] ReadFails
+      unless true done = absurd (cc done)
+      unless false done = failed
+
+-- what holds of a failed call holds of its answer
+pub of-failed : {A E : Type 0} {P : Type 0} (answer : Result A E) → P → OnErr answer P
+of-failed (Ok x) holds = tt
+of-failed (Err e) holds = holds
 
 pub nothing-held : (held : List ℕ) → ltb 0 (length held) ≡ false → held ≡ []
 nothing-held [] e = refl

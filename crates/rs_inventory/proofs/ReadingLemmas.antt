@@ -1,15 +1,18 @@
 -- What records may come, and what they hold.
-use Rattle.std.proofs.Common.{◌≡◌, ◌≤◌, ◌∙◌, ℕ, ◌||◌, nat_le, Bool, true, false, List, [], ◌∷◌, ◌++◌, length, map, Option, refl, sym, ap, subst, arith, append-nil, append_assoc, leb-true}
+use Rattle.std.proofs.Common.{◌≡◌, ◌≤◌, ◌∙◌, ℕ, ◌-◌, ◌||◌, nat_le, nat_lt, Bool, true, false, cond, List, [], ◌∷◌, ◌++◌, length, map, take, Option, Some, refl, sym, ap, subst, arith, append-nil, append_assoc, leb-true}
 use Rattle.std.proofs.lemmas.List.{map_push}
-use Rattle.rs_mrt.specs.Reader.{ReadEnd, SomethingIsGiven}
-use Rattle.rs_mrt.specs.Record.{MrtRecord}
-use Rattle.rs_mrt.specs.RecordReading.{MayCome, unread}
+use Rattle.rs_mrt.specs.Entry.{front_of}
+use Rattle.rs_mrt.specs.Reader.{ReadEnd, ReadFails, SomethingIsGiven}
+use Rattle.rs_mrt.specs.Record.{MrtRecord, records_of}
+use Rattle.rs_mrt.specs.RecordReading.{MayCome, read_limit, unread}
+use Rattle.rs_mrt.specs.Source.{source_end}
 use Rattle.rs_mrt.specs.declared.fault.SourceFault.{SourceFault}
+use Rattle.rs_mrt.specs.declared.fault.SourceFault.TheVariants.{Read}
 use Rattle.rs_inventory.specs.Finding.{finding_of}
 use Rattle.rs_inventory.specs.Compression.{compression_of}
-use Rattle.rs_inventory.specs.Front.{GivesUnlessEnded, IsFrontOf, RewoundGives, Taken, is_done, rewound, rewound_may_come}
+use Rattle.rs_inventory.specs.Front.{GivesUnlessEnded, IsFrontOf, ReadMayFail, RewoundGives, Taken, is_done, rewound, rewound_may_come}
 use Rattle.rs_inventory.specs.Inventory.{Content, Holds, TakesFinding}
-use Rattle.rs_inventory.specs.Reading.{Going, IsInventoryOf, MayBeCompressed}
+use Rattle.rs_inventory.specs.Reading.{Going, IsInventoryOf, MayBeCompressed, MayFail}
 use Rattle.rs_inventory.specs.declared.finding.Finding.{Finding}
 
 -- one record more came
@@ -27,24 +30,52 @@ going-more comes initial old new before after finding going gives takes = record
       (takes (map finding_of going.done) going.holds);
 }
 
+-- what comes of a reader whose first octets were taken may come of it
+come-whole : {R : Type 0} (gives : R → List ℕ → ReadEnd → Type 0) (old new : R) (front : Taken) (records : List MrtRecord) (fault : Option SourceFault)
+    → IsFrontOf gives old new front → MayCome (RewoundGives gives) (unread (rewound front new)) records fault → MayCome gives (unread old) records fault
+come-whole gives old new front records fault is come = record {
+  octets = come.octets;
+  end = come.end;
+  come = record {
+    all = come.come.all;
+    last = come.come.last;
+    given = is come.come.all come.come.last come.come.given;
+    cut = come.come.cut;
+    ends = come.come.ends;
+  };
+  fronts = come.fronts;
+  ends = come.ends;
+}
+
+-- so it may fail
+pub fails-whole : {R : Type 0} (gives : R → List ℕ → ReadEnd → Type 0) (old new : R) (front : Taken) → IsFrontOf gives old new front
+    → MayFail (MayCome (RewoundGives gives)) (unread (rewound front new)) → MayFail (MayCome gives) (unread old)
+fails-whole gives old new front is fails = (fails.0, come-whole gives old new front fails.0 (Some Read) is fails.1)
+
+same-either : (test : Bool) (end : ReadEnd) → end ≡ cond test end end
+same-either true end = refl
+same-either false end = refl
+
+-- a reader that may fail may fail behind the records that came of it
+pub fails-read : {R : Type 0} (gives : R → List ℕ → ReadEnd → Type 0) (reader : R) → ReadMayFail gives reader → MayFail (MayCome gives) (unread reader)
+fails-read gives reader fails =
+    let octets = take (read_limit - 0) fails.0 in (
+      map front_of (records_of ([] ++ octets)),
+      record {
+        octets = octets;
+        end = ReadFails;
+        come = record { all = fails.0; last = ReadFails; given = fails.1; cut = refl; ends = same-either (nat_lt (length fails.0) (read_limit - 0)) ReadFails };
+        fronts = refl;
+        ends = refl;
+      },
+    )
+
 -- what is read of a reader whose first octets were taken may be read of it
 pub inventory-whole : {R : Type 0} (gives : R → List ℕ → ReadEnd → Type 0) (old new : R) (front : Taken) (content : Content) → IsFrontOf gives old new front
     → IsInventoryOf (MayCome (RewoundGives gives)) (unread (rewound front new)) content → IsInventoryOf (MayCome gives) (unread old) content
 inventory-whole gives old new front content is held = record {
   records = held.records;
-  come = record {
-    octets = held.come.octets;
-    end = held.come.end;
-    come = record {
-      all = held.come.come.all;
-      last = held.come.come.last;
-      given = is held.come.come.all held.come.come.last held.come.come.given;
-      cut = held.come.come.cut;
-      ends = held.come.come.ends;
-    };
-    fronts = held.come.fronts;
-    ends = held.come.ends;
-  };
+  come = come-whole gives old new front held.records (source_end content.end) is held.come;
   holds = held.holds;
 }
 

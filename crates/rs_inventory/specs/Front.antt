@@ -2,7 +2,7 @@
 -- it is our choice.
 use Rattle.std.specs.Prelude.{◌≡◌, ℕ, suc, ◌-◌, if◌then◌else◌, ◌||◌, nat_le, Bool, true, false, List, [], ◌++◌}
 use Rattle.std.specs.Prelude.{length, refl}
-use Rattle.rs_mrt.specs.Reader.{ReadEnd, FileEnds, SomethingIsGiven}
+use Rattle.rs_mrt.specs.Reader.{ReadEnd, FileEnds, ReadFails, SomethingIsGiven}
 
 -- octets that were taken of a reader, and whether it has no more
 pub record Taken : Type 0 where
@@ -65,6 +65,10 @@ octets_wanted front = if front.ended then 0 else suc (front_len - length front.o
 abbrev pub IsFrontOf : {R : Type 0} → (R → List ℕ → ReadEnd → Type 0) → R → R → Taken → Type 0
 IsFrontOf gives old new front =
     (octets : List ℕ) → (end : ReadEnd) → RewoundGives gives (rewound front new) octets end → gives old octets end
+
+-- octets may be given, and after them a read fails
+abbrev pub ReadMayFail : {R : Type 0} → (R → List ℕ → ReadEnd → Type 0) → R → Type 0
+ReadMayFail gives reader = (octets : List ℕ) × gives reader octets ReadFails
 
 -- one call took more
 abbrev pub TakesMore : {R : Type 0} → (R → List ℕ → ReadEnd → Type 0) → (R → ℕ) → Taken → R → Taken → R → Type 0

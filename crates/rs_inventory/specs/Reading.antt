@@ -5,6 +5,7 @@ use Rattle.rs_mrt.specs.Record.{MrtRecord}
 use Rattle.rs_mrt.specs.Source.{source_end}
 use Rattle.rs_mrt.specs.declared.fault.MrtFault.{MrtFault}
 use Rattle.rs_mrt.specs.declared.fault.SourceFault.{SourceFault}
+use Rattle.rs_mrt.specs.declared.fault.SourceFault.TheVariants.{Read}
 use Rattle.rs_inventory.specs.Compression.{compression_of}
 use Rattle.rs_inventory.specs.Finding.{finding_of}
 use Rattle.rs_inventory.specs.Inventory.{Content, Holds}
@@ -22,6 +23,10 @@ pub record IsInventoryOf {S : Type 0} (comes : S → List MrtRecord → Option S
   pub records : List MrtRecord
   pub come : comes source records (source_end content.end)
   pub holds : Holds (map finding_of records) content
+
+-- records may come, and after them a failed read
+abbrev pub MayFail : {S : Type 0} → (S → List MrtRecord → Option SourceFault → Type 0) → S → Type 0
+MayFail comes source = (records : List MrtRecord) × comes source records (Some Read)
 
 -- these records came so far, with whatever may still come behind them, and this is what they hold
 pub record Going {S : Type 0} (comes : S → List MrtRecord → Option SourceFault → Type 0) (initial now : S)

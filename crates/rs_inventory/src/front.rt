@@ -1,9 +1,9 @@
 //! A reader whose first octets were looked at.
 
 ghost use Rattle.std.specs.Prelude.{◌≡◌, ◌+◌, ◌<◌, ◌≤◌, ◌++◌, ◌==◌, false, true, drop, length, min, nat_lt};
-ghost use Rattle.std.specs.Prelude.{take, IfOk, OnOk};
-ghost use Rattle.rs_inventory.specs.Front.{IsFrontOf, RewoundGives, TakesMore, front_len, is_done, octets_wanted};
-ghost use Rattle.rs_inventory.specs.Front.{rewound, rewound_may_come};
+ghost use Rattle.std.specs.Prelude.{take, IfErr, IfOk, OnErr, OnOk};
+ghost use Rattle.rs_inventory.specs.Front.{IsFrontOf, ReadMayFail, RewoundGives, TakesMore, front_len, is_done};
+ghost use Rattle.rs_inventory.specs.Front.{octets_wanted, rewound, rewound_may_come};
 
 use crate::compression::FRONT;
 use rs_mrt::{Failed, Read};
@@ -40,6 +40,7 @@ impl Front {
         ensures gives { IfOk result (IsFrontOf R.gives reader.old reader.new) }
         ensures done { IfOk result (λ front. is_done front ≡ true) }
         ensures failures { IfOk result (λ _. R.failures reader.new ≡ R.failures reader.old) }
+        ensures fails { IfErr result (λ _. ReadMayFail R.gives reader.old) }
     {
         let mut front = Front {
             octets: [0; ROOM],
@@ -65,6 +66,7 @@ impl Front {
         requires failures { R.failures reader.old < u64.MAX }
         ensures takes { OnOk result (TakesMore R.gives R.failures self.old reader.old self.new reader.new) }
         ensures grows { OnOk result (octets_wanted self.new < octets_wanted self.old) }
+        ensures fails { OnErr result (ReadMayFail (RewoundGives R.gives) (rewound self.old reader.old)) }
     {
         let mut piece = [0; FRONT];
         let taken = reader.read(&mut piece)?;

@@ -1,8 +1,8 @@
 //! How a recorded file is read: once, in pieces, and of a compressed one only its first octets.
 
-ghost use Rattle.std.specs.Prelude.{◌≡◌, ◌+◌, ◌<◌, ◌≤◌, IfOk, IfSome, None};
+ghost use Rattle.std.specs.Prelude.{◌≡◌, ◌+◌, ◌<◌, ◌≤◌, IfOk, IfSome, IsErrOf, None};
 ghost use Rattle.rs_mrt.specs.RecordReading.{MayCome, unread};
-ghost use Rattle.rs_inventory.specs.Reading.{GivesFinding, IsInventoryOf, MayBeCompressed};
+ghost use Rattle.rs_inventory.specs.Reading.{GivesFinding, IsInventoryOf, MayBeCompressed, MayFail};
 ghost use Rattle.rs_inventory.specs.declared.reading.InventoryFault.TheVariants.{Memory, Read};
 
 use crate::compression::Compression;
@@ -42,6 +42,8 @@ impl From<Failed> for InventoryFault {
 
 /// Reads a recorded file and tells what it holds: whether it is compressed, and of one that isn't what its records say.
 /// Memory is taken for its peers and their sessions, not for its octets.
+///
+/// `Read` is answered where a read fails, or 2^50 octets come of the reader; `Memory` where memory is refused.
 pub fn read_inventory<R: Read + Drop>(
     alloc: Global,
     mut reader: R,
@@ -52,6 +54,8 @@ pub fn read_inventory<R: Read + Drop>(
     // Of a file that isn't it is the inventory of records that the reader may give, to their end.
     ensures records { IfOk result (λ held. held.compression ≡ None
         → IsInventoryOf (MayCome R.gives) (unread reader) held) }
+    // A read is only said to fail where the reader may fail, or give as many octets as are taken of it.
+    ensures read { IsErrOf result Read → MayFail (MayCome R.gives) (unread reader) }
 {
     let front = Front::of(&mut reader)?;
     if let Some(compression) = Compression::of(front.octets()) {
@@ -66,6 +70,7 @@ pub fn read_inventory<R: Read + Drop>(
 fn take_records<S: Source + Drop>(alloc: Global, mut source: S) -> Result<Inventory, InventoryFault>
     ensures records { IfOk result (IsInventoryOf S.comes source) }
     ensures uncompressed { IfOk result (λ held. held.compression ≡ None) }
+    ensures read { IsErrOf result Read → MayFail S.comes source }
 {
     let mut inventory = Inventory::none(alloc, None);
     let mut end = None;
@@ -84,6 +89,7 @@ fn next_finding<S: Source>(
 ) -> Result<Option<Finding>, InventoryFault>
     ensures gives { IfOk result (GivesFinding S.comes source.old source.new end.new) }
     ensures room { IfOk result (λ found. IfSome found (λ _. S.room source.new + 12 ≤ S.room source.old)) }
+    ensures read { IsErrOf result Read → MayFail S.comes source.old }
 {
     match source.advance() {
         Ok(true) => {}
@@ -98,7 +104,7 @@ fn next_finding<S: Source>(
         Err(SourceFault::Read) => return Err(InventoryFault::Read),
     }
     let Some(record) = source.shown() else {
-        return Ok(None);
+        unreachable!();
     };
     Ok(Some(Finding::of(alloc, &record)?))
 }

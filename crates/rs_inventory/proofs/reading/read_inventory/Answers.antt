@@ -1,10 +1,11 @@
-use Rattle.std.proofs.Common.{◌≡◌, ◌∙◌, sym, ap, subst, Option, None, rules}
+use Rattle.std.proofs.Common.{◌≡◌, ◌∙◌, sym, ap, subst, Err, Option, None, rules}
+use Rattle.std.proofs.lemmas.Result.{err_from_is_err_and}
 use Rattle.rs_mrt.specs.RecordReading.{MayCome, unread}
 use Rattle.rs_inventory.specs.Compression.{compression_of}
 use Rattle.rs_inventory.specs.Front.{RewoundGives, rewound}
-use Rattle.rs_inventory.specs.Reading.{IsInventoryOf, MayBeCompressed}
+use Rattle.rs_inventory.specs.Reading.{IsInventoryOf, MayBeCompressed, MayFail}
 use Rattle.rs_inventory.specs.declared.compression.Compression.{Compression}
-use Rattle.rs_inventory.proofs.ReadingLemmas.{inventory-whole, may-be-compressed}
+use Rattle.rs_inventory.proofs.ReadingLemmas.{fails-read, fails-whole, inventory-whole, may-be-compressed}
 use Rattle.rs_inventory.proofs.reading.read_inventory.Goals as goal
 
 pub returns-clause-records : goal.returns-clause-records
@@ -25,6 +26,17 @@ returns-clause-compressed g c =
     subst (λ (compression : Option Compression). MayBeCompressed g.R.Read.gives c.args.reader compression)
     (sym (c.in_ok-inventory.ensures.uncompressed ∙ none))
     (may-be-compressed g.R.Read.gives g.met.R.Read.may_come c.args.reader c.of.new.reader c.in_ok-front.front c.in_ok-front.ensures.gives c.in_ok-front.ensures.done)
+
+pub returns-in_err-front-clause-read : goal.returns-in_err-front-clause-read
+returns-in_err-front-clause-read g c = λ read. fails-read g.R.Read.gives c.args.reader c.in_err-front.ensures.fails
+
+pub returns-in_err-inventory-clause-read : goal.returns-in_err-inventory-clause-read
+returns-in_err-inventory-clause-read g c = λ read.
+    let source : c.new-source.result ≡ unread (rewound c.in_ok-front.front c.of.new.reader) = c.new-source.ensures ∙ ap unread c.new.ensures in
+    let told = err_from_is_err_and c.from_residual-in_err-inventory.result c.from_residual-in_err-inventory.ensures.1 in
+    let fails = c.in_err-inventory.ensures.read (ap Err (sym told.2) ∙ sym told.1 ∙ read) in
+    fails-whole g.R.Read.gives c.args.reader c.of.new.reader c.in_ok-front.front c.in_ok-front.ensures.gives
+    (subst (λ s. MayFail (MayCome (RewoundGives g.R.Read.gives)) s) source fails)
 
 pub returns-in-Some-clause-records : goal.returns-in-Some-clause-records
 returns-in-Some-clause-records g c = search rules
