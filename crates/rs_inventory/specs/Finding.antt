@@ -58,6 +58,7 @@ news_of_states old new =
 
 -- ---- a record
 
+-- news of a peer
 abbrev pub note_of : ℕ → ℕ → News → Note
 note_of address asn told = record { peer = record { address = address; asn = asn }; news = told }
 
@@ -83,6 +84,7 @@ opener_of fields =
     note_of (big_number 4 (drop 8 fields)) (sender_as (big_number 2 fields) (drop 16 fields))
     (news.TwoOctetOpen (identifier_of (drop 16 fields)))
 
+-- what such fields say where the message is an OPEN
 abbrev pub two_octet_open : List ℕ → Option Note
 two_octet_open fields =
     if is_ipv4_message fields && is_open (message_of (drop 16 fields)) then Some (opener_of fields) else None
@@ -119,5 +121,6 @@ finding_by r (Ok Other) =
 finding_by r (Err fault) =
     record { time = r.time; kind = kinds.CutShort; octets = known_octets r.body; recorder = None; note = None }
 
+-- what a record adds
 abbrev pub finding_of : MrtRecord → Finding
 finding_of r = finding_by r (entry_of r)

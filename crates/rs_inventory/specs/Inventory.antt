@@ -35,16 +35,19 @@ pub record Content : Type 0 where
 
 -- ---- times
 
+-- the earliest of these times, where there are any
 abbrev pub IsEarliest : List ℕ → Option ℕ → Type 0
 IsEarliest times None = times ≡ []
 IsEarliest times (Some time) = Contains times time × All (λ other. time ≤ other) times
 
+-- the latest of these times, where there are any
 abbrev pub IsLatest : List ℕ → Option ℕ → Type 0
 IsLatest times None = times ≡ []
 IsLatest times (Some time) = Contains times time × All (λ other. other ≤ time) times
 
 -- ---- peers
 
+-- two peers are the same
 abbrev pub same_peer : Peer → Peer → Bool
 same_peer = eq_by_cmp peer_cmp
 
@@ -62,6 +65,7 @@ abbrev pub known_of : List Told → Option PeerContent
 known_of [] = None
 known_of (one ∷ later) = Some (peer_content (one ∷ later))
 
+-- what is known of a peer
 abbrev pub peer_at : List (Peer × PeerContent) → Peer → Option PeerContent
 peer_at peers peer = lookup (is_at (peer_cmp peer)) peers
 
@@ -98,18 +102,22 @@ abbrev pub TakesNote : List (Peer × PeerContent) → ℕ → Option Note → Li
 TakesNote old time note new = (peer : Peer) → (told : List Told) → peer_at old peer ≡ known_of told
     → peer_at new peer ≡ known_of (told ++ cons_option (told_in peer time note) [])
 
+-- the earliest time with one more
 abbrev pub earlier_of : Option ℕ → ℕ → ℕ
 earlier_of None time = time
 earlier_of (Some first) time = min first time
 
+-- the latest time with one more
 abbrev pub later_of : Option ℕ → ℕ → ℕ
 later_of None time = time
 later_of (Some last) time = max last time
 
+-- the sum of the octets with those of one record more, where both are known
 abbrev pub sum_of : Option ℕ → Option ℕ → Option ℕ
 sum_of None other = None
 sum_of (Some n) other = option_map (λ m. counted (n + m)) other
 
+-- the first that there is of two
 abbrev pub first_of : {X : Type 0} → Option X → Option X → Option X
 first_of None other = other
 first_of (Some x) other = Some x

@@ -95,29 +95,35 @@ TellsMore old time one new =
 
 -- ---- one record more
 
-abbrev pub cond_one : Bool → ℕ
-cond_one b = if b then 1 else 0
+-- what a record adds to a count where a test passes
+abbrev pub one_if : Bool → ℕ
+one_if b = if b then 1 else 0
 
+-- the counts with one record more
 abbrev pub with_counts : News → PeerContent → PeerContent
 with_counts one p = record p {
-  messages = counted (p.messages + cond_one (is_message one));
-  state_changes = counted (p.state_changes + cond_one (is_state_change one));
-  faulty = counted (p.faulty + cond_one (is_faulty one));
+  messages = counted (p.messages + one_if (is_message one));
+  state_changes = counted (p.state_changes + one_if (is_state_change one));
+  faulty = counted (p.faulty + one_if (is_faulty one));
   announced = counted (p.announced + announced_by one);
   withdrawn = counted (p.withdrawn + withdrawn_by one);
 }
 
+-- the numbers with one more, where there is one that differs from the last
 abbrev pub with_next : List ℕ → Option ℕ → List ℕ
 with_next numbers None = numbers
 with_next numbers (Some n) = if is_same (slice_get numbers (length numbers - 1)) n then numbers else numbers ++ n ∷ []
 
+-- the BGP Identifiers with one record more
 abbrev pub with_identifier : News → PeerContent → PeerContent
 with_identifier one p = record p { identifiers = with_next p.identifiers (identifier_in one) }
 
+-- the sessions with one event more, where there is one
 abbrev pub with_event : Option Event → List SessionTimes → List SessionTimes
 with_event None sessions = sessions
 with_event (Some (Up time)) sessions = sessions ++ record { up = Some time; down = None } ∷ []
 with_event (Some (Down time)) sessions = with_end time sessions
 
+-- the sessions with one record more
 abbrev pub with_session : ℕ → News → PeerContent → PeerContent
 with_session time one p = record p { sessions = with_event (event_at time one) p.sessions }

@@ -153,8 +153,7 @@ impl Inventory {
     }
 
     /// How many octets the whole records have together: none where one is longer than any of a session, since of such
-    /// a one not all
-    /// octets are kept.
+    /// a one not all octets are kept.
     pub fn octets(&self) -> Option<u64>
         ensures { result ≡ self.now.octets }
     {

@@ -2,9 +2,8 @@
 //! 4271).
 //!
 //! Reading order: `compression` (a file that isn't records), `kind` (what a record is), `opening` (what an OPEN
-//! tells), `finding` (what one record
-//! adds), `sessions`, `peer` (what is known of one peer), `inventory` (of one file), `front` and `reading` (how a
-//! file is read).
+//! tells), `finding` (what one record adds), `sessions`, `peer` (what is known of one peer), `inventory` (of one
+//! file), `front` and `reading` (how a file is read).
 #![tactic(auto)]
 
 mod compression;

@@ -1,6 +1,5 @@
 //! What an OPEN tells of its sender: its BGP Identifier, and its AS number of four octets (RFC 4271, section 4.2; RFC
-//! 6793, section 3;
-//! RFC 5492, section 4).
+//! 6793, section 3; RFC 5492, section 4).
 
 ghost use Rattle.std.specs.Prelude.{◌≡◌};
 ghost use Rattle.std.specs.Option.{option_map};
