@@ -3,10 +3,8 @@
 ghost use Rattle.std.specs.Prelude.{◌≡◌, ◌<◌, All, None, IfErr, IfOk, length};
 ghost use Rattle.rs_ended.specs.Texts.{CanTell};
 
-use crate::file_identity::found_at;
-use crate::read_once::first_unreadable;
 use rs_ended::Ended;
-use rs_files::{FileFault, Recorded, in_pieces, open};
+use rs_files::{FileFault, Recorded, first_unreadable, found_at, in_pieces, open};
 use rs_progress::{Counted, Progress};
 use std::alloc::Global;
 use std::fs::Files;

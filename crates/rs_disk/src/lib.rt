@@ -2,17 +2,15 @@
 //! folder, sees beforehand which file can't be read and which dump can't be written, and notes the files of which
 //! nothing was kept.
 //!
-//! Reading order: `files` (opening), `folder_outlet` (dumps), `read_once`, `overwritten` and `tried` (what is seen
-//! beforehand), `notes`, `copied` (the copy of the report, from which notes are made).
+//! Reading order: `files` (opening), `folder_outlet` (dumps), `overwritten` and `tried` (what is seen beforehand),
+//! `notes`, `copied` (the copy of the report, from which notes are made).
 #![tactic(auto)]
 
 mod copied;
-mod file_identity;
 mod files;
 mod folder_outlet;
 mod notes;
 mod overwritten;
-mod read_once;
 mod tried;
 
 pub use copied::Copied;

@@ -5,8 +5,7 @@
 
 ghost use Rattle.std.specs.Prelude.{◌≡◌, ◌<◌, length};
 
-use crate::file_identity::found_at;
-use rs_files::open_file;
+use rs_files::{found_at, open_file};
 use rs_hints::{FRONT_LEN, hint_on, note_line};
 use rs_inventory::{Inventory, Peer, read_inventory};
 use rs_setup::Setup;

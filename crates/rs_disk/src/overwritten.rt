@@ -3,8 +3,8 @@
 ghost use Rattle.std.specs.Prelude.{◌<◌, None, IfErr, IfOk, IfSome, length};
 ghost use Rattle.rs_ended.specs.Texts.{CanTell};
 
-use crate::file_identity::{FileIdentity, found_at};
 use rs_ended::{Ended, dump_path};
+use rs_files::{FileIdentity, found_at};
 use rs_options::Options;
 use rs_setup::Setup;
 use std::alloc::AllocError;

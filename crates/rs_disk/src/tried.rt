@@ -7,9 +7,9 @@
 ghost use Rattle.std.specs.Prelude.{◌<◌, None, IfErr, IfOk, IfSome, length};
 ghost use Rattle.rs_ended.specs.Texts.{CanTell};
 
-use crate::file_identity::found_at;
 use crate::overwritten::first_overwritten;
 use rs_ended::{Ended, dump_path, path_in};
+use rs_files::found_at;
 use rs_options::Options;
 use rs_setup::Setup;
 use std::alloc::AllocError;

@@ -3,11 +3,9 @@
 //!
 //! Our choice: of the null device, which never gives any, several peers may read.
 
-ghost use Rattle.std.specs.Prelude.{◌<◌, None, IfErr, IfOk, IfSome, length};
-ghost use Rattle.rs_ended.specs.Texts.{CanTell};
+ghost use Rattle.std.specs.Prelude.{◌<◌, IfOk, IfSome, length};
 
 use crate::file_identity::{FileIdentity, found_at};
-use rs_ended::Ended;
 use std::alloc::AllocError;
 use std::fs::{Files, Metadata};
 use std::os::unix::fs::{FileTypeExt, MetadataExt};
@@ -17,13 +15,12 @@ const NULL_DEVICE: u64 = 0x103;
 
 /// The first of these paths at which nothing is; where there is none, the first that names a file which gives
 /// its octets only once and which an earlier one names too. Nothing is opened, since that may wait for what
-/// writes into a pipe.
+/// writes into a pipe. Fails where memory is refused.
 pub fn first_unreadable<R: AllocGlobal + Files>(
     rt: &R,
     paths: &[String],
-) -> Result<Option<usize>, Ended>
+) -> Result<Option<usize>, AllocError>
     ensures known { IfOk result (λ peer. IfSome peer (λ number. number < length paths.now)) }
-    ensures refused { IfErr result (λ ended. CanTell ended None None) }
 {
     match first_missing(rt, paths)? {
         Some(peer) => Ok(Some(peer)),
@@ -32,9 +29,8 @@ pub fn first_unreadable<R: AllocGlobal + Files>(
 }
 
 // The first path at which nothing is.
-fn first_missing<R: AllocGlobal + Files>(rt: &R, paths: &[String]) -> Result<Option<usize>, Ended>
+fn first_missing<R: Files>(rt: &R, paths: &[String]) -> Result<Option<usize>, AllocError>
     ensures known { IfOk result (λ peer. IfSome peer (λ number. number < length paths.now)) }
-    ensures refused { IfErr result (λ ended. CanTell ended None None) }
 {
     for peer in 0..paths.len() {
         if found_at(rt, &paths[peer])?.is_none() {
@@ -45,9 +41,11 @@ fn first_missing<R: AllocGlobal + Files>(rt: &R, paths: &[String]) -> Result<Opt
 }
 
 // The first path of a file that gives its octets only once and that an earlier path names.
-fn first_again<R: AllocGlobal + Files>(rt: &R, paths: &[String]) -> Result<Option<usize>, Ended>
+fn first_again<R: AllocGlobal + Files>(
+    rt: &R,
+    paths: &[String],
+) -> Result<Option<usize>, AllocError>
     ensures known { IfOk result (λ peer. IfSome peer (λ number. number < length paths.now)) }
-    ensures refused { IfErr result (λ ended. CanTell ended None None) }
 {
     let mut earlier = Vec::new(rt.alloc());
     for peer in 0..paths.len() {
@@ -55,7 +53,7 @@ fn first_again<R: AllocGlobal + Files>(rt: &R, paths: &[String]) -> Result<Optio
             if earlier.contains(&file) {
                 return Ok(Some(peer));
             }
-            earlier.push(file).map_err(|_| Ended::Memory)?;
+            earlier.push(file)?;
         }
     }
     Ok(None)
