@@ -1,4 +1,4 @@
-//! The conditions of eligibility, one by one (RFC 4271, section 9.1.2; the second and third are our choice).
+//! The conditions of eligibility, one by one (RFC 4271, section 9.1.2 the first, section 6.3 the others).
 
 ghost use Rattle.std.specs.Prelude.{◌≡◌, ◌<◌, length};
 ghost use Rattle.rs_explain.specs.Reasons.{failed_condition};

@@ -21,7 +21,7 @@ pub enum Explanation {
     Own,
     /// The peer has no route left on the prefix.
     Absent,
-    /// The peer's route isn't eligible (RFC 4271, section 9.1.2): the first condition that it fails.
+    /// The peer's route isn't eligible (RFC 4271, sections 6.3 and 9.1.2): the first condition that it fails.
     Ineligible(Condition),
     /// Export policy refuses the peer's route to the client (RFC 7947, section 2.3): the rule that refuses it.
     Refused(Refusal),

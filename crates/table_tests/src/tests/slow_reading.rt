@@ -57,7 +57,7 @@ fn unbeaten(alloc: Global, step: u32, members: &[Member]) -> Option<Vec<Member>>
     Some(left)
 }
 
-// Whether a route of a peer may be used at all (RFC 4271, section 9.1.2).
+// Whether a route of a peer may be used at all (RFC 4271, sections 6.3 and 9.1.2).
 fn is_eligible(local: &Local, sender: &PeerSpec, route: &Attributes) -> bool {
     let next_hop = route.next_hop();
     let is_reachable = match local.subnet {
