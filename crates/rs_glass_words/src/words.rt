@@ -5,6 +5,7 @@ use crate::query::{HistoryQuery, PeersQuery, Query, WhyQuery, WordsFault};
 use crate::values::{PREFIX_FORM, TIME_FORM, prefix_of, time_of};
 use clap::error::ErrorKind;
 use clap::{ArgMatches, Error};
+use rs_lines::on_one_line;
 use rs_options::standard_of;
 use rs_update::{Errors, Prefix};
 use std::alloc::{AllocError, Global};
@@ -12,11 +13,31 @@ use std::alloc::{AllocError, Global};
 // The text where `clap` gives less than it promises.
 const INCOMPLETE: &str = "error: an option has no value\n";
 
-/// Reads the words of the command line, which begin with the program's own name.
+/// Reads the words of the command line, which begin with the program's own name. Fails with `Shown` where they ask for
+/// help or the version, with `Refused` where they ask no question, with `Memory` where memory is refused. Control
+/// characters of a word are escaped in the text that tells why.
 pub fn read_query(alloc: Global, words: Vec<String>) -> Result<Query, WordsFault> {
     match program(alloc)?.try_get_matches_from(words.as_slice()) {
         Ok(matches) => query_of(alloc, &matches),
-        Err(error) => Err(fault_of(alloc, &error)),
+        Err(error) => Err(fault_on_one_line(alloc, &words, &error)?),
+    }
+}
+
+// Why the words ask no question, with a text that shows them with their control characters escaped: it is the text of
+// words that are escaped before they are read.
+fn fault_on_one_line(
+    alloc: Global,
+    words: &[String],
+    error: &Error,
+) -> Result<WordsFault, WordsFault> {
+    let mut escaped = Vec::with_capacity(alloc, words.len())?;
+    for word in words {
+        let word = on_one_line(alloc, word)?;
+        escaped.push(word).map_err(|_| WordsFault::Memory)?;
+    }
+    match program(alloc)?.try_get_matches_from(escaped.as_slice()) {
+        Ok(_) => Ok(fault_of(alloc, error)),
+        Err(told) => Ok(fault_of(alloc, &told)),
     }
 }
 
