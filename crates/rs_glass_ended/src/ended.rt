@@ -1,5 +1,9 @@
 //! How the program ends where it stops short: its status.
 
+ghost use Rattle.std.specs.Prelude.{◌≡◌};
+ghost use Rattle.rs_glass_ended.specs.Status.{status_of};
+
+use rs_choice::PlanFault;
 use rs_files::FileFault;
 use rs_glass::GlassFault;
 use rs_glass_words::WordsFault;
@@ -62,13 +66,17 @@ impl Ended {
         }
     }
 
-    /// The status with which the program ends.
-    pub fn status(&self) -> u8 {
+    /// The status with which the program ends: 0 where help or the version was asked for, 1 where the command line or
+    /// the configuration is refused, 2 where a file or a device failed, 3 for want of memory.
+    pub fn status(&self) -> u8
+        ensures { result ≡ status_of self.now }
+    {
         match self {
             Ended::Words(WordsFault::Shown(_)) => 0,
             Ended::Words(WordsFault::Refused(_)) => REFUSED,
             Ended::Words(WordsFault::Memory) => OUT_OF_MEMORY,
             Ended::NotUtf8 => REFUSED,
+            Ended::Setup(SetupFault::Plan(PlanFault::Memory)) => OUT_OF_MEMORY,
             Ended::Setup(SetupFault::Memory) => OUT_OF_MEMORY,
             Ended::Setup(_) => REFUSED,
             Ended::NoPeer(_) => REFUSED,

@@ -1,5 +1,8 @@
 //! The line that says why the program stops short.
 
+ghost use Rattle.std.specs.Prelude.{◌≡◌, ◌++◌, IfOk, string_bytes};
+ghost use Rattle.rs_glass_ended.specs.Lines.{line_break, line_of, named};
+
 use crate::ended::Ended;
 use rs_glass_words::WordsFault;
 use rs_lines::{on_one_line, setup_line};
@@ -12,8 +15,11 @@ const PROGRAM: &str = "looking_glass";
 pub const MEMORY_LINE: &str = "looking_glass: out of memory\n";
 
 /// The line that says why the program stops short, with its line break; for help and a refused command line
-/// the whole text. Control characters in a key, a name or a path are escaped, so that the line stays one.
-pub fn line(alloc: Global, ended: &Ended) -> Result<String, AllocError> {
+/// the whole text. Control characters in a key, a name or a path are escaped, so that the line stays one. Fails where
+/// memory is refused.
+pub fn line(alloc: Global, ended: &Ended) -> Result<String, AllocError>
+    ensures { IfOk result (λ line. string_bytes line ≡ line_of ended.now) }
+{
     match ended {
         Ended::Words(WordsFault::Shown(text)) => String::from_str(alloc, text),
         Ended::Words(WordsFault::Refused(text)) => String::from_str(alloc, text),
@@ -37,6 +43,8 @@ pub fn line(alloc: Global, ended: &Ended) -> Result<String, AllocError> {
 }
 
 // A line of the program.
-fn told(alloc: Global, what: &str) -> Result<String, AllocError> {
+fn told(alloc: Global, what: &str) -> Result<String, AllocError>
+    ensures { IfOk result (λ line. string_bytes line ≡ named (what.now ++ line_break)) }
+{
     format!(in alloc; "looking_glass: {what}\n")
 }
