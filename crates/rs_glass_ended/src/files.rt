@@ -3,10 +3,12 @@
 ghost use Rattle.std.specs.Prelude.{◌≡◌, ◌<◌, All, IfOk, length};
 
 use crate::ended::Ended;
-use rs_files::{Recorded, open_file};
+use rs_files::{Recorded, first_unreadable, open_file};
 use std::fs::Files;
 
-/// Opens the files of these paths, in their order, and reads nothing yet. The first that can't be opened is named.
+/// Opens the files of these paths, in their order, and reads nothing yet. The first that can't be opened is named;
+/// where each is there, one that gives its octets only once, as a pipe does, and that an earlier path names too. Fails
+/// where memory is refused.
 pub fn open_files<R: AllocGlobal + Files>(
     rt: &R,
     paths: &[String],
@@ -14,6 +16,9 @@ pub fn open_files<R: AllocGlobal + Files>(
     ensures one_for_each { IfOk result (λ files. length files.items ≡ length paths.now) }
     ensures no_failure { IfOk result (λ files. All (λ file. file.failures < u64.MAX) files.items) }
 {
+    if let Some(peer) = first_unreadable(rt, paths)? {
+        return Err(Ended::by_path(rt.alloc(), &paths[peer]));
+    }
     let mut files = Vec::with_capacity(rt.alloc(), paths.len())?;
     for path in paths {
         let file = match open_file(rt, path) {
