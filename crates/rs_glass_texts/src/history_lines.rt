@@ -12,7 +12,7 @@ use rs_timestamp::Utc;
 use std::alloc::{AllocError, Global};
 
 /// The history as a text of several lines: for each thing that happened the time, the peer, whose route the
-/// client gets from then on where one is asked for, and what happened.
+/// client gets from then on where one is asked for, and what happened. Fails where memory is refused.
 pub fn history_text(
     alloc: Global,
     plan: &Exchange,
@@ -21,6 +21,7 @@ pub fn history_text(
     let clock = clock_of(history);
     let names = name_width(plan, "peer");
     let gets = gets_title(alloc, plan, history)?;
+    let gets_width = name_width(plan, &gets);
     let mut text = String::new(alloc);
     add_head(&mut text, alloc, plan, history, clock)?;
     add_titles(&mut text, plan, clock, &gets)?;
@@ -29,11 +30,7 @@ pub fn history_text(
         add_cell(&mut text, &time, clock.width())?;
         add_cell(&mut text, name_at(plan, one.peer), names)?;
         if !gets.is_empty() {
-            add_cell(
-                &mut text,
-                best_name(plan, one.best),
-                name_width(plan, &gets),
-            )?;
+            add_cell(&mut text, best_name(plan, one.best), gets_width)?;
         }
         add_event(&mut text, alloc, &one.event)?;
         text.push('\n')?;

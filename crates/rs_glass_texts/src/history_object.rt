@@ -11,7 +11,7 @@ use serde_json::{Map, Value, put};
 use std::alloc::{AllocError, Global};
 use std::net::Ipv4Addr;
 
-/// The history as one JSON object on one line, with a line break behind it.
+/// The history as one JSON object on one line, with a line break behind it. Fails where memory is refused.
 pub fn history_json(
     alloc: Global,
     plan: &Exchange,

@@ -15,7 +15,7 @@ const AS_WIDTH: usize = 12;
 const ANSWER_WIDTH: usize = 11;
 
 /// The answers as a text of several lines: what the client gets, and for each other peer its AS, the time at
-/// which its route was announced or taken away, the answer and the reason.
+/// which its route was announced or taken away, the answer and the reason. Fails where memory is refused.
 pub fn why_text(alloc: Global, plan: &Exchange, answers: &Answers) -> Result<String, AllocError> {
     let clock = clock_of(answers);
     let names = name_width(plan, "peer");

@@ -10,7 +10,7 @@ use serde_json::{Map, Value, json, put};
 use std::alloc::{AllocError, Global};
 use std::net::Ipv4Addr;
 
-/// The answers as one JSON object on one line, with a line break behind it.
+/// The answers as one JSON object on one line, with a line break behind it. Fails where memory is refused.
 pub fn why_json(alloc: Global, plan: &Exchange, answers: &Answers) -> Result<String, AllocError> {
     let mut peers = Vec::with_capacity(alloc, answers.peers.len())?;
     for (peer, answer) in answers.peers.iter().enumerate() {
