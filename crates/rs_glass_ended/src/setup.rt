@@ -8,6 +8,7 @@ use rs_setup::{Setup, a_configuration_has_a_file_for_each_peer, read_setup};
 use std::fs::Files;
 
 /// Reads the configuration at a path. A file that can't be read is named, and so is why a configuration is refused.
+/// Fails where memory is refused.
 pub fn configuration<R: AllocGlobal + Files>(rt: &R, path: &str) -> Result<Setup, Ended>
     ensures { IfOk result (λ setup. length setup.files.items ≡ length setup.plan.value.peers) }
 {
@@ -22,7 +23,7 @@ pub fn configuration<R: AllocGlobal + Files>(rt: &R, path: &str) -> Result<Setup
     }
 }
 
-/// Finds the number of the peer of a name. A name that no peer has is refused.
+/// Finds the number of the peer of a name. A name that no peer has is refused. Fails where memory is refused.
 pub fn peer_named<R: AllocGlobal>(rt: &R, setup: &Setup, name: &str) -> Result<usize, Ended>
     ensures known { IfOk result (λ number. number < length setup.now.plan.value.peers) }
     ensures named { IfOk result (λ number.
