@@ -72,7 +72,7 @@ struct SessionRow {
     down: Option<u32>,
 }
 
-/// What each file holds, as one JSON object and a line break.
+/// What each file holds, as one JSON object and a line break. Fails where memory is refused.
 pub fn as_json(alloc: Global, files: &[RecordedFile]) -> Result<String, AllocError> {
     let mut rows = Vec::with_capacity(alloc, files.len())?;
     for file in files {
@@ -137,15 +137,6 @@ fn end_within(inventory: &Inventory) -> Option<Cut> {
 
 // A peer.
 fn peer_row(alloc: Global, peer: Peer, records: &PeerRecords) -> Result<PeerRow, AllocError> {
-    let mut identifiers = Vec::new(alloc);
-    for identifier in records.identifiers() {
-        identifiers.push(address_text(alloc, *identifier)?)?;
-    }
-    let mut sessions = Vec::new(alloc);
-    for session in records.sessions() {
-        let SessionTimes { up, down } = *session;
-        sessions.push(SessionRow { up, down })?;
-    }
     Ok(PeerRow {
         address: address_text(alloc, peer.address)?,
         asn: peer.asn,
@@ -153,7 +144,26 @@ fn peer_row(alloc: Global, peer: Peer, records: &PeerRecords) -> Result<PeerRow,
         announced: records.announced(),
         withdrawn: records.withdrawn(),
         faulty: records.faulty(),
-        identifiers,
-        sessions,
+        identifiers: identifier_texts(alloc, records.identifiers())?,
+        sessions: session_rows(alloc, records.sessions())?,
     })
+}
+
+// The BGP Identifiers, in order.
+fn identifier_texts(alloc: Global, identifiers: &[u32]) -> Result<Vec<String>, AllocError> {
+    let mut texts = Vec::new(alloc);
+    for identifier in identifiers {
+        texts.push(address_text(alloc, *identifier)?)?;
+    }
+    Ok(texts)
+}
+
+// The sessions, in order.
+fn session_rows(alloc: Global, sessions: &[SessionTimes]) -> Result<Vec<SessionRow>, AllocError> {
+    let mut rows = Vec::new(alloc);
+    for session in sessions {
+        let SessionTimes { up, down } = *session;
+        rows.push(SessionRow { up, down })?;
+    }
+    Ok(rows)
 }
