@@ -11,8 +11,7 @@ use std::alloc::{AllocError, Global};
 const NO_ADDRESS: u32 = 0;
 
 /// What each file holds, in lines for people: the file; its records by kind and their times; how it ends; then each
-/// peer with its sessions.
-/// Between two files stands an empty line.
+/// peer with its sessions. Between two files stands an empty line. Fails where memory is refused.
 pub fn as_text(alloc: Global, files: &[RecordedFile]) -> Result<String, AllocError> {
     let mut text = String::new(alloc);
     for (number, file) in files.iter().enumerate() {

@@ -1,8 +1,7 @@
 //! Inventories as a configuration to start from: each peer of which a message is recorded, with its file.
 //!
 //! Our choices: the server is the recorder that the first file with messages names; a peer is named after its AS
-//! number; an address that
-//! stands twice is a comment the second time, since no two peers have the same.
+//! number; an address that stands twice is a comment the second time, since no two peers have the same.
 
 use crate::shown::{Address, RecordedFile};
 use rs_inventory::{Peer, PeerRecords};
@@ -20,8 +19,7 @@ struct Configuration {
 }
 
 /// A configuration to start from, with the peers of all files of which a message of a session with four-octet AS
-/// numbers is recorded. Where no
-/// file has any, it has comments alone.
+/// numbers is recorded. Where no file has any, it has comments alone. Fails where memory is refused.
 pub fn as_toml(alloc: Global, files: &[RecordedFile]) -> Result<String, AllocError> {
     let mut configuration = Configuration {
         text: String::new(alloc),
