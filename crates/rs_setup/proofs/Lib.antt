@@ -2,3 +2,4 @@ pub mod FilesLemmas
 pub mod NoneLemmas
 pub mod SetupLemmas
 pub mod SetupUnique
+pub mod SlashLemmas

@@ -14,6 +14,11 @@ pub none_so : {A : Type 0} {N M : Type 0} (found : Option A) → (N → M) → I
 none_so None so none = so none
 none_so (Some x) so none = tt
 
+-- what holds in any case holds where there is none
+pub where_none : {A : Type 0} {P : Type 0} (found : Option A) → P → IfNone found P
+where_none None holds = holds
+where_none (Some x) holds = tt
+
 module _ {A : Type 0} (Writes : List ℕ → A → Type 0) where
   -- a value that is a text which writes nothing stands for nothing
   pub not_written : (value : Data) (text : List ℕ) → as_str value ≡ Some text → StandsForNone Writes text

@@ -1,7 +1,7 @@
 -- What the values of a configuration stand for, and the keys that its tables have (our choice: RFC 4271
 -- leaves configuration to the implementation).
 use Rattle.std.specs.Prelude.{◌≡◌, ℕ, ◌<◌, ◌≤◌, ◌^◌, pos, List, ◌++◌, map, codes, decimal, Option, IsSomeAnd}
-use Rattle.std.specs.Prelude.{MatchOption}
+use Rattle.std.specs.Prelude.{MatchOption, All, ◌≢◌}
 use Rattle.std.specs.Int.{w32, from_be_bytes}
 use Rattle.std.specs.List.{Contains}
 use Rattle.std.specs.Net.Grammar.{IsDotted}
@@ -25,6 +25,10 @@ IsDottedAddress text address = (octets : List ℕ) × IsDotted text octets × (a
 -- an address
 abbrev pub IsAddress : Data → ℕ → Type 0
 IsAddress value address = (text : List ℕ) × (value ≡ string text) × IsDottedAddress text address
+
+-- a text without a slash
+abbrev pub HasNoSlash : List ℕ → Type 0
+HasNoSlash text = All (λ octet. octet ≢ 47) text
 
 -- a text that writes a subnet as an address, a slash and a length of at most 32 bits; the address's host bits
 -- are cleared

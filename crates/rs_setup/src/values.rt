@@ -1,9 +1,9 @@
 //! What the values of a configuration stand for: whole numbers, addresses, subnets and texts (our choice: RFC
 //! 4271 leaves configuration to the implementation).
 
-ghost use Rattle.std.specs.Prelude.{◌≡◌, ◌++◌, IfNone, IfOk, IfSome, codes, decimal, map, string_bytes};
+ghost use Rattle.std.specs.Prelude.{◌≡◌, ◌++◌, ◌<◌, ℕ, IfNone, IfOk, IfSome, codes, decimal, map, string_bytes};
 ghost use Rattle.toml.specs.View.{items_view, view};
-ghost use Rattle.rs_setup.specs.Values.{AreTexts, IsAddress, IsDottedAddress, IsSlashedSubnet, IsSubnet, IsTexts};
+ghost use Rattle.rs_setup.specs.Values.{AreTexts, HasNoSlash, IsAddress, IsDottedAddress, IsSlashedSubnet, IsSubnet, IsTexts};
 ghost use Rattle.rs_setup.specs.Values.{IsWholeNumber, StandsForNone};
 
 use rs_update::Prefix;
@@ -37,7 +37,8 @@ pub fn address(value: &Value) -> Option<u32>
 /// The subnet that a value writes as an address, a slash and a length from 0 to 32 without needless zeros.
 /// Its host bits are cleared.
 pub fn subnet(value: &Value) -> Option<Prefix>
-    ensures { IfSome result (IsSubnet (view value.now)) }
+    ensures found { IfSome result (IsSubnet (view value.now)) }
+    ensures none { IfNone result (StandsForNone IsSubnet (view value.now)) }
 {
     match value.as_str() {
         Some(text) => slashed_subnet(text),
@@ -89,7 +90,8 @@ fn dotted_address(text: &str) -> Option<u32>
 /// The prefix that a text writes as an address, a slash and a length from 0 to 32 without needless zeros. Its
 /// host bits are cleared.
 pub fn slashed_subnet(text: &str) -> Option<Prefix>
-    ensures { IfSome result (IsSlashedSubnet text.now) }
+    ensures found { IfSome result (IsSlashedSubnet text.now) }
+    ensures none { IfNone result (StandsForNone IsSlashedSubnet text.now) }
 {
     let (address, len) = split_at_slash(text)?;
     Prefix::new(dotted_address(address)?, decimal_length(len.as_bytes())?)
@@ -97,14 +99,17 @@ pub fn slashed_subnet(text: &str) -> Option<Prefix>
 
 // What stands before the first slash of a text, and what stands after it.
 fn split_at_slash(text: &str) -> Option<(&str, &str)>
-    ensures { IfSome result (λ (front, back). text.now ≡ front.now ++ codes "/" ++ back.now) }
+    ensures parts { IfSome result (λ (front, back). text.now ≡ front.now ++ codes "/" ++ back.now) }
+    ensures first { IfSome result (λ (front, back). HasNoSlash front.now) }
+    ensures none { IfNone result (HasNoSlash text.now) }
 {
     text.split_once('/')
 }
 
 // The decimal number below 100 that a text writes without needless zeros.
 fn decimal_length(text: &[u8]) -> Option<u8>
-    ensures { IfSome result (λ len. text.now ≡ decimal len) }
+    ensures found { IfSome result (λ len. text.now ≡ decimal len) }
+    ensures none { IfNone result ((len : ℕ) → len < 100 → ¬ (text.now ≡ decimal len)) }
 {
     match text {
         [ones @ b'0'..=b'9'] => Some(*ones - b'0'),

@@ -43,3 +43,6 @@ returns-in_err-push c = search rules
 
 pub returns-in_err-texts : goal.returns-in_err-texts
 returns-in_err-texts c = search rules
+
+pub returns-in_default-clause-found : goal.returns-in_default-clause-found
+returns-in_default-clause-found c = search rules
