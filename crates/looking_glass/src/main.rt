@@ -7,7 +7,7 @@
 //! Supported standards: RFC 4271, RFC 6793, RFC 1997, RFC 7606, RFC 7947, RFC 6396.
 #![tactic(auto)]
 
-use rs_files::open_file;
+use rs_files::{first_unreadable, open_file};
 use rs_glass::{History, Question, explain_all, read_happenings, read_sessions, replay};
 use rs_glass_ended::{
     Ended, MEMORY_LINE, OUT_OF_MEMORY, configuration, line, open_files, peer_named,
@@ -119,6 +119,9 @@ where
 fn peers<R: AllocGlobal + Files>(rt: &R, query: PeersQuery) -> Result<String, Ended> {
     let alloc = rt.alloc();
     let PeersQuery { files, json, toml } = query;
+    if let Some(number) = first_unreadable(rt, &files)? {
+        return Err(Ended::by_path(alloc, &files[number]));
+    }
     let mut held = Vec::new(alloc);
     for path in files {
         held.push(recorded_file(rt, path)?)
