@@ -99,15 +99,25 @@ fn withdraw(cells: &mut BTreeMap<Prefix, Cell>, plan: &Exchange, peer: usize, pr
 }
 
 // All cells of two maps that have no prefix in common. Each is moved, and none made anew. The map that takes
-// them in stays and grows: no third one is built beside the two.
+// them in stays and grows: no third one is built beside the two. Every second cell comes in a second pass: a
+// run of cells in ascending order leaves nodes half full behind it, and the second pass fills these.
 pub(crate) fn join(
+    alloc: Global,
     mut cells: BTreeMap<Prefix, Cell>,
     others: BTreeMap<Prefix, Cell>,
 ) -> Result<BTreeMap<Prefix, Cell>, AllocError>
     ensures cells { IfOk result (λ joined. AreJoined cells.entries others.entries joined.entries) }
     ensures ordered { IfOk result (λ joined. IsOrdered prefix_cmp joined) }
 {
-    cells.extend(others)?;
+    let mut seconds = Vec::with_capacity(alloc, others.len() / 2)?;
+    let mut rest = others.into_iter();
+    while let Some((prefix, cell)) = rest.next() {
+        cells.insert(prefix, cell)?;
+        if let Some(second) = rest.next() {
+            seconds.push(second)?;
+        }
+    }
+    cells.extend(seconds)?;
     Ok(cells)
 }
 

@@ -158,7 +158,7 @@ impl Tables {
         requires { AreParts self other }
         ensures { IfOk result (IsJoined self other) }
     {
-        let cells = join(self.cells, other.cells)?;
+        let cells = join(self.allocator(), self.cells, other.cells)?;
         Ok(Tables {
             plan: self.plan,
             closed: self.closed,
