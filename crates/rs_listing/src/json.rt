@@ -1,10 +1,11 @@
 //! Inventories as JSON (RFC 8259): one object.
 
-use crate::shown::{RecordedFile, address_text};
+use crate::recorded_file::RecordedFile;
 use crate::text::part_of;
 use rs_inventory::{Inventory, Kind, Peer, PeerRecords, SessionTimes};
 use serde::Serialize;
 use std::alloc::{AllocError, Global};
+use std::net::Ipv4Addr;
 
 // The whole object.
 #[derive(Drop, Serialize)]
@@ -138,7 +139,7 @@ fn end_within(inventory: &Inventory) -> Option<Cut> {
 // A peer.
 fn peer_row(alloc: Global, peer: Peer, records: &PeerRecords) -> Result<PeerRow, AllocError> {
     Ok(PeerRow {
-        address: address_text(alloc, peer.address)?,
+        address: Ipv4Addr::from_bits(peer.address).to_string(alloc)?,
         asn: peer.asn,
         records: records.records(),
         announced: records.announced(),
@@ -153,7 +154,7 @@ fn peer_row(alloc: Global, peer: Peer, records: &PeerRecords) -> Result<PeerRow,
 fn identifier_texts(alloc: Global, identifiers: &[u32]) -> Result<Vec<String>, AllocError> {
     let mut texts = Vec::new(alloc);
     for identifier in identifiers {
-        texts.push(address_text(alloc, *identifier)?)?;
+        texts.push(Ipv4Addr::from_bits(*identifier).to_string(alloc)?)?;
     }
     Ok(texts)
 }

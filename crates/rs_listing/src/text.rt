@@ -1,11 +1,12 @@
 //! Inventories as a text for people.
 
-use crate::shown::{Address, RecordedFile, address_text};
+use crate::recorded_file::RecordedFile;
 use rs_inventory::{Compression, Inventory, Kind, Peer, PeerRecords, SessionTimes};
 use rs_lines::on_one_line;
 use rs_mrt::MrtFault;
 use rs_timestamp::Utc;
 use std::alloc::{AllocError, Global};
+use std::net::Ipv4Addr;
 
 // The peer's address in a change of state that BIRD records when the connection is gone.
 const NO_ADDRESS: u32 = 0;
@@ -112,7 +113,7 @@ fn add_peer(
     peer: Peer,
     records: &PeerRecords,
 ) -> Result<(), AllocError> {
-    let address = address_text(alloc, peer.address)?;
+    let address = Ipv4Addr::from_bits(peer.address).to_string(alloc)?;
     let asn = peer.asn;
     let count = records.records();
     let announced = records.announced();
@@ -151,7 +152,7 @@ fn identifiers_text(alloc: Global, identifiers: &[u32]) -> Result<String, AllocE
         if number > 0 {
             text.push_str(", ")?;
         }
-        let identifier = Address(*identifier);
+        let identifier = Ipv4Addr::from_bits(*identifier);
         write!(text, "{identifier}")?;
     }
     Ok(text)

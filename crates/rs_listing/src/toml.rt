@@ -3,10 +3,11 @@
 //! Our choices: the server is the recorder that the first file with messages names; a peer is named after its AS
 //! number; an address that stands twice is a comment the second time, since no two peers have the same.
 
-use crate::shown::{Address, RecordedFile};
+use crate::recorded_file::RecordedFile;
 use rs_inventory::{Peer, PeerRecords};
 use std::alloc::{AllocError, Global};
 use std::collections::{BTreeMap, BTreeSet};
+use std::net::Ipv4Addr;
 
 // A configuration that is being written.
 #[derive(Drop)]
@@ -43,7 +44,7 @@ impl Configuration {
                 "# no message of a session with four-octet AS numbers is recorded"
             );
         };
-        let address = Address(address);
+        let address = Ipv4Addr::from_bits(address);
         writeln!(
             self.text,
             "# The recorder as the server: put your route server in its place where it is another."
@@ -69,7 +70,7 @@ impl Configuration {
         records: &PeerRecords,
         path: &str,
     ) -> Result<(), AllocError> {
-        let address = Address(peer.address);
+        let address = Ipv4Addr::from_bits(peer.address);
         let asn = peer.asn;
         writeln!(self.text)?;
         if records.messages() == 0 {
@@ -108,7 +109,7 @@ impl Configuration {
     fn add_identifier(&mut self, records: &PeerRecords) -> Result<(), AllocError> {
         match records.identifiers().last() {
             Some(identifier) => {
-                let identifier = Address(*identifier);
+                let identifier = Ipv4Addr::from_bits(*identifier);
                 writeln!(self.text, "id = \"{identifier}\"")
             }
             None => writeln!(self.text, "# no OPEN is recorded, so its id is its address"),
