@@ -35,8 +35,8 @@ served_code =
 
 -- the changes in each peer's file, in the order of the peers, faults in messages being handled by one of the
 -- standards
-abbrev pub said_by : Errors → Plan → List (List ℕ) → List (List Change)
-said_by errors plan files = map (λ (peer, file). changes_in_by errors (id_of peer) file) (zip plan.peers files)
+abbrev pub changes_by_peer : Errors → Plan → List (List ℕ) → List (List Change)
+changes_by_peer errors plan files = map (λ (peer, file). changes_in_by errors (id_of peer) file) (zip plan.peers files)
 
 -- how the session in a file ends: its last change is the close
 pub record IsEndOf (errors : Errors) (peer : PeerId) (file : List ℕ) (end : PeerEnd) : Type 0 where
@@ -48,7 +48,7 @@ pub record IsEndOf (errors : Errors) (peer : PeerId) (file : List ℕ) (end : Pe
 
 -- the tables are those of the files alone, and each peer's session ended as it does in its file
 pub record IsServed (errors : Errors) (plan : Plan) (files : List (List ℕ)) (served : ServedContent) : Type 0 where
-  pub tables_are : served.tables ≡ tables_of plan (said_by errors plan files)
+  pub tables_are : served.tables ≡ tables_of plan (changes_by_peer errors plan files)
   pub counted : length served.ends ≡ length plan.peers
   pub ends_are : (place : ℕ) (peer : Peer) (file : List ℕ) (end : PeerEnd)
       → slice_get plan.peers place ≡ Some peer → slice_get files place ≡ Some file

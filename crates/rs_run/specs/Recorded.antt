@@ -4,7 +4,7 @@ use Rattle.std.specs.Prelude.{ℕ, List, map}
 use Rattle.rs_choice.specs.Plan.{Plan}
 use Rattle.rs_floor.specs.FloorContent.{id_of}
 use Rattle.rs_floor.specs.Laws.{tables_of}
-use Rattle.rs_floor.specs.Served.{said_by}
+use Rattle.rs_floor.specs.Served.{changes_by_peer}
 use Rattle.rs_mrt.specs.Reader.{ReadEnd}
 use Rattle.rs_session.specs.Given.{OverGivenFiles, MayFailAt}
 use Rattle.rs_table.specs.Content.{TablesContent}
@@ -21,4 +21,4 @@ FailsAt gives errors plan readers peer = MayFailAt gives errors (map id_of plan.
 
 -- what is held once all files were read, one file for each peer, in the order of the peers
 abbrev pub tables_of_files : Errors → Plan → List (List ℕ) → TablesContent
-tables_of_files errors plan files = tables_of plan (said_by errors plan files)
+tables_of_files errors plan files = tables_of plan (changes_by_peer errors plan files)

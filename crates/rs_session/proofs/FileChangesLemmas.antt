@@ -28,16 +28,16 @@ open_records-end : (errors : Errors) (peer : PeerId) (r : MrtRecord) (later : Li
 open_records-end errors peer r later h = take_while-cons (λ x. not (ends (effect_of errors peer x))) r later ∙ ap (λ b. cond (not b) (r ∷ open_records errors peer later) []) h
 
 -- what the records that are read say, and then the close
-said_by : Errors → PeerId → List MrtRecord → Option SourceFault → List MrtRecord → List Change
-said_by errors peer read end records = flat_map (λ r. changes_by r.time (effect_of errors peer r)) read ++ closing errors peer end (find (λ r. ends (effect_of errors peer r)) records)
+changes_with : Errors → PeerId → List MrtRecord → Option SourceFault → List MrtRecord → List Change
+changes_with errors peer read end records = flat_map (λ r. changes_by r.time (effect_of errors peer r)) read ++ closing errors peer end (find (λ r. ends (effect_of errors peer r)) records)
 
 count_passed : Errors → PeerId → List MrtRecord → ℕ
 count_passed errors peer read = count_by (λ r. passes_over (effect_of errors peer r)) read
 
 -- a record that is passed over
 pub changes_of-passes : (errors : Errors) (peer : PeerId) (r : MrtRecord) (later : List MrtRecord) (end : Option SourceFault) → effect_of errors peer r ≡ PassesOver → changes_of errors peer (r ∷ later) end ≡ changes_of errors peer later end
-unfolding changes_of said_by
-changes_of-passes errors peer r later end e = ap (λ read. said_by errors peer read end (r ∷ later)) (open_records-on errors peer r later (ap ends e)) ∙ rw e refl
+unfolding changes_of changes_with
+changes_of-passes errors peer r later end e = ap (λ read. changes_with errors peer read end (r ∷ later)) (open_records-on errors peer r later (ap ends e)) ∙ rw e refl
 
 pub passed_of-passes : (errors : Errors) (peer : PeerId) (r : MrtRecord) (later : List MrtRecord) → effect_of errors peer r ≡ PassesOver → passed_of errors peer (r ∷ later) ≡ 1 + passed_of errors peer later
 unfolding passed_of count_passed
@@ -48,8 +48,8 @@ passed_of-passes errors peer r later e =
 
 -- a record that gives changes
 pub changes_of-gives : (errors : Errors) (peer : PeerId) (r : MrtRecord) (changes : List Change) (later : List MrtRecord) (end : Option SourceFault) → effect_of errors peer r ≡ Gives changes → changes_of errors peer (r ∷ later) end ≡ changes ++ changes_of errors peer later end
-unfolding changes_of said_by
-changes_of-gives errors peer r changes later end e = ap (λ read. said_by errors peer read end (r ∷ later)) (open_records-on errors peer r later (ap ends e)) ∙ rw e (append_assoc changes _ _)
+unfolding changes_of changes_with
+changes_of-gives errors peer r changes later end e = ap (λ read. changes_with errors peer read end (r ∷ later)) (open_records-on errors peer r later (ap ends e)) ∙ rw e (append_assoc changes _ _)
 
 pub passed_of-gives : (errors : Errors) (peer : PeerId) (r : MrtRecord) (changes : List Change) (later : List MrtRecord) → effect_of errors peer r ≡ Gives changes → passed_of errors peer (r ∷ later) ≡ passed_of errors peer later
 unfolding passed_of count_passed
@@ -60,8 +60,8 @@ passed_of-gives errors peer r changes later e =
 
 -- a record that ends the session
 pub changes_of-ends : (errors : Errors) (peer : PeerId) (r : MrtRecord) (reason : Reason) (later : List MrtRecord) (end : Option SourceFault) → effect_of errors peer r ≡ Ends reason → changes_of errors peer (r ∷ later) end ≡ close_at r.time reason ∷ []
-unfolding changes_of said_by
-changes_of-ends errors peer r reason later end e = ap (λ read. said_by errors peer read end (r ∷ later)) (open_records-end errors peer r later (ap ends e)) ∙ rw (e, e) refl
+unfolding changes_of changes_with
+changes_of-ends errors peer r reason later end e = ap (λ read. changes_with errors peer read end (r ∷ later)) (open_records-end errors peer r later (ap ends e)) ∙ rw (e, e) refl
 
 pub passed_of-ends : (errors : Errors) (peer : PeerId) (r : MrtRecord) (reason : Reason) (later : List MrtRecord) → effect_of errors peer r ≡ Ends reason → passed_of errors peer (r ∷ later) ≡ 0
 unfolding passed_of count_passed

@@ -27,7 +27,7 @@ use Rattle.rs_worker.specs.declared.crew.Joined.{Joined}
 use Rattle.rs_floor.specs.FloorContent.{id_of}
 use Rattle.rs_floor.specs.Lines.{AreLines}
 use Rattle.rs_floor.specs.Run.{HasRun, IsAnswer, IsFirstRead, IsWell, end_of}
-use Rattle.rs_floor.specs.Served.{ServedContent, IsEndOf, IsServedBy, said_by}
+use Rattle.rs_floor.specs.Served.{ServedContent, IsEndOf, IsServedBy, changes_by_peer}
 use Rattle.rs_floor.specs.declared.ended.PeerEnd.{PeerEnd}
 use Rattle.rs_worker.proofs.PlaceLemmas.{all-at, get-map, same-counted, same-made, some-at}
 use Rattle.rs_floor.proofs.ListLemmas.{same-places, zip-at, zip-counted}
@@ -125,13 +125,13 @@ module _ {R : Type 0} (gives : R → List ℕ → ReadEnd → Type 0) (errors : 
   -- where all is well there is a file
   file-at : FailedReadCloses → (place : ℕ) (here : IsPlace gives errors plan.peers readers receivers ends place) → IsWell here.end → (file : List ℕ) × IsFileAt gives errors plan.peers readers receivers ends place file
   file-at closes place here fine =
-      let said : SaysGiven gives errors (id_of here.peer) here.reader (map change_of here.joined.sent) here.end.passed = says-file gives errors (id_of here.peer) here.reader here.receiver.received here.end here.law closes here.joined fine.1 fine.2 in (
-        said.file,
+      let recorded : SaysGiven gives errors (id_of here.peer) here.reader (map change_of here.joined.sent) here.end.passed = says-file gives errors (id_of here.peer) here.reader here.receiver.received here.end here.law closes here.joined fine.1 fine.2 in (
+        recorded.file,
         record {
           here = here;
-          given = said.given;
-          says = ap (map change_of) (here.joined.settles fine.0) ∙ said.says;
-          ended = end-of-file gives errors (id_of here.peer) here.reader here.receiver.received here.end here.joined said;
+          given = recorded.given;
+          says = ap (map change_of) (here.joined.settles fine.0) ∙ recorded.says;
+          ended = end-of-file gives errors (id_of here.peer) here.reader here.receiver.received here.end here.joined recorded;
         },
       )
 
@@ -142,15 +142,15 @@ module _ {R : Type 0} (gives : R → List ℕ → ReadEnd → Type 0) (errors : 
         (as_many ∙ sym (same-counted (λ (job : Job (RecordReading R)). job.id) id_of jobs plan.peers peers) ∙ same-counted (λ (job : Job (RecordReading R)). job.source) unread jobs readers sources)
         (λ place file file_at. let found = at place file file_at in let here = found.here in record { peer = id_of here.peer; reader = here.reader; peer_at = get-map id_of plan.peers place here.peer here.peer_at; reader_at = here.reader_at; given = found.given })
 
-    recorded-same : said_by errors plan files ≡ map (λ receiver. map change_of receiver.received) receivers
-    recorded-same = same-places (map (λ (receiver : Receiving Word). map change_of receiver.received) receivers) (said_by errors plan files) lengths places
+    recorded-same : changes_by_peer errors plan files ≡ map (λ receiver. map change_of receiver.received) receivers
+    recorded-same = same-places (map (λ (receiver : Receiving Word). map change_of receiver.received) receivers) (changes_by_peer errors plan files) lengths places
       where
-        lengths : length (map (λ (receiver : Receiving Word). map change_of receiver.received) receivers) ≡ length (said_by errors plan files)
+        lengths : length (map (λ (receiver : Receiving Word). map change_of receiver.received) receivers) ≡ length (changes_by_peer errors plan files)
         lengths =
             length-map receivers (λ (receiver : Receiving Word). map change_of receiver.received) ∙ counted ∙ same-counted (λ (job : Job (RecordReading R)). job.id) id_of jobs plan.peers peers
             ∙ sym (length-map (zip plan.peers files) (λ (peer, file). changes_in_by errors (id_of peer) file) ∙ zip-counted plan.peers files as_many)
 
-        places : (place : ℕ) (changes : List Change) → slice_get (map (λ (receiver : Receiving Word). map change_of receiver.received) receivers) place ≡ Some changes → slice_get (said_by errors plan files) place ≡ Some changes
+        places : (place : ℕ) (changes : List Change) → slice_get (map (λ (receiver : Receiving Word). map change_of receiver.received) receivers) place ≡ Some changes → slice_get (changes_by_peer errors plan files) place ≡ Some changes
         places place changes e =
             let within : place < length (map (λ (receiver : Receiving Word). map change_of receiver.received) receivers) = slice_get_within (map (λ (receiver : Receiving Word). map change_of receiver.received) receivers) place changes e in
             let total : length (map (λ (receiver : Receiving Word). map change_of receiver.received) receivers) ≡ length plan.peers =
@@ -237,13 +237,13 @@ module _ {R : Type 0} (gives : R → List ℕ → ReadEnd → Type 0) (errors : 
           let here = here-at place (within-peers place (omega (arith, below, within))) in
           let reads : is_read here.end.reason ≡ false = made-is (λ (end : Joined). is_read end.reason) ends place here.end false here.end_at (first.least.least place below) in
           let remembers : is_memory here.end.reason ≡ false = all-at (λ (end : Joined). is_memory end.reason ≡ false) ends first.remember place here.end here.end_at in
-          let said = says-file gives errors (id_of here.peer) here.reader here.receiver.received here.end here.law closes here.joined remembers reads in (
-            said.file,
+          let recorded = says-file gives errors (id_of here.peer) here.reader here.receiver.received here.end here.law closes here.joined remembers reads in (
+            recorded.file,
             record {
               peer = id_of here.peer;
               reader = here.reader;
               peer_at = take-at peer (map id_of plan.peers) place (id_of here.peer) below (get-map id_of plan.peers place here.peer here.peer_at);
               reader_at = take-at peer readers place here.reader below here.reader_at;
-              given = said.given;
+              given = recorded.given;
             },
           )

@@ -13,7 +13,7 @@ use Rattle.rs_session.specs.declared.peer.PeerId.{PeerId}
 use Rattle.rs_update.specs.declared.errors.Errors.{Errors}
 use Rattle.rs_floor.specs.FloorContent.{id_of}
 use Rattle.rs_floor.specs.Laws.{tables_of}
-use Rattle.rs_floor.specs.Served.{ServedContent, IsEndOf, IsServed, IsServedBy, said_by}
+use Rattle.rs_floor.specs.Served.{ServedContent, IsEndOf, IsServed, IsServedBy, changes_by_peer}
 use Rattle.rs_floor.specs.declared.ended.PeerEnd.{PeerEnd}
 use Rattle.rs_worker.proofs.PlaceLemmas.{get-map, some-at}
 use Rattle.rs_floor.proofs.serving.FileLemmas.{front-says}
@@ -56,19 +56,19 @@ module _ {R : Type 0} (f : R → List ℕ) (errors : Errors) (plan : Plan) (read
   same : (place : ℕ) (peer : Peer) (reader : R) (file : List ℕ) → slice_get plan.peers place ≡ Some peer → slice_get readers place ≡ Some reader → slice_get s.0 place ≡ Some file → SaysSame errors (id_of peer) file (f reader)
   same place peer reader file ep er ef = given-whole f errors (id_of peer) reader file (s.1.each place (id_of peer) reader file (get-map id_of plan.peers place peer ep) er ef)
 
-  of-zip : (files : List (List ℕ)) → length files ≡ length plan.peers → length (said_by errors plan files) ≡ length plan.peers
+  of-zip : (files : List (List ℕ)) → length files ≡ length plan.peers → length (changes_by_peer errors plan files) ≡ length plan.peers
   of-zip files counts = length-map (zip plan.peers files) (λ (peer, file). changes_in_by errors (id_of peer) file) ∙ zip-counted plan.peers files counts
 
-  recorded-at : (files : List (List ℕ)) (place : ℕ) (peer : Peer) (file : List ℕ) → slice_get plan.peers place ≡ Some peer → slice_get files place ≡ Some file → slice_get (said_by errors plan files) place ≡ Some (changes_in_by errors (id_of peer) file)
+  recorded-at : (files : List (List ℕ)) (place : ℕ) (peer : Peer) (file : List ℕ) → slice_get plan.peers place ≡ Some peer → slice_get files place ≡ Some file → slice_get (changes_by_peer errors plan files) place ≡ Some (changes_in_by errors (id_of peer) file)
   recorded-at files place peer file ep ef = get-map (λ (p, o). changes_in_by errors (id_of p) o) (zip plan.peers files) place (peer, file) (zip-at plan.peers files place peer file ep ef)
 
-  said : said_by errors plan s.0 ≡ said_by errors plan (map f readers)
-  said = same-places (said_by errors plan (map f readers)) (said_by errors plan s.0) (of-zip (map f readers) (length-map readers f ∙ as_many) ∙ sym (of-zip s.0 files-counted)) places
+  same-changes : changes_by_peer errors plan s.0 ≡ changes_by_peer errors plan (map f readers)
+  same-changes = same-places (changes_by_peer errors plan (map f readers)) (changes_by_peer errors plan s.0) (of-zip (map f readers) (length-map readers f ∙ as_many) ∙ sym (of-zip s.0 files-counted)) places
     where
-      places : (place : ℕ) (changes : List Change) → slice_get (said_by errors plan (map f readers)) place ≡ Some changes → slice_get (said_by errors plan s.0) place ≡ Some changes
+      places : (place : ℕ) (changes : List Change) → slice_get (changes_by_peer errors plan (map f readers)) place ≡ Some changes → slice_get (changes_by_peer errors plan s.0) place ≡ Some changes
       places place changes e =
-          let within : place < length (said_by errors plan (map f readers)) = slice_get_within (said_by errors plan (map f readers)) place changes e in
-          let total : length (said_by errors plan (map f readers)) ≡ length plan.peers = of-zip (map f readers) (length-map readers f ∙ as_many) in
+          let within : place < length (changes_by_peer errors plan (map f readers)) = slice_get_within (changes_by_peer errors plan (map f readers)) place changes e in
+          let total : length (changes_by_peer errors plan (map f readers)) ≡ length plan.peers = of-zip (map f readers) (length-map readers f ∙ as_many) in
           let peer = some-at plan.peers place (omega (arith, within, total)) in
           let reader = some-at readers place (omega (arith, within, total, as_many)) in
           let file = some-at s.0 place (omega (arith, within, total, files-counted)) in
@@ -95,4 +95,4 @@ module _ {R : Type 0} (f : R → List ℕ) (errors : Errors) (plan : Plan) (read
 
   -- what is served of files at hand is what the files say
   pub served-at-hand : IsServed errors plan (map f readers) served
-  served-at-hand = record { tables_are = s.2.tables_are ∙ ap (tables_of plan) said; counted = s.2.counted; ends_are = ends }
+  served-at-hand = record { tables_are = s.2.tables_are ∙ ap (tables_of plan) same-changes; counted = s.2.counted; ends_are = ends }
