@@ -14,7 +14,7 @@ use rs_disk::{
 };
 use rs_ended::{Ended, FAILED, MEMORY_LINE, NOT_UTF_8, OUT_OF_MEMORY, OUTPUT_LINE, line, status};
 use rs_files::read_file;
-use rs_lines::on_one_line;
+use rs_lines::each_on_one_line;
 use rs_mrt::IoWriter;
 use rs_options::{Options, WordsFault};
 use rs_outlet::RunFault;
@@ -82,12 +82,7 @@ fn fault_on_one_line<R: AllocGlobal + Env>(
     fault: WordsFault,
 ) -> Result<WordsFault, WordsFault> {
     let alloc = rt.alloc();
-    let words = words(rt)?;
-    let mut escaped = Vec::with_capacity(alloc, words.len())?;
-    for word in &words {
-        let word = on_one_line(alloc, word)?;
-        escaped.push(word).map_err(|_| WordsFault::Memory)?;
-    }
+    let escaped = each_on_one_line(alloc, &words(rt)?)?;
     match read_words(alloc, escaped) {
         Ok(_) => Ok(fault),
         Err(told) => Ok(told),

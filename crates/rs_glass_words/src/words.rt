@@ -5,7 +5,7 @@ use crate::query::{HistoryQuery, PeersQuery, Query, WhyQuery, WordsFault};
 use crate::values::{PREFIX_FORM, TIME_FORM, prefix_of, time_of};
 use clap::error::ErrorKind;
 use clap::{ArgMatches, Error};
-use rs_lines::on_one_line;
+use rs_lines::each_on_one_line;
 use rs_options::standard_of;
 use rs_update::{Errors, Prefix};
 use std::alloc::{AllocError, Global};
@@ -30,11 +30,7 @@ fn fault_on_one_line(
     words: &[String],
     error: &Error,
 ) -> Result<WordsFault, WordsFault> {
-    let mut escaped = Vec::with_capacity(alloc, words.len())?;
-    for word in words {
-        let word = on_one_line(alloc, word)?;
-        escaped.push(word).map_err(|_| WordsFault::Memory)?;
-    }
+    let escaped = each_on_one_line(alloc, words)?;
     match program(alloc)?.try_get_matches_from(escaped.as_slice()) {
         Ok(_) => Ok(fault_of(alloc, error)),
         Err(told) => Ok(fault_of(alloc, &told)),

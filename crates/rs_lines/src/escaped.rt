@@ -1,7 +1,7 @@
 //! Texts whose control characters are escaped, so that each stays on one line and no terminal obeys it. Nothing here is
 //! of a standard: all of it is our choice.
 
-ghost use Rattle.std.specs.Prelude.{◌≡◌, ◌++◌, ◌<◌, IfOk, OnOk, string_bytes};
+ghost use Rattle.std.specs.Prelude.{◌≡◌, ◌++◌, ◌<◌, IfOk, OnOk, map, string_bytes};
 ghost use Rattle.rs_lines.specs.Line.{escaped, hex_digit, one_line, shown};
 
 use std::alloc::{AllocError, Global};
@@ -16,6 +16,17 @@ pub fn on_one_line(alloc: Global, text: &str) -> Result<String, AllocError>
         push_shown(&mut line, character)?;
     }
     Ok(line)
+}
+
+/// Each of some texts as `on_one_line` shows it, in their order. Fails where memory is refused.
+pub fn each_on_one_line(alloc: Global, texts: &[String]) -> Result<Vec<String>, AllocError>
+    ensures { IfOk result (λ lines. map string_bytes lines.items ≡ map (λ text. one_line (string_bytes text)) texts.now) }
+{
+    let mut lines = Vec::with_capacity(alloc, texts.len())?;
+    for text in texts {
+        lines.push(on_one_line(alloc, text)?)?;
+    }
+    Ok(lines)
 }
 
 // Appends one character, a line break as two, and another control character by its number.

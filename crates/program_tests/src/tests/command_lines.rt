@@ -1,5 +1,6 @@
 //! Command lines, and what is read of them.
 
+use rs_lines::each_on_one_line;
 use rs_options::{Options, WordsFault};
 use rs_update::Errors;
 use rs_words::read_words;
@@ -126,6 +127,18 @@ fn command_lines_are_read_or_refused(rt: HostRuntime) -> Result<(), Fail> {
     for (line, answer) in LINES {
         check_line(&rt, line, answer)?;
     }
+    Ok(())
+}
+
+#[test]
+fn each_word_is_shown_on_one_line(rt: HostRuntime) -> Result<(), Fail> {
+    let alloc = rt.alloc();
+    let mut words = words(alloc, "plain")?;
+    words.push(String::from_str(alloc, "a\nb\u{1b}[1m\r\u{85}")?)?;
+    let shown = each_on_one_line(alloc, &words)?;
+    let shown = format!(in alloc; "{shown:?}")?;
+    let wanted = r#"["route_server", "plain", "a\\nb\\u{1b}[1m\\r\\u{85}"]"#;
+    assert_eq!(rt; shown.as_str(), wanted);
     Ok(())
 }
 
