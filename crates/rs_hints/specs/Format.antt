@@ -5,8 +5,7 @@ use Rattle.std.specs.Prelude.{Some, None, codes, length, not}
 use Rattle.std.specs.List.{list_all}
 use Rattle.rs_hints.specs.declared.format.Format.{Format}
 use Rattle.rs_hints.specs.declared.format.Format.TheVariants.{Compressed, Zip, Pcap, Text}
-use Rattle.rs_inventory.specs.Compression.{begins}
-use Rattle.rs_inventory.specs.declared.compression.Compression.TheVariants as by
+use Rattle.rs_inventory.specs.Compression.{begins, compression_name}
 
 -- packets: the magic number of pcap in either order of octets, by microseconds and by nanoseconds, and that of pcapng
 abbrev pub is_pcap : List ℕ → Bool
@@ -33,10 +32,7 @@ format_of octets =
 
 -- its name in notes
 abbrev pub format_name : Format → List ℕ
-format_name (Compressed by.Gzip) = codes "gzip"
-format_name (Compressed by.Bzip2) = codes "bzip2"
-format_name (Compressed by.Xz) = codes "xz"
-format_name (Compressed by.Zstd) = codes "zstd"
+format_name (Compressed compression) = compression_name compression
 format_name Zip = codes "zip"
 format_name Pcap = codes "pcap"
 format_name Text = codes "text"

@@ -61,10 +61,7 @@ impl Format {
         ensures { result.now ≡ format_name self }
     {
         match self {
-            Format::Compressed(Compression::Gzip) => "gzip",
-            Format::Compressed(Compression::Bzip2) => "bzip2",
-            Format::Compressed(Compression::Xz) => "xz",
-            Format::Compressed(Compression::Zstd) => "zstd",
+            Format::Compressed(compression) => compression.name(),
             Format::Zip => "zip",
             Format::Pcap => "pcap",
             Format::Text => "text",

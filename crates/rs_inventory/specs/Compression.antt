@@ -1,7 +1,7 @@
 -- How a compressed file begins (RFC 1952, section 2.3.1, for gzip; RFC 8878, section 3.1.1, for zstd; the
 -- formats of bzip2 and xz).
 use Rattle.std.specs.Prelude.{ℕ, ◌==◌, ◌&&◌, nat_le, Bool, if◌then◌else◌, List, [], ◌∷◌, drop, slice_index, Option}
-use Rattle.std.specs.Prelude.{Some, None}
+use Rattle.std.specs.Prelude.{Some, None, codes}
 use Rattle.std.specs.List.{starts_with}
 use Rattle.rs_inventory.specs.declared.compression.Compression.{Compression}
 use Rattle.rs_inventory.specs.declared.compression.Compression.TheVariants as by
@@ -24,3 +24,10 @@ compression_of octets =
     else if begins (0xfd ∷ 55 ∷ 122 ∷ 88 ∷ 90 ∷ 0 ∷ []) octets then Some by.Xz
     else if begins (0x28 ∷ 0xb5 ∷ 0x2f ∷ 0xfd ∷ []) octets then Some by.Zstd
     else None
+
+-- the name of the program that made it
+abbrev pub compression_name : Compression → List ℕ
+compression_name by.Gzip = codes "gzip"
+compression_name by.Bzip2 = codes "bzip2"
+compression_name by.Xz = codes "xz"
+compression_name by.Zstd = codes "zstd"

@@ -5,7 +5,7 @@
 //! of April 2005.
 
 ghost use Rattle.std.specs.Prelude.{◌≡◌};
-ghost use Rattle.rs_inventory.specs.Compression.{compression_of, is_bzip2};
+ghost use Rattle.rs_inventory.specs.Compression.{compression_name, compression_of, is_bzip2};
 
 /// How a file is compressed.
 #[derive(Clone, Copy, Debug, PartialEq, Eq)]
@@ -60,7 +60,9 @@ impl Compression {
     }
 
     /// The name of the program that made it.
-    pub fn name(self) -> &'static str {
+    pub fn name(self) -> &'static str
+        ensures { result.now ≡ compression_name self }
+    {
         match self {
             Compression::Gzip => "gzip",
             Compression::Bzip2 => "bzip2",
