@@ -1,6 +1,7 @@
 //! Opens the recorded files, whose octets may be counted on the way, and tells which file can't be read.
 
 ghost use Rattle.std.specs.Prelude.{◌≡◌, ◌<◌, All, None, IfErr, IfOk, length};
+ghost use Rattle.rs_disk.specs.Files.{EndsAt};
 ghost use Rattle.rs_ended.specs.Texts.{CanTell};
 
 use rs_ended::Ended;
@@ -64,7 +65,8 @@ fn open_counted<'a, R: AllocGlobal + Files, E: Eprint>(
 /// What a fault of the file at a path ends the program with: a file that can't be read is named, unless memory for
 /// that is refused.
 pub fn ended_at(alloc: Global, fault: FileFault, path: &str) -> Ended
-    ensures { CanTell result None None }
+    ensures file { EndsAt fault path.now result }
+    ensures refused { CanTell result None None }
 {
     match fault {
         FileFault::Memory => Ended::Memory,

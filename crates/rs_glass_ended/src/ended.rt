@@ -1,6 +1,7 @@
 //! How the program ends where it stops short: its status.
 
 ghost use Rattle.std.specs.Prelude.{◌≡◌};
+ghost use Rattle.rs_glass_ended.specs.Files.{EndsAt, EndsReading, NamesFile};
 ghost use Rattle.rs_glass_ended.specs.Status.{status_of};
 
 use rs_choice::PlanFault;
@@ -39,8 +40,11 @@ pub enum Ended {
 }
 
 impl Ended {
-    /// What ends the reading of the recorded files of a setup.
-    pub fn by_reading(alloc: Global, fault: GlassFault, setup: &Setup) -> Ended {
+    /// What ends the reading of the recorded files of a setup: a file that can't be read is named, unless memory for
+    /// that is refused.
+    pub fn by_reading(alloc: Global, fault: GlassFault, setup: &Setup) -> Ended
+        ensures { EndsReading fault setup.now result }
+    {
         match fault {
             GlassFault::Memory => Ended::Memory,
             GlassFault::Read(peer) => match setup.files.get(peer) {
@@ -50,16 +54,20 @@ impl Ended {
         }
     }
 
-    /// What ends the program where the file at a path has a fault.
-    pub fn by_file(alloc: Global, fault: FileFault, path: &str) -> Ended {
+    /// What ends the program where the file at a path has a fault, in the same way.
+    pub fn by_file(alloc: Global, fault: FileFault, path: &str) -> Ended
+        ensures { EndsAt fault path.now result }
+    {
         match fault {
             FileFault::Memory => Ended::Memory,
             FileFault::Unread => Ended::by_path(alloc, path),
         }
     }
 
-    /// A file that can't be read, by its path.
-    pub fn by_path(alloc: Global, path: &str) -> Ended {
+    /// A file that can't be read, by its path, unless memory for that is refused.
+    pub fn by_path(alloc: Global, path: &str) -> Ended
+        ensures { NamesFile path.now result }
+    {
         match String::from_str(alloc, path) {
             Ok(path) => Ended::Unread(path),
             Err(_) => Ended::Memory,
