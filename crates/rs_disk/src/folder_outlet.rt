@@ -10,10 +10,27 @@ use rs_ended::path_in;
 use rs_mrt::IoWriter;
 use rs_outlet::{Outlet, Unopened};
 use std::alloc::Global;
-use std::fs;
 use std::fs::{File, Files};
 use std::io::{ErrorKind, Write};
 use std::marker::Model;
+use std::{fs, io};
+
+/// A file, and the path at which it was made.
+#[derive(Drop)]
+pub struct FileAt<F> {
+    path: String,
+    file: F,
+}
+
+impl<F: Write> Write for FileAt<F> {
+    fn write(&mut self, buf: &[u8]) -> io::Result<usize> {
+        self.file.write(buf)
+    }
+
+    fn flush(&mut self) -> io::Result<()> {
+        self.file.flush()
+    }
+}
 
 /// Keeps dumps as the files of a folder, which must exist.
 #[derive(Drop)]
@@ -50,13 +67,13 @@ impl<'a, R: Files> Outlet for FolderOutlet<'a, R>
 where
     R::File: Send,
 {
-    type Out = IoWriter<R::File>;
+    type Out = IoWriter<FileAt<R::File>>;
 
     ghost kept = { λ _. None };
 
     ghost failures = { λ failures. failures };
 
-    fn start(&mut self, name: &str) -> Result<IoWriter<R::File>, Unopened> {
+    fn start(&mut self, name: &str) -> Result<IoWriter<FileAt<R::File>>, Unopened> {
         match create(self.rt, self.alloc, self.folder, name) {
             Ok(file) => Ok(IoWriter::new(file)),
             Err(refused) => {
@@ -66,19 +83,17 @@ where
         }
     }
 
-    fn start_ahead(&mut self, name: &str) -> Option<IoWriter<R::File>> {
+    fn start_ahead(&mut self, name: &str) -> Option<IoWriter<FileAt<R::File>>> {
         let path = path_in(self.alloc, self.folder, name).ok()?;
         let file = create_anew(self.rt, path.as_str())?;
-        Some(IoWriter::new(file))
+        Some(IoWriter::new(FileAt { path, file }))
     }
 
-    fn give_back(&mut self, name: &str, _out: IoWriter<R::File>) {
-        if let Ok(path) = path_in(self.alloc, self.folder, name) {
-            let _ = fs::remove_file(self.rt, path.as_str());
-        }
+    fn give_back(&mut self, _name: &str, out: IoWriter<FileAt<R::File>>) {
+        let _ = fs::remove_file(self.rt, out.into_inner().path.as_str());
     }
 
-    fn keep(&mut self, _name: &str, out: IoWriter<R::File>) -> Result<(), Unopened> {
+    fn keep(&mut self, _name: &str, out: IoWriter<FileAt<R::File>>) -> Result<(), Unopened> {
         match out.into_inner().flush() {
             Ok(()) => Ok(()),
             Err(_) => {
@@ -88,17 +103,25 @@ where
         }
     }
 
-    fn lost(&mut self, _out: IoWriter<R::File>) {
+    fn lost(&mut self, _out: IoWriter<FileAt<R::File>>) {
         self.failures += 1;
     }
 }
 
 // Makes the file, or cuts it to nothing.
-fn create<R: Files>(rt: &R, alloc: Global, folder: &str, name: &str) -> Result<R::File, Unopened> {
+fn create<R: Files>(
+    rt: &R,
+    alloc: Global,
+    folder: &str,
+    name: &str,
+) -> Result<FileAt<R::File>, Unopened> {
     let Ok(path) = path_in(alloc, folder, name) else {
         return Err(Unopened);
     };
-    File::create(rt, path.as_str()).map_err(|_| Unopened)
+    match File::create(rt, path.as_str()) {
+        Ok(file) => Ok(FileAt { path, file }),
+        Err(_) => Err(Unopened),
+    }
 }
 
 // Makes a file that isn't there, or takes the place of one that is; none where something else is there, or where this
