@@ -1,4 +1,4 @@
--- What kind of record it is (RFC 6396, sections 4.3 and 4.4; RFC 8050, section 4).
+-- What kind of record it is (RFC 6396, sections 4.3 and 4.4; RFC 8050, section 3).
 use Rattle.std.specs.Prelude.{ℕ, ◌==◌, ◌&&◌, ◌||◌, nat_lt, nat_le, Bool, if◌then◌else◌, List, length, drop, Option}
 use Rattle.std.specs.Prelude.{Some, None}
 use Rattle.byteorder.specs.Endian.{big_number}
@@ -42,7 +42,7 @@ abbrev pub is_ipv6 : List ℕ → Bool
 is_ipv6 fields = nat_le family_end (length fields) && (big_number 2 (drop family_place fields) == 2)
 
 -- the kind of a record of a session, by its Subtype: 0 and 1 with two-octet AS numbers (RFC 6396, sections
--- 4.4.1 and 4.4.2), 8 to 11 with ADD-PATH (RFC 8050, section 4), 4 and 5 of an IPv6 peer
+-- 4.4.1 and 4.4.2), 8 to 11 with ADD-PATH (RFC 8050, section 3), 4 and 5 of an IPv6 peer
 abbrev pub session_kind : ℕ → Option (List ℕ) → Kind
 session_kind subtype None = kinds.Other
 session_kind subtype (Some fields) =

@@ -1,4 +1,4 @@
-//! What kind of record it is (RFC 6396, sections 4.3 and 4.4; RFC 8050, section 4).
+//! What kind of record it is (RFC 6396, sections 4.3 and 4.4; RFC 8050, section 3).
 //!
 //! Our choice: each record is of one kind. Records of sessions with four-octet AS numbers and IPv4 peers, which a
 //! route server reads, are told apart by what they say; the others by Type, Subtype and Address Family, in this
@@ -31,7 +31,7 @@ pub enum Kind {
     StateChange,
     /// A message or a change of state of a session with two-octet AS numbers (RFC 6396, sections 4.4.1 and 4.4.2).
     TwoOctet,
-    /// A message of a session with ADD-PATH (RFC 8050, section 4).
+    /// A message of a session with ADD-PATH (RFC 8050, section 3).
     AddPath,
     /// A message or a change of state of an IPv6 peer (RFC 6396, sections 4.4.3 and 4.4.4).
     Ipv6,
@@ -55,7 +55,7 @@ const STATE_CHANGE: u16 = 0;
 /// The Subtype of a BGP message, with AS numbers of two octets (RFC 6396, section 4.4.2).
 pub(crate) const MESSAGE: u16 = 1;
 
-// The first and the last Subtype with ADD-PATH (RFC 8050, section 4).
+// The first and the last Subtype with ADD-PATH (RFC 8050, section 3).
 const FIRST_ADD_PATH: u16 = 8;
 
 const LAST_ADD_PATH: u16 = 11;
