@@ -10,5 +10,4 @@ mod values;
 mod words;
 
 pub use query::{HistoryQuery, PeersQuery, Query, WhyQuery, WordsFault};
-pub use values::{PREFIX_FORM, TIME_FORM};
 pub use words::read_query;
