@@ -1,4 +1,3 @@
 pub mod EndLemmas
-pub mod ListingLemmas
 pub mod RunLemmas
-pub mod WrittenLemmas
+pub mod ZipLemmas

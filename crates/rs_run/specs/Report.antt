@@ -1,13 +1,13 @@
 -- The report of a run, line by line. Nothing here is of a standard: all of it is our choice.
-use Rattle.std.specs.Prelude.{ℕ, List, ◌++◌, codes, length}
+use Rattle.std.specs.Prelude.{ℕ, List, ◌++◌, codes}
 use Rattle.std.specs.Fmt.{decimal}
-use Rattle.std.specs.List.{zip, flat_map, enumerate_from}
+use Rattle.std.specs.List.{zip, flat_map}
 use Rattle.rs_choice.specs.Plan.{Peer, Plan}
 use Rattle.rs_floor.specs.declared.ended.PeerEnd.{PeerEnd}
+use Rattle.rs_keep.specs.TableLines.{table_lines}
 use Rattle.rs_session.specs.declared.word.Reason.{Reason}
 use Rattle.rs_session.specs.declared.word.Reason.TheVariants.{EndOfFile, Bgp, Mrt, Memory, Read}
 use Rattle.rs_table.specs.Content.{TablesContent}
-use Rattle.rs_table.specs.Table.{table_of}
 use Rattle.rs_update.specs.declared.errors.Errors.{Errors}
 use Rattle.rs_run.specs.Recorded.{tables_of_files}
 use Rattle.rs_run.specs.SessionEnd.{ends_of_files}
@@ -28,10 +28,6 @@ peer_line name end =
     ++ (decimal end.changes
     ++ (codes " passed " ++ (decimal end.passed ++ (codes " close " ++ (reason_text end.reason ++ codes "\n")))))))
 
--- what it says of a client's table
-abbrev pub table_line : List ℕ → ℕ → List ℕ
-table_line name rows = codes "table " ++ (name ++ (codes " rows " ++ (decimal rows ++ codes "\n")))
-
 -- a line for each peer, in their order
 abbrev pub peer_line_of : Peer × PeerEnd → List ℕ
 peer_line_of (peer, end) = peer_line peer.name end
@@ -39,13 +35,9 @@ peer_line_of (peer, end) = peer_line peer.name end
 abbrev pub peer_lines : List Peer → List PeerEnd → List ℕ
 peer_lines peers ends = flat_map peer_line_of (zip peers ends)
 
--- and then one for each client's table
-abbrev pub table_line_of : TablesContent → ℕ × Peer → List ℕ
-table_line_of tables (client, peer) = table_line peer.name (length (table_of tables client))
-
--- the report over how the sessions ended, and the tables
+-- the report over how the sessions ended, and the tables: these lines, and then one for each client's table
 abbrev pub report_of : Plan → List PeerEnd → TablesContent → List ℕ
-report_of plan ends tables = peer_lines plan.peers ends ++ flat_map (table_line_of tables) (enumerate_from 0 plan.peers)
+report_of plan ends tables = peer_lines plan.peers ends ++ table_lines tables
 
 -- the report over what the files say and leave
 abbrev pub report_of_files : Errors → Plan → List (List ℕ) → List ℕ

@@ -1,12 +1,11 @@
 //! A run over recorded files: reads the sessions of all peers at once, keeps a dump of each client's table,
 //! and writes the report.
 //!
-//! Reading order: `runner` (the run), `dumps` (what it keeps), `report` (the report's lines).
+//! Reading order: `runner` (the run), `report` (the report's lines for the sessions).
 //!
 //! Supported standards: RFC 4271, RFC 7947, RFC 6396.
 #![tactic(auto)]
 
-mod dumps;
 mod report;
 mod runner;
 

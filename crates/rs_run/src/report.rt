@@ -1,7 +1,7 @@
-//! The lines of the report: a line for each peer's session, and one for each client's table.
+//! The lines of the report for the sessions of the peers.
 
 ghost use Rattle.std.specs.Prelude.{◌≡◌, ◌++◌, OnOk, Some, length, string_bytes};
-ghost use Rattle.rs_run.specs.Report.{peer_line, peer_lines, reason_text, table_line};
+ghost use Rattle.rs_run.specs.Report.{peer_line, peer_lines, reason_text};
 
 use rs_choice::Exchange;
 use rs_floor::{PeerEnd, Served};
@@ -59,11 +59,4 @@ fn add_peer_line(report: &mut String, name: &str, end: PeerEnd) -> Result<(), Al
         report,
         "peer {name} changes {changes} passed {passed} close {reason}"
     )
-}
-
-/// Adds the line of a client: how many rows its table has.
-pub fn add_table_line(report: &mut String, name: &str, rows: u32) -> Result<(), AllocError>
-    ensures { OnOk result (string_bytes report.new ≡ string_bytes report.old ++ table_line name.now rows) }
-{
-    writeln!(report, "table {name} rows {rows}")
 }

@@ -7,18 +7,19 @@
 ghost use Rattle.std.specs.Prelude.{◌≡◌, ◌+◌, ◌<◌, ◌≤◌, ℕ, All, IfOk, IfErr, OnOk, IsErrOf, length};
 ghost use Rattle.std.specs.Prelude.{string_bytes, take};
 ghost use Rattle.std.specs.Io.KnownBytes.{Appends};
+ghost use Rattle.rs_keep.specs.Kept.{dumps_of, IsDumpFailure, IsStop};
 ghost use Rattle.rs_mrt.specs.Stream.{AppendsBeginning};
 ghost use Rattle.rs_table.specs.Table.{table_of};
 ghost use Rattle.rs_outlet.specs.Outlet.{Grows};
 ghost use Rattle.rs_run.specs.Recorded.{FailsAt, OverFiles, tables_of_files};
 ghost use Rattle.rs_run.specs.Report.{report_of, report_of_files};
-ghost use Rattle.rs_run.specs.Run.{dumps_of, dumps_of_files, IsDumpFailure, IsReadStop, IsStop, KeepsBeginning};
+ghost use Rattle.rs_run.specs.Run.{dumps_of_files, IsReadStop, KeepsBeginning};
 ghost use Rattle.rs_run.specs.SessionEnd.{ends_of_files};
 
-use crate::dumps::{dump_files, give_back_all, keep, refill};
 use crate::report::add_peer_lines;
 use rs_choice::Exchange;
 use rs_floor::{FloorRefused, Open, Served, serve_by};
+use rs_keep::keep_dumps;
 use rs_mrt::{Read, Write, write_all};
 use rs_options::Options;
 use rs_outlet::{Outlet, RunFault};
@@ -107,7 +108,7 @@ pub fn run<T: Threads + Wait + Sync, O: Outlet, W: Write, R: Read + Send + Drop>
         → report.new ≡ report.old }
 {
     let served = serve_files(rt, alloc, &setup.plan, readers, options)?;
-    let text = keep_dumps(rt, alloc, &setup.plan, &served, options.time, outlet)?;
+    let text = keep_and_report(rt, alloc, &setup.plan, &served, options.time, outlet)?;
     free_apart(rt, served);
     match write_all(report, text.as_bytes()) {
         Ok(()) => Ok(()),
@@ -162,7 +163,7 @@ fn serve_files<T: Threads + Wait + Sync, R: Read + Send + Drop>(
 }
 
 // Keeps the dump of each client, and answers the report.
-fn keep_dumps<T: Threads + Sync, O: Outlet>(
+fn keep_and_report<T: Threads + Sync, O: Outlet>(
     rt: &T,
     alloc: Global,
     plan: &Exchange,
@@ -174,37 +175,13 @@ fn keep_dumps<T: Threads + Sync, O: Outlet>(
     requires one_for_each { length served.now.ends ≡ length plan.now.peers }
     requires failures { O.failures outlet.old < u64.MAX }
     ensures report { IfOk result (λ text. string_bytes text ≡ report_of plan.now served.now.ends served.now.tables) }
-    ensures kept { OnOk result (Grows (O.kept outlet.old) (O.kept outlet.new)
-        (dumps_of plan.now served.now.tables time)) }
+    ensures kept { OnOk result (Grows (O.kept outlet.old) (O.kept outlet.new) (dumps_of served.now.tables time)) }
     ensures no_failure { OnOk result (O.failures outlet.new ≡ O.failures outlet.old) }
-    ensures fault { IfErr result (IsStop plan.now served.now.tables time (O.kept outlet.old) (O.kept outlet.new)
+    ensures fault { IfErr result (IsStop served.now.tables time (O.kept outlet.old) (O.kept outlet.new)
         (O.failures outlet.old) (O.failures outlet.new)) }
 {
     let mut text = String::with_capacity(alloc, plan.count() * LINES_LEN)?;
     add_peer_lines(&mut text, plan, served)?;
-    let files = dump_files(alloc, plan)?;
-    let tables = served.tables();
-    let mut written = Vec::new(alloc).into_iter();
-    for client in 0..plan.count() {
-        refill(
-            rt,
-            alloc,
-            tables,
-            client,
-            &files,
-            time,
-            outlet,
-            &mut written,
-        )?;
-        let Some(writing) = written.next() else {
-            unreachable!();
-        };
-        let name = plan.peer(client).name.as_str();
-        let file = files[client].name.as_str();
-        if let Err(fault) = keep(outlet, client, name, file, writing, &mut text) {
-            give_back_all(outlet, client + 1, &files, written);
-            return Err(fault);
-        }
-    }
+    keep_dumps(rt, alloc, served.tables(), time, outlet, &mut text)?;
     Ok(text)
 }

@@ -4,7 +4,8 @@ use Rattle.std.specs.List.{zip, flat_map}
 use Rattle.std.proofs.lemmas.List.{take_all}
 use Rattle.rs_choice.specs.Plan.{peer_of}
 use Rattle.rs_run.specs.Report.{peer_line, peer_line_of}
-use Rattle.rs_run.proofs.ListingLemmas.{flat_map-one_more, length-zip, lines-one_more, slice_get-zip}
+use Rattle.rs_keep.proofs.ListingLemmas.{flat_map-one_more, lines-one_more}
+use Rattle.rs_run.proofs.ZipLemmas.{length-zip, slice_get-zip}
 use Rattle.rs_run.proofs.report.add_peer_lines.Goals as goal
 
 pub loop-number-preserved : goal.loop-number-preserved

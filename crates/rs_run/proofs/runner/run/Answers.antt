@@ -5,8 +5,8 @@ use Rattle.rs_floor.specs.declared.ended.PeerEnd.{PeerEnd}
 use Rattle.rs_run.proofs.RunLemmas.{keeps-beginning, length-ends}
 use Rattle.rs_run.proofs.runner.run.Goals as goal
 
-pub keep_dumps-requires-clause-one_for_each : goal.keep_dumps-requires-clause-one_for_each
-keep_dumps-requires-clause-one_for_each g c =
+pub keep_and_report-requires-clause-one_for_each : goal.keep_and_report-requires-clause-one_for_each
+keep_and_report-requires-clause-one_for_each g c =
     λ _ _.
     let read = c.in_ok-served.ensures.served in
     ap (λ (ends : List PeerEnd). length ends) read.2.1 ∙ length-ends c.args.options.now.errors c.args.setup.now.plan.value read.0 (read.1.as_many ∙ c.requires.one_for_each)
@@ -16,8 +16,8 @@ pub returns-in_err-text-clause-memory_kept : goal.returns-in_err-text-clause-mem
 returns-in_err-text-clause-memory_kept g c = λ is.
     let O = g.O.Outlet in
     keeps-beginning g.R.Read.gives c.args.options.now.errors c.args.setup.now.plan.value c.args.readers.items c.args.options.now.time c.in_ok-served.served.tables c.in_ok-served.served.ends
-    (O.kept c.args.outlet.now) (O.kept c.keep_dumps.new.outlet) (O.failures c.args.outlet.now) (O.failures c.keep_dumps.new.outlet) c.in_err-text.field-0.0 c.from_residual-in_err-text.result
-    c.in_ok-served.ensures.served c.from_residual-in_err-text.ensures.1 is (rw c.deref.ensures at c.in_err-text.ensures.fault)
+    (O.kept c.args.outlet.now) (O.kept c.keep_and_report.new.outlet) (O.failures c.args.outlet.now) (O.failures c.keep_and_report.new.outlet) c.in_err-text.field-0.0 c.from_residual-in_err-text.result
+    c.in_ok-served.ensures.served c.from_residual-in_err-text.ensures.1 is c.in_err-text.ensures.fault
 
 -- One search, so that a wrong body is refused soon.
 pub returns-in-Ok-clause-done : goal.returns-in-Ok-clause-done

@@ -1,0 +1,28 @@
+use Rattle.std.proofs.Common.{◌≡◌, ◌∙◌, ◌<◌, ◌+◌, List, Option, ap, arith, drop, length, slice_index_or, subst, sym}
+use Rattle.std.proofs.lemmas.List.{take_at}
+use Rattle.rs_dump.specs.declared.side_by_side.Writing.{Writing}
+use Rattle.rs_outlet.specs.Outlet.{KeptDump}
+use Rattle.rs_keep.specs.Written.{AreBegun, AreWritten}
+use Rattle.rs_keep.proofs.WrittenLemmas.{written-of}
+use Rattle.rs_keep.proofs.dumps.write_some.Goals as goal
+
+pub returns-clause-written : goal.returns-clause-written
+returns-clause-written g c =
+    let Out = g.O.Out.Write in
+    let kept = g.O.Outlet.kept c.args.outlet.now in
+    let tables = c.args.tables.now in
+    let time = c.args.time in
+    let client = c.args.client in
+    let begun = c.deref_mut.result.now in
+    let new = c.write_side_by_side.new.writings in
+    let P : List (Writing g.row.O-Out.Denot) → Type 0 = λ some. AreWritten Out.taken Out.failures kept tables time client some in
+    let count : length new ≡ length c.begin_behind.new.some.items = c.write_side_by_side.ensures.count ∙ ap length c.deref_mut.ensures.value in
+    let Q : List (Writing g.row.O-Out.Denot) → Type 0 = λ some. AreBegun Out.taken Out.failures kept tables time client some in
+    let R : Option (List KeptDump) → Type 0 = λ kept. AreBegun Out.taken Out.failures kept tables time client c.begin_behind.new.some.items in
+    let all : AreBegun Out.taken Out.failures kept tables time client begun = subst Q (sym c.deref_mut.ensures.value) (subst R c.in_ok-first.ensures.kept c.begin_behind.ensures.begun) in
+    subst P (sym (take_at new (drop (length new) c.begin_behind.new.some.items) c.begin_behind.new.some.len (omega (arith, count)))) record {
+      each = λ k d below.
+          let within : k < length begun = omega (arith, below, count, ap length c.deref_mut.ensures.value) in
+          written-of Out.taken Out.failures tables time kept (client + k) (slice_index_or begun k d) (slice_index_or new k d) (all k d within) (c.write_side_by_side.ensures.written k d within);
+      known = omega (arith, count, c.begin_behind.ensures.some.1, c.most_at_once-most.ensures.known);
+    }

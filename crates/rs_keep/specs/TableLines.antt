@@ -1,0 +1,18 @@
+-- What the report says of the tables. Nothing here is of a standard: all of it is our choice.
+use Rattle.std.specs.Prelude.{ℕ, List, ◌++◌, codes, length}
+use Rattle.std.specs.Fmt.{decimal}
+use Rattle.std.specs.List.{flat_map, enumerate_from}
+use Rattle.rs_choice.specs.Plan.{Peer}
+use Rattle.rs_table.specs.Content.{TablesContent}
+use Rattle.rs_table.specs.Table.{table_of}
+
+-- what it says of a client's table
+abbrev pub table_line : List ℕ → ℕ → List ℕ
+table_line name rows = codes "table " ++ (name ++ (codes " rows " ++ (decimal rows ++ codes "\n")))
+
+abbrev pub table_line_of : TablesContent → ℕ × Peer → List ℕ
+table_line_of tables (client, peer) = table_line peer.name (length (table_of tables client))
+
+-- a line for each client's table, in their order
+abbrev pub table_lines : TablesContent → List ℕ
+table_lines tables = flat_map (table_line_of tables) (enumerate_from 0 tables.plan.peers)

@@ -1,0 +1,216 @@
+//! The dumps of the clients: some are written beside each other, before each is kept in its turn.
+//!
+//! Our choices: of an exchange with more than 1,024 prefixes, up to 16 dumps are written beside each other, which
+//! bounds their memory by 1.3 MB; fewer where the outlet gives no writer ahead, or memory is refused. What comes
+//! of a run is the same: where a dump isn't kept, those behind it are given back.
+
+ghost use Rattle.std.specs.Prelude.{◌≡◌, ◌+◌, ◌<◌, ◌≤◌, IfErr, IfOk, IfSome, OnOk, length, vec_capacity};
+ghost use Rattle.std.specs.Vec.Iter.{into_iter_items};
+ghost use Rattle.rs_table.specs.Table.{table_of};
+ghost use Rattle.rs_keep.specs.Kept.{IsFaultAt};
+ghost use Rattle.rs_keep.specs.Written.{AreBegun, AreDumpFiles, AreWritten, IsBegun};
+
+use rs_choice::Exchange;
+use rs_dump::{DumpFault, TableDump, Writing, write_side_by_side};
+use rs_outlet::{Outlet, RunFault};
+use rs_table::Tables;
+use std::alloc::{AllocError, Global};
+use std::thread::Threads;
+use std::vec::IntoIter;
+
+// How many dumps are written beside each other.
+const DUMPS_AT_ONCE: usize = 16;
+
+// How many prefixes an exchange has at most whose dumps are written one after another, since that is soon done.
+const FEW_PREFIXES: usize = 1024;
+
+// The file in which the dump of a client is kept.
+#[derive(Drop)]
+pub(crate) struct DumpFile {
+    pub(crate) name: String,
+}
+
+// The files of the dumps of all clients.
+pub(crate) fn dump_files(alloc: Global, plan: &Exchange) -> Result<Vec<DumpFile>, AllocError>
+    ensures { IfOk result (λ files. AreDumpFiles plan.now files.items) }
+{
+    let mut files = Vec::with_capacity(alloc, plan.count())?;
+    for client in 0..plan.count() {
+        let name = plan.peer(client).name.as_str();
+        files.push(DumpFile {
+            name: format!(in alloc; "{name}.mrt")?,
+        })?;
+    }
+    Ok(files)
+}
+
+// Where no dump is left that was written and not kept, writes those of this client and of some behind it.
+pub(crate) fn refill<'a, T: Threads + Sync, O: Outlet>(
+    rt: &T,
+    alloc: Global,
+    tables: &'a Tables,
+    client: usize,
+    files: &[DumpFile],
+    time: u32,
+    outlet: &mut O,
+    written: &mut IntoIter<Writing<'a, O::Out>>,
+) -> Result<(), RunFault>
+    requires client_known { client < length tables.now.plan.peers }
+    requires files { AreDumpFiles tables.now.plan files.now }
+    requires failures { O.failures outlet.old < u64.MAX }
+    ensures left { 0 < length (into_iter_items written.old) → written.new ≡ written.old }
+    ensures some { OnOk result (0 < length (into_iter_items written.new)) }
+    ensures written { length (into_iter_items written.old) ≡ 0 → OnOk result
+        (AreWritten O.Out.taken O.Out.failures (O.kept outlet.old) tables.now time client
+        (into_iter_items written.new)) }
+    ensures kept { O.kept outlet.new ≡ O.kept outlet.old }
+    ensures no_failure { OnOk result (O.failures outlet.new ≡ O.failures outlet.old) }
+    ensures fault { IfErr result (IsFaultAt client (length (table_of tables.now client)) (O.failures outlet.old)
+        (O.failures outlet.new)) }
+{
+    if written.len() == 0 {
+        let more = write_some(rt, alloc, tables, client, files, time, outlet)?;
+        *written = more.into_iter();
+    }
+    Ok(())
+}
+
+// Writes the dump of a client, and those of some behind it beside it.
+fn write_some<'a, T: Threads + Sync, O: Outlet>(
+    rt: &T,
+    alloc: Global,
+    tables: &'a Tables,
+    client: usize,
+    files: &[DumpFile],
+    time: u32,
+    outlet: &mut O,
+) -> Result<Vec<Writing<'a, O::Out>>, RunFault>
+    requires client_known { client < length tables.now.plan.peers }
+    requires files { AreDumpFiles tables.now.plan files.now }
+    requires failures { O.failures outlet.old < u64.MAX }
+    ensures some { IfOk result (λ some. 0 < length some.items) }
+    ensures written { IfOk result (λ some. AreWritten O.Out.taken O.Out.failures (O.kept outlet.old) tables.now time client
+        some.items) }
+    ensures kept { O.kept outlet.new ≡ O.kept outlet.old }
+    ensures no_failure { OnOk result (O.failures outlet.new ≡ O.failures outlet.old) }
+    ensures fault { IfErr result (IsFaultAt client (length (table_of tables.now client)) (O.failures outlet.old)
+        (O.failures outlet.new)) }
+{
+    let most = most_at_once(tables, client);
+    let mut some = Vec::with_capacity(alloc, most)?;
+    let first = begin(alloc, tables, client, files, time, outlet)?;
+    let Ok(()) = some.push(first) else {
+        unreachable!();
+    };
+    begin_behind(alloc, tables, client, files, time, outlet, most, &mut some);
+    write_side_by_side(rt, &mut some);
+    Ok(some)
+}
+
+// How many dumps are written beside each other, that of this client counted.
+fn most_at_once(tables: &Tables, client: usize) -> usize
+    requires { client < length tables.now.plan.peers }
+    ensures some { 1 ≤ result }
+    ensures known { client + result ≤ length tables.now.plan.peers }
+{
+    match tables.iter_rows(client).size_hint().1 {
+        Some(most) if most <= FEW_PREFIXES => 1,
+        _ => DUMPS_AT_ONCE.min(tables.plan().count() - client),
+    }
+}
+
+// Begins and starts the dump of a client in its turn.
+fn begin<'a, O: Outlet>(
+    alloc: Global,
+    tables: &'a Tables,
+    client: usize,
+    files: &[DumpFile],
+    time: u32,
+    outlet: &mut O,
+) -> Result<Writing<'a, O::Out>, RunFault>
+    requires client_known { client < length tables.now.plan.peers }
+    requires files { AreDumpFiles tables.now.plan files.now }
+    requires failures { O.failures outlet.old < u64.MAX }
+    ensures begun { IfOk result (IsBegun O.Out.taken O.Out.failures (O.kept outlet.old) tables.now time client) }
+    ensures kept { O.kept outlet.new ≡ O.kept outlet.old }
+    ensures no_failure { OnOk result (O.failures outlet.new ≡ O.failures outlet.old) }
+    ensures fault { IfErr result (IsFaultAt client (length (table_of tables.now client)) (O.failures outlet.old)
+        (O.failures outlet.new)) }
+{
+    let dump = match TableDump::begin(alloc, tables, client, time) {
+        Ok(dump) => dump,
+        Err(DumpFault::Memory) => return Err(RunFault::Memory),
+        Err(DumpFault::TooManyRows) => return Err(RunFault::Dump(client)),
+        Err(DumpFault::Write) => unreachable!(),
+    };
+    match outlet.start(files[client].name.as_str()) {
+        Ok(out) => Ok(Writing {
+            dump,
+            out,
+            failed: false,
+        }),
+        Err(_) => Err(RunFault::Dump(client)),
+    }
+}
+
+// Begins the dumps behind those that are begun, of which the first is this client's, until there are so many, or one
+// can't be begun ahead of its turn.
+fn begin_behind<'a, O: Outlet>(
+    alloc: Global,
+    tables: &'a Tables,
+    client: usize,
+    files: &[DumpFile],
+    time: u32,
+    outlet: &mut O,
+    most: usize,
+    some: &mut Vec<Writing<'a, O::Out>>,
+)
+    requires known { client + most ≤ length tables.now.plan.peers }
+    requires files { AreDumpFiles tables.now.plan files.now }
+    requires capacity { most ≤ vec_capacity some.old }
+    requires begun { AreBegun O.Out.taken O.Out.failures (O.kept outlet.old) tables.now time client some.old.items }
+    requires some { (1 ≤ length some.old.items) × (length some.old.items ≤ most) }
+    ensures begun { AreBegun O.Out.taken O.Out.failures (O.kept outlet.old) tables.now time client some.new.items }
+    ensures some { (1 ≤ length some.new.items) × (length some.new.items ≤ most) }
+    ensures kept { O.kept outlet.new ≡ O.kept outlet.old }
+    ensures no_failure { O.failures outlet.new ≡ O.failures outlet.old }
+{
+    while some.len() < most {
+        let Some(next) = begin_ahead(alloc, tables, client + some.len(), files, time, outlet) else {
+            break;
+        };
+        let Ok(()) = some.push(next) else {
+            unreachable!();
+        };
+    }
+}
+
+// Begins the dump of a client ahead of its turn, where the outlet gives a writer and there is memory.
+fn begin_ahead<'a, O: Outlet>(
+    alloc: Global,
+    tables: &'a Tables,
+    client: usize,
+    files: &[DumpFile],
+    time: u32,
+    outlet: &mut O,
+) -> Option<Writing<'a, O::Out>>
+    requires client_known { client < length tables.now.plan.peers }
+    requires files { AreDumpFiles tables.now.plan files.now }
+    ensures begun { IfSome result (IsBegun O.Out.taken O.Out.failures (O.kept outlet.old) tables.now time client) }
+    ensures kept { O.kept outlet.new ≡ O.kept outlet.old }
+    ensures no_failure { O.failures outlet.new ≡ O.failures outlet.old }
+{
+    let file = files[client].name.as_str();
+    let out = outlet.start_ahead(file)?;
+    match TableDump::begin(alloc, tables, client, time) {
+        Ok(dump) => Some(Writing {
+            dump,
+            out,
+            failed: false,
+        }),
+        Err(_) => {
+            outlet.give_back(file, out);
+            None
+        }
+    }
+}
