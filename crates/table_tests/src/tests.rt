@@ -5,6 +5,7 @@ mod closed_sessions;
 mod decisions;
 mod dumps;
 mod eligible_routes;
+mod kept;
 mod listings;
 mod merged_parts;
 mod random_changes;

@@ -34,8 +34,8 @@ const FULL_DUMP: &str =
     40010100 40020A02020000FBF50000FDF2 400304C000020B 80040400000007 C00808FBF4FBF6FDE80001 \
     E0200C0000FDE80000000100000002";
 
-// Empty tables for a and for b of two peers, and for c of three.
-const EMPTY_OF_A: &str =
+/// Empty tables for a and for b of two peers, and for c of three.
+pub const EMPTY_OF_A: &str =
     "00000000 000D 0001 00000023 C0000201 0001 61 0002 02 C000020B C000020B 0000FBF5 02 C000020C C000020C 0000FBF6";
 
 const EMPTY_OF_B: &str =
