@@ -2,6 +2,7 @@
 pub mod Outcome  -- how it ended
 pub mod Run  -- what it leaves
 pub mod Served  -- what its tables and sessions are
+pub mod ServeAnswer  -- what a run answers, by its result
 pub mod Laws  -- what holds of these
 -- One thread, step by step:
 pub mod Lane  -- one peer: its session and its ring

@@ -1,20 +1,16 @@
 //! Runs on threads: one for each peer's recorded session, and one for each shard of the tables.
 
 ghost use Rattle.std.specs.List.{list_any};
-ghost use Rattle.std.specs.Prelude.{◌≡◌, ◌<◌, ◌^◌, ◌||◌, ℕ, not, true, false, All, Err, IfErr, IfOk, IfSome};
-ghost use Rattle.std.specs.Prelude.{IsErrOf, IsTrue, length, map};
-ghost use Rattle.rs_ring.specs.Items.{is_capacity};
+ghost use Rattle.std.specs.Prelude.{◌≡◌, ◌<◌, ◌^◌, ◌||◌, not, All, IfErr, IfOk, IfSome, IsTrue, length, map};
 ghost use Rattle.rs_session.specs.Change.{is_read};
-ghost use Rattle.rs_session.specs.Given.{MayFailAt};
 ghost use Rattle.rs_shard.specs.Crew as of_shards;
 ghost use Rattle.rs_worker.specs.Crew.{charge_of};
 ghost use Rattle.rs_worker.specs.Worked as spec;
 ghost use Rattle.rs_floor.specs.Run.{CanMerge, HasRun, IsAnswer, IsRefusal, end_of};
 ghost use Rattle.rs_router.specs.Cut.{IsShardCount};
 ghost use Rattle.rs_session.specs.FileChanges.{default_standard};
-ghost use Rattle.rs_floor.specs.FloorContent.{id_of};
-ghost use Rattle.rs_floor.specs.Served.{IsServed, IsServedBy, is_shard_count};
-ghost use Rattle.rs_floor.specs.declared.fault.FloorRefused.TheVariants.{Capacity, Shards};
+ghost use Rattle.rs_floor.specs.ServeAnswer.{ServeAnswer, ServeFilesAnswer};
+ghost use Rattle.rs_floor.specs.Served.{is_shard_count};
 
 use crate::crew::{Crew, Ran, Ready, run_ready};
 use crate::ended::PeerEnd;
@@ -56,17 +52,7 @@ pub fn serve_by<T: Threads + Wait + Sync, R: Read + Send + Drop, G: Gate>(
 ) -> Result<Served, FloorRefused>
     requires as_many { length readers.items ≡ length plan.now.value.peers }
     requires failures { All (λ reader. R.failures reader < u64.MAX) readers.items }
-    ensures served { IfOk result (IsServedBy R.gives errors plan.now.value readers.items) }
-    ensures capacity { is_capacity capacity ≡ false → result ≡ Err Capacity }
-    ensures capacity_only { IsErrOf result Capacity → is_capacity capacity ≡ false }
-    ensures shards { is_capacity capacity ≡ true → is_shard_count shards ≡ false → result ≡ Err Shards }
-    ensures shards_only { IsErrOf result Shards → is_shard_count shards ≡ false }
-    ensures read_known { (peer : ℕ) → IsErrOf result (FloorRefused.Read peer) → peer < length plan.now.value.peers }
-    // The reader of that peer may fail, and those of the peers before it may give files.
-    ensures read_fails { (peer : ℕ) → IsErrOf result (FloorRefused.Read peer)
-        → MayFailAt R.gives errors (map id_of plan.now.value.peers) readers.items peer }
-    ensures unsettled_known { (peer : ℕ) → IsErrOf result (FloorRefused.Unsettled peer)
-        → peer < length plan.now.value.peers }
+    ensures answer { ServeAnswer R.gives errors plan.now.value readers.items capacity shards result }
 {
     if !has_room(capacity) {
         return Err(FloorRefused::Capacity);
@@ -193,17 +179,7 @@ pub fn serve_sharded<T: Threads + Wait + Sync, R: Read + Send + Drop, G: Gate>(
 ) -> Result<Served, FloorRefused>
     requires as_many { length readers.items ≡ length plan.now.value.peers }
     requires failures { All (λ reader. R.failures reader < u64.MAX) readers.items }
-    ensures served { IfOk result (IsServedBy R.gives default_standard plan.now.value readers.items) }
-    ensures capacity { is_capacity capacity ≡ false → result ≡ Err Capacity }
-    ensures capacity_only { IsErrOf result Capacity → is_capacity capacity ≡ false }
-    ensures shards { is_capacity capacity ≡ true → is_shard_count shards ≡ false → result ≡ Err Shards }
-    ensures shards_only { IsErrOf result Shards → is_shard_count shards ≡ false }
-    ensures read_known { (peer : ℕ) → IsErrOf result (FloorRefused.Read peer) → peer < length plan.now.value.peers }
-    // The reader of that peer may fail, and those of the peers before it may give files.
-    ensures read_fails { (peer : ℕ) → IsErrOf result (FloorRefused.Read peer)
-        → MayFailAt R.gives default_standard (map id_of plan.now.value.peers) readers.items peer }
-    ensures unsettled_known { (peer : ℕ) → IsErrOf result (FloorRefused.Unsettled peer)
-        → peer < length plan.now.value.peers }
+    ensures answer { ServeAnswer R.gives default_standard plan.now.value readers.items capacity shards result }
 {
     serve_by(
         rt,
@@ -228,15 +204,7 @@ pub fn serve_readers<T: Threads + Wait + Sync, R: Read + Send + Drop, G: Gate>(
 ) -> Result<Served, FloorRefused>
     requires as_many { length readers.items ≡ length plan.now.value.peers }
     requires failures { All (λ reader. R.failures reader < u64.MAX) readers.items }
-    ensures served { IfOk result (IsServedBy R.gives default_standard plan.now.value readers.items) }
-    ensures capacity { is_capacity capacity ≡ false → result ≡ Err Capacity }
-    ensures capacity_only { IsErrOf result Capacity → is_capacity capacity ≡ false }
-    ensures read_known { (peer : ℕ) → IsErrOf result (FloorRefused.Read peer) → peer < length plan.now.value.peers }
-    // The reader of that peer may fail, and those of the peers before it may give files.
-    ensures read_fails { (peer : ℕ) → IsErrOf result (FloorRefused.Read peer)
-        → MayFailAt R.gives default_standard (map id_of plan.now.value.peers) readers.items peer }
-    ensures unsettled_known { (peer : ℕ) → IsErrOf result (FloorRefused.Unsettled peer)
-        → peer < length plan.now.value.peers }
+    ensures answer { ServeAnswer R.gives default_standard plan.now.value readers.items capacity 1 result }
 {
     serve_sharded(rt, alloc, plan, readers, capacity, 1, gate)
 }
@@ -252,12 +220,8 @@ pub fn serve<T: Threads + Wait + Sync, G: Gate>(
 ) -> Result<Served, FloorRefused>
     requires as_many { length files.now ≡ length plan.now.value.peers }
     requires limit { All (λ file. length file.now < 2 ^ 50) files.now }
-    ensures served { IfOk result (IsServed default_standard plan.now.value (map (λ file. file.now) files.now)) }
-    ensures capacity { is_capacity capacity ≡ false → result ≡ Err Capacity }
-    ensures capacity_only { IsErrOf result Capacity → is_capacity capacity ≡ false }
-    ensures read_known { (peer : ℕ) → IsErrOf result (FloorRefused.Read peer) → peer < length plan.now.value.peers }
-    ensures unsettled_known { (peer : ℕ) → IsErrOf result (FloorRefused.Unsettled peer)
-        → peer < length plan.now.value.peers }
+    ensures answer { ServeFilesAnswer default_standard plan.now.value (map (λ file. file.now) files.now) capacity
+        result }
 {
     if !has_room(capacity) {
         return Err(FloorRefused::Capacity);

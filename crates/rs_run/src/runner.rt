@@ -4,16 +4,13 @@
 //! started; all dumps are kept, in the order of the plan, before the first line of the report is written; the
 //! first failure ends the run.
 
-ghost use Rattle.std.specs.Prelude.{◌≡◌, ◌+◌, ◌<◌, ◌≤◌, ℕ, All, IfOk, IfErr, OnOk, IsErrOf, length};
-ghost use Rattle.std.specs.Prelude.{string_bytes, take};
-ghost use Rattle.std.specs.Io.KnownBytes.{Appends};
-ghost use Rattle.rs_keep.specs.Kept.{dumps_of, IsDumpFailure, IsStop};
-ghost use Rattle.rs_mrt.specs.Stream.{AppendsBeginning};
-ghost use Rattle.rs_table.specs.Table.{table_of};
+ghost use Rattle.std.specs.Prelude.{◌≡◌, ◌<◌, ◌≤◌, All, IfOk, IfErr, OnOk, length, string_bytes};
+ghost use Rattle.rs_keep.specs.Kept.{dumps_of, IsStop};
 ghost use Rattle.rs_outlet.specs.Outlet.{Grows};
-ghost use Rattle.rs_run.specs.Recorded.{FailsAt, OverFiles, tables_of_files};
-ghost use Rattle.rs_run.specs.Report.{report_of, report_of_files};
-ghost use Rattle.rs_run.specs.Run.{dumps_of_files, IsReadStop, KeepsBeginning};
+ghost use Rattle.rs_run.specs.Recorded.{OverFiles, tables_of_files};
+ghost use Rattle.rs_run.specs.Report.{report_of};
+ghost use Rattle.rs_run.specs.Run.{IsReadStop};
+ghost use Rattle.rs_run.specs.RunAnswer.{RunAnswer};
 ghost use Rattle.rs_run.specs.SessionEnd.{ends_of_files};
 
 use crate::report::add_peer_lines;
@@ -62,50 +59,9 @@ pub fn run<T: Threads + Wait + Sync, O: Outlet, W: Write, R: Read + Send + Drop>
     requires report_failures { W.failures report.old < u64.MAX }
     requires ring { (1 ≤ options.now.ring) × (options.now.ring ≤ 65536) }
     requires shards { (1 ≤ options.now.shards) × (options.now.shards ≤ 16) }
-    // All dumps are kept, and the report is out, of files that the readers may give.
-    ensures done { OnOk result (OverFiles R.gives options.now.errors setup.now.plan.value readers.items (λ files.
-        Grows (O.kept outlet.old) (O.kept outlet.new)
-        (dumps_of_files options.now.errors setup.now.plan.value files options.now.time)
-        × Appends (W.taken report.old) (W.taken report.new)
-        (report_of_files options.now.errors setup.now.plan.value files))) }
-    ensures no_failure { OnOk result (O.failures outlet.new ≡ O.failures outlet.old) }
-    ensures no_failed_write { OnOk result (W.failures report.new ≡ W.failures report.old) }
-    ensures memory_kept { IsErrOf result RunFault.Memory
-        → KeepsBeginning R.gives options.now.errors setup.now.plan.value readers.items options.now.time
-        (O.kept outlet.old) (O.kept outlet.new) }
-    ensures memory_failures { IsErrOf result RunFault.Memory → O.failures outlet.new ≡ O.failures outlet.old }
-    ensures memory_reports_nothing { IsErrOf result RunFault.Memory → report.new ≡ report.old }
-    ensures dump_known { (client : ℕ) → IsErrOf result (RunFault.Dump client)
-        → client < length setup.now.plan.value.peers }
-    // The dumps before that client's are kept, of files that the readers may give; over these its table has
-    // too many rows, or the outlet failed.
-    ensures dump { (client : ℕ) → IsErrOf result (RunFault.Dump client)
-        → OverFiles R.gives options.now.errors setup.now.plan.value readers.items (λ files.
-        Grows (O.kept outlet.old) (O.kept outlet.new)
-        (take client (dumps_of_files options.now.errors setup.now.plan.value files options.now.time))
-        × IsDumpFailure (O.failures outlet.old) (O.failures outlet.new)
-        (length (table_of (tables_of_files options.now.errors setup.now.plan.value files) client))) }
-    ensures dump_reports_nothing { (client : ℕ) → IsErrOf result (RunFault.Dump client) → report.new ≡ report.old }
-    // All dumps are kept, and a beginning of the report is out, of files that the readers may give.
-    ensures report { IsErrOf result RunFault.Report
-        → OverFiles R.gives options.now.errors setup.now.plan.value readers.items (λ files.
-        Grows (O.kept outlet.old) (O.kept outlet.new)
-        (dumps_of_files options.now.errors setup.now.plan.value files options.now.time)
-        × AppendsBeginning (W.taken report.old) (W.taken report.new)
-        (report_of_files options.now.errors setup.now.plan.value files)) }
-    ensures report_failures { IsErrOf result RunFault.Report → W.failures report.new ≡ W.failures report.old + 1 }
-    ensures report_no_failure { IsErrOf result RunFault.Report → O.failures outlet.new ≡ O.failures outlet.old }
-    ensures read_known { (peer : ℕ) → IsErrOf result (RunFault.Read peer) → peer < length setup.now.plan.value.peers }
-    // The reader of that peer may fail while the session is open, and each before it may give its peer's file.
-    ensures read_fails { (peer : ℕ) → IsErrOf result (RunFault.Read peer)
-        → FailsAt R.gives options.now.errors setup.now.plan.value readers.items peer }
-    ensures read_keeps_nothing { (peer : ℕ) → IsErrOf result (RunFault.Read peer) → outlet.new ≡ outlet.old }
-    ensures read_reports_nothing { (peer : ℕ) → IsErrOf result (RunFault.Read peer) → report.new ≡ report.old }
-    ensures unsettled_known { (peer : ℕ) → IsErrOf result (RunFault.Unsettled peer)
-        → peer < length setup.now.plan.value.peers }
-    ensures unsettled_keeps_nothing { (peer : ℕ) → IsErrOf result (RunFault.Unsettled peer) → outlet.new ≡ outlet.old }
-    ensures unsettled_reports_nothing { (peer : ℕ) → IsErrOf result (RunFault.Unsettled peer)
-        → report.new ≡ report.old }
+    ensures answer { RunAnswer R.gives O.kept O.failures W.taken W.failures
+        options.now.errors setup.now.plan.value options.now.time readers.items
+        outlet.old outlet.new report.old report.new result }
 {
     let served = serve_files(rt, alloc, &setup.plan, readers, options)?;
     let text = keep_and_report(rt, alloc, &setup.plan, &served, options.time, outlet)?;

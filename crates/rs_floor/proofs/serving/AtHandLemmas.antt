@@ -1,5 +1,5 @@
 -- Readers of files that are at hand: for `serve` of serving.rt.
-use Rattle.std.proofs.Common.{◌≡◌, ◌∙◌, sym, ap, subst, ℕ, ◌<◌, arith, inl, inr, List, ◌++◌, length, map, drop, append_assoc, Some}
+use Rattle.std.proofs.Common.{◌≡◌, ◌∙◌, sym, ap, subst, ℕ, ◌<◌, arith, inl, inr, List, ◌++◌, length, map, drop, append_assoc, Some, Result, Ok, Err}
 use Rattle.std.specs.Prelude.{slice_get}
 use Rattle.std.specs.List.{zip}
 use Rattle.std.proofs.lemmas.List.{length-map, take-append-drop}
@@ -13,8 +13,11 @@ use Rattle.rs_session.specs.declared.peer.PeerId.{PeerId}
 use Rattle.rs_update.specs.declared.errors.Errors.{Errors}
 use Rattle.rs_floor.specs.FloorContent.{id_of}
 use Rattle.rs_floor.specs.Laws.{tables_of}
+use Rattle.rs_floor.specs.ServeAnswer.{ServeAnswer, ServeFilesAnswer}
 use Rattle.rs_floor.specs.Served.{ServedContent, IsEndOf, IsServed, IsServedBy, changes_by_peer}
 use Rattle.rs_floor.specs.declared.ended.PeerEnd.{PeerEnd}
+use Rattle.rs_floor.specs.declared.fault.FloorRefused.{FloorRefused}
+use Rattle.rs_floor.specs.declared.fault.FloorRefused.TheVariants.{Memory, Unsettled, Capacity, Read, Shards}
 use Rattle.rs_worker.proofs.PlaceLemmas.{get-map, some-at}
 use Rattle.rs_floor.proofs.serving.FileLemmas.{front-says}
 use Rattle.rs_floor.proofs.ListLemmas.{same-places, zip-at, zip-counted}
@@ -96,3 +99,14 @@ module _ {R : Type 0} (f : R → List ℕ) (errors : Errors) (plan : Plan) (read
   -- what is served of files at hand is what the files say
   pub served-at-hand : IsServed errors plan (map f readers) served
   served-at-hand = record { tables_are = s.2.tables_are ∙ ap (tables_of plan) same-changes; counted = s.2.counted; ends_are = ends }
+
+-- what a run answers over readers of files at hand is what it answers over the files
+pub answer-at-hand : {R : Type 0} (f : R → List ℕ) (errors : Errors) (plan : Plan) (readers : List R) (files : List (List ℕ)) (capacity : ℕ) → length readers ≡ length plan.peers → map f readers ≡ files
+    → (result : Result ServedContent FloorRefused) → ServeAnswer (at_hand f) errors plan readers capacity 1 result → ServeFilesAnswer errors plan files capacity result
+answer-at-hand f errors plan readers files capacity as_many same (Ok served) answer =
+    (answer.0.0, subst (λ (all : List (List ℕ)). IsServed errors plan all served) same (served-at-hand f errors plan readers served as_many answer.1))
+answer-at-hand f errors plan readers files capacity as_many same (Err Capacity) answer = answer
+answer-at-hand f errors plan readers files capacity as_many same (Err Shards) answer = absurd cc
+answer-at-hand f errors plan readers files capacity as_many same (Err Memory) answer = answer.0
+answer-at-hand f errors plan readers files capacity as_many same (Err (Read peer)) answer = (answer.0.0, answer.1.0)
+answer-at-hand f errors plan readers files capacity as_many same (Err (Unsettled peer)) answer = (answer.0.0, answer.1)

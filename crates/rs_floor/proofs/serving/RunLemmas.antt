@@ -1,8 +1,7 @@
 -- A run, from the start of its threads to their join: for crew.rt, `open_lines` of lines.rt, and `serve_by` and `serve` of serving.rt.
 use mathlib.Core.List.{IsPrefix, map-map}
-use Rattle.std.proofs.Common.{◌≡◌, ◌∙◌, sym, ap, subst, ℕ, ◌<◌, ◌≤◌, ◌⊎◌, inl, inr, arith, Result, Ok, Err, Bool, true, false, List, [], ◌++◌, length, map, get_or, append-nil, length-append}
-use Rattle.std.specs.Prelude.{IfErr}
-use Rattle.std.specs.Result.{IsErrOf}
+use Rattle.std.proofs.Common.{◌≡◌, ◌∙◌, sym, ap, ℕ, ◌≤◌, arith, Result, Ok, Err, Bool, true, false, List, [], ◌++◌, length, map, get_or, append-nil, length-append}
+use Rattle.std.specs.Prelude.{IfErr, IfOk}
 use Rattle.std.proofs.lemmas.List.{length-map, nil_from_length}
 use Rattle.std.proofs.lemmas.List.Elements.{All-map}
 use Rattle.std.proofs.lemmas.Option.{slice_get-get_or, slice_get_within}
@@ -18,7 +17,6 @@ use Rattle.rs_shard.specs.Crew.{AllHold}
 use Rattle.rs_shard.specs.Laws.{IsOfPlan, AreShardsOf, IsRun, RunShardsAreWhole, ShardsMerge}
 use Rattle.rs_shard.specs.declared.crew.ShardJob.{ShardJob}
 use Rattle.rs_session.specs.Change.{is_read}
-use Rattle.rs_session.specs.Given.{MayFailAt}
 use Rattle.rs_session.specs.Laws.{ClosesOnce, FailedReadCloses}
 use Rattle.rs_table.specs.Content.{TablesContent}
 use Rattle.rs_update.specs.declared.errors.Errors.{Errors}
@@ -27,10 +25,11 @@ use Rattle.rs_worker.specs.declared.crew.Job.{Job}
 use Rattle.rs_worker.specs.declared.crew.Joined.{Joined}
 use Rattle.rs_floor.specs.FloorContent.{id_of}
 use Rattle.rs_floor.specs.Lines.{AreLines, AreRings}
-use Rattle.rs_floor.specs.Run.{HasRun, CanMerge, IsAnswer, IsFirstRead, IsFirstUnsettled, IsRefusal}
+use Rattle.rs_floor.specs.Run.{HasRun, CanMerge, IsAnswer, IsRefusal}
+use Rattle.rs_floor.specs.ServeAnswer.{ServeAnswer, WithinLimits}
 use Rattle.rs_floor.specs.Served.{ServedContent, IsServedBy}
 use Rattle.rs_floor.specs.declared.fault.FloorRefused.{FloorRefused}
-use Rattle.rs_floor.specs.declared.fault.FloorRefused.TheVariants.{Capacity, Read, Shards, Unsettled}
+use Rattle.rs_floor.specs.declared.fault.FloorRefused.TheVariants.{Memory, Capacity, Read, Shards, Unsettled}
 use Rattle.rs_worker.proofs.PlaceLemmas.{all-at, same-counted}
 use Rattle.rs_floor.proofs.serving.AllServedLemmas.{all-served, fails-first, within-peers}
 
@@ -75,13 +74,6 @@ has-run gives workers of_shards routed joined sent ends parts whole closed cuts 
   held = held;
 }
 
--- a run of which all threads were joined isn't refused for its limits
-pub not-limits : (ends : List Joined) (whole : Bool) {A : Type 0} (result : Result A FloorRefused) → IfErr result (IsRefusal ends whole) → IsErrOf result Capacity ⊎ IsErrOf result Shards → ⊥
-not-limits ends whole (Ok answer) refused (inl is) = absurd cc
-not-limits ends whole (Ok answer) refused (inr is) = absurd cc
-not-limits ends whole (Err fault) refused (inl is) = let same : fault ≡ Capacity = cc in subst (IsRefusal ends whole) same refused
-not-limits ends whole (Err fault) refused (inr is) = let same : fault ≡ Shards = cc in subst (IsRefusal ends whole) same refused
-
 module _ {R : Type 0} (gives : R → List ℕ → ReadEnd → Type 0) (errors : Errors) (plan : Plan) (readers : List R) (jobs : List (Job (RecordReading R))) (lines : List (Receiving Word))
     (of_shards : List ShardJob) (senders : List (Sending Routed)) (ends : List Joined) (parts : List TablesContent) (whole : Bool)
     (are : AreLines gives plan readers jobs lines) (rings : AreRings plan of_shards senders) (run : HasRun gives (map (charge_of errors) jobs) (map shards.charge_of of_shards) ends parts whole) where
@@ -118,24 +110,19 @@ module _ {R : Type 0} (gives : R → List ℕ → ReadEnd → Type 0) (errors : 
       all-served gives errors plan readers jobs lines of_shards ends parts whole are closes run served answer
       ((merge plan (received_lists run.receivers) parts (whole-shards law answer.whole_is)).1 served.tables answer.merged answer.one_for_each)
 
-  -- where a run is refused for a failed read, the reader of that peer may fail
-  pub run-fails : ClosesOnce → FailedReadCloses → {A : Type 0} (result : Result A FloorRefused) → IfErr result (IsRefusal ends whole) → (peer : ℕ) → IsErrOf result (Read peer) → MayFailAt gives errors (map id_of plan.peers) readers peer
-  run-fails once closes (Ok answer) refused peer is = absurd cc
-  run-fails once closes (Err fault) refused peer is =
-      let same : fault ≡ Read peer = cc in
-      fails-first gives errors plan readers jobs lines of_shards ends parts whole are closes run once peer (subst (IsRefusal ends whole) same refused)
-
-  -- and it is a peer of the plan, as the one is for which a run is refused as unsettled
-  pub run-names : FailedReadCloses → {A : Type 0} (result : Result A FloorRefused) → IfErr result (IsRefusal ends whole) → (peer : ℕ) → IsErrOf result (Read peer) ⊎ IsErrOf result (Unsettled peer) → peer < length plan.peers
-  run-names closes (Ok answer) refused peer (inl is) = absurd cc
-  run-names closes (Ok answer) refused peer (inr is) = absurd cc
-  run-names closes (Err fault) refused peer (inl is) =
-      let same : fault ≡ Read peer = cc in
-      let first : IsFirstRead ends whole peer = subst (IsRefusal ends whole) same refused in
+  -- what a run answers of which all threads were joined
+  pub run-answers : (capacity of_shard : ℕ) → WithinLimits capacity of_shard → RunShardsAreWhole → ShardsMerge → ClosesOnce → FailedReadCloses
+      → (result : Result ServedContent FloorRefused) → IfOk result (IsAnswer ends parts whole) → IfErr result (IsRefusal ends whole) → ServeAnswer gives errors plan readers capacity of_shard result
+  run-answers capacity of_shard within law merge once closes (Ok served) answer refused = (within, run-served law merge closes served answer)
+  run-answers capacity of_shard within law merge once closes (Err Memory) answer refused = within
+  run-answers capacity of_shard within law merge once closes (Err Capacity) answer refused = absurd refused
+  run-answers capacity of_shard within law merge once closes (Err Shards) answer refused = absurd refused
+  run-answers capacity of_shard within law merge once closes (Err (Read peer)) answer refused =
+      (within,
+      (within-peers gives errors plan readers jobs lines of_shards ends parts whole are closes run peer
+      (omega (arith, slice_get_within (map (λ (end : Joined). is_read end.reason) ends) peer true refused.least.has, length-map ends (λ (end : Joined). is_read end.reason))),
+      fails-first gives errors plan readers jobs lines of_shards ends parts whole are closes run once peer refused))
+  run-answers capacity of_shard within law merge once closes (Err (Unsettled peer)) answer refused =
+      (within,
       within-peers gives errors plan readers jobs lines of_shards ends parts whole are closes run peer
-      (omega (arith, slice_get_within (map (λ (end : Joined). is_read end.reason) ends) peer true first.least.has, length-map ends (λ (end : Joined). is_read end.reason)))
-  run-names closes (Err fault) refused peer (inr is) =
-      let same : fault ≡ Unsettled peer = cc in
-      let first : IsFirstUnsettled ends whole peer = subst (IsRefusal ends whole) same refused in
-      within-peers gives errors plan readers jobs lines of_shards ends parts whole are closes run peer
-      (omega (arith, slice_get_within (map (λ (end : Joined). end.settled) ends) peer false first.least.has, length-map ends (λ (end : Joined). end.settled)))
+      (omega (arith, slice_get_within (map (λ (end : Joined). end.settled) ends) peer false refused.least.has, length-map ends (λ (end : Joined). end.settled))))

@@ -1,0 +1,81 @@
+-- What a run answers, by its result, and what its outlet has kept and its report has taken then. Nothing here is
+-- of a standard: all of it is our choice.
+use Rattle.std.specs.Prelude.{◌≡◌, ◌+◌, ◌<◌, ℕ, List, Option, Result, Ok, Err, length, take}
+use Rattle.std.specs.Io.KnownBytes.{Appends}
+use Rattle.rs_choice.specs.Plan.{Plan}
+use Rattle.rs_keep.specs.Kept.{IsDumpFailure}
+use Rattle.rs_mrt.specs.Reader.{ReadEnd}
+use Rattle.rs_mrt.specs.Stream.{AppendsBeginning}
+use Rattle.rs_outlet.specs.Outlet.{Grows, KeptDump}
+use Rattle.rs_outlet.specs.declared.run_fault.RunFault.{RunFault}
+use Rattle.rs_outlet.specs.declared.run_fault.RunFault.TheVariants.{Memory, Unsettled, Dump, Report, Read}
+use Rattle.rs_table.specs.Table.{table_of}
+use Rattle.rs_update.specs.declared.errors.Errors.{Errors}
+use Rattle.rs_run.specs.Recorded.{FailsAt, OverFiles, tables_of_files}
+use Rattle.rs_run.specs.Report.{report_of_files}
+use Rattle.rs_run.specs.Run.{KeepsBeginning, dumps_of_files}
+
+-- Of the readers, which files each may give; of the outlet, the dumps that it has kept and how many failures it has
+-- counted; of the report, the octets that it has taken and how many failed writes it has counted. The outlet and the
+-- report stand here twice: as they were before the run, and as they are after it.
+module _ {R O W : Type 0} (gives : R → List ℕ → ReadEnd → Type 0)
+    (kept : O → Option (List KeptDump)) (refusals : O → ℕ) (taken : W → Option (List ℕ)) (failures : W → ℕ)
+    (errors : Errors) (plan : Plan) (time : ℕ) (readers : List R)
+    (outlet later_outlet : O) (report later_report : W) where
+
+  -- Done: of files that the readers may give, all dumps are kept, and the report is out. Nothing failed.
+  pub record Done : Type 0 where
+    pub over_files : OverFiles gives errors plan readers (λ files.
+        Grows (kept outlet) (kept later_outlet) (dumps_of_files errors plan files time)
+        × Appends (taken report) (taken later_report) (report_of_files errors plan files))
+    pub no_failure : refusals later_outlet ≡ refusals outlet
+    pub no_failed_write : failures later_report ≡ failures report
+
+  -- Memory was refused: a beginning of the dumps is kept, no failure of the outlet is counted, and nothing of the
+  -- report is out.
+  pub record MemoryRefused : Type 0 where
+    pub keeps_beginning : KeepsBeginning gives errors plan readers time (kept outlet) (kept later_outlet)
+    pub no_failure : refusals later_outlet ≡ refusals outlet
+    pub reports_nothing : later_report ≡ report
+
+  -- The dump of a client isn't kept: of files that the readers may give, those of the clients before it are. The
+  -- outlet failed, or the client's table has too many rows. Nothing of the report is out.
+  pub record DumpRefused (client : ℕ) : Type 0 where
+    pub known : client < length plan.peers
+    pub over_files : OverFiles gives errors plan readers (λ files.
+        Grows (kept outlet) (kept later_outlet) (take client (dumps_of_files errors plan files time))
+        × IsDumpFailure (refusals outlet) (refusals later_outlet)
+        (length (table_of (tables_of_files errors plan files) client)))
+    pub reports_nothing : later_report ≡ report
+
+  -- A write of the report failed: of files that the readers may give, all dumps are kept, and a beginning of the
+  -- report is out.
+  pub record ReportFailed : Type 0 where
+    pub over_files : OverFiles gives errors plan readers (λ files.
+        Grows (kept outlet) (kept later_outlet) (dumps_of_files errors plan files time)
+        × AppendsBeginning (taken report) (taken later_report) (report_of_files errors plan files))
+    pub no_failure : refusals later_outlet ≡ refusals outlet
+    pub failed_write : failures later_report ≡ failures report + 1
+
+  -- A read of a peer's file failed: the reader of that peer may fail while the session is open, and each before it
+  -- may give its peer's file. Nothing is kept, and nothing of the report is out.
+  pub record ReadFailed (peer : ℕ) : Type 0 where
+    pub known : peer < length plan.peers
+    pub fails : FailsAt gives errors plan readers peer
+    pub keeps_nothing : later_outlet ≡ outlet
+    pub reports_nothing : later_report ≡ report
+
+  -- A peer is unsettled: nothing is kept, and nothing of the report is out.
+  pub record PeerUnsettled (peer : ℕ) : Type 0 where
+    pub known : peer < length plan.peers
+    pub keeps_nothing : later_outlet ≡ outlet
+    pub reports_nothing : later_report ≡ report
+
+  -- what a run answers
+  abbrev pub RunAnswer : {A : Type 0} → Result A RunFault → Type 0
+  RunAnswer (Ok done) = Done
+  RunAnswer (Err Memory) = MemoryRefused
+  RunAnswer (Err (Dump client)) = DumpRefused client
+  RunAnswer (Err Report) = ReportFailed
+  RunAnswer (Err (Read peer)) = ReadFailed peer
+  RunAnswer (Err (Unsettled peer)) = PeerUnsettled peer
