@@ -1,9 +1,6 @@
--- Each answer is one search, so that a wrong body is refused soon.
+-- The answer is one search, so that a wrong body is refused soon.
 use Rattle.std.proofs.Common.{rules}
 use Rattle.rs_ended.proofs.texts.dump_path.Goals as goal
 
 pub returns : goal.returns
 returns c = search rules
-
-pub returns-in_err-file : goal.returns-in_err-file
-returns-in_err-file c = search rules

@@ -28,6 +28,3 @@ returns-clause-explained c =
     let tables = c.args.reading.now.tables in
     let items = c.loop-peer.peers.items in
     subst (λ (n : ℕ). AreExplained tables c.args.client c.args.question.now.prefix c.args.reading.now.said.items n items) (sym c.loop-peer.invariant.as_many) c.loop-peer.invariant.explained
-
-pub loop-peer-smaller : goal.loop-peer-smaller
-loop-peer-smaller c = search rules

@@ -1,5 +1,5 @@
 -- One bit less: no peer has a route on the prefix that was tried.
-use Rattle.std.proofs.Common.{◌≡◌, ◌∙◌, ◌-◌, ℕ, ap, false, sym, rules}
+use Rattle.std.proofs.Common.{◌≡◌, ◌∙◌, ◌-◌, ℕ, ap, false, sym}
 use Rattle.rs_update.specs.Prefix.{network_of}
 use Rattle.rs_table.specs.Listing.{is_held}
 use Rattle.rs_glass.proofs.CoveringLemmas.{lack-more}
@@ -13,15 +13,3 @@ loop-dropped-preserved c =
     c.cover-wide.ensures ∙ ap (λ (len : ℕ). network_of prefix.address (len - c.loop-dropped.dropped)) c.len.ensures.value in
     let none : is_held ribs (network_of prefix.address (prefix.len - c.loop-dropped.dropped)) ≡ false = sym (ap (is_held ribs) tried) ∙ sym c.is_announced.ensures ∙ c.if-is_announced.false in
     lack-more ribs prefix c.loop-dropped.dropped c.loop-dropped.invariant none
-
-pub loop-dropped-init : goal.loop-dropped-init
-loop-dropped-init c = search rules
-
-pub loop-dropped-smaller : goal.loop-dropped-smaller
-loop-dropped-smaller c = search rules
-
-pub returns : goal.returns
-returns c = search rules
-
-pub returns-then-is_announced : goal.returns-then-is_announced
-returns-then-is_announced c = search rules

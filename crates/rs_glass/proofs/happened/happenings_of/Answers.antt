@@ -75,24 +75,3 @@ loop-all-smaller g c =
     let closes = rw c.in-Some.is at c.in_ok-word.ensures.closes in
     let fewer = rw c.in-Some.is at c.in_ok-word.ensures.fewer in
     few-smaller (most_changes (λ r. room_left r) (λ r. r.shown) c.loop-all.session) (most_changes (λ r. room_left r) (λ r. r.shown) c.next_word.new.self) c.loop-all.session.closed c.next_word.new.self.closed (is_close (change_of c.in-Some.word)) closes.0 closes.1 fewer
-
-pub returns-clause-fault : goal.returns-clause-fault
-returns-clause-fault g c = search rules
-
-pub returns-in_err-add_happening-clause-fault : goal.returns-in_err-add_happening-clause-fault
-returns-in_err-add_happening-clause-fault g c = search rules
-
-pub returns-in_err-add_happening-clause-happenings : goal.returns-in_err-add_happening-clause-happenings
-returns-in_err-add_happening-clause-happenings g c = search rules
-
-pub returns-in_err-word-clause-fault : goal.returns-in_err-word-clause-fault
-returns-in_err-word-clause-fault g c = search rules
-
-pub returns-in_err-word-clause-happenings : goal.returns-in_err-word-clause-happenings
-returns-in_err-word-clause-happenings g c = search rules
-
-pub returns-then-fails_to_read-clause-happenings : goal.returns-then-fails_to_read-clause-happenings
-returns-then-fails_to_read-clause-happenings g c = search rules
-
-pub returns-then-not-takes-clause-fault : goal.returns-then-not-takes-clause-fault
-returns-then-not-takes-clause-fault g c = search rules

@@ -1,6 +1,6 @@
 -- A change that is given comes before whatever may come, behind those that were passed over, and the routes take it where it concerns the prefix; once none is given, or
 -- one is too late, all that are in time were given or passed over.
-use Rattle.std.proofs.Common.{◌≡◌, ◌∙◌, ◌++◌, ◌∷◌, [], false, refl, sym, rules}
+use Rattle.std.proofs.Common.{◌≡◌, ◌∙◌, ◌++◌, ◌∷◌, [], false, refl, sym}
 use Rattle.std.specs.List.{list_any}
 use Rattle.rs_mrt.specs.RecordReading.{MayCome, room_left}
 use Rattle.rs_session.specs.Change.{change_of, is_close}
@@ -68,9 +68,3 @@ returns g c =
     let all = given-all (MayCome g.R.Read.gives) (λ r. r.shown) _ _ g.R.Read.gives question c.args.id c.args.reader refl (c.a_reader_gives_a_file_or_fails.ensures question.errors c.args.id) c.what_is_taken_is_the_longest_beginning.ensures
     r.given c.loop-routes.session c.next_word_on.new.self c.loop-routes.until r.is_given says.says c.in_ok-word.ensures.more in
     taken-said question.prefix g.R.Read.gives question c.args.id c.args.reader refl r.given c.loop-routes.routes c.loop-routes.said r.is_taken all c.left_by_part.ensures c.left_by_last_changes.ensures
-
-pub returns-in_err-take_change : goal.returns-in_err-take_change
-returns-in_err-take_change g c = search rules
-
-pub returns-in_err-word : goal.returns-in_err-word
-returns-in_err-word g c = search rules

@@ -62,12 +62,3 @@ returns-in_err-heard-clause-fault c =
     let met : slice_get c.args.all.items (length c.loop-peer.yielded) ≡ Some (Err c.in_err-heard.field-0.0) = at.1 ∙ ap Some c.in_err-heard.was in
     let p = err_from_is_err_and c.from_residual-in_err-heard.result c.from_residual-in_err-heard.ensures.1 in
     rw (p.1, p.2) (fault-heard c.args.all.items (length c.loop-peer.yielded) c.in_err-heard.field-0.0 met)
-
-pub loop-peer-init-derived : goal.loop-peer-init-derived
-loop-peer-init-derived c = search rules
-
-pub loop-peer-preserved-derived : goal.loop-peer-preserved-derived
-loop-peer-preserved-derived c = search rules
-
-pub loop-peer-smaller : goal.loop-peer-smaller
-loop-peer-smaller c = search rules

@@ -1,4 +1,4 @@
-use Rattle.std.proofs.Common.{◌≡◌, ◌∙◌, ap, sym, subst, None, Some, rules}
+use Rattle.std.proofs.Common.{◌≡◌, ◌∙◌, ap, sym, subst, None, Some}
 use Rattle.std.specs.BTreeMap.{Updates}
 use Rattle.std.specs.Option.{option_copied_mut}
 use Rattle.rs_inventory.specs.Inventory.{peer_at, peer_cmp}
@@ -13,12 +13,3 @@ returns c =
     takes-one c.args.peers.now.entries c.insert.new.self.entries c.args.note c.args.time None c.take-2.new.self none
     (subst (λ old. Updates peer_cmp old c.insert.new.self c.args.note.peer (Some c.take-2.new.self)) c.get_mut.follows.holds-at-none c.in_ok-insert.ensures.updates).0
     (next-new c.args.time c.args.note.news c.take-2.new.self tells)
-
-pub returns-in-Some : goal.returns-in-Some
-returns-in-Some c = search rules
-
-pub returns-in_err-insert : goal.returns-in_err-insert
-returns-in_err-insert c = search rules
-
-pub returns-in_err-take : goal.returns-in_err-take
-returns-in_err-take c = search rules

@@ -1,4 +1,4 @@
-use Rattle.std.proofs.Common.{◌≡◌, ◌∙◌, sym, ap, subst, Err, Option, None, rules}
+use Rattle.std.proofs.Common.{◌≡◌, ◌∙◌, sym, ap, subst, Err, Option, None}
 use Rattle.std.proofs.lemmas.Result.{err_from_is_err_and}
 use Rattle.rs_mrt.specs.RecordReading.{MayCome, unread}
 use Rattle.rs_inventory.specs.Compression.{compression_of}
@@ -37,18 +37,3 @@ returns-in_err-inventory-clause-read g c = λ read.
     let fails = c.in_err-inventory.ensures.read (ap Err (sym told.2) ∙ sym told.1 ∙ read) in
     fails-whole g.R.Read.gives c.args.reader c.of.new.reader c.in_ok-front.front c.in_ok-front.ensures.gives
     (subst (λ s. MayFail (MayCome (RewoundGives g.R.Read.gives)) s) source fails)
-
-pub returns-in-Some-clause-records : goal.returns-in-Some-clause-records
-returns-in-Some-clause-records g c = search rules
-
-pub returns-in_err-front-clause-compressed : goal.returns-in_err-front-clause-compressed
-returns-in_err-front-clause-compressed g c = search rules
-
-pub returns-in_err-front-clause-records : goal.returns-in_err-front-clause-records
-returns-in_err-front-clause-records g c = search rules
-
-pub returns-in_err-inventory-clause-compressed : goal.returns-in_err-inventory-clause-compressed
-returns-in_err-inventory-clause-compressed g c = search rules
-
-pub returns-in_err-inventory-clause-records : goal.returns-in_err-inventory-clause-records
-returns-in_err-inventory-clause-records g c = search rules

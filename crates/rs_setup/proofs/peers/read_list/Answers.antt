@@ -1,4 +1,4 @@
-use Rattle.std.proofs.Common.{◌≡◌, ◌∙◌, ◌+◌, [], ◌∷◌, ◌++◌, map, take, sym, ap, string_bytes, arith, rules}
+use Rattle.std.proofs.Common.{◌≡◌, ◌∙◌, ◌+◌, [], ◌∷◌, ◌++◌, map, take, sym, ap, string_bytes, arith}
 use Rattle.std.proofs.lemmas.Grind.{common_steps}
 use Rattle.std.proofs.lemmas.List.{take_more, map-append}
 use Rattle.rs_choice.specs.Plan.{peer_of}
@@ -23,20 +23,5 @@ loop-number-preserved c =
     let files_grow : map string_bytes c.push-in-loop-number.new.self.items ≡ files ++ file ∷ [] = ap (map string_bytes) c.in_ok-push-2.ensures.items ∙ map-append string_bytes c.loop-number.files.items (c.in_ok-peer.file ∷ []) in
     rw (values_grow, peers_grow, files_grow) (ArePeers-push (items_view (take number values)) peers files (view value) peer file c.loop-number.invariant c.in_ok-peer.ensures)
 
-pub loop-number-init : goal.loop-number-init
-loop-number-init c = search rules
-
-pub loop-number-smaller : goal.loop-number-smaller
-loop-number-smaller c = search rules
-
 pub returns : goal.returns
 returns c = grind (arith, common_steps)
-
-pub returns-in_err-peer : goal.returns-in_err-peer
-returns-in_err-peer c = search rules
-
-pub returns-in_err-push : goal.returns-in_err-push
-returns-in_err-push c = search rules
-
-pub returns-in_err-push-2 : goal.returns-in_err-push-2
-returns-in_err-push-2 c = search rules

@@ -1,4 +1,4 @@
-use Rattle.std.proofs.Common.{◌∙◌, sym, ap, rules}
+use Rattle.std.proofs.Common.{◌∙◌, sym, ap}
 use Rattle.std.specs.Option.{option_copied}
 use Rattle.toml.specs.View.{view}
 use Rattle.rs_setup.specs.Values.{IsDottedAddress}
@@ -10,12 +10,3 @@ returns-in-Some-clause-none c =
     none_so c.dotted_address.result
     (not_written IsDottedAddress (view c.args.value.now) c.in-Some.text.now (sym c.as_str.ensures ∙ ap option_copied c.in-Some.is))
     c.dotted_address.ensures.none
-
-pub returns-in-None-clause-found : goal.returns-in-None-clause-found
-returns-in-None-clause-found c = search rules
-
-pub returns-in-None-clause-none : goal.returns-in-None-clause-none
-returns-in-None-clause-none c = search rules
-
-pub returns-in-Some-clause-found : goal.returns-in-Some-clause-found
-returns-in-Some-clause-found c = search rules

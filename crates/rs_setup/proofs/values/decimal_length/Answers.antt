@@ -1,4 +1,4 @@
-use Rattle.std.proofs.Common.{◌≡◌, ◌∙◌, ◌<◌, ◌≤◌, ◌+◌, ◌-◌, sym, refl, arith, get_or, inl, inr, rules}
+use Rattle.std.proofs.Common.{◌≡◌, ◌∙◌, ◌<◌, ◌≤◌, ◌+◌, ◌-◌, sym, refl, arith, get_or, inl, inr}
 use Rattle.std.proofs.lemmas.Fmt.{decimal_digit}
 use Rattle.rs_setup.proofs.SetupLemmas.{decimal-two, one_octet, two_octets}
 use Rattle.rs_setup.proofs.SlashLemmas.{decimal_places}
@@ -52,33 +52,3 @@ returns-in_default-7-clause-none c = λ len small is.
 pub returns-in_default-8-clause-none : goal.returns-in_default-8-clause-none
 returns-in_default-8-clause-none c = λ len small is.
     elim (decimal_places c.args.text.now len small is) [ inl one ↦ omega (arith, one.0, one.1, one.2) | inr two ↦ omega (arith, two.0, two.1, two.2, two.3, two.4) ]
-
-pub returns-in-48-to-57-clause-none : goal.returns-in-48-to-57-clause-none
-returns-in-48-to-57-clause-none c = search rules
-
-pub returns-in-49-to-57-clause-none : goal.returns-in-49-to-57-clause-none
-returns-in-49-to-57-clause-none c = search rules
-
-pub returns-in_default-clause-found : goal.returns-in_default-clause-found
-returns-in_default-clause-found c = search rules
-
-pub returns-in_default-2-clause-found : goal.returns-in_default-2-clause-found
-returns-in_default-2-clause-found c = search rules
-
-pub returns-in_default-3-clause-found : goal.returns-in_default-3-clause-found
-returns-in_default-3-clause-found c = search rules
-
-pub returns-in_default-4-clause-found : goal.returns-in_default-4-clause-found
-returns-in_default-4-clause-found c = search rules
-
-pub returns-in_default-5-clause-found : goal.returns-in_default-5-clause-found
-returns-in_default-5-clause-found c = search rules
-
-pub returns-in_default-6-clause-found : goal.returns-in_default-6-clause-found
-returns-in_default-6-clause-found c = search rules
-
-pub returns-in_default-7-clause-found : goal.returns-in_default-7-clause-found
-returns-in_default-7-clause-found c = search rules
-
-pub returns-in_default-8-clause-found : goal.returns-in_default-8-clause-found
-returns-in_default-8-clause-found c = search rules

@@ -1,4 +1,3 @@
-use Rattle.std.proofs.Common.{rules}
 use Rattle.std.specs.Net.Addr.{ipv4_bits}
 use Rattle.rs_setup.proofs.NoneLemmas.{no_address}
 use Rattle.rs_setup.proofs.values.dotted_address.Goals as goal
@@ -9,9 +8,3 @@ returns-in-Ok-clause-found c = (c.in-Ok.address.octets, c.in-Ok.ensures.value, c
 
 pub returns-in-Err-clause-none : goal.returns-in-Err-clause-none
 returns-in-Err-clause-none c = no_address c.args.text.now c.in-Err.ensures.value
-
-pub returns-in-Ok-clause-none : goal.returns-in-Ok-clause-none
-returns-in-Ok-clause-none c = search rules
-
-pub returns-in-Err-clause-found : goal.returns-in-Err-clause-found
-returns-in-Err-clause-found c = search rules

@@ -1,4 +1,4 @@
-use Rattle.std.proofs.Common.{◌≡◌, ◌∙◌, ◌+◌, [], ◌∷◌, ◌++◌, map, take, ap, sym, string_bytes, arith, rules}
+use Rattle.std.proofs.Common.{◌≡◌, ◌∙◌, ◌+◌, [], ◌∷◌, ◌++◌, map, take, ap, sym, string_bytes, arith}
 use Rattle.std.proofs.lemmas.Grind.{common_steps}
 use Rattle.std.proofs.lemmas.List.{take_more, map-append}
 use Rattle.std.specs.Option.{option_copied}
@@ -21,12 +21,6 @@ loop-value-preserved c =
     let written : map string_bytes c.push.new.self.items ≡ texts ++ text ∷ [] = ap (map string_bytes) c.in_ok-push.ensures.items ∙ map-append string_bytes c.loop-value.texts.items (c.in_ok-from_str.field-0 ∷ []) in
     ap items_view more ∙ items_view-push (take index values) value ∙ rw (c.loop-value.invariant, seen, written) (sym (items_of-push texts text))
 
-pub loop-value-init : goal.loop-value-init
-loop-value-init c = search rules
-
-pub loop-value-smaller : goal.loop-value-smaller
-loop-value-smaller c = search rules
-
 pub returns : goal.returns
 returns c = grind (arith, common_steps)
 
@@ -34,15 +28,3 @@ pub returns-in_default-clause-none : goal.returns-in_default-clause-none
 returns-in_default-clause-none c =
     no_text_at c.args.values.now c.loop-value.value-index c.value-item.result c.loop-value-test.true c.value-item.is
     (sym c.as_str.ensures ∙ ap option_copied c.in_default.is)
-
-pub returns-in_err-from_str : goal.returns-in_err-from_str
-returns-in_err-from_str c = search rules
-
-pub returns-in_err-push : goal.returns-in_err-push
-returns-in_err-push c = search rules
-
-pub returns-in_err-texts : goal.returns-in_err-texts
-returns-in_err-texts c = search rules
-
-pub returns-in_default-clause-found : goal.returns-in_default-clause-found
-returns-in_default-clause-found c = search rules

@@ -1,4 +1,4 @@
-use Rattle.std.proofs.Common.{◌∙◌, sym, arith, rules}
+use Rattle.std.proofs.Common.{◌∙◌, sym, arith}
 use Rattle.rs_setup.proofs.NoneLemmas.{where_none}
 use Rattle.rs_setup.proofs.SlashLemmas.{long_back, no_back, no_front, none_beyond, without_slash}
 use Rattle.rs_setup.proofs.values.slashed_subnet.Goals as goal
@@ -24,15 +24,3 @@ returns-in_err-dotted_address-clause-none c =
     where_none c.from_residual-in_err-dotted_address.result
     (no_front c.args.text.now c.in_ok-address.address.now c.in_ok-address.len.now c.in_ok-address.ensures.parts c.in_ok-address.ensures.first
     c.in_err-dotted_address.ensures.none)
-
-pub returns-clause-found : goal.returns-clause-found
-returns-clause-found c = search rules
-
-pub returns-in_err-address-clause-found : goal.returns-in_err-address-clause-found
-returns-in_err-address-clause-found c = search rules
-
-pub returns-in_err-decimal_length-clause-found : goal.returns-in_err-decimal_length-clause-found
-returns-in_err-decimal_length-clause-found c = search rules
-
-pub returns-in_err-dotted_address-clause-found : goal.returns-in_err-dotted_address-clause-found
-returns-in_err-dotted_address-clause-found c = search rules

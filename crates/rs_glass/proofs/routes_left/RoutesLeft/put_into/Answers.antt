@@ -1,5 +1,5 @@
 -- One announcement more is taken; in the end all were.
-use Rattle.std.proofs.Common.{◌≡◌, ◌∙◌, ◌++◌, ◌∷◌, [], List, false, length, refl, sym, ap, subst, rules}
+use Rattle.std.proofs.Common.{◌≡◌, ◌∙◌, ◌++◌, ◌∷◌, [], List, false, length, refl, sym, ap, subst}
 use Rattle.std.specs.Prelude.{map}
 use Rattle.std.proofs.lemmas.List.{map-append, map-id}
 use Rattle.std.proofs.lemmas.Iterator.Adapters.{YieldsList-from_vec}
@@ -45,15 +45,3 @@ returns-clause-routes c =
     let all = YieldsList-from_vec words gives.0 (gives.1 ∙ c.self.inside.announcements.ok.0) in
     let t = YieldsList-end all c.loop-word.yielded c.loop-word.word-iterator c.loop-word.yielded_by c.next.result c.next.new.self c.in-None.is c.next.ensures.steps in
     c.loop-word.invariant.routes ∙ ap (λ (some : List Word). left (map change_of some)) (sym (map-id c.loop-word.yielded) ∙ t.0) ∙ c.self.view_is
-
-pub loop-word-init-derived : goal.loop-word-init-derived
-loop-word-init-derived c = search rules
-
-pub loop-word-preserved-derived : goal.loop-word-preserved-derived
-loop-word-preserved-derived c = search rules
-
-pub loop-word-smaller : goal.loop-word-smaller
-loop-word-smaller c = search rules
-
-pub returns-clause-others : goal.returns-clause-others
-returns-clause-others g c = search rules

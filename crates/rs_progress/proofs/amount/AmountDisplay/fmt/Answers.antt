@@ -1,15 +1,6 @@
--- Each answer is one search, so that a wrong body is refused soon.
+-- The answer is one search, so that a wrong body is refused soon.
 use Rattle.std.proofs.Common.{rules}
 use Rattle.rs_progress.proofs.amount.AmountDisplay.fmt.Goals as goal
 
-pub returns-in-Some-clause-styled : goal.returns-in-Some-clause-styled
-returns-in-Some-clause-styled g c = search rules
-
 pub returns-in-Some-clause-writes : goal.returns-in-Some-clause-writes
 returns-in-Some-clause-writes g c = search rules
-
-pub returns-in_default-clause-styled : goal.returns-in_default-clause-styled
-returns-in_default-clause-styled g c = search rules
-
-pub returns-in_default-clause-writes : goal.returns-in_default-clause-writes
-returns-in_default-clause-writes g c = search rules

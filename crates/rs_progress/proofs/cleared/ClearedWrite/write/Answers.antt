@@ -1,9 +1,6 @@
--- Each answer is one search, so that a wrong body is refused soon.
+-- The answer is one search, so that a wrong body is refused soon.
 use Rattle.std.proofs.Common.{rules}
 use Rattle.rs_progress.proofs.cleared.ClearedWrite.write.Goals as goal
-
-pub returns-clause-bound : goal.returns-clause-bound
-returns-clause-bound g c = search rules
 
 pub returns-clause-bytes : goal.returns-clause-bytes
 returns-clause-bytes g c = search rules

@@ -1,4 +1,4 @@
-use Rattle.std.proofs.Common.{◌≡◌, ◌∙◌, ℕ, true, List, Bor, map, subst, sym, ap, string_bytes, rules}
+use Rattle.std.proofs.Common.{◌≡◌, ◌∙◌, ℕ, true, List, Bor, map, subst, sym, ap, string_bytes}
 use Rattle.std.specs.List.{Contains, list_any}
 use Rattle.std.specs.Str.{bytes_eq}
 use Rattle.toml.specs.View.{members_view}
@@ -12,24 +12,3 @@ loop-key-preserved c =
     let found : list_any (λ (one : Bor (List ℕ)). bytes_eq one.now c.as_str.result.now) c.args.known.now ≡ true = sym c.contains.ensures.value ∙ c.if-not-contains.false in
     let among : Contains known (string_bytes c.in-Some.key.now) = subst (Contains known) c.as_str.ensures.value (known_key c.args.known.now c.as_str.result.now found) in
     λ rest_known. c.loop-key.invariant (subst (HasOnly known) (sym (ap members_view c.in-Some.ensures.steps)) (among, rest_known))
-
-pub loop-key-init : goal.loop-key-init
-loop-key-init c = search rules
-
-pub loop-key-init-derived : goal.loop-key-init-derived
-loop-key-init-derived c = search rules
-
-pub loop-key-preserved-derived : goal.loop-key-preserved-derived
-loop-key-preserved-derived c = search rules
-
-pub loop-key-smaller : goal.loop-key-smaller
-loop-key-smaller c = search rules
-
-pub returns : goal.returns
-returns c = search rules
-
-pub returns-in_err-path : goal.returns-in_err-path
-returns-in_err-path c = search rules
-
-pub returns-then-not-contains : goal.returns-then-not-contains
-returns-then-not-contains c = search rules
