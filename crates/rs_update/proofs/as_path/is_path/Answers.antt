@@ -1,4 +1,4 @@
-use Rattle.std.proofs.Common.{◌∙◌, sym, ap, List, ℕ, rules}
+use Rattle.std.proofs.Common.{◌∙◌, sym, ap, List, ℕ}
 use Rattle.std.specs.Option.{option_map}
 use Rattle.rs_update.specs.PathAttributes.{PathSegment}
 use Rattle.rs_update.proofs.as_path.PathWalkLemmas.{is_path-step, is_path-end}
@@ -13,6 +13,3 @@ loop-front-smaller c = (is_path-step c.loop-front.rest.now c.in-Some.front.1.now
 
 pub returns : goal.returns
 returns c = c.is_empty.ensures ∙ sym (is_path-end c.loop-front.rest.now (ap (option_map (λ (split : PathSegment × List ℕ). split.1)) c.in_default.ensures)) ∙ c.loop-front.invariant
-
-pub loop-front-init : goal.loop-front-init
-loop-front-init c = search rules

@@ -1,4 +1,4 @@
-use Rattle.std.proofs.Common.{◌∙◌, refl, sym, ap, arith, ℕ, List, Option, Some, length, rules}
+use Rattle.std.proofs.Common.{◌∙◌, refl, sym, ap, arith, ℕ, List, Option, Some, length}
 use Rattle.std.specs.Prelude.{unwrap_or}
 use Rattle.std.specs.Option.{option_map}
 use Rattle.byteorder.specs.Endian.{big_number}
@@ -74,6 +74,3 @@ returns c =
     let octets = c.in_ok-spelling.spelling.items in
     let says = (spelled-says section fit asked.faultless asked.short c.args.found.now (item_of c.args.origin) (item_of c.args.path) octets asked.are_found asked.origin_is asked.path_is asked.has_next_hop c.in_ok-spelling.ensures).1 in
     says.given ∙ ap (λ (attributes : PathAttributes). Some attributes) (sym says.is_looked_up)
-
-pub returns-in_err-spelling : goal.returns-in_err-spelling
-returns-in_err-spelling c = search rules

@@ -1,11 +1,8 @@
-use Rattle.std.proofs.Common.{◌∙◌, sym, rules}
+use Rattle.std.proofs.Common.{◌∙◌, sym}
 use Rattle.rs_update.specs.Items.{split_of}
 use Rattle.rs_update.proofs.section.ItemLemmas.{item_at-takes}
 use Rattle.rs_update.proofs.attributes.PlaceLemmas.{look-here, look-past, look-end}
 use Rattle.rs_update.proofs.item.find_item.Goals as goal
-
-pub loop-front-init : goal.loop-front-init
-loop-front-init c = search rules
 
 pub loop-front-smaller : goal.loop-front-smaller
 loop-front-smaller c = item_at-takes c.loop-front.rest.now (split_of c.in-Some.front) (sym c.in-Some.ensures)

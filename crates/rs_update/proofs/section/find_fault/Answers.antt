@@ -33,9 +33,3 @@ pub returns-clause-fault : goal.returns-clause-fault
 returns-clause-fault c =
     let all = ends_with c.loop-split.seen c.loop-split.rest.now c.args.section.now c.in_default.ensures c.loop-split.invariant in
     rw (sym (c.is_empty.ensures) ∙ c.if-is_empty.false) at all
-
-pub returns-clause-types : goal.returns-clause-types
-returns-clause-types g c = search rules
-
-pub returns-in-Some-item_fault-clause-types : goal.returns-in-Some-item_fault-clause-types
-returns-in-Some-item_fault-clause-types g c = search rules

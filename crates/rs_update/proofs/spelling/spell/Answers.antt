@@ -1,4 +1,4 @@
-use Rattle.std.proofs.Common.{◌≡◌, ℕ, ◌+◌, ◌<◌, List, ◌++◌, Option, sym, ap, ◌∙◌, append_assoc, arith, rules}
+use Rattle.std.proofs.Common.{◌≡◌, ℕ, ◌+◌, ◌<◌, List, ◌++◌, Option, sym, ap, ◌∙◌, append_assoc, arith}
 use Rattle.std.specs.Prelude.{option_and_then}
 use Rattle.std.specs.Option.{option_map}
 use Rattle.std.proofs.lemmas.List.{append-nil}
@@ -39,15 +39,3 @@ returns c =
     let out = c.loop-kind.out.items in
     let nothing = spelled_from-end items kind (omega (arith, c.loop-kind.auto.kind-end, c.requires.are_found.end_fits)) (λ k above. c.requires.are_found.none_behind k (omega (arith, above, c.loop-kind-test.false))) in
     sym (append-nil out) ∙ ap (λ (behind : List ℕ). out ++ behind) (sym nothing) ∙ c.loop-kind.invariant
-
-pub loop-kind-init : goal.loop-kind-init
-loop-kind-init c = search rules
-
-pub loop-kind-smaller : goal.loop-kind-smaller
-loop-kind-smaller c = search rules
-
-pub returns-in_err-out : goal.returns-in_err-out
-returns-in_err-out c = search rules
-
-pub returns-in_err-push_kept : goal.returns-in_err-push_kept
-returns-in_err-push_kept c = search rules

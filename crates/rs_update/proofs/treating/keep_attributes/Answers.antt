@@ -1,4 +1,4 @@
-use Rattle.std.proofs.Common.{◌<◌, ◌∙◌, ◌++◌, [], refl, sym, ap, rules, arith, List, ℕ, true, false}
+use Rattle.std.proofs.Common.{◌<◌, ◌∙◌, ◌++◌, [], refl, sym, ap, rules, arith, List, ℕ}
 use Rattle.std.proofs.lemmas.List.{append-nil}
 use Rattle.rs_update.specs.Handling.{is_kept, kept_section}
 use Rattle.rs_update.specs.Items.{item_of, split_of}

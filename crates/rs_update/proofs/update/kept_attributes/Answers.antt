@@ -1,4 +1,4 @@
-use Rattle.std.proofs.Common.{◌∙◌, sym, rules}
+use Rattle.std.proofs.Common.{◌∙◌, sym}
 use Rattle.rs_update.proofs.treating.HandlingLemmas.{is_kept-keep, nothing_discarded}
 use Rattle.rs_update.proofs.update.kept_attributes.Goals as goal
 
@@ -12,9 +12,3 @@ returns-then-is_keep c =
     let keep = is_kept-keep c.args.handling (sym c.is_keep.ensures ∙ c.if-is_keep.true) in
     let all = (nothing_discarded c.args.section.now (sym c.requires.handled ∙ keep)).0 in
     rw all c.find_and_gather.ensures
-
-pub returns : goal.returns
-returns c = search rules
-
-pub returns-in_err-kept : goal.returns-in_err-kept
-returns-in_err-kept c = search rules

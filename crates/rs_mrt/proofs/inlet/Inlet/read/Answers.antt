@@ -1,4 +1,4 @@
-use Rattle.std.proofs.Common.{◌≡◌, ◌+◌, ◌-◌, ◌<◌, ◌≤◌, ◌++◌, length, drop, take, Ok, refl, ap, subst, arith, ℕ, length-take, rules}
+use Rattle.std.proofs.Common.{◌≡◌, ◌+◌, ◌-◌, ◌<◌, ◌≤◌, ◌++◌, length, drop, take, Ok, refl, ap, subst, arith, ℕ, length-take}
 use Rattle.std.proofs.lemmas.Grind.{common_steps}
 use Rattle.rs_mrt.specs.RecordReading.{Inflow, read_limit}
 use Rattle.rs_mrt.specs.Inflow.{Draws, gave_some}
@@ -28,14 +28,5 @@ returns-clause-draws g c =
     (Draws-read R.gives R.failures old new c.in_ok-count.count part rest (omega arith) (omega arith) (omega (arith, same, c.requires.limit)) c.in_ok-count.ensures.bound refl
     (omega (arith, c.in_ok-count.ensures.failures)) c.in_ok-count.ensures.gives)
 
-pub returns-clause-bound : goal.returns-clause-bound
-returns-clause-bound g c = search rules
-
-pub returns-in_err-count-clause-bound : goal.returns-in_err-count-clause-bound
-returns-in_err-count-clause-bound g c = search rules
-
 pub returns-in_err-count-clause-draws : goal.returns-in_err-count-clause-draws
 returns-in_err-count-clause-draws g c = grind (arith, common_steps)
-
-pub returns-then-left-eq0-clause-bound : goal.returns-then-left-eq0-clause-bound
-returns-then-left-eq0-clause-bound g c = search rules

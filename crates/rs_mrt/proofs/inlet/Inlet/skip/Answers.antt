@@ -1,4 +1,4 @@
-use Rattle.std.proofs.Common.{arith, rules}
+use Rattle.std.proofs.Common.{arith}
 use Rattle.std.proofs.lemmas.Grind.{common_steps}
 use Rattle.std.proofs.lemmas.Result.{err_from_is_err_and}
 use Rattle.rs_mrt.proofs.record_reader.InflowLemmas.{SoFar-then, SoFar-failed}
@@ -14,15 +14,6 @@ pub loop-left-preserved : goal.loop-left-preserved
 loop-left-preserved g c =
     let R = g.R.Read in
     SoFar-then R.gives R.failures c.args.self.now c.loop-left.self c.forget.new.self c.args.count c.loop-left.left c.in_ok-forgotten.forgotten c.loop-left.invariant c.in_ok-forgotten.ensures c.if-forgotten-eq0.false
-
-pub loop-left-init : goal.loop-left-init
-loop-left-init g c = search rules
-
-pub loop-left-smaller : goal.loop-left-smaller
-loop-left-smaller g c = search rules
-
-pub returns : goal.returns
-returns g c = search rules
 
 pub returns-then-forgotten-eq0 : goal.returns-then-forgotten-eq0
 returns-then-forgotten-eq0 g c = grind (arith, common_steps)

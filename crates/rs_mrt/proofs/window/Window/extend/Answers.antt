@@ -1,4 +1,4 @@
-use Rattle.std.proofs.Common.{◌++◌, take, ap, subst, ◌∙◌, arith, rules}
+use Rattle.std.proofs.Common.{◌++◌, take, ap, subst, ◌∙◌, arith}
 use Rattle.std.proofs.lemmas.Grind.{common_steps}
 use Rattle.rs_mrt.specs.Inflow.{Draws}
 use Rattle.rs_mrt.proofs.record_reader.WindowLemmas.{window-extended, gave-lt}
@@ -17,12 +17,6 @@ returns-clause-fills g c =
           ∙ ap (λ z. z ++ piece) c.self.view_is;
       drawn = subst (λ r. Draws R.gives R.failures c.args.inlet.now c.read.new.self piece r) (gave-lt count) c.in_ok-count.ensures.draws;
     }
-
-pub invariant_of-self : goal.invariant_of-self
-invariant_of-self g c = search rules
-
-pub invariant_of-self-2 : goal.invariant_of-self-2
-invariant_of-self-2 g c = search rules
 
 pub returns-clause-grows : goal.returns-clause-grows
 returns-clause-grows g c = grind (arith, common_steps)

@@ -1,4 +1,4 @@
-use Rattle.std.proofs.Common.{◌∙◌, refl, ap, arith, List, ℕ, rules}
+use Rattle.std.proofs.Common.{◌∙◌, refl, ap, arith, List, ℕ}
 use Rattle.rs_update.specs.Gathered.{look}
 use Rattle.rs_update.specs.Items.{item_of}
 use Rattle.rs_update.specs.Section.{items_of}
@@ -12,6 +12,3 @@ read_aggregator-requires c = λ x e.
     let looked = c.find_item.ensures ∙ ap (λ (os : List ℕ). look 7 (items_of os)) c.deref.ensures.value in
     let stands = there 7 (items_of octets) c.find_item.result x looked e in
     omega (arith, look_exact octets 7 8 (item_of x) refl c.self.invariant.is_faultless stands)
-
-pub returns : goal.returns
-returns c = search rules

@@ -1,4 +1,4 @@
-use Rattle.std.proofs.Common.{◌∙◌, ap, arith, List, ℕ, rules}
+use Rattle.std.proofs.Common.{◌∙◌, ap, arith, List, ℕ}
 use Rattle.rs_update.specs.AsPath.{path_length_of}
 use Rattle.rs_update.specs.AttributesView.{value_of}
 use Rattle.rs_update.specs.Gathered.{look}
@@ -10,6 +10,3 @@ pub path_length-requires : goal.path_length-requires
 path_length-requires c =
     let value = c.value_in.ensures ∙ ap (λ (os : List ℕ). value_of (look 2 (items_of os))) c.deref.ensures.value in
     omega (arith, ap (λ (octets : List ℕ). path_length_of (segments_of octets).0) value, c.self.invariant.path_fits)
-
-pub returns-clause-value : goal.returns-clause-value
-returns-clause-value c = search rules

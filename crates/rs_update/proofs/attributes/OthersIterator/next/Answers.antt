@@ -1,4 +1,4 @@
-use Rattle.std.proofs.Common.{◌∙◌, sym, rules}
+use Rattle.std.proofs.Common.{◌∙◌, sym}
 use Rattle.rs_update.specs.Items.{split_of}
 use Rattle.rs_update.specs.Shapes.{others_in}
 use Rattle.rs_update.proofs.section.ItemLemmas.{item_at-takes}
@@ -22,6 +22,3 @@ pub returns-clause-steps : goal.returns-clause-steps
 returns-clause-steps c =
     let none = passed-end c.loop-front.self.octets.now (sym c.in_default.ensures) in
     (sym c.loop-front.invariant ∙ none, none)
-
-pub loop-front-init : goal.loop-front-init
-loop-front-init c = search rules

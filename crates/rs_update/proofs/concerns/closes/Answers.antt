@@ -1,9 +1,0 @@
--- Each answer is one search, so that a wrong body is refused soon.
-use Rattle.std.proofs.Common.{rules}
-use Rattle.rs_update.proofs.concerns.closes.Goals as goal
-
-pub returns-in-Rfc4271 : goal.returns-in-Rfc4271
-returns-in-Rfc4271 c = search rules
-
-pub returns-in-Rfc7606 : goal.returns-in-Rfc7606
-returns-in-Rfc7606 c = search rules

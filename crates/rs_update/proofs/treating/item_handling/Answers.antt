@@ -1,9 +1,0 @@
--- Each answer is one search, so that a wrong body is refused soon.
-use Rattle.std.proofs.Common.{rules}
-use Rattle.rs_update.proofs.treating.item_handling.Goals as goal
-
-pub returns : goal.returns
-returns c = search rules
-
-pub returns-then-seen-from : goal.returns-then-seen-from
-returns-then-seen-from c = search rules
