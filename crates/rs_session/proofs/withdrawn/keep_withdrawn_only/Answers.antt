@@ -1,5 +1,5 @@
 -- A sorted copy lists the same prefixes.
-use Rattle.std.proofs.Common.{◌∙◌, ap, sym, rules}
+use Rattle.std.proofs.Common.{◌∙◌, ap, sym}
 use Rattle.rs_session.specs.UpdateChanges.{withdrawn_only}
 use Rattle.rs_session.proofs.PrefixLemmas.{withdrawn_only-IsPermutation}
 use Rattle.rs_session.proofs.withdrawn.keep_withdrawn_only.Goals as goal
@@ -9,9 +9,3 @@ returns c =
     c.keep_unlisted_in_sorted.ensures
     ∙ ap (withdrawn_only c.args.withdrawn.now.items) c.deref.ensures.value
     ∙ sym (withdrawn_only-IsPermutation c.args.withdrawn.now.items c.args.nlri.now c.sort_unstable.new.self.items (rw c.in_ok-sorted.ensures.items at c.sort_unstable.ensures.permutation))
-
-pub returns-in_err-sorted : goal.returns-in_err-sorted
-returns-in_err-sorted c = search rules
-
-pub returns-then-min-le-FEW : goal.returns-then-min-le-FEW
-returns-then-min-le-FEW c = search rules

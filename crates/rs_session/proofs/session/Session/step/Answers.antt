@@ -1,5 +1,5 @@
 -- A step keeps what may come: the record that it fetches, and what that record says.
-use Rattle.std.proofs.Common.{refl, rules}
+use Rattle.std.proofs.Common.{refl}
 use Rattle.rs_session.proofs.StageLemmas.{closes_at_end, steps-read, fewer-closed, fewer-read}
 use Rattle.rs_session.proofs.session.Session.step.Goals as goal
 
@@ -20,21 +20,3 @@ returns-in-Some-clause-fewer g c = fewer-closed g.S.Source.room g.S.Source.shows
 pub returns-clause-fewer : goal.returns-clause-fewer
 returns-clause-fewer g c =
     fewer-read g.S.Source.room g.S.Source.shows c.args.self.now c.fetch.new.self c.read_held.new.self c.read_held.result c.requires.waiting c.in_default.ensures.same c.in_default.ensures.fewer c.read_held.ensures.ok c.read_held.ensures.err
-
-pub returns-clause-failures : goal.returns-clause-failures
-returns-clause-failures g c = search rules
-
-pub returns-clause-goes_on : goal.returns-clause-goes_on
-returns-clause-goes_on g c = search rules
-
-pub returns-clause-room : goal.returns-clause-room
-returns-clause-room g c = search rules
-
-pub returns-in-Some-clause-failures : goal.returns-in-Some-clause-failures
-returns-in-Some-clause-failures g c = search rules
-
-pub returns-in-Some-clause-goes_on : goal.returns-in-Some-clause-goes_on
-returns-in-Some-clause-goes_on g c = search rules
-
-pub returns-in-Some-clause-room : goal.returns-in-Some-clause-room
-returns-in-Some-clause-room g c = search rules

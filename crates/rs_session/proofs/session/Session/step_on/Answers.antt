@@ -1,5 +1,5 @@
 -- A step keeps what may come, behind what is passed over: the record that it fetches, and what that record says.
-use Rattle.std.proofs.Common.{refl, Ok, Some, rules}
+use Rattle.std.proofs.Common.{refl, Ok, Some}
 use Rattle.rs_session.proofs.PassingLemmas.{steps-passed, steps-plain}
 use Rattle.rs_session.proofs.StageLemmas.{closes_at_end, steps-read, fewer-read}
 use Rattle.rs_session.proofs.session.Session.step_on.Goals as goal
@@ -28,36 +28,3 @@ returns-clause-fewer g c =
     let kept = rw c.if-pass_held.false at c.pass_held.ensures in
     fewer-read g.S.Source.room g.S.Source.shows c.args.self.now c.fetch.new.self c.read_held.new.self c.read_held.result c.requires.waiting c.in_default.ensures.same c.in_default.ensures.fewer
     (rw kept at c.read_held.ensures.ok) (rw kept at c.read_held.ensures.err)
-
-pub returns-clause-failures : goal.returns-clause-failures
-returns-clause-failures g c = search rules
-
-pub returns-clause-goes_on : goal.returns-clause-goes_on
-returns-clause-goes_on g c = search rules
-
-pub returns-clause-room : goal.returns-clause-room
-returns-clause-room g c = search rules
-
-pub returns-in-Some-clause-failures : goal.returns-in-Some-clause-failures
-returns-in-Some-clause-failures g c = search rules
-
-pub returns-in-Some-clause-fewer : goal.returns-in-Some-clause-fewer
-returns-in-Some-clause-fewer g c = search rules
-
-pub returns-in-Some-clause-goes_on : goal.returns-in-Some-clause-goes_on
-returns-in-Some-clause-goes_on g c = search rules
-
-pub returns-in-Some-clause-room : goal.returns-in-Some-clause-room
-returns-in-Some-clause-room g c = search rules
-
-pub returns-then-pass_held-clause-failures : goal.returns-then-pass_held-clause-failures
-returns-then-pass_held-clause-failures g c = search rules
-
-pub returns-then-pass_held-clause-fewer : goal.returns-then-pass_held-clause-fewer
-returns-then-pass_held-clause-fewer g c = search rules
-
-pub returns-then-pass_held-clause-goes_on : goal.returns-then-pass_held-clause-goes_on
-returns-then-pass_held-clause-goes_on g c = search rules
-
-pub returns-then-pass_held-clause-room : goal.returns-then-pass_held-clause-room
-returns-then-pass_held-clause-room g c = search rules
