@@ -1,4 +1,4 @@
-//! Tests of inventories and of their lists: `rs_inventory` and `rs_listing` through their public calls.
+//! Tests of inventories: `rs_inventory` through its public calls.
 #![tactic(auto)]
 
 #[cfg(test)]

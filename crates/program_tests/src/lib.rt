@@ -1,5 +1,5 @@
-//! Configurations, command lines, runs over recorded files and the ways to stop short, through the public
-//! calls of `rs_setup`, `rs_words`, `rs_run` and `rs_ended`.
+//! What configurations set up, runs over recorded files, and what faults say of themselves, through the public calls of
+//! `rs_setup`, `rs_run` and the crates that name faults.
 #![tactic(auto)]
 
 #[cfg(test)]

@@ -1,144 +1,190 @@
-//! Messages by hand, each with what it says, by the formats of RFC 4271, RFC 6793 and RFC 1997. Octets are
-//! written in hexadecimal.
+//! Messages by hand, each with what it says, by the formats of RFC 4271, RFC 6793, RFC 1997 and RFC 7606.
+//!
+//! They are rows of texts. What is wanted stands behind a bar; a line without one is a remark. A message is spelled
+//! whole, or as the fields of an UPDATE: withdrawn routes / path attributes / NLRI. Its words are hexadecimal digits,
+//! as `00*10` where they stand ten times, or a name that stands for some.
 
 mod concerning;
-mod handlings;
-mod headers;
+mod messages;
+mod pairs;
 mod prefixes;
 mod refusals;
 mod routes;
-mod updates;
-mod written_forms;
 
 use rs_update::{
-    Aggregator, Attributes, Errors, HeaderFault, Message, MessageFault, Origin, Prefix, Segment,
-    Segments, Update, UpdateFault, read_message, read_message_by, write_attributes,
+    Attributes, Errors, Message, MessageFault, Prefix, Update, read_message, read_message_by,
+    write_attributes,
 };
 use spelled_in_hex::octets;
-use std::alloc::Global;
+use std::alloc::{AllocError, Global};
+use std::net::Ipv4Addr;
 use std::process::Abort;
 use std::test::Fail;
 
-// The Marker of a header.
-const MARKER: &str = "FFFFFFFF FFFFFFFF FFFFFFFF FFFFFFFF";
+// The digits that a word stands for: the Marker of a header; an attribute with its flags, type, length and value,
+// which is IGP, 64501 or 192.0.2.11; the prefix 203.0.113.0/24.
+fn digits_of(word: &str) -> &str {
+    match word {
+        "MARKER" => "FFFFFFFFFFFFFFFFFFFFFFFFFFFFFFFF",
+        "ORIGIN" => "40010100",
+        "AS_PATH" => "40020602010000FBF5",
+        "NEXT_HOP" => "400304C000020B",
+        "MANDATORY" => "4001010040020602010000FBF5400304C000020B",
+        "ROUTE" => "18CB0071",
+        _ => word,
+    }
+}
 
-// Attributes, each with its flags, type, length and value: IGP, 64501, 192.0.2.11.
-const ORIGIN: &str = "40010100";
+// Appends the octets that a word spells.
+fn push_word(alloc: Global, spelled: &mut Vec<u8>, word: &str) -> Result<(), Fail> {
+    let (word, times) = word.split_once('*').unwrap_or((word, "1"));
+    let octets = octets(alloc, &[digits_of(word)])?;
+    for _ in 0..times.parse::<u16>()? {
+        spelled.extend_from_slice(&octets)?;
+    }
+    Ok(())
+}
 
-const AS_PATH: &str = "400206 0201 0000FBF5";
+// The octets that words spell.
+fn spelled(alloc: Global, words: &str) -> Result<Vec<u8>, Fail> {
+    let mut spelled = Vec::new(alloc);
+    for word in words.split_whitespace() {
+        push_word(alloc, &mut spelled, word)?;
+    }
+    Ok(spelled)
+}
 
-const NEXT_HOP: &str = "400304 C000020B";
-
-// NLRI: 203.0.113.0/24.
-const ROUTE: &str = "18CB0071";
-
-// Appends a length of two octets, and as many octets.
-fn push_field(contents: &mut Vec<u8>, field: &[u8]) -> Result<(), Fail> {
-    contents.extend_from_slice(&u16::try_from(field.len())?.to_be_bytes())?;
+// Appends a length of two octets, to which so many are added, and octets.
+fn push_field(contents: &mut Vec<u8>, field: &[u8], more: u16) -> Result<(), Fail> {
+    let len = u16::try_from(field.len())?.saturating_add(more);
+    contents.extend_from_slice(&len.to_be_bytes())?;
     contents.extend_from_slice(field)?;
     Ok(())
 }
 
-// An UPDATE of withdrawn routes, path attributes and NLRI.
-fn update(alloc: Global, withdrawn: &str, attributes: &[u8], nlri: &str) -> Result<Vec<u8>, Fail> {
-    let mut contents = Vec::new(alloc);
-    push_field(&mut contents, &octets(alloc, &[withdrawn])?)?;
-    push_field(&mut contents, attributes)?;
-    contents.extend_from_slice(&octets(alloc, &[nlri])?)?;
-    let mut message = octets(alloc, &[MARKER])?;
-    message.extend_from_slice(&u16::try_from(contents.len() + 19)?.to_be_bytes())?;
-    message.push(2)?;
-    message.extend_from_slice(&contents)?;
+// The octets behind the length of an UPDATE: its type, and its fields.
+fn fields(alloc: Global, withdrawn: &str, section: &str, nlri: &str) -> Result<Vec<u8>, Fail> {
+    let mut fields = vec![in alloc; 2u8; 1]?;
+    push_field(&mut fields, &spelled(alloc, withdrawn)?, 0)?;
+    push_field(&mut fields, &spelled(alloc, section)?, 0)?;
+    fields.extend_from_slice(&spelled(alloc, nlri)?)?;
+    Ok(fields)
+}
+
+// An UPDATE of withdrawn routes, path attributes and NLRI. Its header has 18 octets before the type.
+fn update(alloc: Global, withdrawn: &str, section: &str, nlri: &str) -> Result<Vec<u8>, Fail> {
+    let mut message = spelled(alloc, "MARKER")?;
+    push_field(&mut message, &fields(alloc, withdrawn, section, nlri)?, 18)?;
     Ok(message)
 }
 
-// An UPDATE whose path attributes are spelled too.
-fn spelled_update(
-    alloc: Global,
-    withdrawn: &str,
-    attributes: &[&str],
-    nlri: &str,
-) -> Result<Vec<u8>, Fail> {
-    update(alloc, withdrawn, &octets(alloc, attributes)?, nlri)
-}
-
-// What a message says: its type, and of an UPDATE how many prefixes; or its first fault.
-fn says(alloc: Global, message: &[u8]) -> Result<String, Fail> {
-    text_of(alloc, read_message(alloc, message))
-}
-
-// The same with faults handled by a standard.
-fn says_by(alloc: Global, errors: Errors, message: &[u8]) -> Result<String, Fail> {
-    text_of(alloc, read_message_by(alloc, errors, message))
-}
-
-// An answer as a text.
-fn text_of(alloc: Global, answer: Result<Message, MessageFault>) -> Result<String, Fail> {
-    let text = match answer {
-        Ok(Message::Open) => String::from_str(alloc, "OPEN")?,
-        Ok(Message::Update(update)) => format!(in alloc;
-            "UPDATE -{} +{}",
-            update.withdrawn.len(),
-            update.nlri.len()
-        )?,
-        Ok(Message::Treated { withdrawn, nlri }) => format!(in alloc;
-            "TREATED -{} +{}",
-            withdrawn.len(),
-            nlri.len()
-        )?,
-        Ok(Message::Notification) => String::from_str(alloc, "NOTIFICATION")?,
-        Ok(Message::KeepAlive) => String::from_str(alloc, "KEEPALIVE")?,
-        Ok(Message::Refresh) => String::from_str(alloc, "ROUTE-REFRESH")?,
-        Err(MessageFault::Memory) => return Err(Fail::from("out of memory")),
-        Err(fault) => format!(in alloc; "{fault}")?,
+// The message of a row.
+fn message(alloc: Global, text: &str) -> Result<Vec<u8>, Fail> {
+    let Some((withdrawn, behind)) = text.split_once('/') else {
+        return spelled(alloc, text);
     };
+    let (section, nlri) = behind.split_once('/').unwrap_or((behind, ""));
+    update(alloc, withdrawn, section, nlri)
+}
+
+// Appends prefixes, each behind a sign.
+fn push_prefixes(text: &mut String, sign: char, prefixes: &[Prefix]) -> Result<(), AllocError> {
+    for prefix in prefixes {
+        let (address, len) = (Ipv4Addr::from_bits(prefix.address()), prefix.len());
+        write!(text, " {sign}{address}/{len}")?;
+    }
+    Ok(())
+}
+
+// A word, the withdrawn prefixes and the announced ones, each in order.
+fn with_prefixes(
+    alloc: Global,
+    word: &str,
+    withdrawn: &[Prefix],
+    announced: &[Prefix],
+) -> Result<String, AllocError> {
+    let mut text = String::from_str(alloc, word)?;
+    push_prefixes(&mut text, '-', withdrawn)?;
+    push_prefixes(&mut text, '+', announced)?;
     Ok(text)
 }
 
-// Asserts that a text is the wanted one, in a case that these texts name.
-fn check_text(rt: &impl Abort, text: &str, wanted: &str, case: &[&str]) {
-    assert_eq!(rt; text, wanted, "{case:?}");
-}
-
-// Asserts that octets are the wanted ones, in a case that these texts name.
-fn check_octets(rt: &impl Abort, octets: &[u8], wanted: &[u8], case: &[&str]) {
-    assert_eq!(rt; octets, wanted, "{case:?}");
-}
-
-// The UPDATE that a message is, which must be one.
-fn update_of(alloc: Global, message: &[u8]) -> Result<Update, Fail> {
-    match read_message(alloc, message)? {
-        Message::Update(update) => Ok(update),
-        _ => Err(Fail::from("another type")),
+// What a message says: its type, and of an UPDATE its prefixes.
+fn text_of(alloc: Global, message: &Message) -> Result<String, AllocError> {
+    match message {
+        Message::Open => String::from_str(alloc, "OPEN"),
+        Message::Update(read) => with_prefixes(alloc, "UPDATE", &read.withdrawn, &read.nlri),
+        Message::Treated { withdrawn, nlri } => with_prefixes(alloc, "TREATED", withdrawn, nlri),
+        Message::Notification => String::from_str(alloc, "NOTIFICATION"),
+        Message::KeepAlive => String::from_str(alloc, "KEEPALIVE"),
+        Message::Refresh => String::from_str(alloc, "ROUTE-REFRESH"),
     }
 }
 
-// The attributes of a route with these path attributes.
-fn attributes_of(alloc: Global, attributes: &[u8]) -> Result<Attributes, Fail> {
-    let message = update(alloc, "", attributes, ROUTE)?;
-    Ok(
-        update_of(alloc, &message)?
-            .attributes
-            .ok_or("no attributes")?,
-    )
+// What is answered to a message: what it says, or its fault.
+fn answer(alloc: Global, read: &Result<Message, MessageFault>) -> Result<String, AllocError> {
+    match read {
+        Ok(message) => text_of(alloc, message),
+        Err(fault) => format!(in alloc; "{fault}"),
+    }
+}
+
+// What rows of a kind have before their bar, and what is said of it.
+#[derive(Clone, Copy)]
+enum Topic {
+    // A message, and what it says by RFC 4271, and by RFC 7606 where that is something else.
+    Message,
+    // A message, and whether it may concern 203.0.113.0/24 by the two.
+    Concern,
+    // An address and a length, and the prefix that they give.
+    Prefix,
+    // Path attributes, and what they say.
+    Route,
+    // Path attributes as received -> as written, and that they are written so.
+    Written,
+}
+
+// What is said of the text before the bar of a row.
+fn said(alloc: Global, topic: Topic, text: &str) -> Result<String, Fail> {
+    match topic {
+        Topic::Message => messages::said(alloc, text),
+        Topic::Concern => concerning::said(alloc, text),
+        Topic::Prefix => prefixes::said(alloc, text),
+        Topic::Route => routes::said(alloc, text),
+        Topic::Written => routes::said_of_writing(alloc, text),
+    }
+}
+
+// Asserts what is said in a row, unless it is a remark.
+fn check_row(rt: &impl Abort, alloc: Global, topic: Topic, row: &str) -> Result<(), Fail> {
+    if let Some((text, wanted)) = row.split_once(" | ") {
+        check_text(rt, &said(alloc, topic, text)?, wanted, row);
+    }
+    Ok(())
+}
+
+// Asserts what is said in each row.
+fn check_rows(rt: &impl Abort, alloc: Global, topic: Topic, rows: &str) -> Result<(), Fail> {
+    for row in rows.lines() {
+        check_row(rt, alloc, topic, row)?;
+    }
+    Ok(())
+}
+
+// Asserts that a text is the wanted one of a row.
+fn check_text(rt: &impl Abort, text: &str, wanted: &str, row: &str) {
+    assert_eq!(rt; text, wanted, "{row}");
+}
+
+// Asserts that octets are the wanted ones.
+fn check_octets(rt: &impl Abort, octets: &[u8], wanted: &[u8]) {
+    assert_eq!(rt; octets, wanted);
 }
 
 // The attributes of an UPDATE whose routes stand.
-fn standing(answer: Result<Message, MessageFault>) -> Result<Attributes, Fail> {
-    let Message::Update(read) = answer? else {
+fn standing(read: Result<Message, MessageFault>) -> Result<Attributes, Fail> {
+    let Message::Update(read) = read? else {
         return Err(Fail::from("not an UPDATE that stands"));
     };
     Ok(read.attributes.ok_or("no attributes")?)
-}
-
-// A prefix of at most 32 bits.
-fn prefix(address: u32, len: u8) -> Result<Prefix, Fail> {
-    Ok(Prefix::new(address, len).ok_or("a length up to 32")?)
-}
-
-// Whether prefixes are these, in order.
-fn are_prefixes(prefixes: &[Prefix], wanted: &[(u32, u8)]) -> bool {
-    prefixes.len() == wanted.len()
-        && prefixes.iter().zip(wanted).all(|(prefix, (address, len))| prefix.address() == *address
-            && prefix.len() == *len)
 }

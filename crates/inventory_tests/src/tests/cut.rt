@@ -1,73 +1,131 @@
-//! Files that end within a record, that are empty, and that are no recordings.
+//! Files that end within a record, that are empty, that are no recordings, and that are compressed.
 
-use super::Recorded::Message;
-use super::{A, BGP4MP, KEEPALIVE, Recording, inventory_of};
-use rs_inventory::Inventory;
-use rs_mrt::MrtFault;
-use std::alloc::Global;
-use std::process::Abort;
-use std::test::Fail;
+use super::*;
 
-// How many records are held, what the end is that they come to, and how many octets they have.
-type Held = (u64, Option<MrtFault>, Option<u64>);
+// The first octets of two records of 51.
+const BEGINNINGS: &str = "
+100 message A MARKER KEEPALIVE
+101 message A MARKER KEEPALIVE
+cut 102
+= records 2, 2 KeepAlive
+= octets Some(102) end None
 
-// The same of these octets.
-fn held(alloc: Global, octets: &[u8]) -> Result<Held, Fail> {
-    let held = inventory_of(alloc, octets)?;
-    Ok((held.records(), held.end(), held.octets()))
-}
+100 message A MARKER KEEPALIVE
+101 message A MARKER KEEPALIVE
+cut 101
+= records 1, 1 KeepAlive
+= octets Some(51) end Some(BodyCutShort)
 
-// What the first octets of two records of 51 hold.
-const BEGINNINGS: &[(usize, Held)] = &[
-    (102, (2, None, Some(102))),
-    (101, (1, Some(MrtFault::BodyCutShort), Some(51))),
-    (63, (1, Some(MrtFault::BodyCutShort), Some(51))),
-    (62, (1, Some(MrtFault::HeaderCutShort), Some(51))),
-    (52, (1, Some(MrtFault::HeaderCutShort), Some(51))),
-    (51, (1, None, Some(51))),
-    (5, (0, Some(MrtFault::HeaderCutShort), Some(0))),
-    (0, (0, None, Some(0))),
-];
+100 message A MARKER KEEPALIVE
+101 message A MARKER KEEPALIVE
+cut 63
+= records 1, 1 KeepAlive
+= octets Some(51) end Some(BodyCutShort)
+
+100 message A MARKER KEEPALIVE
+101 message A MARKER KEEPALIVE
+cut 62
+= records 1, 1 KeepAlive
+= octets Some(51) end Some(HeaderCutShort)
+
+100 message A MARKER KEEPALIVE
+101 message A MARKER KEEPALIVE
+cut 52
+= records 1, 1 KeepAlive
+= octets Some(51) end Some(HeaderCutShort)
+
+100 message A MARKER KEEPALIVE
+101 message A MARKER KEEPALIVE
+cut 51
+= records 1, 1 KeepAlive
+= octets Some(51) end None
+
+100 message A MARKER KEEPALIVE
+101 message A MARKER KEEPALIVE
+cut 5
+= records 0
+= octets Some(0) end Some(HeaderCutShort)
+
+100 message A MARKER KEEPALIVE
+101 message A MARKER KEEPALIVE
+cut 0
+= records 0
+= octets Some(0) end None
+";
 
 #[test]
 fn a_file_ends_where_its_octets_end(rt: HostRuntime) -> Result<(), Fail> {
-    let records = [Message(100, A, KEEPALIVE), Message(101, A, KEEPALIVE)];
-    let file = Recording::of(rt.alloc(), &records)?;
-    for (length, want) in BEGINNINGS {
-        let octets = file.octets.get(..*length);
-        let octets = octets.ok_or("so many octets are there")?;
-        assert_eq!(rt; held(rt.alloc(), octets)?, *want, "{length} octets");
-    }
+    check_files(&rt, BEGINNINGS)?;
     Ok(())
 }
 
-// What a record holds that has so many octets of body.
-fn long_record(alloc: Global, count: usize) -> Result<Inventory, Fail> {
-    let mut file = Recording::new(alloc);
-    file.add(100, BGP4MP, "000C", &[])?;
-    file.octets.truncate(8);
-    let length = u32::try_from(count).unwrap_or(0);
-    file.octets.extend_from_slice(&length.to_be_bytes())?;
-    file.octets.extend_from_slice(&vec![in alloc; 0; count]?)?;
-    file.inventory()
-}
+// A record is read that is longer than any message makes one, and its octets aren't counted.
+const LONG_RECORDS: &str = "
+100 0010000C 00*4120
+= records 1, 1 Other
+= octets Some(4132) end None
+
+100 0010000C 00*4121
+= records 1, 1 Other
+= octets None end None
+
+# This is a text, and no recording of any session.
+octets 54686973206973206120746578742C20616E64206E6F207265636F7264696E67206F6620616E792073657373696F6E2E0A
+= records 0
+= octets Some(0) end Some(BodyCutShort)
+= times None None
+= peers 0
+";
 
 #[test]
 fn of_long_records_the_octets_are_not_counted(rt: HostRuntime) -> Result<(), Fail> {
-    for (count, octets) in [(4120, Some(4132)), (4121, None)] {
-        let held = long_record(rt.alloc(), count)?;
-        assert_eq!(rt; (held.records(), held.octets()), (1, octets));
-    }
+    check_files(&rt, LONG_RECORDS)?;
     Ok(())
 }
 
+// Octets as gzip, bzip2, xz and zstd write an empty or a short file; records of other times, and of that which the first
+// octets of bzip2 would be; too few octets.
+const COMPRESSED: &str = "
+octets 1F8B 08 00 0000000000FF
+= records 0
+= compression Some(Gzip)
+
+octets 425A6839 314159265359 B44717C6
+= records 0
+= compression Some(Bzip2)
+
+octets FD377A585A00 0004E6D6B446
+= records 0
+= compression Some(Xz)
+
+octets 28B52FFD 2400 01000099E9D851
+= records 0
+= compression Some(Zstd)
+
+octets 1F8B 0900 0010 0004 00000000
+= compression None
+= records 1, 1 CutShort
+
+octets 425A6839 0010 0004 00000000
+= compression None
+= records 1, 1 CutShort
+
+octets 28B52FFC 0010 0004 00000000
+= compression None
+= records 1, 1 CutShort
+
+octets 1F8B
+= compression None
+= records 0
+= octets Some(0) end Some(HeaderCutShort)
+
+octets 00*0
+= compression None
+= records 0
+";
+
 #[test]
-fn a_text_has_no_records(rt: HostRuntime) -> Result<(), Fail> {
-    let held = inventory_of(
-        rt.alloc(),
-        b"This is a text, and no recording of any session.\n",
-    )?;
-    let found = (held.records(), held.end(), held.first());
-    assert_eq!(rt; found, (0, Some(MrtFault::BodyCutShort), None));
+fn the_first_octets_tell_a_compressed_file(rt: HostRuntime) -> Result<(), Fail> {
+    check_files(&rt, COMPRESSED)?;
     Ok(())
 }

@@ -1,120 +1,80 @@
 //! Records by kind, and their times.
 
-use super::Recorded::{Message, Record, StateChange};
-use super::{
-    A, BGP4MP, BGP4MP_ET, FAULTY, KEEPALIVE, MARKER, NOTIFICATION, OPEN, REFRESH, Recorded,
-    Recording, UPDATE,
-};
-use rs_inventory::{Inventory, Kind};
-use std::alloc::Global;
-use std::process::Abort;
-use std::test::Fail;
+use super::*;
 
-// An IPv6 peer of AS 64501, recorded by AS 64500.
-const SIX: &str =
-    "0000FBF5 0000FBF4 0000 0002 20010DB8000000000000000000000011 20010DB8000000000000000000000001";
+// The kind is told by the Type, then the Subtype, then the Address Family (RFC 6396, sections 3 and 4.4).
+const KINDS: &str = "
+# One of each kind, but two of sessions with two-octet AS numbers.
+100 message A MARKER UPDATE
+100 message A MARKER OPEN
+100 message A MARKER NOTIFICATION
+100 message A MARKER KEEPALIVE
+100 message A MARKER REFRESH
+100 message A MARKER FAULTY
+100 state A 0005 0006
+100 message2 A2 MARKER KEEPALIVE
+100 00100000 A2 0005 0006
+100 00100009 A MARKER KEEPALIVE
+100 message A6 MARKER KEEPALIVE
+100 000D0001 C0000201 0000 0000
+100 message 0000FBF5 0000FBF4 0000 0001 C000020B
+100 000C0001 00
+= records 14, 1 Update, 1 Open, 1 Notification, 1 KeepAlive, 1 RouteRefresh, 1 Faulty, 1 StateChange, \
+    2 TwoOctet, 1 AddPath, 1 Ipv6, 1 TableDumpV2, 1 CutShort, 1 Other
 
-// A peer of two octets of AS number.
-const TWO: &str = "FBF5 FBF4 0000 0001 C000020B C0000201";
+# An address family that none is; a local message; messages with path identifiers; a Subtype that none is.
+7 message 0000FBF5 0000FBF4 0000 0003 C000020B C0000201
+= records 1, 1 Other
 
-// Records of each kind, one of each but two of sessions with two-octet AS numbers.
-const OF_EACH_KIND: &[Recorded<'static>] = &[
-    Message(100, A, UPDATE),
-    Message(100, A, OPEN),
-    Message(100, A, NOTIFICATION),
-    Message(100, A, KEEPALIVE),
-    Message(100, A, REFRESH),
-    Message(100, A, FAULTY),
-    StateChange(100, A, "0005 0006"),
-    Record(100, BGP4MP, "0001", &[TWO, MARKER, KEEPALIVE]),
-    Record(100, BGP4MP, "0000", &[TWO, "0005 0006"]),
-    Record(100, BGP4MP, "0009", &[A, MARKER, KEEPALIVE]),
-    Record(100, BGP4MP, "0004", &[SIX, MARKER, KEEPALIVE]),
-    Record(100, "000D", "0001", &["C0000201 0000 0000"]),
-    Record(
-        100,
-        BGP4MP,
-        "0004",
-        &["0000FBF5 0000FBF4 0000 0001 C000020B"],
-    ),
-    Record(100, "000C", "0001", &["00"]),
-];
+7 00100006 A2
+= records 1, 1 Other
 
-// How many records are held of each kind.
-fn counts(alloc: Global, held: &Inventory) -> Result<Vec<u64>, Fail> {
-    let mut counts = Vec::new(alloc);
-    for kind in Kind::all() {
-        counts.push(held.count_of(kind))?;
-    }
-    Ok(counts)
-}
+7 00100008
+= records 1, 1 AddPath
+
+7 0010000B
+= records 1, 1 AddPath
+
+7 0010000C
+= records 1, 1 Other
+
+# Two octets of AS number come before an IPv6 address.
+7 message2 A6
+= records 1, 1 TwoOctet
+
+# With microseconds the fields stand four octets on.
+7 00110005 0000FBF5 0000FBF4 0000 0002
+= records 1, 1 CutShort
+
+7 00110005 00000000 0000FBF5 0000FBF4 0000 0002
+= records 1, 1 Ipv6
+
+7 00110001 000000
+= records 1, 1 CutShort
+
+# Other Types: TABLE_DUMP_V2, and one that none is.
+7 000D0004
+= records 1, 1 TableDumpV2
+
+7 000E0004
+= records 1, 1 Other
+";
 
 #[test]
 fn each_record_is_of_one_kind(rt: HostRuntime) -> Result<(), Fail> {
-    let held = Recording::of(rt.alloc(), OF_EACH_KIND)?.inventory()?;
-    let counts = counts(rt.alloc(), &held)?;
-    assert!(rt; counts.as_slice() == [1, 1, 1, 1, 1, 1, 1, 2, 1, 1, 1, 1, 1].as_slice());
-    assert_eq!(rt; held.records(), 14);
+    check_files(&rt, KINDS)?;
     Ok(())
 }
 
-// The Type, the Subtype and the body of a record, and its kind.
-const KINDS: &[(&str, &str, &str, Kind)] = &[
-    (
-        BGP4MP,
-        "0004",
-        "0000FBF5 0000FBF4 0000 0003 C000020B C0000201",
-        Kind::Other,
-    ),
-    (BGP4MP, "0006", TWO, Kind::Other),
-    (BGP4MP, "0008", "", Kind::AddPath),
-    (BGP4MP, "000B", "", Kind::AddPath),
-    (BGP4MP, "000C", "", Kind::Other),
-    (BGP4MP, "0001", SIX, Kind::TwoOctet),
-    (
-        BGP4MP_ET,
-        "0005",
-        "0000FBF5 0000FBF4 0000 0002",
-        Kind::CutShort,
-    ),
-    (
-        BGP4MP_ET,
-        "0005",
-        "00000000 0000FBF5 0000FBF4 0000 0002",
-        Kind::Ipv6,
-    ),
-    (BGP4MP_ET, "0001", "000000", Kind::CutShort),
-    ("000D", "0004", "", Kind::TableDumpV2),
-    ("000E", "0004", "", Kind::Other),
-];
-
-// How many records are of this kind in a file of one record.
-fn count_in_one(alloc: Global, recorded: Recorded<'_>, kind: Kind) -> Result<u64, Fail> {
-    Ok(
-        Recording::of(alloc, &[recorded])?
-            .inventory()?
-            .count_of(kind),
-    )
-}
-
-#[test]
-fn kinds_are_told_by_type_then_subtype_then_family(rt: HostRuntime) -> Result<(), Fail> {
-    for (kind, subtype, body, want) in KINDS {
-        let body = [*body];
-        let count = count_in_one(rt.alloc(), Record(7, kind, subtype, &body), *want)?;
-        assert_eq!(rt; count, 1, "Type {kind}, Subtype {subtype}");
-    }
-    Ok(())
-}
+const TIMES: &str = "
+300 message A MARKER KEEPALIVE
+100 message A MARKER KEEPALIVE
+200 message A MARKER KEEPALIVE
+= times Some(100) Some(300)
+";
 
 #[test]
 fn times_are_the_earliest_and_the_latest(rt: HostRuntime) -> Result<(), Fail> {
-    let records = [
-        Message(300, A, KEEPALIVE),
-        Message(100, A, KEEPALIVE),
-        Message(200, A, KEEPALIVE),
-    ];
-    let held = Recording::of(rt.alloc(), &records)?.inventory()?;
-    assert_eq!(rt; (held.first(), held.last()), (Some(100), Some(300)));
+    check_files(&rt, TIMES)?;
     Ok(())
 }

@@ -7,24 +7,24 @@ use rs_mrt::{Limits, MemoryWriter};
 use rs_outlet::{Kept, Outlet, Unopened};
 use std::alloc::Global;
 
-/// Where the outlet fails: at the dumps of clients of these numbers.
+/// Where the outlet fails: at the dumps of clients of these names, of none where a name is empty.
 #[derive(Clone, Copy, Debug, Drop)]
 pub struct Faults {
     /// The one whose writer takes 1,000 octets and then fails.
-    pub failing: Option<usize>,
+    pub failing: &'static str,
     /// The one that can't be kept.
-    pub not_kept: Option<usize>,
+    pub not_kept: &'static str,
     /// The one for which no writer is given ahead.
-    pub not_ahead: Option<usize>,
+    pub not_ahead: &'static str,
 }
 
 impl Faults {
     /// None.
     pub fn none() -> Faults {
         Faults {
-            failing: None,
-            not_kept: None,
-            not_ahead: None,
+            failing: "",
+            not_kept: "",
+            not_ahead: "",
         }
     }
 }
@@ -34,16 +34,16 @@ impl Faults {
 pub struct OutletAhead {
     alloc: Global,
     faults: Faults,
-    /// The names of the dumps for which a writer was given in their turn, in order.
-    pub started: Vec<String>,
+    /// The names of the dumps for which a writer was given in their turn, in order, without octets.
+    pub started: Vec<Kept>,
     /// The names of those for which one was given ahead.
-    pub ahead: Vec<String>,
+    pub ahead: Vec<Kept>,
     /// The dumps that were kept.
     pub kept: Vec<Kept>,
-    /// What had been written of those that came back, by their names.
+    /// What had been written of those that came back.
     pub given_back: Vec<Kept>,
     /// What had been written of those that were lost.
-    pub lost: Vec<Vec<u8>>,
+    pub lost: Vec<Kept>,
     /// How many failures it has counted.
     pub failures: u64,
 }
@@ -71,30 +71,21 @@ fn writer(alloc: Global, faults: &Faults, name: &str) -> MemoryWriter
     ensures { result.failures ≡ 0 }
 {
     let mut limits = Limits::none();
-    if faults.failing == client_of(name) {
+    if is_of(faults.failing, name) {
         limits.calls_before_failure = Some(1);
         limits.piece = 1000;
     }
     MemoryWriter::new(alloc, limits)
 }
 
-// The number of the client whose dump has this name.
-fn client_of(name: &str) -> Option<usize> {
-    let letter = name.as_bytes().first()?;
-    letter.checked_sub(b'a').map(usize::from)
+// Whether the dump of this name is that of a client, whose name is a letter.
+fn is_of(client: &str, name: &str) -> bool {
+    !client.is_empty() && name.starts_with(client)
 }
 
-// Adds a name. Where memory is refused it is missing, and the test fails.
-fn add_name(alloc: Global, names: &mut Vec<String>, name: &str) {
+// Adds what was written of the dump of this name. Where memory is refused it is missing, and the test fails.
+fn add(alloc: Global, dumps: &mut Vec<Kept>, name: &str, octets: Vec<u8>) {
     if let Ok(name) = String::from_str(alloc, name) {
-        let _ = names.push(name);
-    }
-}
-
-// Adds what was written of the dump of this name.
-fn add_dump(alloc: Global, dumps: &mut Vec<Kept>, name: &str, out: MemoryWriter) {
-    if let Ok(name) = String::from_str(alloc, name) {
-        let octets = out.into_octets();
         let _ = dumps.push(Kept { name, octets });
     }
 }
@@ -107,33 +98,34 @@ impl Outlet for OutletAhead {
     ghost failures = { λ outlet. outlet.failures };
 
     fn start(&mut self, name: &str) -> Result<MemoryWriter, Unopened> {
-        add_name(self.alloc, &mut self.started, name);
+        add(self.alloc, &mut self.started, name, Vec::new(self.alloc));
         Ok(writer(self.alloc, &self.faults, name))
     }
 
     fn start_ahead(&mut self, name: &str) -> Option<MemoryWriter> {
-        if self.faults.not_ahead == client_of(name) {
+        if is_of(self.faults.not_ahead, name) {
             return None;
         }
-        add_name(self.alloc, &mut self.ahead, name);
+        add(self.alloc, &mut self.ahead, name, Vec::new(self.alloc));
         Some(writer(self.alloc, &self.faults, name))
     }
 
     fn give_back(&mut self, name: &str, out: MemoryWriter) {
-        add_dump(self.alloc, &mut self.given_back, name, out);
+        add(self.alloc, &mut self.given_back, name, out.into_octets());
     }
 
     fn keep(&mut self, name: &str, out: MemoryWriter) -> Result<(), Unopened> {
-        if self.faults.not_kept == client_of(name) {
+        if is_of(self.faults.not_kept, name) {
             self.failures += 1;
             return Err(Unopened);
         }
-        add_dump(self.alloc, &mut self.kept, name, out);
+        add(self.alloc, &mut self.kept, name, out.into_octets());
         Ok(())
     }
 
     fn lost(&mut self, out: MemoryWriter) {
         self.failures += 1;
-        let _ = self.lost.push(out.into_octets());
+        let name = self.faults.failing;
+        add(self.alloc, &mut self.lost, name, out.into_octets());
     }
 }

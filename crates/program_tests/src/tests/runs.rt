@@ -1,16 +1,15 @@
 //! Runs over a collector's file: whole, in pieces, and with each call of a reader, of the outlet, of a dump's
 //! writer and of the report's refused in turn.
 
-ghost use Rattle.std.specs.Prelude.{◌<◌};
+ghost use Rattle.std.specs.Prelude.{◌≡◌, ◌<◌, ◌≤◌, length};
 
 use rs_mrt::{Limits, MemoryReader, MemoryWriter, ReadLimits};
 use rs_options::Options;
-use rs_outlet::{Kept, MemoryOutlet, OutletLimits, RunFault};
+use rs_outlet::{Kept, MemoryOutlet, Outlet, OutletLimits, RunFault};
 use rs_run::run;
-use rs_setup::read_setup;
+use rs_setup::{Setup, read_setup};
 use rs_update::Errors;
 use spelled_in_hex::octets;
-use std::alloc::Global;
 use std::process::Abort;
 use std::sync::Wait;
 use std::test::Fail;
@@ -85,94 +84,87 @@ const DUMPS: [(&str, &str); CLIENTS] = [
     ),
 ];
 
+// How a run goes: the room of its rings, how many shards it has, and how the reader of each peer's file, the outlet and
+// the report fail.
+#[derive(Clone, Copy)]
+struct Manner {
+    ring: usize,
+    shards: usize,
+    files: [ReadLimits; CLIENTS],
+    outlet: OutletLimits,
+    report: Limits,
+}
+
+impl Manner {
+    // Small rings, so that threads wait for one another, and two shards; nothing fails.
+    fn plain() -> Manner {
+        Manner {
+            ring: 2,
+            shards: 2,
+            files: [ReadLimits::none(); CLIENTS],
+            outlet: OutletLimits::none(),
+            report: Limits::none(),
+        }
+    }
+}
+
 // What a run answered, what it kept, and what its report has taken.
 #[derive(Drop)]
 struct Ran {
     answer: Result<(), RunFault>,
     outlet: MemoryOutlet,
-    report: MemoryWriter,
+    report: Vec<u8>,
 }
 
-// How a run goes: the room of its rings, how many shards it has, and the standard by which faults in messages
-// are handled.
-#[derive(Clone, Copy)]
-struct Manner {
-    ring: usize,
-    shards: usize,
-    errors: Errors,
+// Runs over a file of the first peer, which is one of four, and answers as the run does, and what is reported.
+fn run_over<T: AllocGlobal + Abort + Threads + Wait + Sync, O: Outlet>(
+    rt: &T,
+    setup: &Setup,
+    options: &Options,
+    file: &[u8],
+    manner: &Manner,
+    outlet: &mut O,
+) -> Result<(Result<(), RunFault>, Vec<u8>), Fail>
+    requires peers { length setup.now.plan.value.peers ≡ CLIENTS }
+    requires ring { (1 ≤ options.now.ring) × (options.now.ring ≤ 65536) }
+    requires shards { (1 ≤ options.now.shards) × (options.now.shards ≤ 16) }
+    requires failures { O.failures outlet.old < u64.MAX }
+{
+    let alloc = rt.alloc();
+    let [first, second, third, fourth] = manner.files;
+    let readers = [
+        MemoryReader::new(file, first),
+        MemoryReader::new(&[], second),
+        MemoryReader::new(&[], third),
+        MemoryReader::new(&[], fourth),
+    ];
+    let readers = Vec::from_array(alloc, readers)?;
+    let mut report = MemoryWriter::new(alloc, manner.report);
+    let answer = run(rt, alloc, setup, readers, options, outlet, &mut report);
+    Ok((answer, report.into_octets()))
 }
 
-// Small rings, so that threads wait for one another, and two shards.
-const MANNER: Manner = Manner {
-    ring: 2,
-    shards: 2,
-    errors: Errors::Rfc4271,
-};
-
-// Runs over that file, with an outlet and a report that fail so.
-fn run_with(
-    rt: &(impl AllocGlobal + Abort + Threads + Wait + Sync),
-    outlet: OutletLimits,
-    report: Limits,
-) -> Result<Ran, Fail> {
-    let limits = [ReadLimits::none(); CLIENTS];
-    run_over(rt, MANNER, COLLECTED, limits, outlet, report)
-}
-
-// Runs over that file in a manner, with a reader of each peer's file that gives and fails so.
+// Runs over that file in a manner.
 fn run_in(
     rt: &(impl AllocGlobal + Abort + Threads + Wait + Sync),
-    manner: Manner,
-    limits: [ReadLimits; CLIENTS],
-) -> Result<Ran, Fail> {
-    let (outlet, report) = (OutletLimits::none(), Limits::none());
-    run_over(rt, manner, COLLECTED, limits, outlet, report)
-}
-
-// Runs over a file of the first peer, with a reader of each peer's file that gives and fails so.
-fn run_over(
-    rt: &(impl AllocGlobal + Abort + Threads + Wait + Sync),
-    manner: Manner,
-    file: &str,
-    limits: [ReadLimits; CLIENTS],
-    outlet: OutletLimits,
-    report: Limits,
+    manner: &Manner,
 ) -> Result<Ran, Fail> {
     let alloc = rt.alloc();
     assert!(rt; 1 <= manner.ring && manner.ring <= 65_536);
     assert!(rt; 1 <= manner.shards && manner.shards <= 16);
     let setup = read_setup(alloc, EXCHANGE.as_bytes())?;
-    assert_eq!(rt; setup.plan.count(), CLIENTS);
-    let file = octets(alloc, &[file])?;
-    let [first, second, third, fourth] = limits;
-    let readers = Vec::from_array(
-        alloc,
-        [
-            MemoryReader::new(&file, first),
-            MemoryReader::new(&[], second),
-            MemoryReader::new(&[], third),
-            MemoryReader::new(&[], fourth),
-        ],
-    )?;
+    assert!(rt; setup.plan.count() == CLIENTS);
     let options = Options {
         config: String::new(alloc),
         out: String::new(alloc),
         time: 0,
         ring: manner.ring,
         shards: manner.shards,
-        errors: manner.errors,
+        errors: Errors::Rfc4271,
     };
-    let mut outlet = MemoryOutlet::new(alloc, outlet);
-    let mut report = MemoryWriter::new(alloc, report);
-    let answer = run(
-        rt,
-        alloc,
-        &setup,
-        readers,
-        &options,
-        &mut outlet,
-        &mut report,
-    );
+    let file = octets(alloc, &[COLLECTED])?;
+    let mut outlet = MemoryOutlet::new(alloc, manner.outlet);
+    let (answer, report) = run_over(rt, &setup, &options, &file, manner, &mut outlet)?;
     Ok(Ran {
         answer,
         outlet,
@@ -180,40 +172,52 @@ fn run_over(
     })
 }
 
-// The first dumps are kept, so many of them, each under its client's name.
-fn check_kept(rt: &(impl AllocGlobal + Abort), kept: &[Kept], count: usize) -> Result<(), Fail> {
-    assert_eq!(rt; kept.len(), count);
-    for (dump, (name, expected)) in kept.iter().zip(&DUMPS) {
-        check_dump(rt, dump, name, expected)?;
-    }
-    Ok(())
-}
-
-// A dump is kept under this name, with the octets that are spelled so.
+// Asserts that a dump is kept under this name, with the octets that are spelled so.
 fn check_dump(
     rt: &(impl AllocGlobal + Abort),
     dump: &Kept,
     name: &str,
     expected: &str,
 ) -> Result<(), Fail> {
-    assert_eq!(rt; dump.name.as_str(), name);
     let expected = octets(rt.alloc(), &[expected])?;
-    assert_eq!(rt; dump.octets, expected, "of {name}");
+    assert_eq!(rt;
+        (dump.name.as_str(), dump.octets.as_slice()),
+        (name, expected.as_slice())
+    );
     Ok(())
 }
 
-// A run went well: it kept a dump for each client, and reported. Messages name it by these numbers.
-fn check_whole(rt: &(impl AllocGlobal + Abort), ran: &Ran, numbers: &[usize]) -> Result<(), Fail> {
-    assert_eq!(rt; ran.answer, Ok(()), "{numbers:?}");
-    check_kept(rt, ran.outlet.kept(), CLIENTS)?;
-    assert_eq!(rt; ran.report.octets(), REPORT.as_bytes(), "{numbers:?}");
+// What a run answers, how many dumps it keeps, and how many octets of the report it writes.
+type Outcome = (Result<(), RunFault>, usize, usize);
+
+// What a run comes to that goes well.
+const WHOLE: Outcome = (Ok(()), CLIENTS, 204);
+
+// Asserts that the first dumps are kept.
+fn check_kept(rt: &(impl AllocGlobal + Abort), kept: &[Kept]) -> Result<(), Fail> {
+    for (dump, (name, expected)) in kept.iter().zip(&DUMPS) {
+        check_dump(rt, dump, name, expected)?;
+    }
     Ok(())
 }
 
-#[test]
-fn a_run_keeps_a_dump_for_each_client_and_reports(rt: HostRuntime) -> Result<(), Fail> {
-    let ran = run_with(&rt, OutletLimits::none(), Limits::none())?;
-    check_whole(&rt, &ran, &[])
+// Asserts what a run in a manner comes to: the first dumps are kept, so many of them, and a beginning of the report is
+// written. Messages name it by these numbers.
+fn check_run(
+    rt: &(impl AllocGlobal + Abort + Threads + Wait + Sync),
+    manner: Manner,
+    wanted: Outcome,
+    numbers: (usize, usize),
+) -> Result<(), Fail> {
+    let ran = run_in(rt, &manner)?;
+    let (kept, report) = (ran.outlet.kept(), ran.report.as_slice());
+    assert_eq!(rt;
+        (ran.answer, kept.len(), report.len()),
+        wanted,
+        "{numbers:?}"
+    );
+    assert!(rt; REPORT.as_bytes().starts_with(report));
+    check_kept(rt, kept)
 }
 
 #[test]
@@ -223,207 +227,163 @@ fn a_run_is_the_same_whatever_its_rings_and_shards(rt: HostRuntime) -> Result<()
             let manner = Manner {
                 ring,
                 shards,
-                ..MANNER
+                ..Manner::plain()
             };
-            let ran = run_in(&rt, manner, [ReadLimits::none(); CLIENTS])?;
-            check_whole(&rt, &ran, &[ring, shards])?;
+            check_run(&rt, manner, WHOLE, (ring, shards))?;
         }
     }
     Ok(())
 }
 
-// An UPDATE of a with 203.0.113.0/24 whose ORIGIN has the value 3, which none has.
-const FAULTY: &str =
-    "0000006400100004000000430000FBF50000FBF400000001C000020BC0000201FFFFFFFFFFFFFFFFFFFFFFFFFFFFFFFF\
-    002F02000000144001010340020602010000FBF5400304C000020B18CB0071";
-
-// The first line of the report over that file.
-fn first_line(
-    rt: &(impl AllocGlobal + Abort + Threads + Wait + Sync),
-    errors: Errors,
-    wanted: &str,
-) -> Result<(), Fail> {
-    let manner = Manner { errors, ..MANNER };
-    let limits = [ReadLimits::none(); CLIENTS];
-    let ran = run_over(
-        rt,
-        manner,
-        FAULTY,
-        limits,
-        OutletLimits::none(),
-        Limits::none(),
-    )?;
-    assert_eq!(rt; ran.answer, Ok(()));
-    assert!(rt;
-        ran.report.octets().starts_with(wanted.as_bytes()),
-        "{wanted}"
-    );
-    Ok(())
-}
-
-#[test]
-fn faults_in_messages_are_handled_by_the_standard_of_the_options(
-    rt: HostRuntime,
-) -> Result<(), Fail> {
-    first_line(
-        &rt,
-        Errors::Rfc4271,
-        "peer a changes 1 passed 0 close bgp 3/6\n",
-    )?;
-    first_line(
-        &rt,
-        Errors::Rfc7606,
-        "peer a changes 2 passed 0 close end\n",
-    )
+// The limits of a reader that gives so many octets at a time, and fails after some where it fails.
+fn in_pieces(piece: usize, octets_before_failure: Option<usize>) -> ReadLimits {
+    ReadLimits {
+        octets_before_failure,
+        piece,
+    }
 }
 
 #[test]
 fn a_run_over_files_in_pieces_is_the_same(rt: HostRuntime) -> Result<(), Fail> {
     for piece in [1, 7, 100] {
-        let limits = ReadLimits {
-            piece,
-            ..ReadLimits::none()
+        let manner = Manner {
+            files: [in_pieces(piece, None); CLIENTS],
+            ..Manner::plain()
         };
-        let ran = run_in(&rt, MANNER, [limits; CLIENTS])?;
-        check_whole(&rt, &ran, &[piece])?;
+        check_run(&rt, manner, WHOLE, (piece, 0))?;
     }
     Ok(())
 }
 
-// The limits of a reader that fails after so many octets, which come 40 at a time.
-fn failing_after(octets: usize) -> ReadLimits {
-    ReadLimits {
-        octets_before_failure: Some(octets),
-        piece: 40,
+// After how many octets of each peer's file a read fails, and the peer that is named. The file of the first one has 506
+// octets: a call fails at each 40th of them, in records and between them, and where the end of the file would come. Of
+// several peers the first one is named.
+const FAILED_READS: [([Option<usize>; CLIENTS], usize); 18] = [
+    ([Some(0), None, None, None], 0),
+    ([Some(40), None, None, None], 0),
+    ([Some(80), None, None, None], 0),
+    ([Some(120), None, None, None], 0),
+    ([Some(160), None, None, None], 0),
+    ([Some(200), None, None, None], 0),
+    ([Some(240), None, None, None], 0),
+    ([Some(280), None, None, None], 0),
+    ([Some(320), None, None, None], 0),
+    ([Some(360), None, None, None], 0),
+    ([Some(400), None, None, None], 0),
+    ([Some(440), None, None, None], 0),
+    ([Some(480), None, None, None], 0),
+    ([Some(506), None, None, None], 0),
+    ([None, Some(0), None, None], 1),
+    ([None, None, None, Some(0)], 3),
+    ([None, None, Some(0), Some(0)], 2),
+    ([Some(100), Some(0), Some(0), Some(0)], 0),
+];
+
+// A run whose reads fail after so many octets.
+fn reading([first, second, third, fourth]: [Option<usize>; CLIENTS]) -> Manner {
+    Manner {
+        files: [
+            in_pieces(40, first),
+            in_pieces(40, second),
+            in_pieces(40, third),
+            in_pieces(40, fourth),
+        ],
+        ..Manner::plain()
     }
 }
 
-// A run stopped at a failed read of a peer: nothing is kept, and nothing is reported.
-fn check_unread(
-    rt: &(impl AllocGlobal + Abort + Threads + Wait + Sync),
-    limits: [ReadLimits; CLIENTS],
-    peer: usize,
-) -> Result<(), Fail> {
-    let ran = run_in(rt, MANNER, limits)?;
-    assert_eq!(rt; ran.answer, Err(RunFault::Read(peer)));
-    assert!(rt; ran.outlet.kept().is_empty());
-    assert!(rt; ran.report.octets().is_empty());
+#[test]
+fn a_failed_read_ends_the_run_and_the_first_peer_is_named(rt: HostRuntime) -> Result<(), Fail> {
+    for (row, (failures, peer)) in FAILED_READS.iter().enumerate() {
+        let wanted = (Err(RunFault::Read(*peer)), 0, 0);
+        check_run(&rt, reading(*failures), wanted, (row, *peer))?;
+    }
     Ok(())
 }
 
-// The file has 506 octets: a call fails at each 40th of them, in records and between them, and where the end
-// of the file would come.
-#[test]
-fn a_failed_read_ends_the_run_and_is_named(rt: HostRuntime) -> Result<(), Fail> {
-    let none = ReadLimits::none();
-    for calls in 0..13 {
-        check_unread(&rt, [failing_after(40 * calls), none, none, none], 0)?;
-    }
-    check_unread(&rt, [failing_after(506), none, none, none], 0)
-}
-
-#[test]
-fn the_first_peer_whose_read_fails_is_named(rt: HostRuntime) -> Result<(), Fail> {
-    let none = ReadLimits::none();
-    let fails = failing_after(0);
-    check_unread(&rt, [none, fails, none, none], 1)?;
-    check_unread(&rt, [none, none, none, fails], 3)?;
-    check_unread(&rt, [none, none, fails, fails], 2)?;
-    check_unread(&rt, [failing_after(100), fails, fails, fails], 0)
-}
-
-// A run stopped at the dump of a client: those before it are kept, and nothing is reported.
-fn check_stopped(rt: &(impl AllocGlobal + Abort), ran: &Ran, client: usize) -> Result<(), Fail> {
-    assert_eq!(rt; ran.answer, Err(RunFault::Dump(client)));
-    assert!(rt; ran.report.octets().is_empty());
-    check_kept(rt, ran.outlet.kept(), client)
+// What a run comes to that stops at the dump of a client: those before it are kept.
+fn stopped(client: usize) -> Outcome {
+    (Err(RunFault::Dump(client)), client, 0)
 }
 
 // Each dump is started and kept, so that there are two calls for each client.
 #[test]
 fn a_refused_start_or_keep_ends_the_run(rt: HostRuntime) -> Result<(), Fail> {
     for client in 0..CLIENTS {
-        for call in 0..2 {
-            let limits = OutletLimits {
-                calls_before_refusal: Some(2 * client as u64 + call),
+        for call in [2 * client, 2 * client + 1] {
+            let outlet = OutletLimits {
+                calls_before_refusal: Some(call as u64),
                 ..OutletLimits::none()
             };
-            check_stopped(&rt, &run_with(&rt, limits, Limits::none())?, client)?;
+            let manner = Manner {
+                outlet,
+                ..Manner::plain()
+            };
+            check_run(&rt, manner, stopped(client), (client, call))?;
         }
     }
     Ok(())
 }
 
-#[test]
-fn a_failed_write_of_a_dump_ends_the_run(rt: HostRuntime) -> Result<(), Fail> {
-    for client in 0..CLIENTS {
-        let limits = OutletLimits {
-            dumps_before_limits: client,
-            writer: Limits {
-                room: 30,
-                ..Limits::none()
-            },
-            ..OutletLimits::none()
-        };
-        check_stopped(&rt, &run_with(&rt, limits, Limits::none())?, client)?;
+// A run in which the writer of the dump of a client has limits.
+fn writing(client: usize, writer: Limits) -> Manner {
+    let outlet = OutletLimits {
+        dumps_before_limits: client,
+        writer,
+        ..OutletLimits::none()
+    };
+    Manner {
+        outlet,
+        ..Manner::plain()
     }
-    Ok(())
 }
 
-// The limits of an outlet: so many calls to write the dump of a client go well, of 7 octets each, and the next one
-// fails.
-fn failing_at(client: usize, calls: usize) -> OutletLimits {
-    OutletLimits {
-        dumps_before_limits: client,
-        writer: Limits {
-            calls_before_failure: Some(calls as u64),
-            room: usize::MAX,
-            piece: 7,
-        },
-        ..OutletLimits::none()
+// So many calls to write go well, of 7 octets each, and the next one fails.
+fn failing_after(calls: usize) -> Limits {
+    Limits {
+        calls_before_failure: Some(calls as u64),
+        room: usize::MAX,
+        piece: 7,
     }
+}
+
+#[test]
+fn a_dump_without_room_ends_the_run(rt: HostRuntime) -> Result<(), Fail> {
+    for client in 0..CLIENTS {
+        let limits = Limits {
+            room: 30,
+            ..Limits::none()
+        };
+        check_run(&rt, writing(client, limits), stopped(client), (client, 30))?;
+    }
+    Ok(())
 }
 
 // Two digits an octet, 7 octets a call: each call to write a dump fails in turn. Those behind it would go well.
 #[test]
 fn whichever_write_of_a_dump_fails_the_run_ends_there(rt: HostRuntime) -> Result<(), Fail> {
     for (client, (_, digits)) in DUMPS.iter().enumerate() {
-        let calls = (digits.len() / 2).div_ceil(7);
+        let calls = digits.len().div_ceil(14);
         for call in 0..calls {
-            let ran = run_with(&rt, failing_at(client, call), Limits::none())?;
-            check_stopped(&rt, &ran, client)?;
+            let manner = writing(client, failing_after(call));
+            check_run(&rt, manner, stopped(client), (client, call))?;
         }
-        check_unfailing(&rt, client, calls)?;
+        let manner = writing(client, failing_after(calls));
+        check_run(&rt, manner, WHOLE, (client, calls))?;
     }
     Ok(())
-}
-
-// A run whose dump of a client is written with so many calls goes well, where only a later one would fail.
-fn check_unfailing(
-    rt: &(impl AllocGlobal + Abort + Threads + Wait + Sync),
-    client: usize,
-    calls: usize,
-) -> Result<(), Fail> {
-    let ran = run_with(rt, failing_at(client, calls), Limits::none())?;
-    assert_eq!(rt; ran.answer, Ok(()), "after {calls} calls");
-    check_kept(rt, ran.outlet.kept(), CLIENTS)
 }
 
 // 204 octets, 7 a call: each of the 30 calls fails in turn.
 #[test]
 fn a_failed_write_of_the_report_leaves_a_beginning_of_it(rt: HostRuntime) -> Result<(), Fail> {
-    assert_eq!(rt; REPORT.len(), 204);
     for calls in 0..30 {
-        let limits = Limits {
-            calls_before_failure: Some(calls),
-            room: usize::MAX,
-            piece: 7,
+        let manner = Manner {
+            report: failing_after(calls),
+            ..Manner::plain()
         };
-        let ran = run_with(&rt, OutletLimits::none(), limits)?;
-        assert_eq!(rt; ran.answer, Err(RunFault::Report));
-        check_kept(&rt, ran.outlet.kept(), CLIENTS)?;
-        assert_eq!(rt; ran.report.octets().len() as u64, 7 * calls);
-        assert!(rt; REPORT.as_bytes().starts_with(ran.report.octets()));
+        let wanted = (Err(RunFault::Report), CLIENTS, 7 * calls);
+        check_run(&rt, manner, wanted, (CLIENTS, calls))?;
     }
     Ok(())
 }

@@ -1,7 +1,7 @@
 //! Runs over tables so large that dumps are written beside each other, with an outlet that gives writers ahead of their
 //! turn: dump by dump, the same as with one that gives none.
 
-ghost use Rattle.std.specs.Prelude.{◌<◌};
+ghost use Rattle.std.specs.Prelude.{◌≡◌, ◌<◌, ◌≤◌, length};
 
 use super::outlet_ahead::{Faults, OutletAhead};
 use rs_mrt::{Limits, MemoryReader, MemoryWriter, ReadLimits};
@@ -11,7 +11,7 @@ use rs_run::run;
 use rs_setup::{Setup, read_setup};
 use rs_update::Errors;
 use spelled_in_hex::octets;
-use std::alloc::Global;
+use std::alloc::{AllocError, Global};
 use std::process::Abort;
 use std::sync::Wait;
 use std::test::Fail;
@@ -56,11 +56,49 @@ fn file(alloc: Global, record: &str, first: u8, count: u16) -> Result<Vec<u8>, F
 // On how many prefixes c has a route, each of them one on which a has none.
 const OF_C_ALONE: u16 = 24;
 
-// On how many prefixes a has one where dumps are so long that some of it is written before the last row is spelled.
-const MANY: u16 = 1400;
-
-// Runs over files in which a has routes on so many prefixes, and answers as the run does, and what is reported.
+// Runs over a file of a and one of c, and answers as the run does, and what is reported.
 fn run_over<T: AllocGlobal + Abort + Threads + Wait + Sync, O: Outlet>(
+    rt: &T,
+    setup: &Setup,
+    options: &Options,
+    of_a: &[u8],
+    of_c: &[u8],
+    outlet: &mut O,
+) -> Result<(Result<(), RunFault>, Vec<u8>), Fail>
+    requires peers { length setup.now.plan.value.peers ≡ CLIENTS }
+    requires ring { (1 ≤ options.now.ring) × (options.now.ring ≤ 65536) }
+    requires shards { (1 ≤ options.now.shards) × (options.now.shards ≤ 16) }
+    requires failures { O.failures outlet.old < u64.MAX }
+{
+    let alloc = rt.alloc();
+    let none = ReadLimits::none();
+    let readers = [
+        MemoryReader::new(of_a, none),
+        MemoryReader::new(&[], none),
+        MemoryReader::new(of_c, none),
+        MemoryReader::new(&[], none),
+        MemoryReader::new(&[], none),
+        MemoryReader::new(&[], none),
+        MemoryReader::new(&[], none),
+        MemoryReader::new(&[], none),
+        MemoryReader::new(&[], none),
+        MemoryReader::new(&[], none),
+        MemoryReader::new(&[], none),
+        MemoryReader::new(&[], none),
+        MemoryReader::new(&[], none),
+        MemoryReader::new(&[], none),
+        MemoryReader::new(&[], none),
+        MemoryReader::new(&[], none),
+        MemoryReader::new(&[], none),
+    ];
+    let readers = Vec::from_array(alloc, readers)?;
+    let mut report = MemoryWriter::new(alloc, Limits::none());
+    let answer = run(rt, alloc, setup, readers, options, outlet, &mut report);
+    Ok((answer, report.into_octets()))
+}
+
+// Runs over files in which a has routes on so many prefixes.
+fn run_with<T: AllocGlobal + Abort + Threads + Wait + Sync, O: Outlet>(
     rt: &T,
     count: u16,
     outlet: &mut O,
@@ -68,33 +106,8 @@ fn run_over<T: AllocGlobal + Abort + Threads + Wait + Sync, O: Outlet>(
     requires { O.failures outlet.old < u64.MAX }
 {
     let alloc = rt.alloc();
-    let of_a = file(alloc, OF_A, 20, count)?;
-    let of_c = file(alloc, OF_C, 21, OF_C_ALONE)?;
-    let none = ReadLimits::none();
-    let readers = Vec::from_array(
-        alloc,
-        [
-            MemoryReader::new(&of_a, none),
-            MemoryReader::new(&[], none),
-            MemoryReader::new(&of_c, none),
-            MemoryReader::new(&[], none),
-            MemoryReader::new(&[], none),
-            MemoryReader::new(&[], none),
-            MemoryReader::new(&[], none),
-            MemoryReader::new(&[], none),
-            MemoryReader::new(&[], none),
-            MemoryReader::new(&[], none),
-            MemoryReader::new(&[], none),
-            MemoryReader::new(&[], none),
-            MemoryReader::new(&[], none),
-            MemoryReader::new(&[], none),
-            MemoryReader::new(&[], none),
-            MemoryReader::new(&[], none),
-            MemoryReader::new(&[], none),
-        ],
-    )?;
     let setup = setup(alloc)?;
-    assert_eq!(rt; setup.plan.count(), CLIENTS);
+    assert!(rt; setup.plan.count() == CLIENTS);
     let options = Options {
         config: String::new(alloc),
         out: String::new(alloc),
@@ -103,10 +116,44 @@ fn run_over<T: AllocGlobal + Abort + Threads + Wait + Sync, O: Outlet>(
         shards: 2,
         errors: Errors::Rfc4271,
     };
-    let mut report = MemoryWriter::new(alloc, Limits::none());
-    let answer = run(rt, alloc, &setup, readers, &options, outlet, &mut report);
-    Ok((answer, report.into_octets()))
+    let of_a = file(alloc, OF_A, 20, count)?;
+    let of_c = file(alloc, OF_C, 21, OF_C_ALONE)?;
+    run_over(rt, &setup, &options, &of_a, &of_c, outlet)
 }
+
+// Where the outlet fails, and what comes of the run: its answer; whether its report is whole; the letters of the dumps
+// that were kept, started in their turn, given ahead, given back and lost; how many failures were counted.
+const AHEAD: &str = "
+One started in its turn, the others but the last ahead.
+none - | Ok(()) report whole kept abcdefghijklmnopq started aq ahead bcdefghijklmnop back - lost - failures 0
+None is given ahead for one client: it is started in its turn, and the last one is given ahead.
+not_ahead b | Ok(()) report whole kept abcdefghijklmnopq started ab ahead cdefghijklmnopq back - lost - failures 0
+not_ahead f | Ok(()) report whole kept abcdefghijklmnopq started af ahead bcdeghijklmnopq back - lost - failures 0
+not_ahead p | Ok(()) report whole kept abcdefghijklmnopq started ap ahead bcdefghijklmnoq back - lost - failures 0
+";
+
+const STOPPED: &str = "
+A writer fails after 1,000 octets, which are lost: of the first dump, of one behind it, of the last but one and the last
+of those beside it, and of the one behind them all.
+failing a | Err(Dump(0)) report none kept - started a ahead bcdefghijklmnop back bcdefghijklmnop lost a failures 1
+failing b | Err(Dump(1)) report none kept a started a ahead bcdefghijklmnop back cdefghijklmnop lost b failures 1
+failing o | Err(Dump(14)) report none kept abcdefghijklmn started a ahead bcdefghijklmnop back p lost o failures 1
+failing p | Err(Dump(15)) report none kept abcdefghijklmno started a ahead bcdefghijklmnop back - lost p failures 1
+failing q | Err(Dump(16)) report none kept abcdefghijklmnop started aq ahead bcdefghijklmnop back - lost q failures 1
+One can't be kept: none is lost.
+not_kept a | Err(Dump(0)) report none kept - started a ahead bcdefghijklmnop back bcdefghijklmnop lost - failures 1
+not_kept b | Err(Dump(1)) report none kept a started a ahead bcdefghijklmnop back cdefghijklmnop lost - failures 1
+not_kept o | Err(Dump(14)) report none kept abcdefghijklmn started a ahead bcdefghijklmnop back p lost - failures 1
+not_kept p | Err(Dump(15)) report none kept abcdefghijklmno started a ahead bcdefghijklmnop back - lost - failures 1
+not_kept q | Err(Dump(16)) report none kept abcdefghijklmnop started aq ahead bcdefghijklmnop back - lost - failures 1
+";
+
+// The same of 1,024 prefixes, those of c among them, and of one more.
+const FEW: &str =
+    "none - | Ok(()) report whole kept abcdefghijklmnopq started abcdefghijklmnopq ahead - back - lost - failures 0";
+
+const ENOUGH: &str =
+    "none - | Ok(()) report whole kept abcdefghijklmnopq started aq ahead bcdefghijklmnop back - lost - failures 0";
 
 // What comes of a run with an outlet that gives none ahead: its dumps, in order, and its report.
 #[derive(Drop)]
@@ -115,31 +162,13 @@ struct Whole {
     report: Vec<u8>,
 }
 
-impl Whole {
-    // The dumps before that of a client.
-    fn before(&self, client: usize) -> &[Kept] {
-        self.outlet.kept().get(..client).unwrap_or(&[])
-    }
-
-    // The dumps behind that of a client that are written beside it: all but the last may be.
-    fn beside_behind(&self, client: usize) -> &[Kept] {
-        let behind = client.saturating_add(1);
-        self.outlet.kept().get(behind..CLIENTS - 1).unwrap_or(&[])
-    }
-
-    // The octets of the dump of a client.
-    fn octets(&self, client: usize) -> &[u8] {
-        match self.outlet.kept().get(client) {
-            Some(dump) => &dump.octets,
-            None => &[],
-        }
-    }
-}
-
-// Runs over files in which a has many routes, with that outlet.
-fn run_in_turn(rt: &(impl AllocGlobal + Abort + Threads + Wait + Sync)) -> Result<Whole, Fail> {
+// Runs over files in which a has routes on so many prefixes, with that outlet.
+fn run_in_turn(
+    rt: &(impl AllocGlobal + Abort + Threads + Wait + Sync),
+    count: u16,
+) -> Result<Whole, Fail> {
     let mut outlet = MemoryOutlet::new(rt.alloc(), OutletLimits::none());
-    let (answer, report) = run_over(rt, MANY, &mut outlet)?;
+    let (answer, report) = run_with(rt, count, &mut outlet)?;
     assert_eq!(rt; (answer, outlet.kept().len()), (Ok(()), CLIENTS));
     Ok(Whole { outlet, report })
 }
@@ -159,7 +188,7 @@ fn run_ahead(
     faults: Faults,
 ) -> Result<Ran, Fail> {
     let mut outlet = OutletAhead::new(rt.alloc(), faults);
-    let (answer, report) = run_over(rt, count, &mut outlet)?;
+    let (answer, report) = run_with(rt, count, &mut outlet)?;
     Ok(Ran {
         answer,
         outlet,
@@ -167,135 +196,136 @@ fn run_ahead(
     })
 }
 
-// The names of these dumps are these letters, in this order.
-fn check_names(
-    rt: &(impl AllocGlobal + Abort),
-    names: &[String],
-    letters: &str,
-) -> Result<(), Fail> {
-    let mut all = String::new(rt.alloc());
-    for name in names {
-        if let Some(letter) = name.chars().next() {
-            all.push(letter)?;
+// Appends the letters of dumps, a dash where there are none.
+fn push_letters(text: &mut String, word: &str, dumps: &[Kept]) -> Result<(), AllocError> {
+    write!(text, " {word} ")?;
+    for dump in dumps {
+        if let Some(letter) = dump.name.chars().next() {
+            text.push(letter)?;
         }
     }
-    assert_eq!(rt; (names.len(), all.as_str()), (letters.len(), letters));
+    if dumps.is_empty() {
+        text.push('-')
+    } else {
+        Ok(())
+    }
+}
+
+// Whether a report is whole, or nothing of it is written.
+fn part_of(report: &[u8], whole: &[u8]) -> &'static str {
+    if report == whole {
+        "whole"
+    } else if report.is_empty() {
+        "none"
+    } else {
+        "a part"
+    }
+}
+
+// What came of a run.
+fn told(alloc: Global, ran: &Ran, whole: &[u8]) -> Result<String, AllocError> {
+    let (answer, outlet) = (ran.answer, &ran.outlet);
+    let part = part_of(&ran.report, whole);
+    let mut text = format!(in alloc; "{answer:?} report {part}")?;
+    push_letters(&mut text, "kept", &outlet.kept)?;
+    push_letters(&mut text, "started", &outlet.started)?;
+    push_letters(&mut text, "ahead", &outlet.ahead)?;
+    push_letters(&mut text, "back", &outlet.given_back)?;
+    push_letters(&mut text, "lost", &outlet.lost)?;
+    write!(text, " failures {}", outlet.failures)?;
+    Ok(text)
+}
+
+// The octets of the dump of a client, whose name is a letter.
+fn octets_of<'a>(dumps: &'a [Kept], name: &str) -> &'a [u8] {
+    for dump in dumps {
+        if dump.name.chars().next() == name.chars().next() {
+            return &dump.octets;
+        }
+    }
+    &[]
+}
+
+// Asserts that these are those dumps, each whole.
+fn check_dumps(rt: &impl Abort, given: &[Kept], dumps: &[Kept]) {
+    for one in given {
+        let is_whole = one.octets.as_slice() == octets_of(dumps, &one.name);
+        assert!(rt; is_whole, "{}", one.name);
+    }
+}
+
+// Asserts that of dumps that were lost a beginning was written.
+fn check_lost(rt: &impl Abort, lost: &[Kept], dumps: &[Kept]) {
+    for one in lost {
+        let is_beginning = octets_of(dumps, &one.name).starts_with(&one.octets);
+        assert!(rt; is_beginning && one.octets.len() == 1000, "{}", one.name);
+    }
+}
+
+// Asserts that what was kept, came back or was lost is of those dumps.
+fn check_octets(rt: &impl Abort, outlet: &OutletAhead, dumps: &[Kept]) {
+    check_dumps(rt, &outlet.kept, dumps);
+    check_dumps(rt, &outlet.given_back, dumps);
+    check_lost(rt, &outlet.lost, dumps);
+}
+
+// The outlet that fails as these words say.
+fn faults_of(words: &'static str) -> Faults {
+    let mut faults = Faults::none();
+    match words.split_once(' ') {
+        Some(("failing", client)) => faults.failing = client,
+        Some(("not_kept", client)) => faults.not_kept = client,
+        Some(("not_ahead", client)) => faults.not_ahead = client,
+        _ => {}
+    }
+    faults
+}
+
+// Asserts what comes of the run of a row, unless it is a remark.
+fn check_row(
+    rt: &(impl AllocGlobal + Abort + Threads + Wait + Sync),
+    count: u16,
+    whole: &Whole,
+    row: &'static str,
+) -> Result<(), Fail> {
+    let Some((words, wanted)) = row.split_once(" | ") else {
+        return Ok(());
+    };
+    let ran = run_ahead(rt, count, faults_of(words))?;
+    let told = told(rt.alloc(), &ran, &whole.report)?;
+    assert_eq!(rt; told.as_str(), wanted, "{words}");
+    check_octets(rt, &ran.outlet, whole.outlet.kept());
     Ok(())
 }
 
-// These are those dumps, in their order, each whole.
-fn check_dumps(rt: &impl Abort, given: &[Kept], dumps: &[Kept]) {
-    assert_eq!(rt; given.len(), dumps.len());
-    for (one, dump) in given.iter().zip(dumps) {
-        assert_eq!(rt; one.name.as_str(), dump.name.as_str());
-        assert!(rt; one.octets == dump.octets, "{}", dump.name);
+// Asserts what comes of each run over files in which a has routes on so many prefixes.
+fn check_rows(
+    rt: &(impl AllocGlobal + Abort + Threads + Wait + Sync),
+    count: u16,
+    rows: &'static str,
+) -> Result<(), Fail> {
+    let whole = run_in_turn(rt, count)?;
+    for row in rows.lines() {
+        check_row(rt, count, &whole, row)?;
     }
+    Ok(())
 }
 
-// The run went well: it kept all dumps, and reported.
-fn check_whole(rt: &impl Abort, ran: &Ran, whole: &Whole) {
-    assert_eq!(rt; (ran.answer, ran.outlet.failures), (Ok(()), 0));
-    check_dumps(rt, &ran.outlet.kept, whole.outlet.kept());
-    assert!(rt; ran.report == whole.report);
-    assert!(rt; ran.outlet.given_back.is_empty() && ran.outlet.lost.is_empty());
-}
-
-// The run stopped at the dump of a client: those before it are kept, those that were given ahead behind it came back,
-// and nothing is reported.
-fn check_stopped(rt: &impl Abort, ran: &Ran, whole: &Whole, client: usize) {
-    assert_eq!(rt;
-        (ran.answer, ran.outlet.failures),
-        (Err(RunFault::Dump(client)), 1)
-    );
-    check_dumps(rt, &ran.outlet.kept, whole.before(client));
-    check_dumps(rt, &ran.outlet.given_back, whole.beside_behind(client));
-    assert!(rt; ran.report.is_empty());
-}
+// On how many prefixes a has a route where dumps are so long that some of it is written before the last row is spelled.
+const MANY: u16 = 1400;
 
 #[test]
 fn dumps_that_are_given_ahead_are_the_same_in_the_same_order(rt: HostRuntime) -> Result<(), Fail> {
-    let whole = run_in_turn(&rt)?;
-    let ran = run_ahead(&rt, MANY, Faults::none())?;
-    check_whole(&rt, &ran, &whole);
-    check_names(&rt, &ran.outlet.started, "aq")?;
-    check_names(&rt, &ran.outlet.ahead, "bcdefghijklmnop")
-}
-
-#[test]
-fn a_dump_of_which_none_is_given_ahead_is_started_in_its_turn(rt: HostRuntime) -> Result<(), Fail> {
-    let whole = run_in_turn(&rt)?;
-    for (client, started, ahead) in [
-        (1, "ab", "cdefghijklmnopq"),
-        (5, "af", "bcdeghijklmnopq"),
-        (15, "ap", "bcdefghijklmnoq"),
-    ] {
-        let faults = Faults {
-            not_ahead: Some(client),
-            ..Faults::none()
-        };
-        let ran = run_ahead(&rt, MANY, faults)?;
-        check_whole(&rt, &ran, &whole);
-        check_names(&rt, &ran.outlet.started, started)?;
-        check_names(&rt, &ran.outlet.ahead, ahead)?;
-    }
-    Ok(())
-}
-
-// The first dump, one behind it, the last but one and the last of those beside it, and the one behind them all.
-const STOPS: [(usize, &str); 5] = [(0, "a"), (1, "a"), (14, "a"), (15, "a"), (16, "aq")];
-
-// One dump was lost: a beginning of it was written.
-fn check_lost(rt: &impl Abort, lost: &[Vec<u8>], whole: &[u8]) {
-    assert_eq!(rt; lost.len(), 1);
-    for beginning in lost {
-        assert_eq!(rt; beginning.len(), 1000);
-        assert!(rt; whole.starts_with(beginning));
-    }
+    check_rows(&rt, MANY, AHEAD)
 }
 
 #[test]
 fn a_dump_that_fails_gives_back_those_behind_it(rt: HostRuntime) -> Result<(), Fail> {
-    let whole = run_in_turn(&rt)?;
-    for (client, started) in STOPS {
-        let faults = Faults {
-            failing: Some(client),
-            ..Faults::none()
-        };
-        let ran = run_ahead(&rt, MANY, faults)?;
-        check_stopped(&rt, &ran, &whole, client);
-        check_lost(&rt, &ran.outlet.lost, whole.octets(client));
-        check_names(&rt, &ran.outlet.started, started)?;
-    }
-    Ok(())
+    check_rows(&rt, MANY, STOPPED)
 }
 
-#[test]
-fn a_dump_that_cannot_be_kept_gives_back_those_behind_it(rt: HostRuntime) -> Result<(), Fail> {
-    let whole = run_in_turn(&rt)?;
-    for (client, started) in STOPS {
-        let faults = Faults {
-            not_kept: Some(client),
-            ..Faults::none()
-        };
-        let ran = run_ahead(&rt, MANY, faults)?;
-        check_stopped(&rt, &ran, &whole, client);
-        assert!(rt; ran.outlet.lost.is_empty());
-        check_names(&rt, &ran.outlet.started, started)?;
-    }
-    Ok(())
-}
-
-// 1,024 prefixes, and one more.
 #[test]
 fn few_prefixes_give_no_dump_ahead(rt: HostRuntime) -> Result<(), Fail> {
-    for (count, started, ahead) in [
-        (1000, "abcdefghijklmnopq", ""),
-        (1001, "aq", "bcdefghijklmnop"),
-    ] {
-        let ran = run_ahead(&rt, count, Faults::none())?;
-        assert_eq!(rt; (ran.answer, ran.outlet.kept.len()), (Ok(()), CLIENTS));
-        check_names(&rt, &ran.outlet.started, started)?;
-        check_names(&rt, &ran.outlet.ahead, ahead)?;
-    }
-    Ok(())
+    check_rows(&rt, 1000, FEW)?;
+    check_rows(&rt, 1001, ENOUGH)
 }

@@ -1,9 +1,9 @@
 //! Configurations and what they set up. Each text was written by hand.
 
-use rs_choice::{MAX_PEERS, PeerSpec, PlanFault};
-use rs_setup::{Setup, SetupFault, read_setup};
-use rs_update::Prefix;
+use rs_choice::PeerSpec;
+use rs_setup::{Setup, read_setup};
 use std::alloc::{AllocError, Global};
+use std::net::Ipv4Addr;
 use std::process::Abort;
 use std::test::Fail;
 
@@ -43,7 +43,15 @@ refuse_from = ["a"]
 file = "../c"
 "#;
 
-// The keys that must be there, alone.
+// What it sets up: the AS number, the address, the BGP Identifier and the subnet of the server; then of each peer the
+// name, the AS number, the address, the BGP Identifier, the preference, whose routes it refuses, and its file.
+const EVERY_KEY_SET_UP: &str = r#"64500 192.0.2.1 10.20.30.40 192.0.2.0/24
+a 4294967295 192.0.2.11 0.0.0.1 4294967295 ["c", "b", "c"] "recorded/a 1.mrt"
+b 1 255.255.255.255 0.0.0.0 0 [] ""
+c 64503 192.0.2.13 192.0.2.11 101 ["a"] "../c""#;
+
+// The keys that must be there, alone, and what they set up: an id is its address, a preference is 100, and no subnet is
+// there.
 const REQUIRED_KEYS: &str = r#"
 peer = [
     { name = "b", as = 64502, address = "192.0.2.12", file = "b.mrt" },
@@ -53,174 +61,133 @@ server.as = 64500
 server.address = "192.0.2.1"
 "#;
 
-// Subnets, and the prefixes that they are.
-const SUBNETS: [(&str, u32, u8); 7] = [
-    ("192.0.2.0/24", 0xC000_0200, 24),
-    ("192.0.2.77/24", 0xC000_0200, 24),
-    ("192.0.2.129/25", 0xC000_0280, 25),
-    ("192.0.2.77/32", 0xC000_024D, 32),
-    ("192.0.2.77/9", 0xC000_0000, 9),
-    ("192.0.2.77/0", 0, 0),
-    ("255.255.255.255/10", 0xFFC0_0000, 10),
+const REQUIRED_KEYS_SET_UP: &str = r#"64500 192.0.2.1 192.0.2.1 none
+b 64502 192.0.2.12 192.0.2.12 100 [] "b.mrt"
+a 64501 192.0.2.11 192.0.2.11 100 [] "a.mrt""#;
+
+// Subnets as they are written, and what is set up of a server that has no other key: host bits are cleared.
+const SUBNETS: [(&str, &str); 7] = [
+    ("192.0.2.0/24", "64500 192.0.2.1 192.0.2.1 192.0.2.0/24"),
+    ("192.0.2.77/24", "64500 192.0.2.1 192.0.2.1 192.0.2.0/24"),
+    ("192.0.2.129/25", "64500 192.0.2.1 192.0.2.1 192.0.2.128/25"),
+    ("192.0.2.77/32", "64500 192.0.2.1 192.0.2.1 192.0.2.77/32"),
+    ("192.0.2.77/9", "64500 192.0.2.1 192.0.2.1 192.0.0.0/9"),
+    ("192.0.2.77/0", "64500 192.0.2.1 192.0.2.1 0.0.0.0/0"),
+    (
+        "255.255.255.255/10",
+        "64500 192.0.2.1 192.0.2.1 255.192.0.0/10",
+    ),
 ];
 
-// A peer and its file, as a test wants them.
-struct PeerRow {
-    name: &'static str,
-    asn: u32,
-    address: u32,
-    id: u32,
-    preference: u32,
-    refuse_from: &'static [&'static str],
-    file: &'static str,
-}
-
-const THREE_PEERS: [PeerRow; 3] = [
-    PeerRow {
-        name: "a",
-        asn: u32::MAX,
-        address: 0xC000_020B,
-        id: 1,
-        preference: u32::MAX,
-        refuse_from: &["c", "b", "c"],
-        file: "recorded/a 1.mrt",
-    },
-    PeerRow {
-        name: "b",
-        asn: 1,
-        address: 0xFFFF_FFFF,
-        id: 0,
-        preference: 0,
-        refuse_from: &[],
-        file: "",
-    },
-    PeerRow {
-        name: "c",
-        asn: 64503,
-        address: 0xC000_020D,
-        id: 0xC000_020B,
-        preference: 101,
-        refuse_from: &["a"],
-        file: "../c",
-    },
-];
-
-const TWO_PEERS: [PeerRow; 2] = [
-    PeerRow {
-        name: "b",
-        asn: 64502,
-        address: 0xC000_020C,
-        id: 0xC000_020C,
-        preference: 100,
-        refuse_from: &[],
-        file: "b.mrt",
-    },
-    PeerRow {
-        name: "a",
-        asn: 64501,
-        address: 0xC000_020B,
-        id: 0xC000_020B,
-        preference: 100,
-        refuse_from: &[],
-        file: "a.mrt",
-    },
-];
-
-// Tests that a setup has these peers and files, in this order.
-fn check_peers(rt: &(impl Abort + AllocGlobal), setup: &Setup, rows: &[PeerRow]) {
-    let counts = (setup.plan.count(), setup.files.len());
-    assert_eq!(rt; counts, (rows.len(), rows.len()));
-    for (number, row) in rows.iter().enumerate() {
-        if number < setup.plan.count() {
-            check_peer(rt, setup.plan.peer(number), row);
+// Appends what is set up of the server.
+fn push_server(text: &mut String, setup: &Setup) -> Result<(), AllocError> {
+    let local = setup.plan.local();
+    let (address, id) = (
+        Ipv4Addr::from_bits(local.address),
+        Ipv4Addr::from_bits(local.id),
+    );
+    write!(text, "{} {address} {id}", local.asn)?;
+    match local.subnet {
+        None => text.push_str(" none"),
+        Some(subnet) => {
+            let (address, len) = (Ipv4Addr::from_bits(subnet.address()), subnet.len());
+            write!(text, " {address}/{len}")
         }
-        check_file(rt, setup, number, row);
     }
 }
 
-// Tests that the file of the peer of this number is the one of a row.
-fn check_file(rt: &impl Abort, setup: &Setup, number: usize, row: &PeerRow) {
-    let file = setup.files.get(number).map(|file| file.as_str());
-    assert_eq!(rt; file, Some(row.file));
+// Appends a peer and its file.
+fn push_peer(text: &mut String, peer: &PeerSpec, file: &str) -> Result<(), AllocError> {
+    let (name, asn, preference) = (&peer.name, peer.asn, peer.preference);
+    let (address, id) = (
+        Ipv4Addr::from_bits(peer.address),
+        Ipv4Addr::from_bits(peer.id),
+    );
+    let refused = &peer.refuse_from;
+    write!(
+        text,
+        "\n{name} {asn} {address} {id} {preference} {refused:?} {file:?}"
+    )
 }
 
-// Tests that a peer is the one of a row.
-fn check_peer(rt: &impl Abort, peer: &PeerSpec, row: &PeerRow) {
-    assert_eq!(rt; peer.name.as_str(), row.name);
-    let numbers = (peer.asn, peer.address, peer.id, peer.preference);
-    assert_eq!(rt; numbers, (row.asn, row.address, row.id, row.preference));
-    assert_eq!(rt; peer.refuse_from.len(), row.refuse_from.len());
-    for (found, name) in peer.refuse_from.iter().zip(row.refuse_from.iter()) {
-        assert_eq!(rt; found.as_str(), *name);
+// Appends all that is set up.
+fn push_all(text: &mut String, setup: &Setup) -> Result<(), AllocError> {
+    push_server(text, setup)?;
+    for number in 0..setup.plan.count() {
+        let file = setup.files.get(number).map(|file| file.as_str());
+        push_peer(text, setup.plan.peer(number), file.unwrap_or("no file"))?;
     }
+    Ok(())
 }
 
-#[test]
-fn every_key_is_read(rt: HostRuntime) -> Result<(), Fail> {
-    let setup = read_setup(rt.alloc(), EVERY_KEY.as_bytes())?;
-    let local = setup.plan.local();
-    let numbers = (local.asn, local.address, local.id);
-    assert_eq!(rt; numbers, (64500, 0xC000_0201, 0x0A14_1E28));
-    assert_eq!(rt; local.subnet, Prefix::new(0xC000_0200, 24));
-    check_peers(&rt, &setup, &THREE_PEERS);
+// Asserts what a configuration sets up: a line of the server, and one of each peer.
+fn check_set_up(rt: &(impl AllocGlobal + Abort), text: &str, wanted: &str) -> Result<(), Fail> {
+    let setup = read_setup(rt.alloc(), text.as_bytes())?;
+    let mut found = String::new(rt.alloc());
+    push_all(&mut found, &setup)?;
+    assert_eq!(rt; found.as_str(), wanted);
     Ok(())
 }
 
 #[test]
-fn keys_that_are_left_out_have_defaults(rt: HostRuntime) -> Result<(), Fail> {
-    let setup = read_setup(rt.alloc(), REQUIRED_KEYS.as_bytes())?;
-    let local = setup.plan.local();
-    assert_eq!(rt; (local.asn, local.id), (64500, 0xC000_0201));
-    assert_eq!(rt; local.subnet, None);
-    check_peers(&rt, &setup, &TWO_PEERS);
+fn every_key_is_read_or_has_a_default(rt: HostRuntime) -> Result<(), Fail> {
+    check_set_up(&rt, EVERY_KEY, EVERY_KEY_SET_UP)?;
+    check_set_up(&rt, REQUIRED_KEYS, REQUIRED_KEYS_SET_UP)
+}
+
+// What is set up of the server where a subnet is written so.
+fn server_with(alloc: Global, subnet: &str) -> Result<String, Fail> {
+    let text = format!(in alloc; "{REQUIRED_KEYS}server.subnet = \"{subnet}\"")?;
+    let mut found = String::new(alloc);
+    push_server(&mut found, &read_setup(alloc, text.as_bytes())?)?;
+    Ok(found)
+}
+
+// Asserts which prefix a subnet is.
+fn check_subnet(rt: &(impl AllocGlobal + Abort), subnet: &str, wanted: &str) -> Result<(), Fail> {
+    let found = server_with(rt.alloc(), subnet)?;
+    assert_eq!(rt; found.as_str(), wanted, "{subnet}");
     Ok(())
 }
 
-// The subnet of a configuration in which it is written so.
-fn subnet_of(alloc: Global, text: &str) -> Result<Option<Prefix>, Fail> {
-    let whole = format!(in alloc; "{REQUIRED_KEYS}server.subnet = \"{text}\"")?;
-    let setup = read_setup(alloc, whole.as_bytes())?;
-    Ok(setup.plan.local().subnet)
+// Asserts which prefix each subnet is.
+fn check_subnets(rt: &(impl AllocGlobal + Abort)) -> Result<(), Fail> {
+    for (subnet, wanted) in &SUBNETS {
+        check_subnet(rt, subnet, wanted)?;
+    }
+    Ok(())
 }
 
 #[test]
 fn the_host_bits_of_a_subnet_are_cleared(rt: HostRuntime) -> Result<(), Fail> {
-    for (text, address, len) in SUBNETS {
-        let subnet = subnet_of(rt.alloc(), text)?;
-        assert_eq!(rt; subnet, Prefix::new(address, len), "of {text}");
-    }
-    Ok(())
+    check_subnets(&rt)
 }
 
-// A configuration of so many peers.
-fn crowd(alloc: Global, count: usize) -> Result<String, AllocError> {
+// Appends a peer of a number to a configuration, and to what it sets up.
+fn push_number(text: &mut String, wanted: &mut String, number: u8) -> Result<(), AllocError> {
+    let address = Ipv4Addr::from_bits(u32::from(number));
+    write!(
+        text,
+        "[[peer]]\nname = \"p{number}\"\nas = 2\naddress = \"{address}\"\nfile = \"{number}\"\n"
+    )?;
+    write!(
+        wanted,
+        "\np{number} 2 {address} {address} 100 [] \"{number}\""
+    )
+}
+
+// A configuration of 256 peers, and what it sets up.
+fn crowd(alloc: Global) -> Result<(String, String), AllocError> {
     let mut text = String::from_str(alloc, "[server]\nas = 1\naddress = \"192.0.2.1\"\n")?;
-    for number in 0..count {
-        let (high, low) = (number / 256, number % 256);
-        let peer = format!(in alloc;
-            "[[peer]]\nname = \"p{number}\"\nas = 2\naddress = \"10.0.{high}.{low}\"\nfile = \"{number}\"\n"
-        )?;
-        text.push_str(peer.as_str())?;
+    let mut wanted = String::from_str(alloc, "1 192.0.2.1 192.0.2.1 none")?;
+    for number in 0..=255 {
+        push_number(&mut text, &mut wanted, number)?;
     }
-    Ok(text)
-}
-
-// The fault of the plan of a configuration of so many peers, where there is one.
-fn fault_of_crowd(alloc: Global, count: usize) -> Result<Option<PlanFault>, AllocError> {
-    let text = crowd(alloc, count)?;
-    match read_setup(alloc, text.as_bytes()) {
-        Err(SetupFault::Plan(fault)) => Ok(Some(fault)),
-        _ => Ok(None),
-    }
+    Ok((text, wanted))
 }
 
 #[test]
 fn as_many_peers_as_an_exchange_may_have_are_read(rt: HostRuntime) -> Result<(), Fail> {
-    let alloc = rt.alloc();
-    let fault = fault_of_crowd(alloc, MAX_PEERS + 1)?;
-    assert_eq!(rt; fault, Some(PlanFault::TooManyPeers));
-    let setup = read_setup(alloc, crowd(alloc, MAX_PEERS)?.as_bytes())?;
-    assert_eq!(rt; setup.plan.count(), MAX_PEERS);
-    assert_eq!(rt; setup.files.last().map(|file| file.as_str()), Some("255"));
-    Ok(())
+    let (text, wanted) = crowd(rt.alloc())?;
+    check_set_up(&rt, &text, &wanted)
 }

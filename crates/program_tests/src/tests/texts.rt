@@ -5,103 +5,118 @@ use rs_ended::Ended;
 use rs_options::WordsFault;
 use rs_outlet::RunFault;
 use rs_setup::SetupFault;
-use std::alloc::Global;
+use std::alloc::{AllocError, Global};
 use std::fmt::Display;
 use std::process::Abort;
 use std::test::Fail;
 
-// A fault says this of itself.
-fn says<R: AllocGlobal + Abort>(
-    rt: &R,
-    fault: impl Display + Drop,
-    wanted: &str,
-) -> Result<(), Fail> {
-    let text = format!(in rt.alloc(); "{fault}")?;
-    assert_eq!(rt; text.as_str(), wanted);
+// A text of a caller's in a fault.
+fn key(alloc: Global) -> Result<String, AllocError> {
+    String::from_str(alloc, "server.as")
+}
+
+// Appends what faults say of themselves, a line each.
+fn push_lines<F: Display>(text: &mut String, faults: &[F]) -> Result<(), AllocError> {
+    for fault in faults {
+        writeln!(text, "{fault}")?;
+    }
     Ok(())
 }
 
-fn key(alloc: Global) -> Result<String, Fail> {
-    Ok(String::from_str(alloc, "server.as")?)
+// Asserts what faults say of themselves.
+fn check_texts<F: Display>(
+    rt: &(impl AllocGlobal + Abort),
+    faults: &[F],
+    wanted: &str,
+) -> Result<(), Fail> {
+    let mut text = String::new(rt.alloc());
+    push_lines(&mut text, faults)?;
+    assert_eq!(rt; text.as_str(), wanted);
+    Ok(())
 }
 
 #[test]
 fn a_refused_configuration_says_why(rt: HostRuntime) -> Result<(), Fail> {
     let alloc = rt.alloc();
-    says(
-        &rt,
+    let faults = [
         SetupFault::NotToml,
-        "the text is neither UTF-8 nor TOML",
-    )?;
-    says(
-        &rt,
         SetupFault::Unknown(key(alloc)?),
-        "no configuration has the key server.as",
-    )?;
-    says(
-        &rt,
         SetupFault::Missing(key(alloc)?),
-        "the configuration lacks the key server.as",
-    )?;
-    says(
-        &rt,
         SetupFault::NotValid(key(alloc)?),
-        "the key server.as has a value of another type or out of its range",
-    )?;
-    says(
-        &rt,
+        SetupFault::Plan(PlanFault::NoPeer),
         SetupFault::Memory,
-        "memory was refused while the configuration was read",
-    )?;
-    let plan = SetupFault::Plan(PlanFault::NoPeer);
-    let wanted = format!(in alloc; "{no_peer}", no_peer = PlanFault::NoPeer)?;
-    says(&rt, plan, &wanted)
+    ];
+    check_texts(
+        &rt,
+        &faults,
+        "the text is neither UTF-8 nor TOML
+no configuration has the key server.as
+the configuration lacks the key server.as
+the key server.as has a value of another type or out of its range
+there is no peer
+memory was refused while the configuration was read
+",
+    )
 }
 
 #[test]
 fn a_run_that_stopped_says_where(rt: HostRuntime) -> Result<(), Fail> {
-    for (fault, wanted) in [
-        (RunFault::Memory, "memory was refused during the run"),
-        (
+    check_texts(
+        &rt,
+        &[
+            RunFault::Memory,
+            RunFault::Unsettled(1),
             RunFault::Dump(2),
-            "the dump of client 2 cannot be made or written",
-        ),
-        (RunFault::Report, "the report cannot be written"),
-    ] {
-        says(&rt, fault, wanted)?;
-        says(&rt, Ended::Run(fault), wanted)?;
-    }
-    Ok(())
+            RunFault::Report,
+            RunFault::Read(3),
+        ],
+        "memory was refused during the run
+peer 1 is unsettled
+the dump of client 2 cannot be made or written
+the report cannot be written
+the recorded file of peer 3 cannot be read
+",
+    )
 }
 
 #[test]
-fn what_stops_the_program_before_a_run_says_so(rt: HostRuntime) -> Result<(), Fail> {
+fn a_refused_command_line_says_why(rt: HostRuntime) -> Result<(), Fail> {
     let alloc = rt.alloc();
-    says(
-        &rt,
-        Ended::Words(WordsFault::Refused(key(alloc)?)),
-        "server.as",
-    )?;
-    says(&rt, WordsFault::Help(key(alloc)?), "server.as")?;
-    says(&rt, WordsFault::Version(key(alloc)?), "server.as")?;
-    says(
-        &rt,
+    let faults = [
+        WordsFault::Help(key(alloc)?),
+        WordsFault::Version(key(alloc)?),
+        WordsFault::Refused(key(alloc)?),
         WordsFault::Memory,
-        "memory was refused while the command line was read",
-    )?;
-    says(
+    ];
+    check_texts(
         &rt,
+        &faults,
+        "server.as
+server.as
+server.as
+memory was refused while the command line was read
+",
+    )
+}
+
+#[test]
+fn what_stops_the_program_says_so(rt: HostRuntime) -> Result<(), Fail> {
+    let alloc = rt.alloc();
+    let faults = [
+        Ended::Words(WordsFault::Refused(key(alloc)?)),
         Ended::Setup(SetupFault::NotToml),
-        "the text is neither UTF-8 nor TOML",
-    )?;
-    says(
-        &rt,
         Ended::Unread(key(alloc)?),
-        "the file server.as cannot be read whole",
-    )?;
-    says(
-        &rt,
         Ended::Memory,
-        "memory was refused while a file was read",
+        Ended::Run(RunFault::Report),
+    ];
+    check_texts(
+        &rt,
+        &faults,
+        "server.as
+the text is neither UTF-8 nor TOML
+the file server.as cannot be read whole
+memory was refused while a file was read
+the report cannot be written
+",
     )
 }

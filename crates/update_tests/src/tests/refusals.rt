@@ -15,6 +15,9 @@ const WRITTEN: &str =
     "40010100 400210 0102 0000FBF7 0000FBF8 0201 0000FDF2 400304C000020B 80040400000007 400600
     E00708 0000FBF5 C0000201 C00808 FBF4FBF6 FDE80001 E0200107 E0210108";
 
+// The Marker of a header.
+const MARKER: &str = "FFFFFFFFFFFFFFFFFFFFFFFFFFFFFFFF";
+
 // The octets that texts spell, spelled once more where memory was refused.
 fn octets_again(alloc: Global, texts: &[&str]) -> Result<Vec<u8>, Fail> {
     match octets(alloc, texts) {
@@ -36,7 +39,7 @@ fn written_again(rt: &impl Abort, alloc: Global, attributes: &Attributes) -> Res
 // Asserts that a route's attributes are written as they are to be.
 fn check_written(rt: &impl Abort, alloc: Global, attributes: &Attributes) -> Result<(), Fail> {
     let wanted = octets_again(alloc, &[WRITTEN])?;
-    check_octets(rt, &written_again(rt, alloc, attributes)?, &wanted, &[]);
+    check_octets(rt, &written_again(rt, alloc, attributes)?, &wanted);
     Ok(())
 }
 
@@ -54,6 +57,14 @@ fn check_update(rt: &impl Abort, alloc: Global, read: &Update) -> Result<(), Fai
     let attributes = read.attributes.as_ref().ok_or("no attributes")?;
     check_lists(rt, attributes);
     check_written(rt, alloc, attributes)
+}
+
+// The UPDATE that a message is, which must be one.
+fn update_of(alloc: Global, message: &[u8]) -> Result<Update, Fail> {
+    match read_message(alloc, message)? {
+        Message::Update(update) => Ok(update),
+        _ => Err(Fail::from("another type")),
+    }
 }
 
 // The UPDATE, read once more where memory was refused: no other fault may come.

@@ -1,180 +1,242 @@
-//! What a route's attributes say (RFC 4271, section 5; RFC 1997; RFC 6793).
+//! What a route's attributes say, and how they are written (RFC 4271, sections 4.3, 5 and 9.1.2.2; RFC 1997; RFC
+//! 6793).
 
 use super::*;
 
-// AS_SET {64503 64504}, then AS_SEQUENCE 65010.
-const SET_BEFORE_SEQUENCE: &str = "400210 0102 0000FBF7 0000FBF8 0201 0000FDF2";
+// Path attributes of a route, and what they say: ORIGIN, NEXT_HOP, the MED as received and as compared, whether
+// ATOMIC_AGGREGATE is there, AGGREGATOR; how long they are in writing; AS_PATH, its length, the neighbour AS where the
+// sending peer's is 64501, the AS numbers that it holds of those that are asked for; the communities, and those that
+// are found of what is asked for; the attributes of unknown type.
+const ROUTES: &str = "
+Attributes of every kind: an AS_SET counts 1, and gives no neighbour.
+40010101 400210 0102 0000FBF7 0000FBF8 0201 0000FDF2 NEXT_HOP 80040400000007 400600 E00708 0000FBF5 C0000201 \
+    C00808 FBF4FBF6 FDE80001 C0200107 \
+    | Egp 192.0.2.11 Some(7) 7 true Some(Aggregator { asn: 64501, address: 3221225985, partial: true }) 66; \
+    Set([64503, 64504]) Sequence([65010]) length 2 neighbour 64501 holds 64503 64504 65010; \
+    2 communities, partial false, 64500:64502 65000:1 found 64500:64502 64500:* 65000:1 65000:*; 32 [7]
+What was not received is not there.
+MANDATORY \
+    | Igp 192.0.2.11 None 0 false None 20; Sequence([64501]) length 1 neighbour 64501 holds 64501; none;
+AS_PATH: empty; a sequence; a set; a set before a sequence; a set of three before a sequence; a sequence before a set.
+ORIGIN 400200 NEXT_HOP \
+    | Igp 192.0.2.11 None 0 false None 14; length 0 neighbour 64501 holds; none;
+ORIGIN 40020A 0202 0000FBF6 0000FDF2 NEXT_HOP \
+    | Igp 192.0.2.11 None 0 false None 24; Sequence([64502, 65010]) length 2 neighbour 64502 holds 64502 65010; none;
+ORIGIN 40020A 0102 0000FBF6 0000FDF2 NEXT_HOP \
+    | Igp 192.0.2.11 None 0 false None 24; Set([64502, 65010]) length 1 neighbour 64501 holds 64502 65010; none;
+ORIGIN 400210 0102 0000FBF6 0000FDF2 0201 0000FDF3 NEXT_HOP \
+    | Igp 192.0.2.11 None 0 false None 30; Set([64502, 65010]) Sequence([65011]) length 2 neighbour 64501 holds 64502 65010; none;
+ORIGIN 400218 0103 0000FDF2 0000FDF3 0000FDF4 0202 0000FDF5 0000FDF6 NEXT_HOP \
+    | Igp 192.0.2.11 None 0 false None 38; Set([65010, 65011, 65012]) Sequence([65013, 65014]) length 3 neighbour 64501 holds 65010; none;
+ORIGIN 400210 0201 0000FBF6 0102 0000FDF2 0000FDF3 NEXT_HOP \
+    | Igp 192.0.2.11 None 0 false None 30; Sequence([64502]) Set([65010, 65011]) length 2 neighbour 64502 holds 64502 65010; none;
+A MED of 0 is there, and is compared as one that is not; COMMUNITIES with the Partial bit; AGGREGATOR without it.
+MANDATORY 80040400000000 \
+    | Igp 192.0.2.11 Some(0) 0 false None 27; Sequence([64501]) length 1 neighbour 64501 holds 64501; none;
+MANDATORY C00708 0000FBF5 C0000201 E00804 FBF60001 \
+    | Igp 192.0.2.11 None 0 false Some(Aggregator { asn: 64501, address: 3221225985, partial: false }) 38; \
+    Sequence([64501]) length 1 neighbour 64501 holds 64501; 1 communities, partial true, 64502:1 found 64502:*;
+";
 
-// The attributes of a route with these path attributes, spelled.
-fn route(alloc: Global, attributes: &[&str]) -> Result<Attributes, Fail> {
-    attributes_of(alloc, &octets(alloc, attributes)?)
-}
+// The AS numbers and the communities that are asked for.
+const ASKED_NUMBERS: [u32; 5] = [64501, 64502, 64503, 64504, 65010];
 
-// NEXT_HOP, the MED as received and as compared, and whether ATOMIC_AGGREGATE is there.
-type Numbers = (u32, Option<u32>, u32, bool);
-
-// Asserts ORIGIN, these numbers and AGGREGATOR of a route.
-fn check_values(
-    rt: &impl Abort,
-    attributes: &Attributes,
-    origin: Origin,
-    numbers: Numbers,
-    aggregator: Option<Aggregator>,
-) {
-    let found = (
-        attributes.next_hop(),
-        attributes.med(),
-        attributes.compared_med(),
-        attributes.atomic(),
-    );
-    assert_eq!(rt; found, numbers);
-    assert_eq!(rt;
-        (attributes.origin(), attributes.aggregator()),
-        (origin, aggregator)
-    );
-}
-
-// Asserts that a route has the AS_PATH of a set before a sequence.
-fn check_path(rt: &impl Abort, attributes: &Attributes) {
-    let mut path = attributes.path();
-    assert!(rt; path.next().is_some() && path.next().is_some() && path.next().is_none());
-    assert!(rt;
-        attributes.holds_as(64504) && attributes.holds_as(65010) && !attributes.holds_as(64501)
-    );
-}
-
-// Asserts that a route has the communities (64500, 64502) and (65000, 1), and no others.
-fn check_has_communities(rt: &impl Abort, attributes: &Attributes) {
-    assert!(rt; attributes.has_community(64500, 64502) && attributes.has_community(65000, 1));
-    assert!(rt;
-        !attributes.has_community(64502, 64500) && !attributes.has_community(0, 0xFBF4_FBF6)
-    );
-    assert!(rt; attributes.has_community_of(64500) && attributes.has_community_of(65000));
-    assert!(rt; !attributes.has_community_of(64502) && !attributes.has_community_of(1));
-}
-
-// Asserts that COMMUNITIES of a route lists these two, without the Partial bit.
-fn check_communities(rt: &impl Abort, alloc: Global, attributes: &Attributes) -> Result<(), Fail> {
-    let communities = attributes.communities().ok_or("communities")?;
-    let listed = communities.values.to_vec(alloc)?;
-    assert_eq!(rt;
-        (
-            communities.values.len(),
-            communities.partial,
-            listed.as_slice()
-        ),
-        (2, false, [0xFBF4_FBF6, 0xFDE8_0001].as_slice())
-    );
-    Ok(())
-}
-
-// Asserts the type and the value of a route's first attribute of unknown type.
-fn check_other(rt: &impl Abort, attributes: &Attributes) -> Result<(), Fail> {
-    let other = attributes.others().next().ok_or("another attribute")?;
-    assert_eq!(rt; (other.kind, other.value), (32, [7].as_slice()));
-    Ok(())
-}
-
-// Path attributes of every kind.
-const EVERY_KIND: &[&str] = &[
-    "40010101",
-    SET_BEFORE_SEQUENCE,
-    NEXT_HOP,
-    "80040400000007",
-    "400600",
-    "E00708 0000FBF5 C0000201",
-    "C00808 FBF4FBF6 FDE80001",
-    "C0200107",
+const ASKED_COMMUNITIES: [(u32, u32); 6] = [
+    (64500, 64502),
+    (65000, 1),
+    (64502, 64500),
+    (0, 0xFBF4_FBF6),
+    (0, 0),
+    (1, 65000),
 ];
 
-#[test]
-fn attributes_of_one_route(rt: HostRuntime) -> Result<(), Fail> {
-    let alloc = rt.alloc();
-    let attributes = route(alloc, EVERY_KIND)?;
-    let numbers = (0xC000_020B, Some(7), 7, true);
-    let aggregator = Aggregator {
-        asn: 64501,
-        address: 0xC000_0201,
-        partial: true,
-    };
-    check_values(&rt, &attributes, Origin::Egp, numbers, Some(aggregator));
-    check_path(&rt, &attributes);
-    check_has_communities(&rt, &attributes);
-    check_communities(&rt, alloc, &attributes)?;
-    check_other(&rt, &attributes)
+// Appends ORIGIN, NEXT_HOP, MED, ATOMIC_AGGREGATE, AGGREGATOR, and how long all are in writing.
+fn push_values(text: &mut String, attributes: &Attributes) -> Result<(), AllocError> {
+    let next_hop = Ipv4Addr::from_bits(attributes.next_hop());
+    let (origin, med) = (attributes.origin(), attributes.med());
+    let (compared, atomic) = (attributes.compared_med(), attributes.atomic());
+    let (aggregator, len) = (attributes.aggregator(), attributes.written_len());
+    write!(
+        text,
+        "{origin:?} {next_hop} {med:?} {compared} {atomic} {aggregator:?} {len};"
+    )
 }
 
-// Asserts that a route has no communities and no attributes of unknown type, and is written in 20 octets.
-fn check_mandatory_alone(rt: &impl Abort, attributes: &Attributes) {
-    assert!(rt; !attributes.has_community(0, 0) && !attributes.has_community_of(0));
-    assert!(rt; attributes.communities().is_none() && attributes.others().next().is_none());
-    assert_eq!(rt; attributes.written_len(), 20);
-}
-
-#[test]
-fn what_was_not_received_is_not_there(rt: HostRuntime) -> Result<(), Fail> {
-    let alloc = rt.alloc();
-    let attributes = route(alloc, &[ORIGIN, AS_PATH, NEXT_HOP])?;
-    let numbers = (0xC000_020B, None, 0, false);
-    check_values(&rt, &attributes, Origin::Igp, numbers, None);
-    check_mandatory_alone(&rt, &attributes);
-    Ok(())
-}
-
-// Asserts the kind and the AS numbers of the next segment, copied.
-fn check_next(
-    rt: &impl Abort,
-    alloc: Global,
-    segments: &mut Segments<'_>,
-    kind: &'static str,
-    numbers: &[u32],
-) -> Result<(), Fail> {
-    let segment = segments.next().ok_or(kind)?.to_segment(alloc)?;
-    let copied = match &segment {
-        Segment::Set(members) => ("AS_SET", members.as_slice()),
-        Segment::Sequence(hops) => ("AS_SEQUENCE", hops.as_slice()),
-    };
-    assert_eq!(rt; copied, (kind, numbers));
-    Ok(())
-}
-
-#[test]
-fn segments_are_copied_in_order(rt: HostRuntime) -> Result<(), Fail> {
-    let alloc = rt.alloc();
-    let attributes = route(alloc, &[ORIGIN, SET_BEFORE_SEQUENCE, NEXT_HOP])?;
-    let mut segments = attributes.path();
-    check_next(&rt, alloc, &mut segments, "AS_SET", &[64503, 64504])?;
-    check_next(&rt, alloc, &mut segments, "AS_SEQUENCE", &[65010])?;
-    assert!(rt; segments.next().is_none());
-    Ok(())
-}
-
-// AS_PATH, its length, and the neighbour AS where the sending peer's is 64501.
-const PATHS: &[(&str, u32, u32)] = &[
-    ("400200", 0, 64501),
-    ("40020A 0202 0000FBF6 0000FDF2", 2, 64502),
-    ("40020A 0102 0000FBF6 0000FDF2", 1, 64501),
-    ("400210 0102 0000FBF6 0000FDF2 0201 0000FDF3", 2, 64501),
-    (
-        "400218 0103 0000FDF2 0000FDF3 0000FDF4 0202 0000FDF5 0000FDF6",
-        3,
-        64501,
-    ),
-    ("400210 0201 0000FBF6 0102 0000FDF2 0000FDF3", 2, 64502),
-];
-
-// The length of an AS_PATH, and the neighbour AS where the sending peer's is 64501.
-fn length_and_neighbour(alloc: Global, path: &str) -> Result<(u32, u32), Fail> {
-    let attributes = route(alloc, &[ORIGIN, path, NEXT_HOP])?;
-    Ok((attributes.path_length(), attributes.neighbour(64501)))
-}
-
-#[test]
-fn an_as_set_counts_one_and_gives_no_neighbour(rt: HostRuntime) -> Result<(), Fail> {
-    let alloc = rt.alloc();
-    for (path, length, neighbour) in PATHS {
-        let found = length_and_neighbour(alloc, path)?;
-        assert_eq!(rt; found, (*length, *neighbour), "{path}");
+// Appends the segments of AS_PATH.
+fn push_path(alloc: Global, text: &mut String, attributes: &Attributes) -> Result<(), AllocError> {
+    for segment in attributes.path() {
+        let segment = segment.to_segment(alloc)?;
+        write!(text, " {segment:?}")?;
     }
+    Ok(())
+}
+
+// Appends how long AS_PATH is, the neighbour AS, and what it holds of the AS numbers that are asked for.
+fn push_length(text: &mut String, attributes: &Attributes) -> Result<(), AllocError> {
+    let (length, neighbour) = (attributes.path_length(), attributes.neighbour(64501));
+    write!(text, " length {length} neighbour {neighbour} holds")?;
+    for asn in ASKED_NUMBERS {
+        if attributes.holds_as(asn) {
+            write!(text, " {asn}")?;
+        }
+    }
+    text.push(';')
+}
+
+// Appends communities by their halves.
+fn push_halves(text: &mut String, communities: &[u32]) -> Result<(), AllocError> {
+    for value in communities {
+        let (high, low) = (value / 65536, value % 65536);
+        write!(text, " {high}:{low}")?;
+    }
+    Ok(())
+}
+
+// Appends the communities.
+fn push_communities(
+    alloc: Global,
+    text: &mut String,
+    attributes: &Attributes,
+) -> Result<(), AllocError> {
+    let Some(communities) = attributes.communities() else {
+        return text.push_str(" none");
+    };
+    let (count, partial) = (communities.values.len(), communities.partial);
+    write!(text, " {count} communities, partial {partial},")?;
+    push_halves(text, &communities.values.to_vec(alloc)?)?;
+    text.push_str(" found")
+}
+
+// The communities that are found of those that are asked for, and the AS numbers of which any is.
+fn push_found(text: &mut String, attributes: &Attributes) -> Result<(), AllocError> {
+    for (high, low) in ASKED_COMMUNITIES {
+        if attributes.has_community(high, low) {
+            write!(text, " {high}:{low}")?;
+        }
+        if attributes.has_community_of(high) {
+            write!(text, " {high}:*")?;
+        }
+    }
+    text.push(';')
+}
+
+// Appends the attributes of unknown type.
+fn push_others(text: &mut String, attributes: &Attributes) -> Result<(), AllocError> {
+    for other in attributes.others() {
+        let (kind, value) = (other.kind, other.value);
+        write!(text, " {kind} {value:?}")?;
+    }
+    Ok(())
+}
+
+// Appends what a route's attributes say.
+fn push_all(alloc: Global, text: &mut String, attributes: &Attributes) -> Result<(), AllocError> {
+    push_values(text, attributes)?;
+    push_path(alloc, text, attributes)?;
+    push_length(text, attributes)?;
+    push_communities(alloc, text, attributes)?;
+    push_found(text, attributes)?;
+    push_others(text, attributes)
+}
+
+// What the attributes of a route say.
+pub fn said(alloc: Global, section: &str) -> Result<String, Fail> {
+    let mut text = String::new(alloc);
+    push_all(alloc, &mut text, &route(alloc, section)?)?;
+    Ok(text)
+}
+
+// A message, with faults handled by RFC 7606 where RFC 4271 finds one.
+fn read(alloc: Global, message: &[u8]) -> Result<Message, MessageFault> {
+    match read_message(alloc, message) {
+        Ok(message) => Ok(message),
+        Err(_) => read_message_by(alloc, Errors::Rfc7606, message),
+    }
+}
+
+// The attributes of a route with these path attributes.
+fn route(alloc: Global, section: &str) -> Result<Attributes, Fail> {
+    standing(read(alloc, &update(alloc, "", section, "ROUTE")?))
+}
+
+#[test]
+fn attributes_say_what_was_received(rt: HostRuntime) -> Result<(), Fail> {
+    check_rows(&rt, rt.alloc(), Topic::Route, ROUTES)
+}
+
+// Path attributes as received, and as written.
+const WRITTEN: &str = "
+Dropped: LOCAL_PREF, MP_REACH_NLRI, AS4_PATH, AS4_AGGREGATOR, and an unknown attribute that isn't transitive.
+MANDATORY 4005020000 -> MANDATORY | so
+MANDATORY 800E0100 -> MANDATORY | so
+MANDATORY C0110100 -> MANDATORY | so
+MANDATORY C0120100 -> MANDATORY | so
+MANDATORY 80200100 -> MANDATORY | so
+An unknown attribute that is, with the Partial bit and without it.
+MANDATORY E0200100 -> MANDATORY E0200100 | so
+MANDATORY C0200100 -> MANDATORY E0200100 | so
+The low bits of the flags, and a length of two octets without need.
+MANDATORY 8F040400000007 -> MANDATORY 80040400000007 | so
+MANDATORY 9004000400000007 -> MANDATORY 80040400000007 | so
+4F010100 5F02000602010000FBF5 400304C000020B -> MANDATORY | so
+In ascending type, the Partial bits as received.
+NEXT_HOP AS_PATH ORIGIN -> MANDATORY | so
+MANDATORY E007080000FBF5C0000201 400600 -> MANDATORY 400600 E007080000FBF5C0000201 | so
+MANDATORY C007080000FBF5C0000201 -> MANDATORY C007080000FBF5C0000201 | so
+MANDATORY E00804FBF4FBF6 -> MANDATORY E00804FBF4FBF6 | so
+MANDATORY C0630107 806200 C00900 C0080400000001 80040400000007 -> MANDATORY 80040400000007 C0080400000001 E00900 E0630107 | so
+Type 0 comes first.
+NEXT_HOP E0000108 AS_PATH ORIGIN -> E0000108 MANDATORY | so
+63 communities, and 64 with the Partial bit.
+MANDATORY D00800FC FB*252 -> MANDATORY C008FC FB*252 | so
+MANDATORY F0080100 FB*256 -> MANDATORY F0080100 FB*256 | so
+Attributes that other peers sent pass unchanged, but for LOCAL_PREF and a Partial bit.
+ORIGIN 40020A02020000FBF50000FDF2 NEXT_HOP 80040400000007 400504000000C8 C00808FBF4FBF6FDE80001 C0200C0000FDE80000000100000002 \
+    -> ORIGIN 40020A02020000FBF50000FDF2 NEXT_HOP 80040400000007 C00808FBF4FBF6FDE80001 E0200C0000FDE80000000100000002 | so
+What RFC 7606 discards is as though not received, also where the type of a discarded one is repeated.
+ORIGIN 40010103 AS_PATH NEXT_HOP -> MANDATORY | so
+40010101 AS_PATH NEXT_HOP C007060000FBF5C000 -> 40010101 AS_PATH NEXT_HOP | so
+4F010101 AS_PATH NEXT_HOP 40060100 400600 C007060000FBF5C000 C007080000FBF5C0000201 -> 40010101 AS_PATH NEXT_HOP | so
+C0200107 40010101 AS_PATH C0200108 NEXT_HOP 40200109 80040400000007 80040400000008 -> 40010101 AS_PATH NEXT_HOP 80040400000007 E0200107 | so
+";
+
+// What is written of a route with these path attributes.
+fn written(alloc: Global, section: &str) -> Result<Vec<u8>, Fail> {
+    let mut out = Vec::new(alloc);
+    write_attributes(&route(alloc, section)?, &mut out)?;
+    Ok(out)
+}
+
+// Whether a route is written so, and once more as what was written; if it isn't, how it is.
+pub fn said_of_writing(alloc: Global, text: &str) -> Result<String, Fail> {
+    let (section, wanted) = text.split_once(" -> ").ok_or("an arrow")?;
+    let (first, second) = (written(alloc, section)?, written(alloc, wanted)?);
+    if first == second && first == spelled(alloc, wanted)? {
+        return Ok(String::from_str(alloc, "so")?);
+    }
+    Ok(format!(in alloc; "{first:?} {second:?}")?)
+}
+
+#[test]
+fn attributes_are_written_in_ascending_type(rt: HostRuntime) -> Result<(), Fail> {
+    check_rows(&rt, rt.alloc(), Topic::Written, WRITTEN)
+}
+
+// What is written of attributes of 20 octets behind an octet, and whether there is no more room for it than there was.
+fn written_behind(alloc: Global, attributes: &Attributes) -> Result<(Vec<u8>, bool), Fail> {
+    let mut out = Vec::with_capacity(alloc, 21)?;
+    out.push(7)?;
+    let room = out.capacity();
+    write_attributes(attributes, &mut out)?;
+    let is_same = out.capacity() == room;
+    Ok((out, is_same))
+}
+
+#[test]
+fn writing_needs_no_memory_where_there_is_room(rt: HostRuntime) -> Result<(), Fail> {
+    let alloc = rt.alloc();
+    let (written, is_same) = written_behind(alloc, &route(alloc, "MANDATORY")?)?;
+    check_octets(&rt, &written, &spelled(alloc, "07 MANDATORY")?);
+    assert!(rt; is_same);
     Ok(())
 }

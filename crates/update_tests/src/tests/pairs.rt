@@ -1,0 +1,298 @@
+//! Each attribute of a list alone, and before each of them, behind what is mandatory: what an UPDATE with them says by
+//! RFC 4271 and by RFC 7606, and how its attributes are written (RFC 4271, sections 4.3 and 6.3; RFC 7606, sections 3
+//! and 7).
+
+use super::*;
+
+// An attribute: its flags, type and length, and its value; the subcode of its fault by itself, 0 where it has none;
+// and how it is written where it is kept.
+const ATTRIBUTES: &str = "
+ORIGIN: 1, 3, of two octets, with the Optional bit.
+400101 01 | 0 | 40010101
+400101 03 | 6 |
+400102 0000 | 5 |
+C00101 00 | 4 |
+AS_PATH: empty, of two numbers with the Partial bit, of one number too few, of a confederation, of a segment without a
+number, without the Transitive bit.
+400200 | 0 | 400200
+60020A 0202 0000FBF5 0000FDF2 | 0 | 40020A 0202 0000FBF5 0000FDF2
+400206 0202 0000FBF5 | 11 |
+400206 0301 0000FBF5 | 11 |
+400202 0200 | 11 |
+000200 | 4 |
+NEXT_HOP: 223.0.2.11, 224.0.2.11, 0.0.2.11, of three octets, optional and not transitive.
+400304 DF00020B | 0 | 400304 DF00020B
+400304 E000020B | 8 |
+400304 0000020B | 8 |
+400303 C00002 | 5 |
+800304 C000020B | 4 |
+MULTI_EXIT_DISC: 7, of three octets, with the Transitive bit.
+800404 00000007 | 0 | 800404 00000007
+800403 000007 | 5 |
+C00404 00000007 | 4 |
+LOCAL_PREF is dropped, whatever it has.
+000501 00 | 0 |
+ATOMIC_AGGREGATE: of no octets, of one, with the Optional bit, and of one octet with that bit alone.
+400600 | 0 | 400600
+400601 00 | 5 |
+C00600 | 4 |
+800601 00 | 4 |
+AGGREGATOR: of eight octets, of six, with the Partial bit, without the Transitive bit, of six without the Optional bit.
+C00708 0000FBF5 C0000201 | 0 | C00708 0000FBF5 C0000201
+E00706 FBF5 C0000201 | 5 |
+E00708 0000FBF5 C0000201 | 0 | E00708 0000FBF5 C0000201
+800708 0000FBF5 C0000201 | 4 |
+400706 FBF5 C0000201 | 4 |
+COMMUNITIES: two, one with the Partial bit and low bits, none, of five octets, without the Transitive bit.
+C00808 FBF4FBF6 FDE80001 | 0 | C00808 FBF4FBF6 FDE80001
+EF0804 00000007 | 0 | E00804 00000007
+C00800 | 5 |
+C00805 0000000700 | 5 |
+800804 00000007 | 4 |
+MP_REACH_NLRI, MP_UNREACH_NLRI, AS4_PATH and AS4_AGGREGATOR are dropped, whatever they have.
+800E01 00 | 0 |
+000F00 | 0 |
+C01101 00 | 0 |
+001201 00 | 0 |
+Unknown types: transitive, not transitive, not Optional; the greatest one; the least one, not Optional.
+C02001 07 | 0 | E02001 07
+802001 07 | 0 |
+402001 07 | 2 |
+E0FF00 | 0 | E0FF00
+200000 | 2 |
+";
+
+// An attribute of that list.
+#[derive(Clone, Copy, Drop)]
+struct Sample<'a> {
+    received: &'a str,
+    kind: u8,
+    fault: u8,
+    written: &'a str,
+}
+
+// What stands behind an attribute that is alone: nothing. No attribute of the list has this type.
+const NOTHING: Sample<'static> = Sample {
+    received: "",
+    kind: 254,
+    fault: 0,
+    written: "",
+};
+
+// The attribute that is received so, with its fault and what is written of it.
+fn read_sample<'a>(alloc: Global, received: &'a str, behind: &'a str) -> Result<Sample<'a>, Fail> {
+    let (fault, written) = behind.split_once(" |").ok_or("a second bar")?;
+    let kind = spelled(alloc, received)?.get(1).copied().ok_or("a type")?;
+    Ok(Sample {
+        received,
+        kind,
+        fault: fault.parse()?,
+        written,
+    })
+}
+
+// The attributes of the list.
+fn samples(alloc: Global) -> Result<Vec<Sample<'static>>, Fail> {
+    let mut samples = Vec::new(alloc);
+    for row in ATTRIBUTES.lines() {
+        if let Some((received, behind)) = row.split_once(" | ") {
+            samples.push(read_sample(alloc, received, behind)?)?;
+        }
+    }
+    Ok(samples)
+}
+
+// Two attributes, one behind the other.
+#[derive(Clone, Copy)]
+struct Pair<'a> {
+    first: Sample<'a>,
+    second: Sample<'a>,
+}
+
+// Whether RFC 7606 treats the routes of an attribute at fault as withdrawn: it discards two that have a bad length.
+fn withdraws(one: Sample<'_>) -> bool {
+    one.fault != 0 && !(one.fault == 5 && (one.kind == 6 || one.kind == 7))
+}
+
+impl<'a> Pair<'a> {
+    // Whether the type of the first one is repeated.
+    fn is_repeated(self) -> bool {
+        self.first.kind == self.second.kind
+    }
+
+    // The subcode by which the two close the session by RFC 4271: the first fault.
+    fn closes_by_rfc_4271(self) -> u8 {
+        if self.first.fault != 0 {
+            self.first.fault
+        } else if self.is_repeated() {
+            1
+        } else {
+            self.second.fault
+        }
+    }
+
+    // The same by RFC 7606: an unknown well-known attribute, and a repeated MP_REACH_NLRI or MP_UNREACH_NLRI.
+    fn closes_by_rfc_7606(self) -> u8 {
+        if self.first.fault == 2 {
+            2
+        } else if self.is_repeated() {
+            u8::from(self.first.kind == 14 || self.first.kind == 15)
+        } else if self.second.fault == 2 {
+            2
+        } else {
+            0
+        }
+    }
+
+    // The subcode that closes the session by a standard, and whether the routes are treated as withdrawn.
+    fn comes_to(self, errors: Errors) -> (u8, bool) {
+        match errors {
+            Errors::Rfc4271 => (self.closes_by_rfc_4271(), false),
+            Errors::Rfc7606 => (
+                self.closes_by_rfc_7606(),
+                withdraws(self.first) || !self.is_repeated() && withdraws(self.second),
+            ),
+        }
+    }
+
+    // A mandatory attribute with its type, unless one of the two is of that type.
+    fn mandatory(self, kind: u8, name: &'a str) -> (u8, &'a str) {
+        if self.first.kind == kind || self.second.kind == kind {
+            (kind, "")
+        } else {
+            (kind, name)
+        }
+    }
+
+    // The mandatory attributes that stand before the two.
+    fn before(self) -> [(u8, &'a str); 3] {
+        [
+            self.mandatory(1, "ORIGIN"),
+            self.mandatory(2, "AS_PATH"),
+            self.mandatory(3, "NEXT_HOP"),
+        ]
+    }
+
+    // What is written where the routes stand: the first of each type, in ascending type.
+    fn written(self, alloc: Global) -> Result<Vec<u8>, Fail> {
+        let second = if self.is_repeated() {
+            ""
+        } else {
+            self.second.written
+        };
+        let [origin, path, next_hop] = self.before();
+        let mut pieces = [
+            origin,
+            path,
+            next_hop,
+            (self.first.kind, self.first.written),
+            (self.second.kind, second),
+        ];
+        pieces.sort_unstable();
+        let mut written = Vec::new(alloc);
+        for (_, piece) in pieces {
+            written.extend_from_slice(&spelled(alloc, piece)?)?;
+        }
+        Ok(written)
+    }
+
+    // The path attributes of an UPDATE with the two.
+    fn section(self, alloc: Global) -> Result<String, AllocError> {
+        let [(_, origin), (_, path), (_, next_hop)] = self.before();
+        let (first, second) = (self.first.received, self.second.received);
+        format!(in alloc; "{origin} {path} {next_hop} {first} {second}")
+    }
+
+    // What an UPDATE with the two says whose routes stand, and what is written of it where there are any.
+    fn standing_text(self, alloc: Global, routes: &str) -> Result<String, Fail> {
+        if routes.is_empty() {
+            return Ok(String::from_str(alloc, "UPDATE")?);
+        }
+        let written = self.written(alloc)?;
+        Ok(format!(in alloc; "UPDATE{routes} {written:?}")?)
+    }
+
+    // What an UPDATE with the two says by a standard, with these routes.
+    fn wanted(self, alloc: Global, errors: Errors, routes: &str) -> Result<String, Fail> {
+        match self.comes_to(errors) {
+            (0, true) => Ok(format!(in alloc; "TREATED{routes}")?),
+            (0, false) => self.standing_text(alloc, routes),
+            (subcode, _) => Ok(format!(in alloc; "BGP error 3/{subcode}")?),
+        }
+    }
+}
+
+// Appends what is written of the attributes of an UPDATE, where it has any.
+fn push_written(
+    alloc: Global,
+    text: &mut String,
+    read: &Result<Message, MessageFault>,
+) -> Result<(), AllocError> {
+    let Ok(Message::Update(update)) = read else {
+        return Ok(());
+    };
+    let Some(attributes) = &update.attributes else {
+        return Ok(());
+    };
+    let mut written = Vec::new(alloc);
+    write_attributes(attributes, &mut written)?;
+    write!(text, " {written:?}")
+}
+
+// What a message says by a standard, and what is written of its attributes.
+fn found(alloc: Global, errors: Errors, message: &[u8]) -> Result<String, AllocError> {
+    let read = read_message_by(alloc, errors, message);
+    let mut text = answer(alloc, &read)?;
+    push_written(alloc, &mut text, &read)?;
+    Ok(text)
+}
+
+// Asserts what a message says by both standards, and what is written of it.
+fn check_message(
+    rt: &impl Abort,
+    alloc: Global,
+    pair: Pair<'_>,
+    section: &str,
+    (nlri, routes): (&str, &str),
+) -> Result<(), Fail> {
+    let message = update(alloc, "", section, nlri)?;
+    for errors in [Errors::Rfc4271, Errors::Rfc7606] {
+        let wanted = pair.wanted(alloc, errors, routes)?;
+        let found = found(alloc, errors, &message)?;
+        check_text(rt, &found, &wanted, section);
+    }
+    Ok(())
+}
+
+// Asserts what UPDATEs with a pair say, without a route and with one.
+fn check_pair(rt: &impl Abort, alloc: Global, pair: Pair<'_>) -> Result<(), Fail> {
+    let section = pair.section(alloc)?;
+    check_message(rt, alloc, pair, &section, ("", ""))?;
+    check_message(rt, alloc, pair, &section, ("ROUTE", " +203.0.113.0/24"))
+}
+
+// Asserts what UPDATEs with an attribute say: alone, and before each of the list.
+fn check_first(
+    rt: &impl Abort,
+    alloc: Global,
+    first: Sample<'_>,
+    list: &[Sample<'_>],
+) -> Result<(), Fail> {
+    let second = NOTHING;
+    check_pair(rt, alloc, Pair { first, second })?;
+    for second in list {
+        let second = *second;
+        check_pair(rt, alloc, Pair { first, second })?;
+    }
+    Ok(())
+}
+
+#[test]
+fn each_attribute_alone_and_before_each_other(rt: HostRuntime) -> Result<(), Fail> {
+    let samples = samples(rt.alloc())?;
+    assert_eq!(rt; samples.len(), 42);
+    for first in &samples {
+        check_first(&rt, rt.alloc(), *first, &samples)?;
+    }
+    Ok(())
+}
