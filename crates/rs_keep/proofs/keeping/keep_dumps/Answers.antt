@@ -29,24 +29,6 @@ returns-clause-report g c =
     let past : length tables.plan.peers ≤ c.loop-client.client = omega (arith, c.count-client-end.ensures.value, ap (λ (of : Plan). length of.peers) c.plan-plan.ensures) in
     told-all tables c.loop-client.client (string_bytes c.args.report.now) (string_bytes c.loop-client.report) past c.loop-client.invariant.report
 
-pub loop-client-smaller : goal.loop-client-smaller
-loop-client-smaller g c = search rules
-
-pub returns-clause-fault : goal.returns-clause-fault
-returns-clause-fault g c = search rules
-
-pub returns-clause-no_failure : goal.returns-clause-no_failure
-returns-clause-no_failure g c = search rules
-
-pub returns-in_err-files-clause-kept : goal.returns-in_err-files-clause-kept
-returns-in_err-files-clause-kept g c = search rules
-
-pub returns-in_err-files-clause-no_failure : goal.returns-in_err-files-clause-no_failure
-returns-in_err-files-clause-no_failure g c = search rules
-
-pub returns-in_err-files-clause-report : goal.returns-in_err-files-clause-report
-returns-in_err-files-clause-report g c = search rules
-
 pub loop-client-init : goal.loop-client-init
 loop-client-init g c =
     let Out = g.O.Out.Write in

@@ -41,21 +41,3 @@ loop-handle-preserved g c =
       counted = search rules;
       room = search rules;
     }
-
-pub returns-clause-joined : goal.returns-clause-joined
-returns-clause-joined g c = search rules
-
-pub loop-handle-init-derived : goal.loop-handle-init-derived
-loop-handle-init-derived g c = search rules
-
-pub loop-handle-preserved-derived : goal.loop-handle-preserved-derived
-loop-handle-preserved-derived g c = search rules
-
-pub loop-handle-smaller : goal.loop-handle-smaller
-loop-handle-smaller g c = search rules
-
-pub returns-clause-count : goal.returns-clause-count
-returns-clause-count g c = search rules
-
-pub returns-clause-same : goal.returns-clause-same
-returns-clause-same g c = search rules

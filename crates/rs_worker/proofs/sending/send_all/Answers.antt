@@ -1,6 +1,5 @@
 -- The close is sent behind the changes of the session.
-use Rattle.std.proofs.Common.{◌≡◌, ◌∙◌, sym, Some, arith, rules}
-use Rattle.std.proofs.lemmas.Grind.{common_steps}
+use Rattle.std.proofs.Common.{◌≡◌, ◌∙◌, sym, Some}
 use Rattle.rs_session.specs.declared.word.Word.{Word}
 use Rattle.rs_worker.specs.Steps.{reason_of}
 use Rattle.rs_worker.proofs.SentLemmas.{sent-closes}
@@ -11,21 +10,3 @@ returns-in-Some-reason-clause-sent g c =
     let word : Word = c.next_change-word.result in
     let closing : reason_of word.body ≡ Some c.in-Some-reason.reason = sym c.closing_reason-reason.ensures ∙ c.in-Some-reason.is in
     rw c.send.ensures.sent (sent-closes g.S.Source.comes g.S.Source.shows c.args.session.now c.loop.session c.next_change-word.new.session c.loop.out.sent word c.in-Some-reason.reason c.loop.invariant.begun c.loop.invariant.none_closes closing (rw closing at c.next_change-word.ensures))
-
-pub loop-init : goal.loop-init
-loop-init g c = search rules
-
-pub loop-init-derived : goal.loop-init-derived
-loop-init-derived g c = search rules
-
-pub loop-preserved : goal.loop-preserved
-loop-preserved g c = grind (arith, common_steps)
-
-pub loop-preserved-derived : goal.loop-preserved-derived
-loop-preserved-derived g c = search rules
-
-pub loop-smaller : goal.loop-smaller
-loop-smaller g c = search rules
-
-pub returns-in-Some-reason-clause-same : goal.returns-in-Some-reason-clause-same
-returns-in-Some-reason-clause-same g c = search rules
