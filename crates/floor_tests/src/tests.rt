@@ -1,8 +1,10 @@
-//! Workers, the router and shards on threads of their own, and whole runs.
+//! Workers, the router and shards on threads of their own, and whole runs and schedules.
 
-mod recordings;
-mod refusals;
+mod changes;
+mod exchanges;
+mod gates;
+mod many;
 mod routers;
-mod serves;
+mod rows;
 mod shards;
 mod workers;

@@ -1,5 +1,4 @@
-//! Tests of rings and of schedules, over the public calls of `rs_ring`, `rs_floor` and `rs_dump`, and what
-//! holds of the dumps at the end of schedules.
+//! Tests of rings, over the public calls of `rs_ring`, and what holds of the dumps at the end of schedules.
 #![tactic(auto)]
 
 mod laws;

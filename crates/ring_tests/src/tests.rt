@@ -1,13 +1,12 @@
-//! Rings in one thread and between two, and schedules.
+//! Rings in one thread and between two.
 
 mod rings;
-mod schedules;
 mod threads;
 
 ghost use Rattle.std.specs.Prelude.{◌≡◌};
 
 use rs_ring::{Closing, Finished, Numbered, Receiver, RingRefused, SendRefused, Sender, ring};
-use std::alloc::Global;
+use std::alloc::{AllocError, Global};
 use std::test::*;
 
 // An item of a ring. The last one closes it.
@@ -47,35 +46,18 @@ struct Ends {
     ghost pair: { sender.ring ≡ receiver.ring },
 }
 
-// What came of a send.
-#[derive(Clone, Copy, Debug, PartialEq, Eq)]
-enum Outcome {
-    Sent(u64),
-    Closed(Item),
-    Full(Item),
-}
-
 impl Ends {
     fn new(alloc: Global, capacity: usize) -> Result<Ends, RingRefused> {
         let (sender, receiver) = ring(alloc, capacity)?;
         Ok(Ends { sender, receiver })
     }
 
-    fn send(&mut self, item: Item) -> Outcome {
+    // The number of the item that was sent, or the refusal.
+    fn send(&mut self, item: Item) -> Result<u64, SendRefused<Item>> {
         if self.sender.sent() >= Item::LIMIT {
-            return Outcome::Closed(item);
+            return Err(SendRefused::Closed(item));
         }
-        match self.sender.try_send(item) {
-            Ok(number) => Outcome::Sent(number),
-            Err(SendRefused::Closed(item)) => Outcome::Closed(item),
-            Err(SendRefused::Full(item)) => Outcome::Full(item),
-        }
-    }
-
-    // The number and the item received, where one is there.
-    fn receive(&mut self) -> Option<(u64, Item)> {
-        let Numbered { number, item } = self.receiver.try_receive()?;
-        Some((number, item))
+        self.sender.try_send(item)
     }
 
     // How many items wait.
@@ -100,12 +82,6 @@ struct Ended {
 }
 
 impl Ended {
-    // The number and the item received, where one is there.
-    fn receive(&mut self) -> Option<(u64, Item)> {
-        let Numbered { number, item } = self.receiver.try_receive()?;
-        Some((number, item))
-    }
-
     // How many items wait.
     fn waiting(&mut self) -> usize {
         self.receiver.after(&mut self.token)

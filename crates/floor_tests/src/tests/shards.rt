@@ -3,96 +3,36 @@
 ghost use Rattle.std.specs.Prelude.{◌≡◌, [], ℕ, IfSome};
 ghost use Rattle.rs_table.specs.Content.{nothing_held, rib_of};
 
-use super::recordings::{exchange, prefix_at, ring_of, route_of};
+use super::changes::{change_of, prefix_at, ring_of, route_of};
+use super::exchanges::exchange;
+use super::rows::peers_of;
 use rs_ring::{Closing, SendRefused, Sender};
 use rs_router::Routed;
-use rs_session::{Body, Reason, Word};
 use rs_shard::{ShardEnd, shard_worker};
 use rs_table::Tables;
 use rs_update::Attributes;
-use rs_worker::{Gate, Open};
-use std::alloc::Global;
+use rs_worker::Open;
+use std::alloc::{AllocError, Global};
 use std::process::Abort;
-use std::sync::atomic::{AtomicU64, Ordering};
 use std::sync::{Arc, Wait};
 use std::test::*;
 use std::thread;
 use std::thread::Threads;
 
-// A change of a peer, on a prefix of eight bits by its first octet or on none.
-#[derive(Clone, Copy)]
-enum Change {
-    Announce(usize, u8),
-    Withdraw(usize, u8),
-    Down(usize),
-    Close(usize, Reason),
-}
+// What the shard is sent of three peers before the last item. A change has its place as its time. One follows its
+// peer's close, and one is of a peer that isn't there.
+const CHANGES: &str = "0:+10 1:+10 0:+20 0:-20 0:end 0:-10 7:+30 1:+40 1:down 1:+50 2:+60 2:fault";
 
-use Change::{Announce, Close, Down, Withdraw};
+// What that leaves: each prefix by its first octet for a client, and of whom, and when it was announced.
+const LEFT: &str =
+    "10 for 2 of 0 at 0; 50 for 0 of 1 at 9; 50 for 2 of 1 at 9; closed 0; closed 2;";
 
-// What the shard is sent of three peers before the last item. A change has its place as its time. One follows
-// its peer's close, and one is of a peer that isn't there.
-const CHANGES: [Change; 12] = [
-    Announce(0, 10),
-    Announce(1, 10),
-    Announce(0, 20),
-    Withdraw(0, 20),
-    Close(0, Reason::EndOfFile),
-    Withdraw(0, 10),
-    Announce(7, 30),
-    Announce(1, 40),
-    Down(1),
-    Announce(1, 50),
-    Announce(2, 60),
-    Close(
-        2,
-        Reason::Bgp {
-            code: 3,
-            subcode: 6,
-        },
-    ),
-];
-
-// Counts the items that a shard is about to handle, and those that come out of order or of another shard.
-#[derive(Drop)]
-struct Passes {
-    items: AtomicU64,
-    strays: AtomicU64,
-}
-
-impl Passes {
-    fn new() -> Passes {
-        Passes {
-            items: AtomicU64::new(0),
-            strays: AtomicU64::new(0),
-        }
-    }
-}
-
-impl Gate for Passes {
-    fn pass(&self, _peer: usize, _number: u64) {
-        self.strays.fetch_add(1, Ordering::SeqCst);
-    }
-
-    fn shard_pass(&self, shard: usize, number: u64) {
-        if self.items.fetch_add(1, Ordering::SeqCst) != number || shard != 3 {
-            self.strays.fetch_add(1, Ordering::SeqCst);
-        }
-    }
-}
-
-// The change as it goes through a ring.
-fn item_of(route: &Arc<Attributes>, time: u32, change: Change) -> Option<Routed> {
-    let (peer, body) = match change {
-        Announce(peer, first) => (peer, Body::Announce(prefix_at(first)?, route.clone().ok()?)),
-        Withdraw(peer, first) => (peer, Body::Withdraw(prefix_at(first)?)),
-        Down(peer) => (peer, Body::Down),
-        Close(peer, reason) => (peer, Body::Close(reason)),
-    };
-    Some(Routed::Word {
-        peer,
-        word: Word { time, body },
-    })
+// The item of a word.
+fn item_of(route: &Arc<Attributes>, time: u32, word: &str) -> Option<Routed> {
+    let (peer, word) = word.split_once(':')?;
+    let peer = peer.parse().ok()?;
+    let word = change_of(route, time, word)?;
+    Some(Routed::Word { peer, word })
 }
 
 // Sends an item, once there is room. Answers whether it was sent.
@@ -116,8 +56,8 @@ fn send(rt: &impl Wait, sender: &mut Sender<Routed>, item: Routed) -> bool {
 fn send_all(rt: &impl Wait, sender: Sender<Routed>, route: &Arc<Attributes>) -> bool {
     let mut sender = sender;
     let mut time = 0u32;
-    for change in CHANGES.iter() {
-        let Some(item) = item_of(route, time, *change) else {
+    for word in CHANGES.split_whitespace() {
+        let Some(item) = item_of(route, time, word) else {
             return false;
         };
         if !send(rt, &mut sender, item) {
@@ -132,17 +72,13 @@ fn send_all(rt: &impl Wait, sender: Sender<Routed>, route: &Arc<Attributes>) -> 
 fn no_routes(alloc: Global) -> Option<Tables>
     ensures { IfSome result (λ tables. (peer : ℕ) → rib_of tables peer ≡ nothing_held) }
 {
-    Tables::new(alloc, exchange(alloc, 3)?).ok()
+    let peers = peers_of(alloc, "64501/11:nothing 64502/12:nothing 64503/13:nothing")?;
+    Tables::new(alloc, exchange(alloc, &peers)?).ok()
 }
 
 // What the shard of number 3 holds of all changes, which come through a ring of this capacity from another thread.
-fn held<R: Threads + Wait + Sync>(
-    rt: &R,
-    alloc: Global,
-    capacity: usize,
-    gate: &Passes,
-) -> Option<Tables> {
-    let route = route_of(alloc, 0)?;
+fn held<R: Threads + Wait + Sync>(rt: &R, alloc: Global, capacity: usize) -> Option<Tables> {
+    let route = route_of(alloc)?;
     let shared = &route;
     let tables = no_routes(alloc)?;
     let (sender, from) = ring_of::<Routed>(alloc, capacity)?;
@@ -151,7 +87,7 @@ fn held<R: Threads + Wait + Sync>(
         move || -> bool { send_all(rt, sender, shared) },
         move || -> ShardEnd
             requires { (from.received ≡ []) × ((peer : ℕ) → rib_of tables peer ≡ nothing_held) }
-        { shard_worker(rt, 3, tables, from, gate) },
+        { shard_worker(rt, 3, tables, from, &Open) },
     );
     if !sent {
         return None;
@@ -159,64 +95,47 @@ fn held<R: Threads + Wait + Sync>(
     end.tables
 }
 
-// Whose route a client gets on a prefix, and when it was announced.
-fn best(tables: &Tables, client: usize, first: u8) -> Option<(usize, u32)> {
-    let route = tables.best(client, prefix_at(first)?)?;
-    Some((route.peer, route.time))
-}
-
-// Whose routes clients get of all changes.
-fn check_bests(rt: &impl Abort, tables: &Tables, capacity: usize) {
-    for (client, first, route) in [
-        (2, 10, Some((0, 0))),
-        (0, 10, None),
-        (2, 20, None),
-        (2, 30, None),
-        (2, 40, None),
-        (2, 50, Some((1, 9))),
-        (0, 60, None),
-    ] {
-        let found = best(tables, client, first);
-        assert_eq!(rt; found, route, "{first} for {client} through {capacity}");
-    }
-}
-
-// Which peers' sessions all changes close.
-fn check_closed(rt: &impl Abort, tables: &Tables, capacity: usize) {
-    for (peer, closed) in [(0, true), (1, false), (2, true)] {
-        assert_eq!(rt; tables.is_closed(peer), closed, "{peer} through {capacity}");
-    }
-}
-
-// All items passed, each once and in order.
-fn check_passes(rt: &impl Abort, gate: &Passes) {
-    let passes = (
-        gate.items.load(Ordering::SeqCst),
-        gate.strays.load(Ordering::SeqCst),
-    );
-    assert_eq!(rt; passes, (13, 0));
-}
-
-// A shard holds what it is to of all changes, which come through a ring of this capacity, each once and in order.
-fn check_held<R: Threads + Wait + Sync + Abort>(rt: &R, alloc: Global, capacity: usize) {
-    let gate = Passes::new();
-    let Some(tables) = held(rt, alloc, capacity, &gate) else {
-        panic!(rt; "out of memory through {capacity}");
+// Appends the route that a client gets on a prefix.
+fn add_best(
+    said: &mut String,
+    tables: &Tables,
+    first: u8,
+    client: usize,
+) -> Result<(), AllocError> {
+    let Some(route) = prefix_at(first).and_then(|prefix| tables.best(client, prefix)) else {
+        return Ok(());
     };
-    check_bests(rt, &tables, capacity);
-    check_closed(rt, &tables, capacity);
-    check_passes(rt, &gate);
+    let (peer, time) = (route.peer, route.time);
+    write!(said, "{first} for {client} of {peer} at {time}; ")
+}
+
+// What tables hold, where there is memory to say it.
+fn said_of(alloc: Global, tables: &Tables) -> Option<String> {
+    let mut said = String::new(alloc);
+    for first in [10, 20, 30, 40, 50, 60] {
+        add_best(&mut said, tables, first, 0).ok()?;
+        add_best(&mut said, tables, first, 2).ok()?;
+    }
+    for peer in 0..3 {
+        if tables.is_closed(peer) {
+            write!(said, "closed {peer}; ").ok()?;
+        }
+    }
+    Some(said)
 }
 
 #[test]
 fn a_shard_holds_what_each_peer_has_left_up_to_its_close(rt: HostRuntime) {
-    check_held(&rt, rt.alloc(), 1);
-    check_held(&rt, rt.alloc(), 64);
+    for capacity in [1, 2, 64] {
+        let tables = held(&rt, rt.alloc(), capacity).expect(&rt, "tables");
+        let said = said_of(rt.alloc(), &tables).expect(&rt, "memory");
+        assert_eq!(rt; said.trim(), LEFT, "through {capacity}");
+    }
 }
 
 // How a shard ends that was sent all changes before it began, where there is memory to send them.
 fn ended(rt: &impl Wait, alloc: Global) -> Option<ShardEnd> {
-    let route = route_of(alloc, 0)?;
+    let route = route_of(alloc)?;
     let tables = no_routes(alloc)?;
     let (sender, from) = ring_of::<Routed>(alloc, 16)?;
     if !send_all(rt, sender, &route) {
@@ -225,8 +144,8 @@ fn ended(rt: &impl Wait, alloc: Global) -> Option<ShardEnd> {
     Some(shard_worker(rt, 3, tables, from, &Open))
 }
 
-// It holds whichever allocation is refused: then the shard has no tables, or all that it was sent, and in
-// each case it received all items. `tools/refuse_in_tests` refuses each in turn.
+// It holds whichever allocation is refused: then the shard has no tables, or all that it was sent, and in each case it
+// received all items. `tools/refuse_in_tests` refuses each in turn.
 #[test]
 fn refused_memory_ends_the_tables_of_a_shard(rt: HostRuntime) {
     let Some(ShardEnd { tables, from }) = ended(&rt, rt.alloc()) else {
@@ -236,6 +155,7 @@ fn refused_memory_ends_the_tables_of_a_shard(rt: HostRuntime) {
     let Some(tables) = tables else {
         return;
     };
-    let bests = (best(&tables, 2, 10), best(&tables, 2, 50));
-    assert_eq!(rt; bests, (Some((0, 0)), Some((1, 9))));
+    if let Some(said) = said_of(rt.alloc(), &tables) {
+        assert_eq!(rt; said.trim(), LEFT);
+    }
 }

@@ -1,218 +1,136 @@
 //! Rings whose ends are in one thread.
 
+ghost use Rattle.std.specs.Prelude.{◌≡◌};
+
 use super::*;
-use std::collections::VecDeque;
-use std::fmt::Display;
 use std::process::Abort;
 
-// Why no ring of this capacity is made.
-fn refusal(alloc: Global, capacity: usize) -> Option<RingRefused> {
-    ring::<Item>(alloc, capacity).err()
-}
-
-#[test]
-fn a_capacity_is_from_1_to_65536(rt: HostRuntime) {
-    for (capacity, wanted) in [
-        (0, Some(RingRefused::Capacity)),
-        (1, None),
-        (65_536, None),
-        (65_537, Some(RingRefused::Capacity)),
-    ] {
-        assert_eq!(rt; refusal(rt.alloc(), capacity), wanted, "at {capacity}");
-    }
-}
-
-// A send of this item to a ring in this state answers so.
-fn check_send(rt: &impl Abort, ends: &mut Ends, item: Item, wanted: Outcome, state: &str) {
-    assert_eq!(rt; ends.send(item), wanted, "{state}");
-}
-
-// A receipt answers so, and whether the ring is closed after it.
-fn check_receive(rt: &impl Abort, ends: &mut Ends, wanted: Option<(u64, Item)>, closed: bool) {
-    let received = ends.receive();
-    assert_eq!(rt; (received, ends.receiver.closed()), (wanted, closed));
-}
-
-#[test]
-fn a_closed_ring_is_closed_also_where_it_is_full(rt: HostRuntime) -> Result<(), Fail> {
-    let mut ends = Ends::new(rt.alloc(), 2)?;
-    check_send(&rt, &mut ends, plain(5), Outcome::Sent(0), "open");
-    check_send(&rt, &mut ends, last(6), Outcome::Sent(1), "open");
-    check_send(
-        &rt,
-        &mut ends,
-        plain(7),
-        Outcome::Closed(plain(7)),
-        "closed and full",
-    );
-    check_receive(&rt, &mut ends, Some((0, plain(5))), false);
-    check_send(
-        &rt,
-        &mut ends,
-        last(8),
-        Outcome::Closed(last(8)),
-        "closed and not full",
-    );
-    check_receive(&rt, &mut ends, Some((1, last(6))), true);
-    check_send(
-        &rt,
-        &mut ends,
-        plain(9),
-        Outcome::Closed(plain(9)),
-        "closed and empty",
-    );
-    check_receive(&rt, &mut ends, None, true);
-    assert_eq!(rt; ends.sender.sent(), 2);
-    Ok(())
-}
-
-// One step, and what it answers: the number of the item that was sent or received, or none.
-#[derive(Clone, Copy)]
-enum Step {
-    Send(Option<u64>),
-    Receive(Option<u64>),
-}
-
-// A ring of one item answers a step so.
-fn check_step(rt: &impl Abort, ends: &mut Ends, step: Step) {
-    match step {
-        Step::Send(Some(number)) => assert_eq!(rt; ends.send(plain(3)), Outcome::Sent(number)),
-        Step::Send(None) => assert_eq!(rt; ends.send(plain(4)), Outcome::Full(plain(4))),
-        Step::Receive(number) => assert_eq!(rt; ends.receive(), number.map(|n| (n, plain(3)))),
-    }
-}
-
-#[test]
-fn a_ring_of_one_item_takes_turns(rt: HostRuntime) -> Result<(), Fail> {
-    let mut ends = Ends::new(rt.alloc(), 1)?;
-    for step in [
-        Step::Send(Some(0)),
-        Step::Send(None),
-        Step::Receive(Some(0)),
-        Step::Receive(None),
-        Step::Send(Some(1)),
-    ] {
-        check_step(&rt, &mut ends, step);
-    }
-    assert_eq!(rt; ends.waiting(), 1);
-    Ok(())
-}
-
-// A generator of numbers that look random (multiplicative, modulo 2^32).
-#[derive(Clone, Copy)]
-struct Random {
-    state: u32,
-}
-
-impl Random {
-    // A number below 2^16.
-    fn next(&mut self) -> u32 {
-        self.state = self
-            .state
-            .wrapping_mul(1_664_525)
-            .wrapping_add(1_013_904_223);
-        self.state >> 16
-    }
-}
-
-// A send, and the same on a plain list of the items that wait. Answers how many items were sent by then.
-fn send_on_both(
-    rt: &impl Abort,
-    ends: &mut Ends,
-    waiting: &mut VecDeque<(u64, Item)>,
-    sent: u64,
-    item: Item,
-    capacity: usize,
-) -> Result<u64, Fail> {
-    let full = waiting.len() >= capacity;
-    let wanted = if full {
-        Outcome::Full(item)
-    } else {
-        Outcome::Sent(sent)
+// Appends what came of a send: the number of the item, or the refusal and the item.
+fn add_sent(said: &mut String, answer: Result<u64, SendRefused<Item>>) -> Result<(), AllocError> {
+    let refused = match answer {
+        Ok(number) => return write!(said, "{number}, "),
+        Err(refused) => refused,
     };
-    assert_eq!(rt; ends.send(item), wanted, "at {sent}");
-    if full {
-        return Ok(sent);
-    }
-    waiting.push_back((sent, item))?;
-    Ok(sent.wrapping_add(1))
+    write!(said, "{refused}: ")?;
+    let item = match refused {
+        SendRefused::Closed(item) => item,
+        SendRefused::Full(item) => item,
+    };
+    let value = item.value;
+    write!(said, "{value}, ")
 }
 
-// A send or a receipt, and the same on a plain list of the items that wait.
-fn take_step(
-    rt: &impl Abort,
-    ends: &mut Ends,
-    waiting: &mut VecDeque<(u64, Item)>,
-    sent: u64,
-    random: u32,
-    capacity: usize,
-) -> Result<u64, Fail> {
-    if random % 2 == 1 {
-        return send_on_both(rt, ends, waiting, sent, plain(random), capacity);
-    }
-    assert_eq!(rt; ends.receive(), waiting.pop_front());
-    Ok(sent)
-}
-
-// Random steps on a ring of this capacity are those of a plain list.
-fn check_random_steps(rt: &impl Abort, alloc: Global, capacity: usize) -> Result<(), Fail> {
-    let mut ends = Ends::new(alloc, capacity)?;
-    let mut random = Random { state: 11 };
-    let mut waiting = VecDeque::new(alloc);
-    let mut sent = 0;
-    for _ in 0..4_000 {
-        sent = take_step(rt, &mut ends, &mut waiting, sent, random.next(), capacity)?;
-        if random.next() % 8 == 0 {
-            assert_eq!(rt; ends.waiting(), waiting.len());
+// Receives, and appends what came: the number and the value of the item, or nothing, and whether the ring is closed
+// then.
+fn receive(said: &mut String, receiver: &mut Receiver<Item>) -> Result<(), AllocError>
+    ensures { receiver.new.ring ≡ receiver.old.ring }
+{
+    match receiver.try_receive() {
+        Some(Numbered { number, item }) => {
+            let value = item.value;
+            write!(said, "{number}:{value}")?;
         }
+        None => said.push_str("nothing")?,
     }
-    assert!(rt; sent > 500, "of {capacity}");
-    Ok(())
+    said.push_str(if receiver.closed() { " closed, " } else { ", " })
 }
+
+// The item of a word: `l6` closes the ring, `s5` doesn't.
+fn item_of(word: &str) -> Option<Item> {
+    match word.strip_prefix('l') {
+        Some(value) => Some(last(value.parse().ok()?)),
+        None => Some(plain(word.strip_prefix('s')?.parse().ok()?)),
+    }
+}
+
+// Takes a step on an open ring, and appends what came of it.
+fn step(said: &mut String, ends: &mut Ends, word: &str) -> Option<()> {
+    if word == "r" {
+        return receive(said, &mut ends.receiver).ok();
+    }
+    if word == "w" {
+        let waiting = ends.waiting();
+        return write!(said, "{waiting} wait, ").ok();
+    }
+    let answer = ends.send(item_of(word)?);
+    add_sent(said, answer).ok()
+}
+
+// Takes a step on a ring whose sender finished, and appends what came of it.
+fn step_after(said: &mut String, ended: &mut Ended, word: &str) -> Option<()> {
+    if word == "r" {
+        return receive(said, &mut ended.receiver).ok();
+    }
+    let waiting = ended.waiting();
+    write!(said, "{waiting} wait, ").ok()
+}
+
+// Appends what comes of the steps on an open ring, and then of those after its sender finished.
+fn add_steps(said: &mut String, ends: Ends, steps: &str) -> Option<()> {
+    let mut ends = ends;
+    let (before, after) = steps.split_once("finish").unwrap_or((steps, ""));
+    for word in before.split_whitespace() {
+        step(said, &mut ends, word)?;
+    }
+    let sent = ends.sender.sent();
+    let mut ended = ends.finish()?;
+    for word in after.split_whitespace() {
+        step_after(said, &mut ended, word)?;
+    }
+    write!(said, "{sent} sent").ok()
+}
+
+// What comes of these steps on a ring of this capacity, and how many items were sent.
+fn said_of(alloc: Global, capacity: usize, steps: &str) -> Option<String> {
+    let mut said = String::new(alloc);
+    match Ends::new(alloc, capacity) {
+        Ok(ends) => add_steps(&mut said, ends, steps)?,
+        Err(refused) => write!(said, "{refused}").ok()?,
+    }
+    Some(said)
+}
+
+// A ring's capacity, steps on it, and what comes of them: `s5` and `l5` send, `r` receives, `w` asks how many wait, and
+// `finish` ends the sending.
+const RINGS: &[(usize, &str, &str)] = &[
+    // A capacity is from 1 to 65,536.
+    (0, "", "ring capacity not from 1 to 65536"),
+    (1, "", "0 sent"),
+    (65_536, "s1", "0, 1 sent"),
+    (65_537, "", "ring capacity not from 1 to 65536"),
+    // A ring of one item takes turns.
+    (
+        1,
+        "s3 s4 r r s3 w",
+        "0, full ring: 4, 0:3, nothing, 1, 1 wait, 2 sent",
+    ),
+    // A closed ring is closed also where it is full, and where it is empty.
+    (
+        2,
+        "s5 l6 s7 r l8 r s9 r",
+        "0, 1, a closing item was sent before: 7, 0:5, a closing item was sent before: 8, 1:6 closed, \
+        a closing item was sent before: 9, nothing closed, 2 sent",
+    ),
+    (
+        1,
+        "l1 l2 w r w l3",
+        "0, a closing item was sent before: 2, 1 wait, 0:1 closed, 0 wait, a closing item was sent before: 3, 1 sent",
+    ),
+    // The token of a sender shows all that was sent.
+    (
+        4,
+        "s0 s1 s2 s3 r finish w r w r w r w r w",
+        "0, 1, 2, 3, 0:0, 3 wait, 1:1, 2 wait, 2:2, 1 wait, 3:3, 0 wait, nothing, 0 wait, 4 sent",
+    ),
+    (4, "finish w r", "0 wait, nothing, 0 sent"),
+];
 
 #[test]
-fn random_steps_are_those_of_a_plain_list(rt: HostRuntime) -> Result<(), Fail> {
-    for capacity in [1, 2, 3, 7, 64] {
-        check_random_steps(&rt, rt.alloc(), capacity)?;
+fn rings_do_what_their_rows_want(rt: HostRuntime) {
+    for (capacity, steps, wanted) in RINGS {
+        let said = said_of(rt.alloc(), *capacity, steps).expect(&rt, "memory, and a token");
+        assert_eq!(rt; said.as_str(), *wanted, "{capacity}: {steps}");
     }
-    Ok(())
-}
-
-// What comes of the ring of an ended sender, and how many items wait after it.
-fn check_ended(rt: &impl Abort, ended: &mut Ended, wanted: Option<(u64, Item)>, waiting: usize) {
-    let received = ended.receive();
-    assert_eq!(rt; (received, ended.waiting()), (wanted, waiting));
-}
-
-#[test]
-fn the_token_of_a_sender_shows_all_that_was_sent(rt: HostRuntime) -> Result<(), Fail> {
-    let mut ends = Ends::new(rt.alloc(), 4)?;
-    for value in 0..4 {
-        check_send(
-            &rt,
-            &mut ends,
-            plain(value),
-            Outcome::Sent(u64::from(value)),
-            "open",
-        );
-    }
-    assert_eq!(rt; ends.receive(), Some((0, plain(0))));
-    let mut ended = ends.finish().expect(&rt, "the receiver is there");
-    assert_eq!(rt; ended.waiting(), 3);
-    for (value, waiting) in [(1, 2), (2, 1), (3, 0)] {
-        let wanted = Some((u64::from(value), plain(value)));
-        check_ended(&rt, &mut ended, wanted, waiting);
-    }
-    check_ended(&rt, &mut ended, None, 0);
-    Ok(())
-}
-
-#[test]
-fn a_token_comes_though_nothing_was_sent(rt: HostRuntime) -> Result<(), Fail> {
-    let (sender, receiver) = ring::<Item>(rt.alloc(), 4)?;
-    assert!(rt; sender.finish().is_some());
-    assert!(rt; !receiver.closed());
-    Ok(())
 }
 
 #[test]
@@ -223,22 +141,93 @@ fn no_token_comes_where_the_receiver_is_gone(rt: HostRuntime) -> Result<(), Fail
     Ok(())
 }
 
-// A refusal says this of itself.
-fn says(rt: &impl Abort, alloc: Global, refused: &impl Display, wanted: &str) -> Result<(), Fail> {
-    assert_eq!(rt; format!(in alloc; "{refused}")?.as_str(), wanted);
+#[test]
+fn want_of_memory_has_a_text(rt: HostRuntime) -> Result<(), Fail> {
+    let full = SendRefused::Full(plain(1));
+    let said = format!(in rt.alloc(); "{}, {full:?}", RingRefused::Memory)?;
+    assert_eq!(rt; said.as_str(), "out of memory, Full(_)");
+    Ok(())
+}
+
+// What a ring of a capacity is to answer: how many items were sent, and how many received.
+#[derive(Clone, Copy)]
+struct Counts {
+    sent: u64,
+    received: u64,
+    capacity: u64,
+}
+
+// The item of a number, which looks random (multiplicative, modulo 2^32).
+fn item_at(number: u64) -> Item {
+    let [a, b, c, d, ..] = number.to_le_bytes();
+    plain(u32::from_le_bytes([a, b, c, d]).wrapping_mul(1_664_525))
+}
+
+impl Counts {
+    fn waiting(&self) -> u64 {
+        self.sent.wrapping_sub(self.received)
+    }
+
+    // Sends the next item. Answers whether all is right: it is refused just where the ring is full.
+    fn send(&mut self, ends: &mut Ends) -> bool {
+        let (number, full) = (self.sent, self.waiting() >= self.capacity);
+        match ends.send(item_at(number)) {
+            Ok(sent) => {
+                self.sent = number.wrapping_add(1);
+                sent == number && !full
+            }
+            Err(SendRefused::Full(item)) => full && item == item_at(number),
+            Err(SendRefused::Closed(_)) => false,
+        }
+    }
+
+    // Receives an item. Answers whether all is right: it is the next one, and none comes just where none waits.
+    fn receive(&mut self, ends: &mut Ends) -> bool {
+        let (number, empty) = (self.received, self.waiting() == 0);
+        match ends.receiver.try_receive() {
+            Some(given) => {
+                self.received = number.wrapping_add(1);
+                given.number == number && given.item == item_at(number) && !empty
+            }
+            None => empty,
+        }
+    }
+
+    // Sends or receives. Answers whether all is right, and as many items wait as are to.
+    fn step(&mut self, ends: &mut Ends, sends: bool) -> bool {
+        let right = if sends {
+            self.send(ends)
+        } else {
+            self.receive(ends)
+        };
+        right && ends.waiting() as u64 == self.waiting()
+    }
+}
+
+// Steps that look random (multiplicative, modulo 2^32) on a ring of this capacity are those of a plain list.
+fn check_random_steps(rt: &impl Abort, alloc: Global, capacity: usize) -> Result<(), RingRefused> {
+    let mut ends = Ends::new(alloc, capacity)?;
+    let mut counts = Counts {
+        sent: 0,
+        received: 0,
+        capacity: capacity as u64,
+    };
+    let mut state = 11u32;
+    for _ in 0..4_000 {
+        state = state.wrapping_mul(1_664_525).wrapping_add(1_013_904_223);
+        assert!(rt;
+            counts.step(&mut ends, state >> 16 & 1 == 1),
+            "of {capacity}"
+        );
+    }
+    assert!(rt; counts.sent > 500 && counts.received > 500, "of {capacity}");
     Ok(())
 }
 
 #[test]
-fn refusals_say_why(rt: HostRuntime) -> Result<(), Fail> {
-    let alloc = rt.alloc();
-    let too_small_or_large = "ring capacity not from 1 to 65536";
-    says(&rt, alloc, &RingRefused::Capacity, too_small_or_large)?;
-    says(&rt, alloc, &RingRefused::Memory, "out of memory")?;
-    let closed = SendRefused::Closed(plain(1));
-    says(&rt, alloc, &closed, "a closing item was sent before")?;
-    let full = SendRefused::Full(plain(1));
-    says(&rt, alloc, &full, "full ring")?;
-    assert_eq!(rt; format!(in alloc; "{full:?}")?.as_str(), "Full(_)");
+fn random_steps_are_those_of_a_plain_list(rt: HostRuntime) -> Result<(), Fail> {
+    for capacity in [1, 2, 3, 7, 64] {
+        check_random_steps(&rt, rt.alloc(), capacity)?;
+    }
     Ok(())
 }
