@@ -3,8 +3,13 @@
 ghost use Rattle.std.specs.Prelude.{◌≡◌, List, [], Option, Some, None, Result, Err, refl};
 ghost use Rattle.rs_mrt.specs.declared.fault.SourceFault.TheVariants.{Read};
 
-use super::*;
+use super::PEER;
+use super::rows::{add_change, add_session};
 use rs_mrt::{Record, Source, SourceFault};
+use rs_session::{Session, Word};
+use std::alloc::{AllocError, Global};
+use std::process::Abort;
+use std::test::*;
 
 // A source whose every read fails.
 #[derive(Drop)]
@@ -36,10 +41,10 @@ impl Source for Unreadable {
 
 #[test]
 fn a_failed_read_closes(rt: HostRuntime) -> Result<(), Fail> {
+    let mut said = String::new(rt.alloc());
     let session = Session::over(rt.alloc(), Unreadable, PEER);
-    let found = read_session(rt.alloc(), session)?;
-    let want = [Given::Close(0, Reason::Read)];
-    assert_found(&rt, &found, &want, 0, &"a failed read");
+    add_session(&mut said, session, None, None)?;
+    assert_eq!(rt; said.trim(), "0 closed: failed read");
     Ok(())
 }
 
@@ -58,52 +63,57 @@ const RECORDED: &[u8] = b"\x00\x00\x00\x64\x00\x10\x00\x04\x00\x00\x00\x27\
     \x08\x14\x08\x02\x08\x04\x08\x06\x08\x08\x08\x0A\x08\x0C\x08\x0E\x08\x03\x08\x01";
 
 // What it says.
-const EXPECTED: [Given; 16] = [
-    Given::Withdraw(101, 0x0500_0000, 8),
-    Given::Withdraw(101, 0x0700_0000, 8),
-    Given::Withdraw(101, 0x0900_0000, 8),
-    Given::Withdraw(101, 0x0B00_0000, 8),
-    Given::Withdraw(101, 0x0D00_0000, 8),
-    Given::Announce(101, 0x1400_0000, 8),
-    Given::Announce(101, 0x0200_0000, 8),
-    Given::Announce(101, 0x0400_0000, 8),
-    Given::Announce(101, 0x0600_0000, 8),
-    Given::Announce(101, 0x0800_0000, 8),
-    Given::Announce(101, 0x0A00_0000, 8),
-    Given::Announce(101, 0x0C00_0000, 8),
-    Given::Announce(101, 0x0E00_0000, 8),
-    Given::Announce(101, 0x0300_0000, 8),
-    Given::Announce(101, 0x0100_0000, 8),
-    Given::Close(0, Reason::EndOfFile),
-];
-
-#[test]
-fn a_recording_says_its_changes(rt: HostRuntime) -> Result<(), Fail> {
-    let found = read(rt.alloc(), RECORDED)?;
-    assert_found(&rt, &found, &EXPECTED, 1, &"the recording");
-    Ok(())
-}
+const CHANGES: &str = "101 -5.0.0.0/8
+101 -7.0.0.0/8
+101 -9.0.0.0/8
+101 -11.0.0.0/8
+101 -13.0.0.0/8
+101 +20.0.0.0/8
+101 +2.0.0.0/8
+101 +4.0.0.0/8
+101 +6.0.0.0/8
+101 +8.0.0.0/8
+101 +10.0.0.0/8
+101 +12.0.0.0/8
+101 +14.0.0.0/8
+101 +3.0.0.0/8
+101 +1.0.0.0/8
+0 closed: end of file";
 
 // The next change of a session, which is asked again where memory was refused; it has then passed over no record.
-fn next_after_refusals<S: Source>(rt: &impl Abort, session: &mut Session<S>) -> Option<Given> {
+fn next_after_refusals<S: Source>(rt: &impl Abort, session: &mut Session<S>) -> Option<Word> {
     for _ in 0..4 {
         let passed = session.passed_over();
-        match next_given(session) {
+        match session.next_word() {
             Ok(change) => return change,
-            Err(AllocError) => assert_eq!(rt; session.passed_over(), passed),
+            Err(AllocError) => assert!(rt; session.passed_over() == passed),
         }
     }
     None
 }
 
-// It holds whichever allocation is refused: the recording takes none, so that all of them are the session's.
-// `tools/refuse_in_tests` refuses each in turn.
+// The line of a change, where there is memory for it.
+fn line_of(alloc: Global, change: &Word) -> Option<String> {
+    let mut line = String::new(alloc);
+    add_change(&mut line, change).ok()?;
+    Some(line)
+}
+
+// The next change of a session is that of the line. Where its text is refused memory, it is some change.
+fn check_next<S: Source>(rt: &impl Abort, alloc: Global, session: &mut Session<S>, line: &str) {
+    let change = next_after_refusals(rt, session).expect(rt, "a change");
+    if let Some(found) = line_of(alloc, &change) {
+        assert_eq!(rt; found.trim(), line);
+    }
+}
+
+// It holds whichever allocation is refused: the recording takes none, so that but those of the texts all are the
+// session's. `tools/refuse_in_tests` refuses each in turn.
 #[test]
 fn refused_memory_loses_nothing(rt: HostRuntime) {
     let mut session = Session::new(rt.alloc(), RECORDED, PEER);
-    for change in &EXPECTED {
-        assert_eq!(rt; next_after_refusals(&rt, &mut session), Some(*change));
+    for line in CHANGES.lines() {
+        check_next(&rt, rt.alloc(), &mut session, line);
     }
-    assert_eq!(rt; next_after_refusals(&rt, &mut session), None);
-    assert_eq!(rt; session.passed_over(), 1);
+    assert!(rt; next_after_refusals(&rt, &mut session).is_none() && session.passed_over() == 1);
 }

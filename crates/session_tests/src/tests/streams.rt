@@ -1,0 +1,179 @@
+//! Readers and writers over memory, with limits and without, and those of std.
+
+use rs_mrt::{
+    Failed, IoReader, IoWriter, Limits, MemoryReader, MemoryWriter, Read, ReadLimits, RecordReader,
+    Source, Write, write_all,
+};
+use std::alloc::{AllocError, Global};
+use std::io;
+use std::sync::atomic::{AtomicUsize, Ordering};
+use std::test::*;
+
+// Appends what a read answers, and the octets into which it reads.
+fn add_read(
+    said: &mut String,
+    answer: Result<usize, Failed>,
+    into: &[u8],
+) -> Result<(), AllocError> {
+    match answer {
+        Ok(count) => write!(said, "{count} {into:?}; "),
+        Err(failed) => write!(said, "{failed} {into:?}; "),
+    }
+}
+
+// What comes of reading seven octets, three at once, of which five come before a read fails, and of reading nothing.
+fn read_seven(said: &mut String) -> Result<(), AllocError> {
+    let limits = ReadLimits {
+        octets_before_failure: Some(5),
+        piece: 3,
+    };
+    let mut reader = MemoryReader::new(&[1, 2, 3, 4, 5, 6, 7], limits);
+    let mut into = [0; 4];
+    add_read(said, reader.read(&mut into), &into)?;
+    add_read(said, reader.read(&mut into), &into)?;
+    add_read(said, reader.read(&mut into), &into)?;
+    add_read(said, reader.read(&mut []), &into)?;
+    add_read(said, reader.read(&mut into), &into)?;
+    let mut ended = MemoryReader::new(&[], ReadLimits::none());
+    add_read(said, ended.read(&mut into), &into)
+}
+
+#[test]
+fn a_reader_over_memory_gives_its_octets_in_pieces(rt: HostRuntime) -> Result<(), Fail> {
+    let mut said = String::new(rt.alloc());
+    read_seven(&mut said)?;
+    assert_eq!(rt;
+        said.trim(),
+        "3 [1, 2, 3, 0]; 2 [4, 5, 3, 0]; the call failed [4, 5, 3, 0]; 0 [4, 5, 3, 0]; 2 [6, 7, 3, 0]; 0 [6, 7, 3, 0];"
+    );
+    Ok(())
+}
+
+// A reader of std whose every call fails.
+#[derive(Drop)]
+struct Broken;
+
+impl io::Read for Broken {
+    fn read(&mut self, _into: &mut [u8]) -> io::Result<usize> {
+        Err(io::Error::from(io::ErrorKind::Interrupted))
+    }
+}
+
+// What comes of reading three octets, two at once, and of a call that fails.
+fn read_three(said: &mut String) -> Result<(), AllocError> {
+    let mut into = [0; 2];
+    let mut reader = IoReader::new([1, 2, 3].as_slice());
+    add_read(said, reader.read(&mut into), &into)?;
+    add_read(said, reader.read(&mut into), &into)?;
+    add_read(said, reader.read(&mut into), &into)?;
+    add_read(said, IoReader::new(Broken).read(&mut into), &into)?;
+    let left = reader.into_inner().len();
+    write!(said, "{left} left")
+}
+
+#[test]
+fn a_reader_of_std_is_a_reader(rt: HostRuntime) -> Result<(), Fail> {
+    let mut said = String::new(rt.alloc());
+    read_three(&mut said)?;
+    assert_eq!(rt;
+        said.as_str(),
+        "2 [1, 2]; 1 [3, 2]; 0 [3, 2]; the call failed [3, 2]; 0 left"
+    );
+    Ok(())
+}
+
+// A reader of std over octets at hand, whose calls are counted.
+#[derive(Drop)]
+struct Counted<'a> {
+    left: &'a [u8],
+    calls: &'a AtomicUsize,
+}
+
+impl<'a> io::Read for Counted<'a> {
+    fn read(&mut self, into: &mut [u8]) -> io::Result<usize> {
+        self.calls.fetch_add(1, Ordering::SeqCst);
+        self.left.read(into)
+    }
+}
+
+// Two records, of 15 and 12 octets.
+const TWO_RECORDS: &[u8] = &[
+    0, 0, 0, 1, 0, 13, 0, 1, 0, 0, 0, 3, 1, 2, 3, 0, 0, 0, 2, 0, 13, 0, 2, 0, 0, 0, 0,
+];
+
+// One more call than the one that gives all tells that the file has ended.
+#[test]
+fn a_file_that_the_buffer_holds_comes_in_one_call(rt: HostRuntime) {
+    let calls = AtomicUsize::new(0);
+    let mut records = RecordReader::new(IoReader::new(Counted {
+        left: TWO_RECORDS,
+        calls: &calls,
+    }));
+    let answers = [records.advance(), records.advance(), records.advance()];
+    assert_eq!(rt; answers, [Ok(true), Ok(true), Ok(false)]);
+    assert_eq!(rt; calls.load(Ordering::SeqCst), 2);
+}
+
+const PIECE: [u8; 40] = [7; 40];
+
+// Writes the piece, and answers whether all of it was taken and how many octets were.
+fn write_piece(alloc: Global, limits: Limits) -> (bool, usize) {
+    let mut out = MemoryWriter::new(alloc, limits);
+    let written = write_all(&mut out, &PIECE);
+    (written.is_ok(), out.octets().len())
+}
+
+// Of a writer: the calls before one fails, the room, how many octets a call takes at most; whether all of 40 octets is
+// taken, and how many are.
+const WRITERS: &[(Option<u64>, usize, usize, bool, usize)] = &[
+    (None, 1000, 1000, true, 40),
+    (None, 40, 40, true, 40),
+    (None, 1000, 1, true, 40),
+    (None, 39, 1000, false, 39),
+    (None, 30, 1000, false, 30),
+    (None, 1000, 0, false, 0),
+    (Some(0), 1000, 1000, false, 0),
+    (Some(1), 1000, 1000, true, 40),
+    (Some(2), 1000, 7, false, 14),
+];
+
+#[test]
+fn all_of_a_piece_is_written_or_a_beginning(rt: HostRuntime) {
+    for (calls_before_failure, room, piece, all, len) in WRITERS {
+        let limits = Limits {
+            calls_before_failure: *calls_before_failure,
+            room: *room,
+            piece: *piece,
+        };
+        let found = write_piece(rt.alloc(), limits);
+        assert_eq!(rt;
+            found,
+            (*all, *len),
+            "{calls_before_failure:?} {room} {piece}"
+        );
+    }
+    assert_eq!(rt; write_piece(rt.alloc(), Limits::none()), (true, 40));
+}
+
+#[test]
+fn a_writer_that_failed_works_again(rt: HostRuntime) {
+    let once = Limits {
+        calls_before_failure: Some(0),
+        ..Limits::none()
+    };
+    let mut out = MemoryWriter::new(rt.alloc(), once);
+    let answers = [out.write(&[1, 2]), out.write(&[3, 4]), out.write(&[])];
+    assert_eq!(rt; answers, [Err(Failed), Ok(2), Ok(0)]);
+    let octets = out.into_octets();
+    assert_eq!(rt; octets.as_slice(), [3, 4].as_slice());
+}
+
+#[test]
+fn a_writer_of_std_is_a_writer(rt: HostRuntime) {
+    let mut space = [0; 42];
+    let mut out = IoWriter::new(space.as_mut_slice());
+    let answers = [write_all(&mut out, &PIECE), write_all(&mut out, &PIECE)];
+    assert_eq!(rt; answers, [Ok(()), Err(Failed)]);
+    let left = out.into_inner().len();
+    assert_eq!(rt; (left, space.last().copied()), (0, Some(7)));
+}
