@@ -22,7 +22,6 @@ module _ {R O W : Type 0} (gives : R → List ℕ → ReadEnd → Type 0)
     (kept : O → Option (List KeptDump)) (refusals : O → ℕ) (taken : W → Option (List ℕ)) (failures : W → ℕ)
     (errors : Errors) (plan : Plan) (time : ℕ) (readers : List R)
     (outlet later_outlet : O) (report later_report : W) where
-
   -- Done: of files that the readers may give, all dumps are kept, and the report is out. Nothing failed.
   pub record Done : Type 0 where
     pub over_files : OverFiles gives errors plan readers (λ files.

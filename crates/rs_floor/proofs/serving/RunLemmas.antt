@@ -117,12 +117,16 @@ module _ {R : Type 0} (gives : R → List ℕ → ReadEnd → Type 0) (errors : 
   run-answers capacity of_shard within law merge once closes (Err Memory) answer refused = within
   run-answers capacity of_shard within law merge once closes (Err Capacity) answer refused = absurd refused
   run-answers capacity of_shard within law merge once closes (Err Shards) answer refused = absurd refused
-  run-answers capacity of_shard within law merge once closes (Err (Read peer)) answer refused =
-      (within,
-      (within-peers gives errors plan readers jobs lines of_shards ends parts whole are closes run peer
-      (omega (arith, slice_get_within (map (λ (end : Joined). is_read end.reason) ends) peer true refused.least.has, length-map ends (λ (end : Joined). is_read end.reason))),
-      fails-first gives errors plan readers jobs lines of_shards ends parts whole are closes run once peer refused))
-  run-answers capacity of_shard within law merge once closes (Err (Unsettled peer)) answer refused =
-      (within,
+  run-answers capacity of_shard within law merge once closes (Err (Read peer)) answer refused = (
+    within,
+    (
       within-peers gives errors plan readers jobs lines of_shards ends parts whole are closes run peer
-      (omega (arith, slice_get_within (map (λ (end : Joined). end.settled) ends) peer false refused.least.has, length-map ends (λ (end : Joined). end.settled))))
+          (omega (arith, slice_get_within (map (λ (end : Joined). is_read end.reason) ends) peer true refused.least.has, length-map ends (λ (end : Joined). is_read end.reason))),
+      fails-first gives errors plan readers jobs lines of_shards ends parts whole are closes run once peer refused,
+    ),
+  )
+  run-answers capacity of_shard within law merge once closes (Err (Unsettled peer)) answer refused = (
+    within,
+    within-peers gives errors plan readers jobs lines of_shards ends parts whole are closes run peer
+        (omega (arith, slice_get_within (map (λ (end : Joined). end.settled) ends) peer false refused.least.has, length-map ends (λ (end : Joined). end.settled))),
+  )

@@ -11,5 +11,7 @@ returns g c =
     let octets : Device (Bor (List ℕ)) → List ℕ = λ r. r.inner.now in
     let fresh : Bor (List ℕ) → Device (Bor (List ℕ)) = λ file. record { inner = file; failures = 0 } in
     let files : map octets c.in_ok-readers.readers.items ≡ map (λ file. file.now) c.args.files.now = ap (map octets) c.in_ok-readers.ensures.files ∙ map-map octets fresh c.args.files.now in
-    record { answer = answer-at-hand octets default_standard c.args.plan.now.value c.in_ok-readers.readers.items (map (λ file. file.now) c.args.files.now) c.args.capacity (c.in_ok-readers.ensures.count ∙ c.requires.as_many) files
-    c.serve_readers.result c.serve_readers.ensures.answer }
+    record {
+      answer = answer-at-hand octets default_standard c.args.plan.now.value c.in_ok-readers.readers.items (map (λ file. file.now) c.args.files.now) c.args.capacity (c.in_ok-readers.ensures.count ∙ c.requires.as_many) files
+          c.serve_readers.result c.serve_readers.ensures.answer;
+    }

@@ -18,6 +18,6 @@ returns-in_err-text g c =
     let W = g.W.Write in
     record {
       answer =
-        keep-stop-answers g.R.Read.gives O.kept O.failures W.taken W.failures c.args.options.now.errors c.args.setup.now.plan.value c.args.options.now.time c.args.readers.items c.args.outlet.now c.keep_and_report.new.outlet c.args.report.now
-        c.in_ok-served.served.tables c.in_ok-served.served.ends c.in_ok-served.ensures.served c.in_err-text.field-0.0 c.from_residual-in_err-text.result c.from_residual-in_err-text.ensures.1 c.in_err-text.ensures.fault;
+          keep-stop-answers g.R.Read.gives O.kept O.failures W.taken W.failures c.args.options.now.errors c.args.setup.now.plan.value c.args.options.now.time c.args.readers.items c.args.outlet.now c.keep_and_report.new.outlet c.args.report.now
+          c.in_ok-served.served.tables c.in_ok-served.served.ends c.in_ok-served.ensures.served c.in_err-text.field-0.0 c.from_residual-in_err-text.result c.from_residual-in_err-text.ensures.1 c.in_err-text.ensures.fault;
     }
