@@ -1,5 +1,5 @@
 -- All sessions closed, and then all shards were sent the last item.
-use Rattle.std.proofs.Common.{subst, arith, ℕ, length, rules}
+use Rattle.std.proofs.Common.{subst, arith, ℕ, length}
 use Rattle.rs_router.specs.Delivery.{sent_lists}
 use Rattle.rs_router.specs.Routing.{AreKnown, received_lists}
 use Rattle.rs_router.proofs.RoutingLemmas.{are_closed, as_many_received, can_send, cuts_last, end_last, known_last, routed_first}
@@ -33,9 +33,3 @@ pub returns-clause-last : goal.returns-clause-last
 returns-clause-last g c =
     end_last (received_lists c.route_until_closed.new.from) (sent_lists c.route_until_closed.new.to) (sent_lists c.send_to_all.new.to)
     c.route_until_closed.ensures.routed c.send_to_all.ensures.sent
-
-pub returns-clause-receivers : goal.returns-clause-receivers
-returns-clause-receivers g c = search rules
-
-pub returns-clause-senders : goal.returns-clause-senders
-returns-clause-senders g c = search rules

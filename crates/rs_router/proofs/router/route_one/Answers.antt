@@ -1,6 +1,5 @@
 -- One change more of a peer.
-use Rattle.std.proofs.Common.{◌≡◌, ◌∙◌, sym, ap, subst, arith, List, Some, get_or, ◌++◌, ◌∷◌, [], rules}
-use Rattle.std.proofs.lemmas.Grind.{common_steps}
+use Rattle.std.proofs.Common.{◌≡◌, ◌∙◌, sym, ap, subst, arith, List, Some, get_or, ◌++◌, ◌∷◌, []}
 use Rattle.std.specs.Prelude.{slice_get, slice_set}
 use Rattle.std.proofs.lemmas.List.{length-map, map-set}
 use Rattle.std.proofs.lemmas.Option.{slice_get-get_or}
@@ -35,15 +34,3 @@ returns-clause-receivers g c =
     let from : List (Receiving Word) = c.args.from.now in
     map-set_same (λ (r : Receiving Word). r.ring) from c.args.peer (get_or from c.args.peer c.index-from-peer.result) c.try_receive.new.self
     (slice_get-get_or from c.args.peer c.index-from-peer.result c.requires.peer) c.try_receive.ensures.same.0
-
-pub returns-clause-senders : goal.returns-clause-senders
-returns-clause-senders g c = search rules
-
-pub returns-in_default-clause-receivers : goal.returns-in_default-clause-receivers
-returns-in_default-clause-receivers g c = grind (arith, common_steps)
-
-pub returns-in_default-clause-routed : goal.returns-in_default-clause-routed
-returns-in_default-clause-routed g c = grind (arith, common_steps)
-
-pub returns-in_default-clause-senders : goal.returns-in_default-clause-senders
-returns-in_default-clause-senders g c = search rules
