@@ -1,250 +1,254 @@
-//! Worked exchanges: the server has AS 64500 and address 192.0.2.1 in 192.0.2.0/24; peers a, b, c and d have
-//! AS 64501 to 64504 and addresses 192.0.2.11 to 192.0.2.14, unless a test says otherwise. Routes are read
-//! from octets.
+//! Worked exchanges as rows of text: who has which routes, what is asked, and what comes.
+//!
+//! A line `exchange` has the server's AS and its subnet, if it has one, and behind each semicolon a peer: its name, AS,
+//! address, BGP Identifier and preference, and the names from which it refuses routes. The server's address is 192.0.2.1.
+//! The rows below it are of that exchange, each with three columns: what is asked and of which case, the routes, the answer.
+//! A route is the name of its peer and words for its attributes, which WORDS spells.
 
-ghost use Rattle.std.specs.Prelude.{◌<◌, ◌↔◌, IsTrue, length};
+ghost use Rattle.std.specs.Prelude.{◌<◌, IfSome, length};
 ghost use Rattle.std.specs.List.{All};
-ghost use Rattle.choice_tests.specs.Alike.{AreAlike};
 ghost use Rattle.rs_choice.specs.Held.{IsJudged};
 
-mod clients;
 mod crowds;
 mod decisions;
-mod eligible_routes;
-mod export_policy;
 mod plans;
+mod routes;
 
-use rs_choice::{Candidacy, Candidate, Exchange, HeldRoute, Local, MAX_PEERS, PeerSpec, PlanFault};
+use rs_choice::{Candidate, Exchange, HeldRoute, Local, MAX_PEERS, PeerSpec, PlanFault};
 use rs_update::{Attributes, Prefix};
-use std::alloc::{AllocError, Global};
-use std::fmt::Debug;
+use std::alloc::Global;
+use std::net::Ipv4Addr;
 use std::process::Abort;
 use std::sync::Arc;
-use std::test::Fail;
 
-const SERVER: u32 = 0xC000_0201;
+// The time at which each route came.
+const TIME: u32 = 100;
 
-const ELSEWHERE: u32 = 0xC633_6401;
+// Four peers whose identifiers ascend, so that of routes alike in all else the first is chosen.
+const FOUR_PEERS: &str =
+    "64500 192.0.2.0/24; a,64501,192.0.2.11,192.0.2.11,100; b,64502,192.0.2.12,192.0.2.12,100; \
+    c,64503,192.0.2.13,192.0.2.13,100; d,64504,192.0.2.14,192.0.2.14,100";
 
-// A peer: its name, AS number, address and identifier, and the names from which it refuses routes.
-#[derive(Clone, Copy)]
-struct Row {
-    name: &'static str,
-    asn: u32,
-    address: u32,
-    id: u32,
-    refuse_from: &'static [&'static str],
+// Path attributes by the words of rows (RFC 4271, section 4.3).
+const WORDS: &str = "
+# ORIGIN (section 5.1.1).
+igp = 40010100
+egp = 40010101
+incomplete = 40010102
+
+# AS_PATH (section 5.1.2), of AS numbers of four octets (RFC 6793); an AS_SET stands in braces.
+no-path = 400200
+64500 = 400206 0201 0000FBF4
+64501 = 400206 0201 0000FBF5
+64501-64500 = 40020A 0202 0000FBF5 0000FBF4
+64501-{64500} = 40020C 0201 0000FBF5 0101 0000FBF4
+64501-65010 = 40020A 0202 0000FBF5 0000FDF2
+64502-65010 = 40020A 0202 0000FBF6 0000FDF2
+64503-65010 = 40020A 0202 0000FBF7 0000FDF2
+64501-65010-65011-65012 = 400212 0204 0000FBF5 0000FDF2 0000FDF3 0000FDF4
+{65010,65011}-65013 = 400210 0102 0000FDF2 0000FDF3 0201 0000FDF5
+{65010,65011,65012}-65013-65014 = 400218 0103 0000FDF2 0000FDF3 0000FDF4 0202 0000FDF5 0000FDF6
+
+# NEXT_HOP (section 5.1.3): of a, of b, of the server, and 198.51.100.1.
+hop-a = 400304 C000020B
+hop-b = 400304 C000020C
+hop-server = 400304 C0000201
+hop-outside = 400304 C6336401
+
+# MULTI_EXIT_DISC (section 5.1.4).
+med-0 = 800404 00000000
+med-1 = 800404 00000001
+med-2 = 800404 00000002
+med-5 = 800404 00000005
+med-10 = 800404 0000000A
+
+# COMMUNITIES (RFC 1997).
+0:64500 = C00804 0000FBF4
+0:64501 = C00804 0000FBF5
+0:64502 = C00804 0000FBF6
+0:64504 = C00804 0000FBF8
+0:64999 = C00804 0000FDE7
+64500:64502 = C00804 FBF4FBF6
+64500:4464 = C00804 FBF41170
+0:64500,64500:64501 = C00808 0000FBF4 FBF4FBF5
+0:64500,64500:64502 = C00808 0000FBF4 FBF4FBF6
+0:64500,64500:64503 = C00808 0000FBF4 FBF4FBF7
+0:64500,64500:4464 = C00808 0000FBF4 FBF41170
+64500:64503,0:64500 = C00808 FBF4FBF7 0000FBF4
+0:64502,64500:64502 = C00808 0000FBF6 FBF4FBF6
+0:64500,64500:64502,64500:64503,64500:64504 = C00810 0000FBF4 FBF4FBF6 FBF4FBF7 FBF4FBF8
+";
+
+// The octets of the attribute that a word stands for, in hexadecimal.
+fn spelled(word: &str) -> Option<&'static str> {
+    for line in WORDS.lines() {
+        if let Some((name, octets)) = line.split_once(" = ") {
+            if name == word {
+                return Some(octets);
+            }
+        }
+    }
+    None
 }
 
-const A: Row = Row {
-    name: "a",
-    asn: 64501,
-    address: 0xC000_020B,
-    id: 0xC000_020B,
-    refuse_from: &[],
-};
+// The attributes that some words stand for.
+fn attributes(alloc: Global, words: &str) -> Option<Attributes> {
+    let mut texts = Vec::new(alloc);
+    for word in words.split_whitespace() {
+        texts.push(spelled(word)?).ok()?;
+    }
+    spelled_in_hex::attributes(alloc, &texts)
+}
 
-const B: Row = Row {
-    name: "b",
-    asn: 64502,
-    address: 0xC000_020C,
-    id: 0xC000_020C,
-    refuse_from: &[],
-};
+// An address, or a BGP Identifier, in host order.
+fn address(text: &str) -> Option<u32> {
+    Some(text.parse::<Ipv4Addr>().ok()?.to_bits())
+}
 
-const C: Row = Row {
-    name: "c",
-    asn: 64503,
-    address: 0xC000_020D,
-    id: 0xC000_020D,
-    refuse_from: &[],
-};
+// A number.
+fn number(text: &str) -> Option<u32> {
+    text.parse::<u32>().ok()
+}
 
-const D: Row = Row {
-    name: "d",
-    asn: 64504,
-    address: 0xC000_020E,
-    id: 0xC000_020E,
-    refuse_from: &[],
-};
-
-// Attributes, spelled (RFC 4271, section 4.3).
-const IGP: &str = "40010100";
-
-const EGP: &str = "40010101";
-
-const INCOMPLETE: &str = "40010102";
-
-const PATH_64501: &str = "400206 0201 0000FBF5";
-
-const PATH_64501_65010: &str = "40020A 0202 0000FBF5 0000FDF2";
-
-const PATH_64502_65010: &str = "40020A 0202 0000FBF6 0000FDF2";
-
-const PATH_64503_65010: &str = "40020A 0202 0000FBF7 0000FDF2";
-
-const NEXT_HOP_A: &str = "400304 C000020B";
-
-const MED_5: &str = "800404 00000005";
-
-const MED_10: &str = "800404 0000000A";
-
-// A route by its peer's number, and its attributes, spelled.
-type Sent = (usize, &'static [&'static str]);
-
-const MED_10_OF_A: Sent = (0, &[IGP, PATH_64501_65010, NEXT_HOP_A, MED_10]);
-
-const MED_5_OF_B: Sent = (1, &[IGP, PATH_64501_65010, NEXT_HOP_A, MED_5]);
-
-const OTHER_AS_OF_C: Sent = (2, &[IGP, PATH_64502_65010, NEXT_HOP_A]);
-
-// Of AS 64501 and 64501, with a lower identifier and a higher one than that of AS 64502 (c); d is another client.
-const TWO_OF_ONE_AS: &[Row] = &[
-    Row { id: 1, ..A },
-    Row {
-        asn: 64501,
-        id: 9,
-        ..B
-    },
-    Row {
-        asn: 64502,
-        id: 5,
-        ..C
-    },
-    D,
-];
-
-// The server, with the subnet or without.
-fn server(subnet: bool) -> Local {
-    Local {
-        asn: 64500,
-        address: SERVER,
-        id: SERVER,
-        subnet: if subnet {
-            Prefix::new(0xC000_0200, 24)
-        } else {
-            None
+// The server of an AS, with the subnet 192.0.2.0/24 where one is given.
+fn server(text: &str) -> Option<Local> {
+    let mut words = text.split_whitespace();
+    Some(Local {
+        asn: number(words.next()?)?,
+        address: 0xC000_0201,
+        id: 0xC000_0201,
+        subnet: match words.next() {
+            Some(_) => Prefix::new(0xC000_0200, 24),
+            None => None,
         },
-    }
-}
-
-fn names(alloc: Global, texts: &[&str]) -> Result<Vec<String>, AllocError> {
-    let mut names = Vec::new(alloc);
-    for text in texts {
-        names.push(String::from_str(alloc, text)?)?;
-    }
-    Ok(names)
-}
-
-fn peer(alloc: Global, row: &Row) -> Result<PeerSpec, AllocError> {
-    Ok(PeerSpec {
-        name: String::from_str(alloc, row.name)?,
-        asn: row.asn,
-        address: row.address,
-        id: row.id,
-        preference: 100,
-        refuse_from: names(alloc, row.refuse_from)?,
     })
 }
 
-fn peers(alloc: Global, rows: &[Row]) -> Result<Vec<PeerSpec>, AllocError> {
+// The names that stand behind each other.
+fn names(alloc: Global, text: &str) -> Option<Vec<String>> {
+    let mut names = Vec::new(alloc);
+    for name in text.split_whitespace() {
+        names.push(String::from_str(alloc, name).ok()?).ok()?;
+    }
+    Some(names)
+}
+
+// A peer by its columns.
+fn peer(alloc: Global, text: &str) -> Option<PeerSpec> {
+    let mut columns = text.trim().split(',');
+    let name = columns.next()?;
+    let asn = number(columns.next()?)?;
+    let at = address(columns.next()?)?;
+    let id = address(columns.next()?)?;
+    let preference = number(columns.next()?)?;
+    let refused = columns.next().unwrap_or("");
+    Some(PeerSpec {
+        name: String::from_str(alloc, name).ok()?,
+        asn,
+        address: at,
+        id,
+        preference,
+        refuse_from: names(alloc, refused)?,
+    })
+}
+
+// The server and the peers that a text describes.
+fn plan(alloc: Global, text: &str) -> Option<(Local, Vec<PeerSpec>)> {
+    let mut parts = text.split(';');
+    let server = server(parts.next()?)?;
     let mut peers = Vec::new(alloc);
-    for row in rows {
-        peers.push(peer(alloc, row)?)?;
+    for part in parts {
+        peers.push(peer(alloc, part)?).ok()?;
     }
-    Ok(peers)
+    Some((server, peers))
 }
 
-// The exchange of the server and these peers.
-fn exchange(alloc: Global, subnet: bool, rows: &[Row]) -> Result<Exchange, Fail> {
-    Ok(Exchange::new(alloc, server(subnet), peers(alloc, rows)?)?)
+// The exchange that a text describes, or the fault of its plan.
+fn exchange(alloc: Global, text: &str) -> Option<Result<Exchange, PlanFault>> {
+    let (server, peers) = plan(alloc, text)?;
+    Some(Exchange::new(alloc, server, peers))
 }
 
-// The attributes of a route.
-fn attributes(alloc: Global, texts: &[&str]) -> Result<Attributes, Fail> {
-    Ok(spelled_in_hex::attributes(alloc, texts).ok_or("no attributes of a route")?)
-}
-
-// What was found is what was wanted. It stands alone, since an assertion takes long to prove where routes are held.
-fn check<T: Debug + PartialEq, W: Debug>(rt: &impl Abort, found: &T, wanted: &T, what: &W) {
-    assert_eq!(rt; found, wanted, "{what:?}");
-}
-
-// Whether all candidates are of peers of the exchange.
-fn are_known(exchange: &Exchange, candidates: &[Candidate]) -> bool
-    ensures { IsTrue result ↔ All (λ candidate. candidate.peer < length exchange.now.peers) candidates.now }
+// The number of the peer of a name.
+fn peer_of(exchange: &Exchange, name: &str) -> Option<usize>
+    ensures { IfSome result (λ peer. peer < length exchange.now.peers) }
 {
-    let count = exchange.count();
-    candidates.iter().all(|candidate| candidate.peer < count)
-}
-
-// The place of the choice, by both bodies.
-fn choice(rt: &impl Abort, exchange: &Exchange, candidates: &[Candidate]) -> Option<usize> {
-    assert!(rt; are_known(exchange, candidates));
-    assert!(rt; candidates.len() <= MAX_PEERS);
-    let place = exchange.choose(candidates);
-    assert_eq!(rt; exchange.choose_by_groups(candidates), place);
-    place
-}
-
-fn is_eligible(rt: &impl Abort, exchange: &Exchange, peer: usize, attributes: &Attributes) -> bool {
-    assert!(rt; peer < exchange.count());
-    exchange.eligible(peer, attributes)
-}
-
-fn is_permitted(
-    rt: &impl Abort,
-    exchange: &Exchange,
-    client: usize,
-    peer: usize,
-    attributes: &Attributes,
-) -> bool {
-    let count = exchange.count();
-    assert!(rt; client < count);
-    assert!(rt; peer < count);
-    exchange.permits(client, peer, attributes)
-}
-
-// Whether two routes of one peer are held with the same.
-fn are_alike(one: &HeldRoute, other: &HeldRoute) -> bool
-    ensures { IsTrue result → AreAlike one.now other.now }
-{
-    one.candidacy == other.candidacy && one.path_length == other.path_length
-}
-
-// Whether what is held of a route is what is held of its attributes.
-fn is_judged(exchange: &Exchange, held: &HeldRoute) -> bool
-    ensures { IsTrue result → IsJudged exchange.now held.now }
-{
-    let peer = usize::from(held.peer);
-    if peer >= exchange.count() {
-        return false;
+    for peer in 0..exchange.count() {
+        if exchange.peer(peer).name.as_str() == name {
+            return Some(peer);
+        }
     }
-    let Ok(attributes) = Arc::clone(&held.attributes) else {
-        return false;
+    None
+}
+
+// A route as it is held.
+fn hold(alloc: Global, exchange: &Exchange, text: &str) -> Option<HeldRoute>
+    ensures { IfSome result (IsJudged exchange.now) }
+{
+    let (name, words) = text.trim().split_once(' ')?;
+    let peer = peer_of(exchange, name)?;
+    let attributes = Arc::new(alloc, attributes(alloc, words)?).ok()?;
+    Some(exchange.hold(peer, TIME, attributes))
+}
+
+// The routes of a row as they are held, in their order.
+fn hold_all(alloc: Global, exchange: &Exchange, text: &str) -> Option<Vec<HeldRoute>>
+    ensures { IfSome result (λ all. All (IsJudged exchange.now) all.items) }
+{
+    let mut all = Vec::new(alloc);
+    for route in text.split(';') {
+        if !route.trim().is_empty() {
+            all.push(hold(alloc, exchange, route)?).ok()?;
+        }
+    }
+    Some(all)
+}
+
+// What was found is what was wanted. It stands alone, since an assertion takes long to prove.
+fn check(rt: &impl Abort, found: &Option<String>, wanted: &str, row: &str) {
+    assert_eq!(rt; found.as_deref(), Some(wanted), "{row}");
+}
+
+// The columns of a row: what is asked, of which routes, and what comes.
+fn columns(row: &str) -> Option<(&str, &str, &str)> {
+    let (asked, rest) = row.split_once('|')?;
+    let (routes, wanted) = rest.split_once('|')?;
+    Some((asked.split_once(':')?.0, routes.trim(), wanted.trim()))
+}
+
+// A row has its answer in an exchange.
+fn check_row(rt: &impl Abort, alloc: Global, plan: &str, row: &str) {
+    let (asked, routes, wanted) = columns(row).unwrap_or(("", "", "three columns"));
+    let found = match asked {
+        "fault" => plans::fault_of(alloc, routes),
+        _ => answer(rt, alloc, plan, asked, routes),
     };
-    let again = exchange.hold(peer, held.time, attributes);
-    are_alike(held, &again)
+    check(rt, &found, wanted, row);
 }
 
-// Whether what is held of all routes is true of them.
-fn are_judged(exchange: &Exchange, held: &[HeldRoute]) -> bool
-    ensures { IsTrue result → All (IsJudged exchange.now) held.now }
-{
-    held.iter().all(|held| is_judged(exchange, held))
+// What comes of routes in an exchange.
+fn answer(rt: &impl Abort, alloc: Global, plan: &str, asked: &str, routes: &str) -> Option<String> {
+    let exchange = exchange(alloc, plan)?.ok()?;
+    let held = hold_all(alloc, &exchange, routes)?;
+    match asked {
+        "chosen" => decisions::chosen(rt, alloc, &exchange, &held),
+        "bests" => decisions::shown_bests(rt, alloc, &exchange, &held),
+        "held" => routes::shown(alloc, &exchange, held.first()?),
+        "eligible" => routes::shown_eligible(alloc, &exchange, held.first()?),
+        "exported" => routes::shown_clients(alloc, &exchange, held.first()?),
+        "plan" => plans::shown(alloc, &exchange),
+        _ => None,
+    }
 }
 
-// For each client the number of the peer whose route it gets, or its own number where it gets none.
-fn bests(
-    rt: &impl Abort,
-    alloc: Global,
-    exchange: &Exchange,
-    held: &[HeldRoute],
-) -> Result<Vec<u8>, Fail> {
-    let mut bests = vec![in alloc; 0u8; exchange.count()]?;
-    assert!(rt; are_judged(exchange, held));
-    assert!(rt; held.len() <= MAX_PEERS);
-    assert_eq!(rt; bests.len(), exchange.count());
-    exchange.choose_for_all(held, &mut bests);
-    Ok(bests)
+// Each row of a text has its answer.
+fn check_rows(rt: &impl Abort, alloc: Global, rows: &str) {
+    let mut plan = "";
+    for line in rows.lines() {
+        if let Some(text) = line.strip_prefix("exchange ") {
+            plan = text;
+        } else if !line.is_empty() && !line.starts_with('#') {
+            check_row(rt, alloc, plan, line);
+        }
+    }
 }

@@ -1,74 +1,78 @@
-//! Routes on one prefix, their attributes read from octets, in hexadecimal, and why each client has each of
-//! them or not.
+//! Explanations as rows of text: who has which routes on one prefix, and why each client has each of them or not.
+//!
+//! A line `exchange` has the server's AS and its subnet, and behind each semicolon a peer: its name, AS, address, BGP
+//! Identifier and preference, and the names from which it refuses routes. The server's address is 192.0.2.1. The rows
+//! below it are of that exchange, each with three columns: what is asked and of which case, the routes on 203.0.113.0/24,
+//! and behind each semicolon a client, a peer, and what the client is told of the peer's route. A route is the name of its
+//! peer and words for its attributes, which WORDS spells.
+
+ghost use Rattle.std.specs.Prelude.{◌<◌, IfSome, length};
 
 mod last_said;
 mod reasons;
-mod steps;
 
-use rs_choice::{Exchange, Local, PeerSpec, Step};
-use rs_explain::{Condition, Explanation, Refusal, explain};
+use rs_choice::{Exchange, Local, PeerSpec};
+use rs_explain::{Explanation, explain};
 use rs_session::{Body, Word};
 use rs_table::{Tables, Why};
 use rs_update::{Attributes, Prefix};
 use std::alloc::Global;
+use std::fmt::Write;
+use std::net::Ipv4Addr;
 use std::process::Abort;
 use std::sync::Arc;
 
-// The peers by their numbers.
-const A: usize = 0;
+// Path attributes by the words of rows (RFC 4271, section 4.3).
+const WORDS: &str = "
+# ORIGIN (section 5.1.1).
+igp = 40010100
+egp = 40010101
+incomplete = 40010102
 
-const B: usize = 1;
+# AS_PATH (section 5.1.2), of AS numbers of four octets (RFC 6793); an AS_SET stands in braces.
+64501 = 400206 0201 0000FBF5
+64503 = 400206 0201 0000FBF7
+64501-64500 = 40020A 0202 0000FBF5 0000FBF4
+64501-{64500} = 40020C 0201 0000FBF5 0101 0000FBF4
+64501-65010 = 40020A 0202 0000FBF5 0000FDF2
 
-const C: usize = 2;
+# NEXT_HOP (section 5.1.3): of a, of the server, and 198.51.100.1.
+hop-a = 400304 C000020B
+hop-server = 400304 C0000201
+hop-outside = 400304 C6336401
 
-const D: usize = 3;
+# MULTI_EXIT_DISC (section 5.1.4).
+med-5 = 800404 00000005
+med-10 = 800404 0000000A
 
-// A peer by its name, AS number, identifier, preference, and the peers whose routes it refuses. Its address is
-// 192.0.2.11 and on, by its number.
-#[derive(Clone, Copy)]
-struct Row {
-    name: &'static str,
-    asn: u32,
-    id: u32,
-    preference: u32,
-    refused: &'static [&'static str],
+# COMMUNITIES (RFC 1997).
+0:64500 = C00804 0000FBF4
+0:64502 = C00804 0000FBF6
+0:64503 = C00804 0000FBF7
+0:64500,0:64502 = C00808 0000FBF4 0000FBF6
+0:64500,64500:64502 = C00808 0000FBF4 FBF4FBF6
+0:64502,64500:64502 = C00808 0000FBF6 FBF4FBF6
+";
+
+// The octets of the attribute that a word stands for, in hexadecimal.
+fn spelled(word: &str) -> Option<&'static str> {
+    for line in WORDS.lines() {
+        if let Some((name, octets)) = line.split_once(" = ") {
+            if name == word {
+                return Some(octets);
+            }
+        }
+    }
+    None
 }
 
-// Four peers, all preferred alike, of which none refuses another.
-const FOUR: [Row; 4] = [
-    Row {
-        name: "a",
-        asn: 64501,
-        id: 11,
-        preference: 100,
-        refused: &[],
-    },
-    Row {
-        name: "b",
-        asn: 64502,
-        id: 12,
-        preference: 100,
-        refused: &[],
-    },
-    Row {
-        name: "c",
-        asn: 64503,
-        id: 13,
-        preference: 100,
-        refused: &[],
-    },
-    Row {
-        name: "d",
-        asn: 64504,
-        id: 14,
-        preference: 100,
-        refused: &[],
-    },
-];
-
-// The attributes of a route.
-fn attributes(alloc: Global, text: &str) -> Option<Arc<Attributes>> {
-    Arc::new(alloc, spelled_in_hex::attributes(alloc, &[text])?).ok()
+// The attributes that some words stand for.
+fn attributes(alloc: Global, words: &str) -> Option<Arc<Attributes>> {
+    let mut texts = Vec::new(alloc);
+    for word in words.split_whitespace() {
+        texts.push(spelled(word)?).ok()?;
+    }
+    Arc::new(alloc, spelled_in_hex::attributes(alloc, &texts)?).ok()
 }
 
 // 203.0.113.0/24.
@@ -81,98 +85,118 @@ fn subnet() -> Option<Prefix> {
     Prefix::new(0xC000_0200, 24)
 }
 
-// The tables of an exchange of AS 64500 at 192.0.2.1 with these peers, before any change.
-fn tables(alloc: Global, rows: &[Row]) -> Option<Tables> {
+// An address, or a BGP Identifier, in host order.
+fn address(text: &str) -> Option<u32> {
+    Some(text.parse::<Ipv4Addr>().ok()?.to_bits())
+}
+
+// The names that stand behind each other.
+fn names(alloc: Global, text: &str) -> Option<Vec<String>> {
+    let mut names = Vec::new(alloc);
+    for name in text.split_whitespace() {
+        names.push(String::from_str(alloc, name).ok()?).ok()?;
+    }
+    Some(names)
+}
+
+// A peer by its columns.
+fn peer(alloc: Global, text: &str) -> Option<PeerSpec> {
+    let mut columns = text.trim().split(',');
+    let name = columns.next()?;
+    let asn = columns.next()?.parse::<u32>().ok()?;
+    let at = address(columns.next()?)?;
+    let id = address(columns.next()?)?;
+    let preference = columns.next()?.parse::<u32>().ok()?;
+    let refused = columns.next().unwrap_or("");
+    Some(PeerSpec {
+        name: String::from_str(alloc, name).ok()?,
+        asn,
+        address: at,
+        id,
+        preference,
+        refuse_from: names(alloc, refused)?,
+    })
+}
+
+// The tables of the exchange that a text describes, before any change.
+fn tables(alloc: Global, text: &str) -> Option<Tables> {
+    let (_, rest) = text.split_once(';')?;
+    let mut peers = Vec::new(alloc);
+    for part in rest.split(';') {
+        peers.push(peer(alloc, part)?).ok()?;
+    }
     let local = Local {
         asn: 64500,
         address: 0xC000_0201,
         id: 0xC000_0201,
         subnet: subnet(),
     };
-    let exchange = Exchange::new(alloc, local, peers_of(alloc, rows)?).ok()?;
+    let exchange = Exchange::new(alloc, local, peers).ok()?;
     Tables::new(alloc, Arc::new(alloc, exchange).ok()?).ok()
 }
 
-// Peers by their rows.
-fn peers_of(alloc: Global, rows: &[Row]) -> Option<Vec<PeerSpec>> {
-    let mut peers = Vec::new(alloc);
-    let mut address = 0xC000_020B_u32;
-    for row in rows {
-        peers.push(peer_of(alloc, row, address)?).ok()?;
-        address = address.wrapping_add(1);
+// The number of the peer of a name.
+fn peer_of(tables: &Tables, name: &str) -> Option<usize>
+    ensures { IfSome result (λ peer. peer < length tables.now.plan.peers) }
+{
+    for peer in 0..tables.plan().count() {
+        if tables.plan().peer(peer).name.as_str() == name {
+            return Some(peer);
+        }
     }
-    Some(peers)
+    None
 }
 
-// A peer of an address.
-fn peer_of(alloc: Global, row: &Row, address: u32) -> Option<PeerSpec> {
-    Some(PeerSpec {
-        name: String::from_str(alloc, row.name).ok()?,
-        asn: row.asn,
-        address,
-        id: row.id,
-        preference: row.preference,
-        refuse_from: names(alloc, row.refused)?,
-    })
-}
-
-// Names of peers.
-fn names(alloc: Global, texts: &[&str]) -> Option<Vec<String>> {
-    let mut names = Vec::new(alloc);
-    for text in texts {
-        names.push(String::from_str(alloc, text).ok()?).ok()?;
+// Takes the announcement of 203.0.113.0/24 by a peer, at 100.
+fn announce(alloc: Global, tables: &mut Tables, route: &str) -> Option<()> {
+    let (name, words) = route.trim().split_once(' ')?;
+    let peer = peer_of(tables, name)?;
+    if tables.is_closed(peer) {
+        return None;
     }
-    Some(names)
+    let body = Body::Announce(documentation()?, attributes(alloc, words)?);
+    tables.apply(peer, Word { time: 100, body }).ok()
 }
 
-// Takes the announcement of 203.0.113.0/24 by a peer, at 100, with these attributes.
-fn announce(rt: &impl Abort, alloc: Global, tables: &mut Tables, peer: usize, route: &str) {
-    let prefix = documentation().expect(rt, "a prefix");
-    let attributes = attributes(alloc, route).expect(rt, "attributes");
-    let word = Word {
-        time: 100,
-        body: Body::Announce(prefix, attributes),
+// The tables after the announcements of some routes.
+fn announced(alloc: Global, exchange: &str, routes: &str) -> Option<Tables> {
+    let mut tables = tables(alloc, exchange)?;
+    for route in routes.split(';') {
+        if !route.trim().is_empty() {
+            announce(alloc, &mut tables, route)?;
+        }
+    }
+    Some(tables)
+}
+
+// The columns of a row: what is asked, of which case, what is given, and what comes.
+fn columns(row: &str) -> Option<(&str, &str, &str, &str)> {
+    let (head, rest) = row.split_once('|')?;
+    let (asked, case) = head.split_once(':')?;
+    let (given, wanted) = rest.split_once('|')?;
+    Some((asked, case.trim(), given.trim(), wanted.trim()))
+}
+
+// A row has its answer in an exchange.
+fn check_row(rt: &impl Abort, alloc: Global, exchange: &str, row: &str) {
+    let (asked, case, given, wanted) = columns(row).unwrap_or(("", "", "", "columns"));
+    let found = match asked {
+        "told" => reasons::told(alloc, exchange, given, wanted),
+        "said" => last_said::last_said(alloc, given),
+        "taken" => last_said::taken(alloc, case, given),
+        _ => None,
     };
-    assert!(rt; peer < tables.count() && !tables.is_closed(peer));
-    assert!(rt; tables.apply(peer, word).is_ok());
+    assert_eq!(rt; found.as_deref(), Some(wanted), "{row}");
 }
 
-// Why a client has a peer's route on 203.0.113.0/24, or not; `why` says the same.
-fn explained(
-    rt: &impl Abort,
-    alloc: Global,
-    tables: &Tables,
-    client: usize,
-    peer: usize,
-) -> Explanation {
-    assert!(rt; client < tables.count() && peer < tables.count());
-    let prefix = documentation().expect(rt, "a prefix");
-    let explanation = explain(alloc, tables, client, peer, prefix).expect(rt, "an explanation");
-    assert_eq!(rt; tables.why(client, peer, prefix), answer(&explanation));
-    explanation
-}
-
-// A client is told this of a peer's route on 203.0.113.0/24.
-fn check_explained(
-    rt: &impl Abort,
-    alloc: Global,
-    tables: &Tables,
-    (client, peer): (usize, usize),
-    wanted: Explanation,
-    what: &str,
-) {
-    let explanation = explained(rt, alloc, tables, client, peer);
-    assert_eq!(rt; explanation, wanted, "{what}");
-}
-
-// The answer that is explained.
-fn answer(explanation: &Explanation) -> Why {
-    match explanation {
-        Explanation::Own => Why::Own,
-        Explanation::Absent => Why::Absent,
-        Explanation::Ineligible(_) => Why::Ineligible,
-        Explanation::Refused(_) => Why::Refused,
-        Explanation::Best(_) => Why::Best,
-        Explanation::Lost(_) => Why::Lost,
+// Each row of a text has its answer.
+fn check_rows(rt: &impl Abort, alloc: Global, rows: &str) {
+    let mut exchange = "";
+    for line in rows.lines() {
+        if let Some(text) = line.strip_prefix("exchange ") {
+            exchange = text;
+        } else if !line.is_empty() && !line.starts_with('#') {
+            check_row(rt, alloc, exchange, line);
+        }
     }
 }

@@ -1,219 +1,257 @@
-//! Exchanges whose routes are read from octets, in hexadecimal: which route each client gets, why, and how
-//! its table is dumped.
+//! Exchanges as rows of text: what peers announce and withdraw, and what each client gets of it, why, and how its table
+//! is dumped.
+//!
+//! A line `exchange` has the server's AS and its subnet, if it has one, and behind each semicolon a peer: its name, AS,
+//! address and BGP Identifier, and the names from which it refuses routes. The server's address is 192.0.2.1. A line
+//! `after` has changes, each with the name of its peer, its time and what it says: a prefix and words for the attributes
+//! of its route, which WORDS spells; `withdraw` and a prefix; that the session is lost; or why it closes. The rows below
+//! both are of that exchange after these changes: a question and its answer.
 
-mod closed_sessions;
-mod decisions;
+ghost use Rattle.std.specs.Prelude.{◌<◌, IfSome, length};
+
 mod dumps;
-mod eligible_routes;
 mod kept;
-mod listings;
-mod merged_parts;
 mod random_changes;
 mod refusals;
 mod side_by_side;
 mod slow_reading;
-mod worked_exchanges;
+mod tables;
 mod writers;
 
 use rs_choice::{Exchange, Local, PeerSpec};
 use rs_session::{Body, Reason, Word};
-use rs_table::{Tables, Why};
-use rs_update::{Attributes, Origin, Prefix};
-use spelled_in_hex::octets;
-use std::alloc::Global;
+use rs_table::Tables;
+use rs_update::{Attributes, Prefix};
+use std::alloc::{AllocError, Global};
+use std::fmt::Write;
+use std::net::Ipv4Addr;
 use std::process::Abort;
 use std::sync::Arc;
+use std::thread::Threads;
 
 // The peers by their numbers.
 const A: usize = 0;
 
 const B: usize = 1;
 
-const C: usize = 2;
+const TWO_PEERS: &str =
+    "64500 192.0.2.0/24; a,64501,192.0.2.11,192.0.2.11; b,64502,192.0.2.12,192.0.2.12";
 
-const D: usize = 3;
+const FOUR_PEERS: &str =
+    "64500 192.0.2.0/24; a,64501,192.0.2.11,192.0.2.11; b,64502,192.0.2.12,192.0.2.12; \
+    c,64503,192.0.2.13,192.0.2.13; d,64504,192.0.2.14,192.0.2.14";
 
-// The attributes of routes: ORIGIN IGP, AS_PATH, NEXT_HOP (RFC 4271, section 4.3). The paths are 64501, ..
-const VIA_64501: &str = "40010100 4002060201 0000FBF5 400304C000020B";
+// Path attributes by the words of rows (RFC 4271, section 4.3).
+const WORDS: &str = "
+# ORIGIN (section 5.1.1), AS_PATH (section 5.1.2), of AS numbers of four octets (RFC 6793).
+64501 = 40010100 4002060201 0000FBF5
+64502 = 40010100 4002060201 0000FBF6
+64501-64500 = 40010100 40020A0202 0000FBF5 0000FBF4
+64501-65010 = 40010100 40020A0202 0000FBF5 0000FDF2
+64502-65010 = 40010100 40020A0202 0000FBF6 0000FDF2
+64503-65010 = 40010100 40020A0202 0000FBF7 0000FDF2
 
-// .. 64501 64500, which holds the server's AS, ..
-const VIA_THE_SERVER: &str = "40010100 40020A0202 0000FBF5 0000FBF4 400304C000020B";
+# NEXT_HOP (section 5.1.3): of a, of c, of the server, of no peer but in the subnet, and 198.51.100.1.
+hop-a = 400304 C000020B
+hop-c = 400304 C000020D
+hop-server = 400304 C0000201
+hop-other = 400304 C0000214
+hop-outside = 400304 C6336401
 
-// .. 64502 65010 and 64503 65010.
-const VIA_64502: &str = "40010100 40020A0202 0000FBF6 0000FDF2 400304C000020B";
+# MULTI_EXIT_DISC (section 5.1.4).
+med-5 = 800404 00000005
+med-7 = 800404 00000007
+med-10 = 800404 0000000A
 
-const VIA_64503: &str = "40010100 40020A0202 0000FBF7 0000FDF2 400304C000020B";
+# LOCAL_PREF (section 5.1.5), and a transitive attribute of type 32 (RFC 8092) without the bit Partial.
+preference-200 = 400504 000000C8
+large-65000:1:2 = C0200C 0000FDE8 00000001 00000002
 
-// The path 64501 65010 with a MED of 10 and of 5.
-const MED_10: &str = "40010100 40020A0202 0000FBF5 0000FDF2 400304C000020B 800404 0000000A";
+# COMMUNITIES (RFC 1997).
+0:64500 = C00804 0000FBF4
+0:64502 = C00804 0000FBF6
+64500:64502,65000:1 = C00808 FBF4FBF6 FDE80001
+0:64500,64500:64501,64500:64503 = C0080C 0000FBF4 FBF4FBF5 FBF4FBF7
+0:64500,64500:64757,0:64501 = C0080C 0000FBF4 FBF4FCF5 0000FBF5
+";
 
-const MED_5: &str = "40010100 40020A0202 0000FBF5 0000FDF2 400304C000020B 800404 00000005";
-
-// The path 64501 with a community (RFC 1997): not to AS 64502, and to nobody.
-const NOT_TO_64502: &str = "40010100 4002060201 0000FBF5 400304C000020B C00804 0000FBF6";
-
-const TO_NOBODY: &str = "40010100 4002060201 0000FBF5 400304C000020B C00804 0000FBF4";
-
-// The path 64501 with other next hops: the server, an address in the subnet of no peer, and one outside it.
-const BY_THE_SERVER: &str = "40010100 4002060201 0000FBF5 400304C0000201";
-
-const BY_ANOTHER: &str = "40010100 4002060201 0000FBF5 400304C0000214";
-
-const BY_AN_OUTSIDER: &str = "40010100 4002060201 0000FBF5 400304C6336401";
-
-// A peer of an exchange by its name, AS number, address, identifier, and a peer whose routes it refuses or none.
-type Peer<'a> = (&'a str, u32, u32, u32, &'a str);
-
-type Peers<'a> = &'a [Peer<'a>];
-
-// Four peers of AS 64501 and on, at 192.0.2.11 and on.
-const FOUR_PEERS: Peers<'static> = &[
-    ("a", 64501, 0xC000_020B, 0xC000_020B, ""),
-    ("b", 64502, 0xC000_020C, 0xC000_020C, ""),
-    ("c", 64503, 0xC000_020D, 0xC000_020D, ""),
-    ("d", 64504, 0xC000_020E, 0xC000_020E, ""),
-];
-
-// The first of them.
-fn first_peers(count: usize) -> Peers<'static> {
-    FOUR_PEERS.get(..count).unwrap_or(&[])
+// The octets of the attributes that a word stands for, in hexadecimal.
+fn spelled(word: &str) -> Option<&'static str> {
+    for line in WORDS.lines() {
+        if let Some((name, octets)) = line.split_once(" = ") {
+            if name == word {
+                return Some(octets);
+            }
+        }
+    }
+    None
 }
 
-// The attributes of a route.
-fn attributes(alloc: Global, text: &str) -> Option<Arc<Attributes>> {
-    Arc::new(alloc, spelled_in_hex::attributes(alloc, &[text])?).ok()
+// An address, or a BGP Identifier, in host order.
+fn address(text: &str) -> Option<u32> {
+    Some(text.parse::<Ipv4Addr>().ok()?.to_bits())
 }
 
-// 203.0.113.0/24.
-fn documentation() -> Option<Prefix> {
-    Prefix::new(0xCB00_7100, 24)
+// A prefix.
+fn prefix(text: &str) -> Option<Prefix> {
+    let (front, len) = text.split_once('/')?;
+    Prefix::new(address(front)?, len.parse::<u8>().ok()?)
 }
 
-// 10.0.0.0/8.
-fn ten() -> Option<Prefix> {
-    Prefix::new(0x0A00_0000, 8)
+// The names that stand behind each other.
+fn names(alloc: Global, text: &str) -> Option<Vec<String>> {
+    let mut names = Vec::new(alloc);
+    for name in text.split_whitespace() {
+        names.push(String::from_str(alloc, name).ok()?).ok()?;
+    }
+    Some(names)
 }
 
-// 192.0.2.0/24, in which the peers are.
-fn subnet() -> Option<Prefix> {
-    Prefix::new(0xC000_0200, 24)
+// A peer by its columns, preferred as all others.
+fn peer(alloc: Global, text: &str) -> Option<PeerSpec> {
+    let mut columns = text.trim().split(',');
+    let name = columns.next()?;
+    let asn = columns.next()?.parse::<u32>().ok()?;
+    let at = address(columns.next()?)?;
+    let id = address(columns.next()?)?;
+    let refused = columns.next().unwrap_or("");
+    Some(PeerSpec {
+        name: String::from_str(alloc, name).ok()?,
+        asn,
+        address: at,
+        id,
+        preference: 100,
+        refuse_from: names(alloc, refused)?,
+    })
 }
 
-// The exchange of AS 64500 at 192.0.2.1 with these peers.
-fn exchange(alloc: Global, subnet: Option<Prefix>, rows: Peers) -> Option<Arc<Exchange>> {
+// The subnet that stands behind the server's AS, if one does.
+fn subnet(server: &str) -> Option<Prefix> {
+    prefix(server.split_once(' ')?.1)
+}
+
+// The exchange that a text describes.
+fn exchange(alloc: Global, text: &str) -> Option<Arc<Exchange>> {
+    let (server, rest) = text.split_once(';')?;
     let mut peers = Vec::new(alloc);
-    for row in rows {
-        peers.push(peer_of(alloc, row)?).ok()?;
+    for part in rest.split(';') {
+        peers.push(peer(alloc, part)?).ok()?;
     }
     let local = Local {
         asn: 64500,
         address: 0xC000_0201,
         id: 0xC000_0201,
-        subnet,
+        subnet: subnet(server),
     };
     Arc::new(alloc, Exchange::new(alloc, local, peers).ok()?).ok()
 }
 
-// The peer of a row, preferred as all others.
-fn peer_of(alloc: Global, (name, asn, address, id, refused): &Peer) -> Option<PeerSpec> {
-    let mut refuse_from = Vec::new(alloc);
-    if !refused.is_empty() {
-        refuse_from
-            .push(String::from_str(alloc, refused).ok()?)
-            .ok()?;
+// The number of the peer of a name.
+fn peer_of(exchange: &Exchange, name: &str) -> Option<usize>
+    ensures { IfSome result (λ peer. peer < length exchange.now.peers) }
+{
+    for peer in 0..exchange.count() {
+        if exchange.peer(peer).name.as_str() == name {
+            return Some(peer);
+        }
     }
-    Some(PeerSpec {
-        name: String::from_str(alloc, name).ok()?,
-        asn: *asn,
-        address: *address,
-        id: *id,
-        preference: 100,
-        refuse_from,
+    None
+}
+
+// The attributes that some words stand for.
+fn attributes(alloc: Global, words: &str) -> Option<Arc<Attributes>> {
+    let mut texts = Vec::new(alloc);
+    for word in words.split_whitespace() {
+        texts.push(spelled(word)?).ok()?;
+    }
+    Arc::new(alloc, spelled_in_hex::attributes(alloc, &texts)?).ok()
+}
+
+// Why a session closes.
+fn reason(text: &str) -> Option<Reason> {
+    Some(match text {
+        "ended" => Reason::EndOfFile,
+        "bgp-3/6" => Reason::Bgp {
+            code: 3,
+            subcode: 6,
+        },
+        "mrt-2" => Reason::Mrt(2),
+        "memory" => Reason::Memory,
+        "read" => Reason::Read,
+        _ => return None,
     })
 }
 
-// The tables of an exchange with these peers, before any change.
-fn tables(alloc: Global, subnet: Option<Prefix>, rows: Peers) -> Option<Tables> {
-    Tables::new(alloc, exchange(alloc, subnet, rows)?).ok()
+// What a change says.
+fn body(alloc: Global, text: &str) -> Option<Body> {
+    if let Some(withdrawn) = text.strip_prefix("withdraw ") {
+        return Some(Body::Withdraw(prefix(withdrawn)?));
+    }
+    if let Some((announced, words)) = text.split_once(' ') {
+        return Some(Body::Announce(prefix(announced)?, attributes(alloc, words)?));
+    }
+    if text == "lost" {
+        return Some(Body::Down);
+    }
+    Some(Body::Close(reason(text)?))
 }
 
-// Takes the next change of a peer.
-fn take(rt: &impl Abort, tables: &mut Tables, peer: usize, time: u32, body: Body) {
-    assert!(rt; peer < tables.count());
-    assert!(rt; !tables.is_closed(peer));
-    assert!(rt; tables.apply(peer, Word { time, body }).is_ok());
+// The number of a peer, and its change.
+fn change(alloc: Global, exchange: &Exchange, text: &str) -> Option<(usize, Word)> {
+    let (name, rest) = text.trim().split_once(' ')?;
+    let (time, said) = rest.split_once(' ')?;
+    let time = time.parse::<u32>().ok()?;
+    let body = body(alloc, said)?;
+    Some((peer_of(exchange, name)?, Word { time, body }))
 }
 
-// Takes the announcement of a prefix with these attributes.
-fn announce(
-    rt: &impl Abort,
-    tables: &mut Tables,
-    (peer, time): (usize, u32),
-    prefix: Option<Prefix>,
-    attributes: Option<Arc<Attributes>>,
+// Takes the next change of a peer, which may be refused; None where there is no such peer or its session closed.
+fn take(tables: &mut Tables, peer: usize, word: Word) -> Option<Result<(), AllocError>> {
+    if peer >= tables.count() || tables.is_closed(peer) {
+        return None;
+    }
+    Some(tables.apply(peer, word))
+}
+
+// The tables of an exchange after some changes.
+fn after(alloc: Global, plan: &str, changes: &str) -> Option<Tables> {
+    let mut tables = Tables::new(alloc, exchange(alloc, plan)?).ok()?;
+    for text in changes.split(';') {
+        if !text.trim().is_empty() {
+            let (peer, word) = change(alloc, tables.plan(), text)?;
+            take(&mut tables, peer, word)?.ok()?;
+        }
+    }
+    Some(tables)
+}
+
+// A row has its answer after some changes, read once more where memory is refused.
+fn check_row<T: Abort + Threads + Sync>(
+    rt: &T,
+    alloc: Global,
+    (plan, changes): (&str, &str),
+    row: &str,
 ) {
-    let prefix = prefix.expect(rt, "a prefix");
-    let attributes = attributes.expect(rt, "attributes");
-    take(rt, tables, peer, time, Body::Announce(prefix, attributes));
-}
-
-// Tables of these peers that took routes on 203.0.113.0/24 in this order, each at 100.
-fn announced(rt: &impl Abort, alloc: Global, rows: Peers, sent: &[(usize, &str)]) -> Tables {
-    let mut tables = tables(alloc, subnet(), rows).expect(rt, "tables");
-    for (sender, route) in sent {
-        let route = attributes(alloc, route);
-        announce(rt, &mut tables, (*sender, 100), documentation(), route);
+    let tables = after(alloc, plan, changes)
+        .or_else(|| after(alloc, plan, changes))
+        .expect(rt, "tables");
+    match row.strip_prefix("dump ") {
+        Some(row) => dumps::check_dump(rt, alloc, &tables, row),
+        None => tables::check_answer(rt, alloc, &tables, row, changes),
     }
-    tables
 }
 
-// Tables of four peers that took announcements, each of a peer at a time, on a prefix with these attributes.
-fn announced_on(rt: &impl Abort, alloc: Global, sent: &[(usize, u32, Prefix, &str)]) -> Tables {
-    let mut tables = tables(alloc, subnet(), FOUR_PEERS).expect(rt, "tables");
-    for (sender, time, prefix, route) in sent {
-        let route = attributes(alloc, route);
-        announce(rt, &mut tables, (*sender, *time), Some(*prefix), route);
+// Each row of a text has its answer.
+fn check_rows<T: Abort + Threads + Sync>(rt: &T, alloc: Global, rows: &str) {
+    let (mut plan, mut changes) = ("", "");
+    for line in rows.lines() {
+        if let Some(text) = line.strip_prefix("exchange ") {
+            plan = text;
+            changes = "";
+        } else if let Some(text) = line.strip_prefix("after ") {
+            changes = text;
+        } else if !line.is_empty() && !line.starts_with('#') {
+            check_row(rt, alloc, (plan, changes), line);
+        }
     }
-    tables
-}
-
-// Whose route a client gets on 203.0.113.0/24, the only prefix there is: `best` and `rows` say the same.
-fn winner(rt: &impl Abort, tables: &Tables, client: usize) -> Option<usize> {
-    let best = tables
-        .best(client, documentation()?)
-        .map(|route| route.peer);
-    let rows = tables.rows(client).expect(rt, "rows");
-    assert_eq!(rt; rows.first().map(|row| row.route.peer), best);
-    best
-}
-
-// A client gets the route of this peer on 203.0.113.0/24.
-fn check_winner(rt: &impl Abort, tables: &Tables, client: usize, sender: usize) {
-    let given = winner(rt, tables, client);
-    assert_eq!(rt; given, Some(sender), "client {client}");
-}
-
-// Why a client has a peer's route on 203.0.113.0/24, or not.
-fn reason(rt: &impl Abort, tables: &Tables, client: usize, peer: usize) -> Why {
-    assert!(rt; client < tables.count());
-    assert!(rt; peer < tables.count());
-    tables.why(client, peer, documentation().expect(rt, "a prefix"))
-}
-
-// A row as the tests compare it: the prefix, the peer that sent the route, and when.
-type Shown = (Prefix, usize, u32);
-
-// The rows of a client's table.
-fn shown(alloc: Global, tables: &Tables, client: usize) -> Option<Vec<Shown>> {
-    let rows = tables.rows(client).ok()?;
-    rows.iter()
-        .map(|row| (row.prefix, row.route.peer, row.route.time))
-        .collect(alloc)
-        .ok()
-}
-
-// A client's table has these rows.
-fn check_rows(rt: &impl Abort, alloc: Global, tables: &Tables, client: usize, wanted: &[Shown]) {
-    let rows = shown(alloc, tables, client).expect(rt, "rows");
-    assert_eq!(rt; rows.as_slice(), wanted, "client {client}");
 }

@@ -1,202 +1,227 @@
-//! Worked decisions of both bodies.
+//! Worked decisions: the choice among routes by both bodies, and what each client of an exchange gets (RFC 4271,
+//! sections 9.1.1 and 9.1.2.2; RFC 7947, section 2.3.2.1: each client's decision comes after its export policy).
+
+ghost use Rattle.std.specs.Prelude.{◌<◌, ◌↔◌, IsTrue, length};
+ghost use Rattle.std.specs.List.{All};
+ghost use Rattle.rs_choice.specs.Held.{IsJudged};
 
 use super::*;
-// From a and b, both of AS 64501, and c, of AS 64502.
-use super::{MED_5_OF_B as OF_B, MED_10_OF_A as OF_A, OTHER_AS_OF_C as OF_C};
 
-// The attributes of candidates.
-fn all_attributes(alloc: Global, sent: &[Sent]) -> Result<Vec<Attributes>, Fail> {
-    let mut all = Vec::new(alloc);
-    for (_, texts) in sent {
-        all.push(attributes(alloc, texts)?)?;
-    }
-    Ok(all)
+// Whether all candidates are of peers of the exchange.
+fn are_known(exchange: &Exchange, candidates: &[Candidate]) -> bool
+    ensures { IsTrue result ↔ All (λ candidate. candidate.peer < length exchange.now.peers) candidates.now }
+{
+    let count = exchange.count();
+    candidates.iter().all(|candidate| candidate.peer < count)
 }
 
-// Candidates of these attributes, each of its peer.
-fn candidates<'a>(
+// The place of the choice, by both bodies.
+fn choice(rt: &impl Abort, exchange: &Exchange, candidates: &[Candidate]) -> Option<usize> {
+    assert!(rt; are_known(exchange, candidates));
+    assert!(rt; candidates.len() <= MAX_PEERS);
+    let place = exchange.choose(candidates);
+    assert_eq!(rt; exchange.choose_by_groups(candidates), place);
+    place
+}
+
+// A route as a candidate.
+fn candidate(held: &HeldRoute) -> Candidate<'_> {
+    Candidate {
+        peer: usize::from(held.peer),
+        attributes: &held.attributes,
+    }
+}
+
+/// The place of the choice among routes.
+pub fn chosen(
+    rt: &impl Abort,
     alloc: Global,
-    sent: &[Sent],
-    all: &'a [Attributes],
-) -> Result<Vec<Candidate<'a>>, Fail> {
+    exchange: &Exchange,
+    held: &[HeldRoute],
+) -> Option<String> {
+    let candidates: Vec<Candidate> = held.iter().map(candidate).collect(alloc).ok()?;
+    let place = choice(rt, exchange, &candidates);
+    format!(in alloc; "{place:?}").ok()
+}
+
+// Whether a client may get a route.
+fn may_get(exchange: &Exchange, held: &HeldRoute, client: usize) -> bool {
+    let peer = usize::from(held.peer);
+    let count = exchange.count();
+    peer < count
+        && client < count
+        && exchange.eligible(peer, &held.attributes)
+        && exchange.permits(client, peer, &held.attributes)
+}
+
+// The routes that a client may get.
+fn candidates_for<'a>(
+    alloc: Global,
+    exchange: &Exchange,
+    held: &'a [HeldRoute],
+    client: usize,
+) -> Option<Vec<Candidate<'a>>> {
     let mut candidates = Vec::new(alloc);
-    for ((peer, _), attributes) in sent.iter().zip(all) {
-        candidates.push(Candidate {
-            peer: *peer,
-            attributes,
-        })?;
+    for held in held {
+        if may_get(exchange, held, client) {
+            candidates.push(candidate(held)).ok()?;
+        }
     }
-    Ok(candidates)
+    Some(candidates)
 }
 
-// The place of the choice among candidates.
-fn chosen(
+// The number of the peer whose route is the choice among those that a client may get, or its own number where there is
+// none.
+fn best_of_one(
     rt: &impl Abort,
     alloc: Global,
     exchange: &Exchange,
-    sent: &[Sent],
-) -> Result<Option<usize>, Fail> {
-    let all = all_attributes(alloc, sent)?;
-    let candidates = candidates(alloc, sent, &all)?;
-    Ok(choice(rt, exchange, &candidates))
+    held: &[HeldRoute],
+    client: usize,
+) -> Option<usize> {
+    let candidates = candidates_for(alloc, exchange, held, client)?;
+    match choice(rt, exchange, &candidates) {
+        Some(place) => Some(candidates.get(place)?.peer),
+        None => Some(client),
+    }
 }
 
-// The choice among candidates has this place, or there is none.
-fn check_chosen(
+/// What each client gets, decided for one after another.
+pub fn best_of_each(
     rt: &impl Abort,
     alloc: Global,
     exchange: &Exchange,
-    sent: &[Sent],
-    want: Option<usize>,
-    what: &str,
-) -> Result<(), Fail> {
-    check(rt, &chosen(rt, alloc, exchange, sent)?, &want, &what);
-    Ok(())
+    held: &[HeldRoute],
+) -> Option<Vec<u8>> {
+    let mut bests = Vec::new(alloc);
+    for client in 0..exchange.count() {
+        let best = best_of_one(rt, alloc, exchange, held, client)?;
+        bests.push(u8::try_from(best).ok()?).ok()?;
+    }
+    Some(bests)
 }
 
-const MED_0: &str = "800404 00000000";
+/// For each client the number of the peer whose route it gets, or its own number where it gets none.
+pub fn bests(alloc: Global, exchange: &Exchange, held: &[HeldRoute]) -> Option<Vec<u8>>
+    requires { All (IsJudged exchange.now) held.now }
+{
+    if held.len() > MAX_PEERS {
+        return None;
+    }
+    let mut bests = vec![in alloc; 0u8; exchange.count()].ok()?;
+    exchange.choose_for_all(held, &mut bests);
+    Some(bests)
+}
 
-const MED_1: &str = "800404 00000001";
+/// What each client gets, decided at once and one after another.
+pub fn shown_bests(
+    rt: &impl Abort,
+    alloc: Global,
+    exchange: &Exchange,
+    held: &[HeldRoute],
+) -> Option<String>
+    requires { All (IsJudged exchange.now) held.now }
+{
+    let at_once = bests(alloc, exchange, held)?;
+    let each = best_of_each(rt, alloc, exchange, held)?;
+    if at_once != each {
+        return format!(in alloc; "{at_once:?}, but {each:?}").ok();
+    }
+    format!(in alloc; "{at_once:?}").ok()
+}
 
-// No member is ahead of all others by pairs: b of a by MED, c of b and a of c by identifier.
-const ORDERS: &[(&[Sent], Option<usize>, &str)] = &[
-    (&[OF_A, OF_B, OF_C], Some(2), "a, b, c"),
-    (&[OF_A, OF_C, OF_B], Some(1), "a, c, b"),
-    (&[OF_B, OF_A, OF_C], Some(2), "b, a, c"),
-    (&[OF_B, OF_C, OF_A], Some(1), "b, c, a"),
-    (&[OF_C, OF_A, OF_B], Some(0), "c, a, b"),
-    (&[OF_C, OF_B, OF_A], Some(0), "c, b, a"),
-    (&[OF_A, OF_C], Some(0), "b has withdrawn"),
-    (&[], None, "none"),
-];
+// Routes by their senders, and the place of the choice among them.
+const CHOICES: &str = "
+# MED is compared within one neighbour AS alone (RFC 4271, section 9.1.2.2, c). So no route is ahead of all others by
+# pairs: b's of a's by MED, c's of b's and a's of c's by identifier. The order of the routes is no matter.
+exchange 64500 192.0.2.0/24; a,64501,192.0.2.11,0.0.0.1,100; b,64501,192.0.2.12,0.0.0.9,100; \
+    c,64502,192.0.2.13,0.0.0.5,100
+chosen: a b c | a igp 64501-65010 hop-a med-10; b igp 64501-65010 hop-a med-5; c igp 64502-65010 hop-a | Some(2)
+chosen: a c b | a igp 64501-65010 hop-a med-10; c igp 64502-65010 hop-a; b igp 64501-65010 hop-a med-5 | Some(1)
+chosen: b a c | b igp 64501-65010 hop-a med-5; a igp 64501-65010 hop-a med-10; c igp 64502-65010 hop-a | Some(2)
+chosen: b c a | b igp 64501-65010 hop-a med-5; c igp 64502-65010 hop-a; a igp 64501-65010 hop-a med-10 | Some(1)
+chosen: c a b | c igp 64502-65010 hop-a; a igp 64501-65010 hop-a med-10; b igp 64501-65010 hop-a med-5 | Some(0)
+chosen: c b a | c igp 64502-65010 hop-a; b igp 64501-65010 hop-a med-5; a igp 64501-65010 hop-a med-10 | Some(0)
+chosen: b has withdrawn | a igp 64501-65010 hop-a med-10; c igp 64502-65010 hop-a | Some(0)
+chosen: a has withdrawn | b igp 64501-65010 hop-a med-5; c igp 64502-65010 hop-a | Some(1)
+chosen: c has withdrawn | a igp 64501-65010 hop-a med-10; b igp 64501-65010 hop-a med-5 | Some(1)
+chosen: one route | b igp 64501-65010 hop-a med-5 | Some(0)
+chosen: none | | None
+
+# Each step decides, with a and b both of AS 64501. An AS_SET counts 1 in the path length (section 9.1.2.2, a), a
+# missing MED is 0 (c), and then the lower identifier goes first (f), not the place.
+exchange 64500 192.0.2.0/24; a,64501,192.0.2.11,192.0.2.11,100; b,64501,192.0.2.12,192.0.2.12,100
+chosen: 3 against 2 | a igp {65010,65011,65012}-65013-65014 hop-a; b igp 64501-65010 hop-a | Some(1)
+chosen: 3 against 4 | a igp {65010,65011,65012}-65013-65014 hop-a; b igp 64501-65010-65011-65012 hop-a | Some(0)
+chosen: 1 against none | a igp 64501 hop-a; b igp no-path hop-a | Some(1)
+chosen: EGP against IGP | a egp 64501 hop-a; b igp 64501 hop-a | Some(1)
+chosen: EGP against INCOMPLETE | a egp 64501 hop-a; b incomplete 64501 hop-a | Some(0)
+chosen: path length before origin | a igp 64501-65010 hop-a; b incomplete 64501 hop-a | Some(1)
+chosen: origin before MED | a igp 64501 hop-a med-10; b egp 64501 hop-a med-5 | Some(0)
+chosen: MED 1 against a missing one | a igp 64501 hop-a med-1; b igp 64501 hop-a | Some(1)
+chosen: MED 0 against a missing one | a igp 64501 hop-a med-0; b igp 64501 hop-a | Some(0)
+chosen: the lower identifier | b igp 64501 hop-a; a igp 64501 hop-a med-0 | Some(1)
+chosen: two of one peer, the least place | a igp 64501 hop-a; a igp 64501 hop-a | Some(0)
+
+# Of one identifier the lower address goes first (section 9.1.2.2, g).
+exchange 64500 192.0.2.0/24; a,64501,192.0.2.11,192.0.2.9,100; b,64501,192.0.2.12,192.0.2.9,100
+chosen: a b | a igp 64501 hop-a; b igp 64501 hop-a | Some(0)
+chosen: b a | b igp 64501 hop-a; a igp 64501 hop-a | Some(1)
+chosen: the least place of a's | b igp 64501 hop-a; a igp 64501 hop-a; a igp 64501 hop-a | Some(1)
+
+# Preference goes before path length (section 9.1.1).
+exchange 64500 192.0.2.0/24; a,64501,192.0.2.11,192.0.2.11,100; b,64502,192.0.2.12,192.0.2.12,101
+chosen: b is preferred | a igp 64501 hop-a; b igp 64501-65010-65011-65012 hop-a | Some(1)
+";
 
 #[test]
-fn med_is_not_transitive(rt: HostRuntime) -> Result<(), Fail> {
-    let exchange = exchange(rt.alloc(), true, TWO_OF_ONE_AS)?;
-    for (sent, want, what) in ORDERS {
-        check_chosen(&rt, rt.alloc(), &exchange, sent, *want, what)?;
-    }
-    Ok(())
+fn both_bodies_choose_what_the_steps_leave(rt: HostRuntime) {
+    check_rows(&rt, rt.alloc(), CHOICES);
 }
 
-const PLAIN_OF_A: Sent = (0, &[IGP, PATH_64501, NEXT_HOP_A]);
+// Routes by their senders, and for each client the number of the peer whose route it gets, or its own number.
+const WORKED: &str = "
+exchange 64500 192.0.2.0/24; a,64501,192.0.2.11,192.0.2.11,100; b,64502,192.0.2.12,192.0.2.12,100; \
+    c,64503,192.0.2.13,192.0.2.13,100; d,64504,192.0.2.14,192.0.2.14,100
+bests: one choice for all, and the second for its sender | a igp 64501-65010 hop-a; b igp 64502-65010 hop-a; \
+    c igp 64503-65010 hop-a | [1, 0, 0, 0]
+bests: the sender of the one route gets none | c igp 64503-65010 hop-a | [2, 2, 2, 2]
+bests: no route | | [0, 1, 2, 3]
+bests: the server's AS in a's path, which is shorter | a igp 64500 hop-a; b igp 64502-65010 hop-a | [1, 1, 1, 1]
+bests: no eligible route | a igp 64500 hop-a | [0, 1, 2, 3]
+bests: a's isn't for b | a igp 64501-65010 hop-a 0:64502; c igp 64503-65010 hop-a | [2, 2, 0, 0]
+bests: a's, which is shorter, isn't for b | a igp 64501 hop-a 0:64502; c igp 64503-65010 hop-a | [2, 2, 0, 0]
+bests: a's is for none, and hides c's from none | a igp 64501-65010 hop-a 0:64500; c igp 64503-65010 hop-a | [2, 2, 2, 2]
+bests: a's is for b alone | a igp 64501-65010 hop-a 0:64500,64500:64502; c igp 64503-65010 hop-a | [2, 0, 2, 2]
+bests: b's isn't for d, to which it is nothing | a igp 64501-65010 hop-a; b igp 64502-65010 hop-a 0:64504; \
+    c igp 64503-65010 hop-a | [1, 0, 0, 0]
 
-const PLAIN_OF_B: Sent = (1, &[IGP, PATH_64501, NEXT_HOP_A]);
+# b refuses a's routes.
+exchange 64500 192.0.2.0/24; a,64501,192.0.2.11,192.0.2.11,100; b,64502,192.0.2.12,192.0.2.12,100,a; \
+    c,64503,192.0.2.13,192.0.2.13,100; d,64504,192.0.2.14,192.0.2.14,100
+bests: b gets c's | a igp 64501-65010 hop-a; c igp 64503-65010 hop-a | [2, 2, 0, 0]
+bests: b gets none | a igp 64501-65010 hop-a | [0, 1, 0, 0]
 
-// AS_SET {65010, 65011, 65012}, then AS_SEQUENCE 65013 65014: length 3.
-const SET_OF_A: Sent = (
-    0,
-    &[
-        IGP,
-        "400218 0103 0000FDF2 0000FDF3 0000FDF4 0202 0000FDF5 0000FDF6",
-        NEXT_HOP_A,
-    ],
-);
+# Two of one AS, with a lower identifier and a higher one than c's, which is of another AS.
+exchange 64500 192.0.2.0/24; a,64501,192.0.2.11,0.0.0.1,100; b,64501,192.0.2.12,0.0.0.9,100; \
+    c,64502,192.0.2.13,0.0.0.5,100; d,64504,192.0.2.14,192.0.2.14,100
+bests: at b a's comes back, which b's keeps out by its MED, and c's doesn't win | a igp 64501-65010 hop-a med-10; \
+    b igp 64501-65010 hop-a med-5; c igp 64502-65010 hop-a | [2, 0, 1, 2]
+bests: so it does at d, to which b's is refused | a igp 64501-65010 hop-a med-10; \
+    b igp 64501-65010 hop-a med-5 0:64504; c igp 64502-65010 hop-a | [2, 0, 1, 0]
+bests: a's and b's of equal MED, c's goes before b's | a igp 64501-65010 hop-a med-5; \
+    b igp 64501-65010 hop-a med-5; c igp 64502-65010 hop-a | [2, 0, 0, 0]
 
-const LENGTH_2_OF_B: Sent = (1, &[IGP, PATH_64501_65010, NEXT_HOP_A]);
-
-const LENGTH_4_OF_B: Sent = (
-    1,
-    &[
-        IGP,
-        "400212 0204 0000FBF5 0000FDF2 0000FDF3 0000FDF4",
-        NEXT_HOP_A,
-    ],
-);
-
-const EGP_OF_A: Sent = (0, &[EGP, PATH_64501, NEXT_HOP_A]);
-
-const MED_0_OF_A: Sent = (0, &[IGP, PATH_64501, NEXT_HOP_A, MED_0]);
-
-const MED_1_OF_A: Sent = (0, &[IGP, PATH_64501, NEXT_HOP_A, MED_1]);
-
-// Of candidates from a and b, both of AS 64501.
-const STEPS: &[(&[Sent], Option<usize>, &str)] = &[
-    (
-        &[SET_OF_A, LENGTH_2_OF_B],
-        Some(1),
-        "an AS_SET counts 1: 3 against 2",
-    ),
-    (
-        &[SET_OF_A, LENGTH_4_OF_B],
-        Some(0),
-        "an AS_SET counts 1: 3 against 4",
-    ),
-    (&[EGP_OF_A, PLAIN_OF_B], Some(1), "EGP against IGP"),
-    (
-        &[MED_1_OF_A, PLAIN_OF_B],
-        Some(1),
-        "MED 1 against a missing one",
-    ),
-    (
-        &[MED_0_OF_A, PLAIN_OF_B],
-        Some(0),
-        "MED 0 against a missing one",
-    ),
-    (
-        &[PLAIN_OF_B, MED_0_OF_A],
-        Some(1),
-        "the lower identifier, not the place",
-    ),
-    (
-        &[PLAIN_OF_A, PLAIN_OF_A],
-        Some(0),
-        "two of one peer: the least place",
-    ),
-];
+# Three of one AS, and d of another, whose identifier is the second.
+exchange 64500 192.0.2.0/24; a,64501,192.0.2.11,0.0.0.1,100; b,64501,192.0.2.12,0.0.0.9,100; \
+    c,64501,192.0.2.13,0.0.0.8,100; d,64502,192.0.2.14,0.0.0.5,100
+bests: either of two of the least MED keeps a's out without the other | a igp 64501-65010 hop-a med-10; \
+    b igp 64501-65010 hop-a med-5; c igp 64501-65010 hop-a med-5; d igp 64502-65010 hop-a | [3, 3, 3, 2]
+bests: at b a's comes back, where c's is refused too | a igp 64501-65010 hop-a med-10; \
+    b igp 64501-65010 hop-a med-5; c igp 64501-65010 hop-a med-5 0:64501; d igp 64502-65010 hop-a | [3, 0, 3, 2]
+";
 
 #[test]
-fn each_step_decides(rt: HostRuntime) -> Result<(), Fail> {
-    let exchange = exchange(rt.alloc(), true, &[A, Row { asn: 64501, ..B }])?;
-    for (sent, want, what) in STEPS {
-        check_chosen(&rt, rt.alloc(), &exchange, sent, *want, what)?;
-    }
-    Ok(())
-}
-
-// Of candidates from a and b, both of one identifier.
-const TIES: &[(&[Sent], Option<usize>, &str)] = &[
-    (&[PLAIN_OF_A, PLAIN_OF_B], Some(0), "a, b"),
-    (&[PLAIN_OF_B, PLAIN_OF_A], Some(1), "b, a"),
-    (
-        &[PLAIN_OF_B, PLAIN_OF_A, PLAIN_OF_A],
-        Some(1),
-        "the least place of a's",
-    ),
-];
-
-#[test]
-fn the_last_tie_goes_to_the_lower_address(rt: HostRuntime) -> Result<(), Fail> {
-    let rows = [
-        Row {
-            id: 0xC000_0209,
-            ..A
-        },
-        Row {
-            asn: 64501,
-            id: 0xC000_0209,
-            ..B
-        },
-    ];
-    let exchange = exchange(rt.alloc(), true, &rows)?;
-    for (sent, want, what) in TIES {
-        check_chosen(&rt, rt.alloc(), &exchange, sent, *want, what)?;
-    }
-    Ok(())
-}
-
-// An exchange of a and b, of which b is preferred.
-fn preferring_b(alloc: Global) -> Result<Exchange, Fail> {
-    let mut peers = peers(alloc, &[A, B])?;
-    if let Some(b) = peers.get_mut(1) {
-        b.preference = 101;
-    }
-    Ok(Exchange::new(alloc, server(true), peers)?)
-}
-
-#[test]
-fn preference_goes_before_path_length(rt: HostRuntime) -> Result<(), Fail> {
-    let exchange = preferring_b(rt.alloc())?;
-    let sent = [PLAIN_OF_A, LENGTH_4_OF_B];
-    check_chosen(&rt, rt.alloc(), &exchange, &sent, Some(1), "b is preferred")
+fn each_client_gets_its_own_best(rt: HostRuntime) {
+    check_rows(&rt, rt.alloc(), WORKED);
 }

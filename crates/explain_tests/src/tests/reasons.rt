@@ -1,108 +1,116 @@
-//! Which condition of eligibility fails, and which rule of export policy refuses.
+//! Which condition of eligibility fails, which rule of export policy refuses, and at which of the six steps a route loses,
+//! and to whom; `why` says the same in a word.
 
 use super::*;
 
-// ORIGIN IGP, AS_PATH 64501 and NEXT_HOP 192.0.2.11.
-const PLAIN: &str = "40010100 4002060201 0000FBF5 400304C000020B";
-
-// ORIGIN IGP, AS_PATH and NEXT_HOP of a route of a, and why b has it or not.
-const ROUTES: &[(&str, Option<Condition>)] = &[
-    (PLAIN, None),
-    // the server's AS is in the path, and the next hop is the server's too
-    (
-        "40010100 40020A0202 0000FBF5 0000FBF4 400304C0000201",
-        Some(Condition::OwnAs(64500)),
-    ),
-    // the server's address
-    (
-        "40010100 4002060201 0000FBF5 400304C0000201",
-        Some(Condition::ServerAsNextHop(0xC000_0201)),
-    ),
-    // 198.51.100.1, outside the subnet
-    (
-        "40010100 4002060201 0000FBF5 400304C6336401",
-        Some(Condition::NextHopOffExchange(0xC633_6401)),
-    ),
-];
-
-// b is told this of a route of a, the only one.
-fn check_told(rt: &impl Abort, alloc: Global, route: &str, wanted: Explanation, what: &str) {
-    let mut tables = tables(alloc, &FOUR).expect(rt, "tables");
-    announce(rt, alloc, &mut tables, A, route);
-    check_explained(rt, alloc, &tables, (B, A), wanted, what);
-}
-
-#[test]
-fn the_first_condition_that_fails_is_named(rt: HostRuntime) {
-    let alloc = rt.alloc();
-    for (route, condition) in ROUTES {
-        let wanted = match condition {
-            Some(condition) => Explanation::Ineligible(*condition),
-            None => Explanation::Best(Vec::new(alloc)),
-        };
-        check_told(&rt, alloc, route, wanted, route);
+// The answer that is explained.
+fn answer(explanation: &Explanation) -> Why {
+    match explanation {
+        Explanation::Own => Why::Own,
+        Explanation::Absent => Why::Absent,
+        Explanation::Ineligible(_) => Why::Ineligible,
+        Explanation::Refused(_) => Why::Refused,
+        Explanation::Best(_) => Why::Best,
+        Explanation::Lost(_) => Why::Lost,
     }
 }
 
-#[test]
-fn a_peer_without_a_route_is_absent_and_its_own_are_its_own(rt: HostRuntime) {
-    let alloc = rt.alloc();
-    let tables = tables(alloc, &FOUR).expect(&rt, "tables");
-    let absent = Explanation::Absent;
-    check_explained(&rt, alloc, &tables, (B, A), absent, "a announces none");
-    check_explained(&rt, alloc, &tables, (B, B), Explanation::Own, "its own");
+// An explanation as rows say it: of a route that lost, the step, its peer and path length, and those of its rival.
+fn text_of(alloc: Global, explanation: &Explanation) -> Option<String> {
+    let Explanation::Lost(removal) = explanation else {
+        return format!(in alloc; "{explanation:?}").ok();
+    };
+    let (step, loser, rival) = (removal.step, removal.loser.peer, removal.rival.peer);
+    let length = removal.loser.standing.path_length;
+    let to = removal.rival.standing.path_length;
+    format!(in alloc; "Lost({step:?}, {loser}, {length}, {rival}, {to})").ok()
 }
 
-// COMMUNITIES of a route of a, and which rule refuses it to b, of AS 64502.
-const COMMUNITIES: &[(&str, Option<Refusal>)] = &[
-    // (0, 64503)
-    ("C00804 0000FBF7", None),
-    // (0, 64502)
-    ("C00804 0000FBF6", Some(Refusal::ToClient(64502))),
-    // (0, 64500)
-    ("C00804 0000FBF4", Some(Refusal::ToAll(64500))),
-    // (0, 64500) and (0, 64502)
-    ("C00808 0000FBF4 0000FBF6", Some(Refusal::ToClient(64502))),
-    // (0, 64500) and (64500, 64502)
-    ("C00808 0000FBF4 FBF4FBF6", None),
-    // (0, 64502) and (64500, 64502)
-    ("C00808 0000FBF6 FBF4FBF6", Some(Refusal::ToClient(64502))),
-];
-
-// b is told this of a route of a with these communities, the only one.
-fn check_communities(rt: &impl Abort, alloc: Global, communities: &str, wanted: Explanation) {
-    let text = format!(in alloc; "{PLAIN} {communities}").expect(rt, "a text");
-    check_told(rt, alloc, &text, wanted, communities);
-}
-
-#[test]
-fn the_rule_that_refuses_is_named(rt: HostRuntime) {
-    let alloc = rt.alloc();
-    for (communities, refusal) in COMMUNITIES {
-        let wanted = match refusal {
-            Some(refusal) => Explanation::Refused(*refusal),
-            None => Explanation::Best(Vec::new(alloc)),
-        };
-        check_communities(&rt, alloc, communities, wanted);
+// What a client is told of a peer's route; none where `why` says something else.
+fn told_one(alloc: Global, tables: &Tables, client: &str, peer: &str) -> Option<String> {
+    let (client, peer) = (peer_of(tables, client)?, peer_of(tables, peer)?);
+    let explanation = explain(alloc, tables, client, peer, documentation()?).ok()?;
+    if tables.why(client, peer, documentation()?) != answer(&explanation) {
+        return None;
     }
+    text_of(alloc, &explanation)
 }
 
-// The tables of four peers of which b refuses a, once a has announced a route that isn't for b.
-fn refused_twice(rt: &impl Abort, alloc: Global) -> Tables {
-    let mut rows = FOUR;
-    rows[1].refused = &["a"];
-    let mut tables = tables(alloc, &rows).expect(rt, "tables");
-    let route = format!(in alloc; "{PLAIN} C00804 0000FBF6").expect(rt, "a text");
-    announce(rt, alloc, &mut tables, A, &route);
-    tables
+// Adds what a client is told of a peer, whose names a question begins with.
+fn add_told(alloc: Global, tables: &Tables, question: &str, text: &mut String) -> Option<()> {
+    let mut words = question.split_whitespace();
+    let (client, peer) = (words.next()?, words.next()?);
+    let told = told_one(alloc, tables, client, peer)?;
+    let mark = if text.is_empty() { "" } else { "; " };
+    write!(text, "{mark}{client} {peer} {told}").ok()
 }
+
+/// What is told of some routes, for each client and peer whose names stand behind a semicolon.
+pub fn told(alloc: Global, exchange: &str, routes: &str, questions: &str) -> Option<String> {
+    let tables = announced(alloc, exchange, routes)?;
+    let mut text = String::new(alloc);
+    for question in questions.split(';') {
+        add_told(alloc, &tables, question, &mut text)?;
+    }
+    Some(text)
+}
+
+// Where a route lost: the step, the number and path length of the loser, and those of its rival.
+const REASONS: &str = "
+# The first condition of eligibility that fails (RFC 4271, section 9.1.2, then section 6.3).
+exchange 64500; a,64501,192.0.2.11,0.0.0.11,100; b,64502,192.0.2.12,0.0.0.12,100; c,64503,192.0.2.13,0.0.0.13,100; \
+    d,64504,192.0.2.14,0.0.0.14,100
+told: an eligible route | a igp 64501 hop-a | b a Best([])
+told: the server's AS in the path, and its address as next hop | a igp 64501-64500 hop-server | b a Ineligible(OwnAs(64500))
+told: the server's AS in an AS_SET | a igp 64501-{64500} hop-a | b a Ineligible(OwnAs(64500))
+told: the server's address | a igp 64501 hop-server | b a Ineligible(ServerAsNextHop(3221225985))
+told: 198.51.100.1, outside the subnet | a igp 64501 hop-outside | b a Ineligible(NextHopOffExchange(3325256705))
+told: no route | | b a Absent; b b Own
+told: its own route | a igp 64501 hop-a | a a Own; a b Absent
+
+# The rule of export policy that refuses (RFC 7947, section 2.3; the rules are our choice).
+told: not to AS 64503 | a igp 64501 hop-a 0:64503 | b a Best([]); c a Refused(ToClient(64503))
+told: not to AS 64502 | a igp 64501 hop-a 0:64502 | b a Refused(ToClient(64502)); c a Best([])
+told: to nobody | a igp 64501 hop-a 0:64500 | b a Refused(ToAll(64500)); d a Refused(ToAll(64500))
+told: to nobody, nor to AS 64502 | a igp 64501 hop-a 0:64500,0:64502 | b a Refused(ToClient(64502))
+told: to nobody but AS 64502 | a igp 64501 hop-a 0:64500,64500:64502 | b a Best([]); c a Refused(ToAll(64500))
+told: not to AS 64502, and to it | a igp 64501 hop-a 0:64502,64500:64502 | b a Refused(ToClient(64502))
+
+# The step at which a route loses (RFC 4271, sections 9.1.1 and 9.1.2.2), and all that the best one beat.
+told: a longer path | a igp 64501-65010 hop-a; c igp 64501 hop-a; d egp 64501 hop-a | \
+    b a Lost(PathLength, 0, 2, 2, 1); b c Best([0, 3]); b d Lost(Origin, 3, 1, 2, 1)
+told: a higher origin | a egp 64501 hop-a; c igp 64501 hop-a; d igp 64501-65010 hop-a | \
+    b a Lost(Origin, 0, 1, 2, 1); b c Best([0, 3])
+told: INCOMPLETE against EGP | a incomplete 64501 hop-a; c egp 64501 hop-a | b a Lost(Origin, 0, 1, 2, 1); b c Best([0])
+told: a higher MED | a igp 64501 hop-a med-5; c igp 64501 hop-a; d igp 64501-65010 hop-a | \
+    b a Lost(Med, 0, 1, 2, 1); b c Best([0, 3])
+told: a higher identifier | a igp 64501 hop-a; c igp 64501 hop-a; d igp 64501-65010 hop-a | \
+    b c Lost(Identifier, 2, 1, 0, 1); b a Best([2, 3])
+told: the best one with all that it beat | a igp 64501-65010 hop-a; c igp 64501 hop-a; d igp 64501 hop-a | \
+    b a Lost(PathLength, 0, 2, 2, 1); b c Best([0, 3])
+
+# MED is compared within one neighbour AS: d removes c there, though a, of another neighbour AS, is what b gets.
+told: a route may lose by MED to one that isn't the best | a igp 64501 hop-a; c igp 64503 hop-a med-10; \
+    d igp 64503 hop-a | b a Best([2, 3]); b c Lost(Med, 2, 1, 3, 1); b d Lost(Identifier, 3, 1, 0, 1)
+
+# The name of a refused peer comes before communities.
+exchange 64500; a,64501,192.0.2.11,0.0.0.11,100; b,64502,192.0.2.12,0.0.0.12,100,a; c,64503,192.0.2.13,0.0.0.13,100
+told: b refuses a | a igp 64501 hop-a 0:64502 | b a Refused(ByName); c a Best([])
+
+# The preference goes first.
+exchange 64500; a,64501,192.0.2.11,0.0.0.11,100; b,64502,192.0.2.12,0.0.0.12,100; c,64503,192.0.2.13,0.0.0.13,100; \
+    d,64504,192.0.2.14,0.0.0.14,200
+told: d is preferred | a igp 64501 hop-a; c igp 64501-65010 hop-a; d igp 64501-65010 hop-a | \
+    b a Lost(Preference, 0, 1, 3, 2); b c Lost(Preference, 2, 2, 3, 2); b d Best([0, 2])
+
+# Of one identifier the lower address goes first.
+exchange 64500; a,64501,192.0.2.11,0.0.0.11,100; b,64502,192.0.2.12,0.0.0.12,100; c,64503,192.0.2.13,0.0.0.11,100; \
+    d,64504,192.0.2.14,0.0.0.11,100
+told: a higher address | a igp 64501 hop-a; c igp 64501 hop-a; d igp 64501 hop-a | \
+    b c Lost(Address, 2, 1, 0, 1); b d Lost(Address, 3, 1, 0, 1); b a Best([2, 3])
+";
 
 #[test]
-fn a_name_refuses_before_communities(rt: HostRuntime) {
-    let alloc = rt.alloc();
-    let tables = refused_twice(&rt, alloc);
-    let refused = Explanation::Refused(Refusal::ByName);
-    check_explained(&rt, alloc, &tables, (B, A), refused, "b refuses a");
-    let best = Explanation::Best(Vec::new(alloc));
-    check_explained(&rt, alloc, &tables, (C, A), best, "c doesn't");
+fn what_fails_refuses_or_removes_is_named(rt: HostRuntime) {
+    check_rows(&rt, rt.alloc(), REASONS);
 }

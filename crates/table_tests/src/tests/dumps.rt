@@ -1,149 +1,210 @@
-//! Dumps written out by hand from the standard (RFC 6396, section 4.3).
+//! Dumps written out by hand from the standard (RFC 6396, section 4.3): that of a client's table, and that of the list
+//! of its rows.
 
-ghost use Rattle.std.specs.Prelude.{◌<◌, All, IsTrue, length, map};
-ghost use Rattle.rs_table.specs.RouteView.{row_of};
+ghost use Rattle.std.specs.Prelude.{None};
 
 use super::*;
-use rs_dump::{DumpFault, write_dump};
-use rs_mrt::{Limits, MemoryWriter};
-use rs_table::{Route, Row};
+use rs_dump::{DumpFault, TableDump, Writing, write_dump, write_side_by_side};
+use rs_mrt::{Failed, Write as OctetWriter};
+use spelled_in_hex::octets;
 
-// A dump for b of the row 203.0.113.0/24 of a's, announced at 100, in an exchange of a and b.
-pub const PLAIN_DUMP: &str =
-    "00000000 000D 0001 00000023 C0000201 0001 62 0002 02 C000020B C000020B 0000FBF5 02 C000020C C000020C 0000FBF6
-    00000000 000D 0002 00000026 00000000 18CB0071 0001 0000 00000064 0014 40010100 40020602010000FBF5 400304C000020B";
-
-// The same for b and rows on 203.0.113.0/24, 0.0.0.0/0, 10.11.12.13/32 and 10.240.0.0/12, at the time 01020304.
-const FOUR_ROWS_DUMP: &str =
-    "01020304 000D 0001 00000023 C0000201 0001 62 0002 02 C000020B C000020B 0000FBF5 02 C000020C C000020C 0000FBF6
-    01020304 000D 0002 00000026 00000000 18CB0071 0001 0000 00000064 0014 40010100 40020602010000FBF5 400304C000020B
-    01020304 000D 0002 00000023 00000001 00 0001 0000 00000064 0014 40010100 40020602010000FBF5 400304C000020B
-    01020304 000D 0002 00000027 00000002 200A0B0C0D 0001 0000 00000064 0014 40010100 40020602010000FBF5 400304C000020B
-    01020304 000D 0002 00000025 00000003 0C0AF0 0001 0000 00000064 0014 40010100 40020602010000FBF5 400304C000020B";
-
-// AS_PATH 64501 65010, a MED, LOCAL_PREF, two communities and an attribute of type 32, as received ..
-const FULL: &str =
-    "40010100 40020A02020000FBF50000FDF2 400304C000020B 80040400000007 400504000000C8 C00808FBF4FBF6FDE80001 \
-    C0200C0000FDE80000000100000002";
-
-// .. and as dumped: without LOCAL_PREF, and with Partial set on the last one. The record's Length is 75, the
-// Attribute Length 57.
-const FULL_DUMP: &str =
-    "00000000 000D 0001 00000023 C0000201 0001 62 0002 02 C000020B C000020B 0000FBF5 02 C000020C C000020C 0000FBF6
-    00000000 000D 0002 0000004B 00000000 18CB0071 0001 0000 00000064 0039
-    40010100 40020A02020000FBF50000FDF2 400304C000020B 80040400000007 C00808FBF4FBF6FDE80001 \
-    E0200C0000FDE80000000100000002";
-
-/// Empty tables for a and for b of two peers, and for c of three.
-pub const EMPTY_OF_A: &str =
-    "00000000 000D 0001 00000023 C0000201 0001 61 0002 02 C000020B C000020B 0000FBF5 02 C000020C C000020C 0000FBF6";
-
-const EMPTY_OF_B: &str =
-    "00000000 000D 0001 00000023 C0000201 0001 62 0002 02 C000020B C000020B 0000FBF5 02 C000020C C000020C 0000FBF6";
-
-const EMPTY_OF_C: &str =
-    "00000000 000D 0001 00000030 C0000201 0001 63 0003 02 C000020B C000020B 0000FBF5 02 C000020C C000020C \
-    0000FBF6 02 C000020D C000020D 0000FBF7";
-
-/// A row of a's, announced at 100.
-pub fn row<'a>(prefix: Prefix, attributes: &'a Attributes) -> Row<'a> {
-    Row {
-        prefix,
-        route: Route {
-            peer: A,
-            time: 100,
-            attributes,
-        },
-    }
+// A writer that takes no memory: the first octets, and how many were written.
+#[derive(Drop)]
+struct Fixed {
+    octets: [u8; 256],
+    len: usize,
 }
 
-// A row of a's on each prefix.
-fn rows_on<'a>(
-    alloc: Global,
-    prefixes: &[(u32, u8)],
-    attributes: &'a Attributes,
-) -> Option<Vec<Row<'a>>> {
-    let mut rows = Vec::new(alloc);
-    for (address, len) in prefixes {
-        let row = row(Prefix::new(*address, *len)?, attributes);
-        let Ok(()) = rows.push(row) else {
-            return None;
-        };
-    }
-    Some(rows)
-}
-
-/// Whether all rows are of peers of the plan.
-pub fn are_known(plan: &Exchange, rows: &[Row]) -> bool
-    ensures { IsTrue result → All (λ row. row.route.peer < length plan.now.peers) (map row_of rows.now) }
-{
-    let count = plan.count();
-    for row in rows {
-        if row.route.peer >= count {
-            return false;
+impl Fixed {
+    // Begins with no octets.
+    fn new() -> Fixed {
+        Fixed {
+            octets: [0; 256],
+            len: 0,
         }
     }
-    true
+
+    // These octets were written, and no others.
+    fn check(&self, rt: &impl Abort, wanted: &[u8], row: &str) {
+        assert_eq!(rt; self.octets.get(..self.len), Some(wanted), "{row}");
+    }
 }
 
-/// Writes a dump at that time to memory within the limits; answers what `write_dump` does, and what the
-/// writer has taken then.
-pub fn dump(
+impl OctetWriter for Fixed {
+    ghost taken = { λ _. None };
+
+    ghost failures = { λ _. 0 };
+
+    fn write(&mut self, piece: &[u8]) -> Result<usize, Failed> {
+        for octet in piece {
+            if let Some(place) = self.octets.get_mut(self.len) {
+                *place = *octet;
+            }
+            self.len = self.len.wrapping_add(1);
+        }
+        Ok(piece.len())
+    }
+}
+
+// Writes the dump of the list of a client's rows. Refused memory, nothing is written, and it comes when asked again.
+fn list_dump(
     rt: &impl Abort,
     alloc: Global,
-    limits: Limits,
-    (plan, client, time): (&Exchange, usize, u32),
-    rows: &[Row],
-) -> (Result<u32, DumpFault>, Vec<u8>) {
-    assert!(rt; client < plan.count());
-    assert!(rt; are_known(plan, rows));
-    let mut out = MemoryWriter::new(alloc, limits);
-    let answer = write_dump(alloc, &mut out, plan, client, rows, time);
-    (answer, out.into_octets())
+    tables: &Tables,
+    (client, time): (usize, u32),
+    out: &mut Fixed,
+) -> Result<u32, DumpFault> {
+    assert!(rt; client < tables.count());
+    let rows = tables
+        .rows(client)
+        .or_else(|_| tables.rows(client))
+        .expect(rt, "rows");
+    let answer = write_dump(alloc, out, tables.plan(), client, &rows, time);
+    if answer != Err(DumpFault::Memory) {
+        return answer;
+    }
+    out.check(rt, &[], "refused");
+    write_dump(alloc, out, tables.plan(), client, &rows, time)
 }
 
-// Writes to memory the dump at that time, for a client of the first peers, of a's rows on prefixes.
-fn dump_on(
+// The dump of a client's table before anything of it is written, begun once more where memory is refused.
+fn begun<'a>(
     rt: &impl Abort,
     alloc: Global,
-    (peers, client, time): (usize, usize, u32),
-    prefixes: &[(u32, u8)],
-    route: &str,
-) -> (Result<u32, DumpFault>, Vec<u8>) {
-    let plan = exchange(alloc, subnet(), first_peers(peers)).expect(rt, "an exchange");
-    let route = attributes(alloc, route).expect(rt, "attributes");
-    let rows = rows_on(alloc, prefixes, &route).expect(rt, "rows");
-    dump(rt, alloc, Limits::none(), (&plan, client, time), &rows)
+    tables: &'a Tables,
+    (client, time): (usize, u32),
+) -> TableDump<'a> {
+    assert!(rt; client < tables.count());
+    match TableDump::begin(alloc, tables, client, time) {
+        Ok(dump) => dump,
+        Err(fault) => {
+            assert_eq!(rt; fault, DumpFault::Memory);
+            TableDump::begin(alloc, tables, client, time).expect(rt, "a dump")
+        }
+    }
 }
 
-/// What was written are the octets that are spelled so.
-pub fn check_octets(rt: &impl Abort, alloc: Global, written: Vec<u8>, wanted: &str) {
-    assert_eq!(rt; Ok(written), octets(alloc, &[wanted]), "{wanted}");
+// Writes the dump of a client's table.
+fn table_dump<'a, T: Abort + Threads + Sync>(
+    rt: &T,
+    dump: TableDump<'a>,
+) -> [Writing<'a, Fixed>; 1] {
+    let mut writings = [Writing {
+        dump,
+        out: Fixed::new(),
+        failed: false,
+    }];
+    write_side_by_side(rt, &mut writings);
+    writings
 }
 
-// Prefixes of one row and of four rows.
-const PLAIN: &[(u32, u8)] = &[(0xCB00_7100, 24)];
+// The client and the time of a dump, and its octets.
+fn columns(alloc: Global, tables: &Tables, row: &str) -> Option<((usize, u32), Vec<u8>)> {
+    let (asked, wanted) = row.split_once('|')?;
+    let (name, time) = asked.trim().split_once(' ')?;
+    let client = peer_of(tables.plan(), name)?;
+    let time = time.parse::<u32>().ok()?;
+    Some(((client, time), octets(alloc, &[wanted]).ok()?))
+}
 
-const FOUR: &[(u32, u8)] = &[
-    (0xCB00_7100, 24),
-    (0, 0),
-    (0x0A0B_0C0D, 32),
-    (0x0AF0_0000, 12),
-];
+/// Both dumps that a row asks for have its octets, and count as many rows as there are.
+pub fn check_dump<T: Abort + Threads + Sync>(rt: &T, alloc: Global, tables: &Tables, row: &str) {
+    let (asked, wanted) = columns(alloc, tables, row)
+        .or_else(|| columns(alloc, tables, row))
+        .expect(rt, row);
+    let mut out = Fixed::new();
+    let listed = list_dump(rt, alloc, tables, asked, &mut out);
+    out.check(rt, &wanted, row);
+    let writings = table_dump(rt, begun(rt, alloc, tables, asked));
+    let [writing] = &writings;
+    writing.out.check(rt, &wanted, row);
+    let spelled = (writing.dump.spelled(), writing.failed);
+    assert_eq!(rt;
+        (listed, spelled),
+        (Ok(spelled.0), (spelled.0, false)),
+        "{row}"
+    );
+}
+
+// Each dump has the client's name, its time, and a record for the peers and for each row. A record is its Timestamp, type
+// 13, subtype and Length, and its body.
+const DUMPS: &str = "
+exchange 64500 192.0.2.0/24; a,64501,192.0.2.11,192.0.2.11; b,64502,192.0.2.12,192.0.2.12
+dump a 0 | 00000000 000D 0001 00000023 C0000201 0001 61 0002 02 C000020B C000020B 0000FBF5 02 C000020C C000020C 0000FBF6
+dump b 0 | 00000000 000D 0001 00000023 C0000201 0001 62 0002 02 C000020B C000020B 0000FBF5 02 C000020C C000020C 0000FBF6
+
+# One row. All routes are a's own, so it has none.
+after a 100 203.0.113.0/24 64501 hop-a
+dump a 0 | 00000000 000D 0001 00000023 C0000201 0001 61 0002 02 C000020B C000020B 0000FBF5 02 C000020C C000020C 0000FBF6
+dump b 0 | 00000000 000D 0001 00000023 C0000201 0001 62 0002 02 C000020B C000020B 0000FBF5 02 C000020C C000020C 0000FBF6 \
+    00000000 000D 0002 00000026 00000000 18CB0071 0001 0000 00000064 0014 40010100 40020602010000FBF5 400304C000020B
+
+# Rows on 0.0.0.0/0, 10.11.12.13/32, 10.240.0.0/12 and 203.0.113.0/24, at the time 01020304.
+after a 100 203.0.113.0/24 64501 hop-a; a 100 0.0.0.0/0 64501 hop-a; a 100 10.11.12.13/32 64501 hop-a; \
+    a 100 10.240.0.0/12 64501 hop-a
+dump b 16909060 | \
+    01020304 000D 0001 00000023 C0000201 0001 62 0002 02 C000020B C000020B 0000FBF5 02 C000020C C000020C 0000FBF6 \
+    01020304 000D 0002 00000023 00000000 00 0001 0000 00000064 0014 40010100 40020602010000FBF5 400304C000020B \
+    01020304 000D 0002 00000027 00000001 200A0B0C0D 0001 0000 00000064 0014 40010100 40020602010000FBF5 400304C000020B \
+    01020304 000D 0002 00000025 00000002 0C0AF0 0001 0000 00000064 0014 40010100 40020602010000FBF5 400304C000020B \
+    01020304 000D 0002 00000026 00000003 18CB0071 0001 0000 00000064 0014 40010100 40020602010000FBF5 400304C000020B
+
+# AS_PATH 64501 65010, a MED, LOCAL_PREF, two communities and an attribute of type 32 are dumped without LOCAL_PREF, and with
+# Partial set on the last one. The record's Length is 75, the Attribute Length 57.
+after a 100 203.0.113.0/24 64501-65010 hop-a med-7 preference-200 64500:64502,65000:1 large-65000:1:2
+dump b 0 | 00000000 000D 0001 00000023 C0000201 0001 62 0002 02 C000020B C000020B 0000FBF5 02 C000020C C000020C 0000FBF6 \
+    00000000 000D 0002 0000004B 00000000 18CB0071 0001 0000 00000064 0039 \
+    40010100 40020A02020000FBF50000FDF2 400304C000020B 80040400000007 C00808FBF4FBF6FDE80001 E0200C0000FDE80000000100000002
+
+exchange 64500 192.0.2.0/24; a,64501,192.0.2.11,192.0.2.11; b,64502,192.0.2.12,192.0.2.12; c,64503,192.0.2.13,192.0.2.13
+dump c 0 | 00000000 000D 0001 00000030 C0000201 0001 63 0003 02 C000020B C000020B 0000FBF5 02 C000020C C000020C 0000FBF6 \
+    02 C000020D C000020D 0000FBF7
+";
 
 #[test]
 fn tables_are_dumped_as_the_standard_says(rt: HostRuntime) {
-    let alloc = rt.alloc();
-    for (place, prefixes, route, count, wanted) in [
-        ((2, B, 0), PLAIN, VIA_64501, 1, PLAIN_DUMP),
-        ((2, B, 0x0102_0304), FOUR, VIA_64501, 4, FOUR_ROWS_DUMP),
-        ((2, B, 0), PLAIN, FULL, 1, FULL_DUMP),
-        ((2, A, 0), &[], VIA_64501, 0, EMPTY_OF_A),
-        ((2, B, 0), &[], VIA_64501, 0, EMPTY_OF_B),
-        ((3, C, 0), &[], VIA_64501, 0, EMPTY_OF_C),
-    ] {
-        let (answer, written) = dump_on(&rt, alloc, place, prefixes, route);
-        assert_eq!(rt; answer, Ok(count));
-        check_octets(&rt, alloc, written, wanted);
-    }
+    check_rows(&rt, rt.alloc(), DUMPS);
+}
+
+// The dumps of all clients of two exchanges. In the first, a's route isn't for b, and hides c's from nobody; in the second
+// a has a route on each of two prefixes.
+const DUMPS_OF_ALL: &str = "
+exchange 64500 192.0.2.0/24; a,64501,192.0.2.11,192.0.2.11; b,64502,192.0.2.12,192.0.2.12; \
+    c,64503,192.0.2.13,192.0.2.13; d,64504,192.0.2.14,192.0.2.14
+after a 100 203.0.113.0/24 64501 hop-a 0:64502; c 100 203.0.113.0/24 64503-65010 hop-c
+dump a 0 | 00000000 000D 0001 0000003D C0000201 0001 61 0004 02 C000020B C000020B 0000FBF5 02 C000020C C000020C 0000FBF6 \
+    02 C000020D C000020D 0000FBF7 02 C000020E C000020E 0000FBF8 \
+    00000000 000D 0002 0000002A 00000000 18CB0071 0001 0002 00000064 0018 40010100 40020A0202 0000FBF7 0000FDF2 400304C000020D
+dump b 0 | 00000000 000D 0001 0000003D C0000201 0001 62 0004 02 C000020B C000020B 0000FBF5 02 C000020C C000020C 0000FBF6 \
+    02 C000020D C000020D 0000FBF7 02 C000020E C000020E 0000FBF8 \
+    00000000 000D 0002 0000002A 00000000 18CB0071 0001 0002 00000064 0018 40010100 40020A0202 0000FBF7 0000FDF2 400304C000020D
+dump c 0 | 00000000 000D 0001 0000003D C0000201 0001 63 0004 02 C000020B C000020B 0000FBF5 02 C000020C C000020C 0000FBF6 \
+    02 C000020D C000020D 0000FBF7 02 C000020E C000020E 0000FBF8 \
+    00000000 000D 0002 0000002D 00000000 18CB0071 0001 0000 00000064 001B 40010100 4002060201 0000FBF5 400304C000020B \
+    C00804 0000FBF6
+dump d 0 | 00000000 000D 0001 0000003D C0000201 0001 64 0004 02 C000020B C000020B 0000FBF5 02 C000020C C000020C 0000FBF6 \
+    02 C000020D C000020D 0000FBF7 02 C000020E C000020E 0000FBF8 \
+    00000000 000D 0002 0000002D 00000000 18CB0071 0001 0000 00000064 001B 40010100 4002060201 0000FBF5 400304C000020B \
+    C00804 0000FBF6
+
+after a 101 198.51.100.0/24 64501 hop-a; a 100 203.0.113.0/24 64501 hop-a
+dump a 0 | 00000000 000D 0001 0000003D C0000201 0001 61 0004 02 C000020B C000020B 0000FBF5 02 C000020C C000020C 0000FBF6 \
+    02 C000020D C000020D 0000FBF7 02 C000020E C000020E 0000FBF8
+dump b 0 | 00000000 000D 0001 0000003D C0000201 0001 62 0004 02 C000020B C000020B 0000FBF5 02 C000020C C000020C 0000FBF6 \
+    02 C000020D C000020D 0000FBF7 02 C000020E C000020E 0000FBF8 \
+    00000000 000D 0002 00000026 00000000 18C63364 0001 0000 00000065 0014 40010100 4002060201 0000FBF5 400304C000020B \
+    00000000 000D 0002 00000026 00000001 18CB0071 0001 0000 00000064 0014 40010100 4002060201 0000FBF5 400304C000020B
+dump c 0 | 00000000 000D 0001 0000003D C0000201 0001 63 0004 02 C000020B C000020B 0000FBF5 02 C000020C C000020C 0000FBF6 \
+    02 C000020D C000020D 0000FBF7 02 C000020E C000020E 0000FBF8 \
+    00000000 000D 0002 00000026 00000000 18C63364 0001 0000 00000065 0014 40010100 4002060201 0000FBF5 400304C000020B \
+    00000000 000D 0002 00000026 00000001 18CB0071 0001 0000 00000064 0014 40010100 4002060201 0000FBF5 400304C000020B
+dump d 0 | 00000000 000D 0001 0000003D C0000201 0001 64 0004 02 C000020B C000020B 0000FBF5 02 C000020C C000020C 0000FBF6 \
+    02 C000020D C000020D 0000FBF7 02 C000020E C000020E 0000FBF8 \
+    00000000 000D 0002 00000026 00000000 18C63364 0001 0000 00000065 0014 40010100 4002060201 0000FBF5 400304C000020B \
+    00000000 000D 0002 00000026 00000001 18CB0071 0001 0000 00000064 0014 40010100 4002060201 0000FBF5 400304C000020B
+";
+
+#[test]
+fn a_refused_dump_writes_nothing_and_comes_when_asked_again(rt: HostRuntime) {
+    check_rows(&rt, rt.alloc(), DUMPS_OF_ALL);
 }

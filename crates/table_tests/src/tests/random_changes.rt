@@ -1,44 +1,33 @@
 //! Random changes: after each one every client gets what the rules, read slowly, say.
 
 use super::*;
-use slow_reading::{History, again};
+use slow_reading::History;
+use tables::shown;
 
-// How many changes are taken, and how many before all begins again.
-const CHANGES: u32 = 500;
+// Three peers of AS 64501, so that MED decides between them, and one that refuses all routes of another, of an AS whose
+// number has the low eight bits of 64501.
+const SIX_PEERS: &str =
+    "64500 192.0.2.0/24; a,64501,192.0.2.11,0.0.0.9; b,64501,192.0.2.12,0.0.0.4; \
+    c,64502,192.0.2.13,0.0.0.5; d,64503,192.0.2.14,0.0.0.6; e,64501,192.0.2.15,0.0.0.1; f,64757,192.0.2.16,0.0.0.7,a";
 
-const ROUND: u32 = 100;
+const PEERS: [&str; 6] = ["a", "b", "c", "d", "e", "f"];
 
-// Six peers: three of AS 64501, so that MED decides between them, and one that refuses all routes of another, of
-// an AS whose number has the low eight bits of 64501.
-const SIX_PEERS: Peers<'static> = &[
-    ("a", 64501, 0xC000_020B, 9, ""),
-    ("b", 64501, 0xC000_020C, 4, ""),
-    ("c", 64502, 0xC000_020D, 5, ""),
-    ("d", 64503, 0xC000_020E, 6, ""),
-    ("e", 64501, 0xC000_020F, 1, ""),
-    ("f", 64757, 0xC000_0210, 7, "a"),
-];
+// Prefixes in ascending order, of which two are inside a third.
+const PREFIXES: [&str; 4] = ["0.0.0.0/0", "10.0.0.0/8", "10.0.0.0/16", "203.0.113.0/24"];
 
-// The path 64502 for the peers of AS 64501 and 64503 alone, and the path 64501 for those of AS 64757 alone.
-const TO_TWO_ASES: &str =
-    "40010100 4002060201 0000FBF6 400304C000020B C0080C 0000FBF4 FBF4FBF5 FBF4FBF7";
-
-const TO_64757: &str =
-    "40010100 4002060201 0000FBF5 400304C000020B C0080C 0000FBF4 FBF4FCF5 0000FBF5";
-
-// Path lengths 1 and 2, three neighbour ASes, with and without MED, one refused to AS 64502, one to all, two
-// for named clients alone, and one not eligible.
+// Path lengths 1 and 2, three neighbour ASes, with and without MED, one refused to AS 64502, one to all, one for the
+// peers of AS 64501 and 64503 alone, one for those of AS 64757 alone, and one not eligible.
 const ROUTES: [&str; 10] = [
-    VIA_64501,
-    MED_10,
-    MED_5,
-    VIA_64502,
-    VIA_64503,
-    NOT_TO_64502,
-    TO_NOBODY,
-    TO_TWO_ASES,
-    TO_64757,
-    VIA_THE_SERVER,
+    "64501 hop-a",
+    "64501-65010 hop-a med-10",
+    "64501-65010 hop-a med-5",
+    "64502-65010 hop-a",
+    "64503-65010 hop-a",
+    "64501 hop-a 0:64502",
+    "64501 hop-a 0:64500",
+    "64502 hop-a 0:64500,64500:64501,64500:64503",
+    "64501 hop-a 0:64500,64500:64757,0:64501",
+    "64501-64500 hop-a",
 ];
 
 // A generator of numbers that look random (multiplicative, modulo 2^32).
@@ -58,99 +47,75 @@ impl Random {
     }
 }
 
-// Four prefixes in ascending order, of which two are inside a third.
-fn four_prefixes() -> Option<[Prefix; 4]> {
-    let ten_long = Prefix::new(0x0A00_0000, 16)?;
-    Some([Prefix::new(0, 0)?, ten()?, ten_long, documentation()?])
+// Most changes announce, some withdraw, and now and then a session is lost or closes, at the end of its file or at a
+// fault.
+fn some_change(alloc: Global, random: &mut Random, time: u32) -> Option<String> {
+    let peer = PEERS[random.next() % 6];
+    let prefix = PREFIXES[random.next() % 4];
+    let route = ROUTES[random.next() % 10];
+    let (said, on, words) = match random.next() % 64 {
+        0 => ("ended", "", ""),
+        1 => ("mrt-2", "", ""),
+        2 | 3 => ("lost", "", ""),
+        4..=15 => ("withdraw ", prefix, ""),
+        _ => ("", prefix, route),
+    };
+    format!(in alloc; "{peer} {time} {said}{on} {words}").ok()
 }
 
-// Most changes announce, some withdraw, and now and then a session is lost or closes, at the end of its file
-// or at a fault.
-fn some_body(
-    random: &mut Random,
-    prefixes: &[Prefix; 4],
-    routes: &[Arc<Attributes>],
-) -> Option<Body> {
-    let prefix = prefixes[random.next() % 4];
-    Some(match random.next() % 64 {
-        0 => Body::Close(Reason::EndOfFile),
-        1 => Body::Close(Reason::Mrt(2)),
-        2 | 3 => Body::Down,
-        4..=15 => Body::Withdraw(prefix),
-        _ => Body::Announce(prefix, routes.get(random.next() % 10)?.clone().ok()?),
-    })
-}
-
-// The routes of the table above.
-fn ten_routes(alloc: Global) -> Option<Vec<Arc<Attributes>>> {
-    let mut routes = Vec::new(alloc);
-    for text in ROUTES {
-        routes.push(attributes(alloc, text)?).ok()?;
+// Takes a change, where the peer is open, in tables and in the list of all changes.
+fn take_both(alloc: Global, tables: &mut Tables, history: &mut History, text: &str) -> Option<()> {
+    let (peer, word) = change(alloc, tables.plan(), text)?;
+    if tables.is_closed(peer) {
+        return Some(());
     }
-    Some(routes)
+    history.add(peer, word)?;
+    let (peer, word) = change(alloc, tables.plan(), text)?;
+    take(tables, peer, word)?.ok()
 }
 
-// Tables, and the slow reading of the same changes.
-#[derive(Drop)]
-struct Both {
-    tables: Tables,
-    history: History,
-}
-
-impl Both {
-    fn new(alloc: Global) -> Option<Both> {
-        let plan = exchange(alloc, subnet(), SIX_PEERS)?;
-        Some(Both {
-            tables: Tables::new(alloc, plan.clone().ok()?).ok()?,
-            history: History::new(alloc, plan),
-        })
-    }
-
-    // Takes a change, where the peer is open.
-    fn take(&mut self, peer: usize, word: Word) -> Option<()> {
-        if peer < self.tables.count() && !self.tables.is_closed(peer) {
-            self.history.add(peer, again(&word)?)?;
-            self.tables.apply(peer, word).ok()?;
+// Whether a client gets what the slow reading says: its rows, and its best route on each prefix.
+fn agree(alloc: Global, tables: &Tables, history: &History, client: usize) -> Option<bool> {
+    let mut rows = Vec::new(alloc);
+    for text in PREFIXES {
+        let on = prefix(text)?;
+        let wanted = history.best(alloc, client, on)?;
+        let best = tables.best(client, on);
+        if best.map(|route| (route.peer, route.time)) != wanted {
+            return Some(false);
         }
-        Some(())
-    }
-
-    // Whether a client gets what the slow reading says, by `rows` and by `best`.
-    fn agree(&self, alloc: Global, client: usize, prefixes: &[Prefix]) -> Option<bool> {
-        for prefix in prefixes {
-            let best = self.tables.best(client, *prefix);
-            let wanted = self.history.best(alloc, client, *prefix)?;
-            if best.map(|route| (route.peer, route.time)) != wanted {
-                return Some(false);
-            }
+        if let Some((peer, time)) = wanted {
+            rows.push((on, peer, time)).ok()?;
         }
-        let wanted = self.history.rows(alloc, client, prefixes)?;
-        Some(shown(alloc, &self.tables, client)? == wanted)
     }
+    Some(shown(alloc, tables, client)? == rows)
 }
 
-// After the change of this time every client gets what the slow reading says.
-fn check_clients(rt: &impl Abort, alloc: Global, both: &Both, time: u32, prefixes: &[Prefix]) {
+// After a change every client gets what the slow reading says.
+fn check_clients(rt: &impl Abort, alloc: Global, tables: &Tables, history: &History, change: &str) {
     for client in 0..6 {
-        let agree = both.agree(alloc, client, prefixes);
-        assert_eq!(rt; agree, Some(true), "change {time}, client {client}");
+        let agree = agree(alloc, tables, history, client);
+        assert_eq!(rt; agree, Some(true), "{change}, client {client}");
     }
+}
+
+// Takes a hundred changes of six peers.
+fn check_round(rt: &impl Abort, alloc: Global, random: &mut Random) -> Option<()> {
+    let mut tables = after(alloc, SIX_PEERS, "")?;
+    let mut history = History::new(alloc, exchange(alloc, SIX_PEERS)?);
+    for time in 0..100 {
+        let change = some_change(alloc, random, time)?;
+        take_both(alloc, &mut tables, &mut history, &change)?;
+        check_clients(rt, alloc, &tables, &history, &change);
+    }
+    Some(())
 }
 
 #[test]
 fn random_changes_leave_what_the_rules_say(rt: HostRuntime) {
-    let alloc = rt.alloc();
-    let prefixes = four_prefixes().expect(&rt, "prefixes");
-    let routes = ten_routes(alloc).expect(&rt, "routes");
     let mut random = Random { state: 1 };
-    let mut both = Both::new(alloc).expect(&rt, "tables");
-    for time in 0..CHANGES {
-        if time % ROUND == 0 {
-            both = Both::new(alloc).expect(&rt, "tables");
-        }
-        let peer = random.next() % 6;
-        let body = some_body(&mut random, &prefixes, &routes).expect(&rt, "a change");
-        both.take(peer, Word { time, body }).expect(&rt, "memory");
-        check_clients(&rt, alloc, &both, time, &prefixes);
+    for round in 0..6 {
+        let checked = check_round(&rt, rt.alloc(), &mut random);
+        assert!(rt; checked.is_some(), "round {round}");
     }
 }

@@ -3,38 +3,24 @@
 ghost use Rattle.std.specs.Prelude.{◌≡◌, IsFalse};
 
 use super::*;
-use dumps::dump;
 use rs_dump::{DumpFault, TableDump, Writing, write_side_by_side};
 use rs_mrt::{Limits, MemoryWriter};
-use std::thread::Threads;
-
-/// What `write_dump` answers of the same rows where it comes to the same.
-pub fn answer_of<W>(writing: &Writing<'_, W>) -> Result<u32, DumpFault> {
-    if writing.failed {
-        Err(DumpFault::Write)
-    } else {
-        Ok(writing.dump.spelled())
-    }
-}
+use writers::{add_routes, answer_of, list_dump};
 
 // How many clients there are: a thread is full of dumps, and there are some for another one.
 const CLIENTS: usize = 6;
 
 // These clients. The fifth refuses the routes of the first, and the sixth those of the second.
-const SIX_PEERS: Peers<'static> = &[
-    ("a", 64501, 0xC000_020B, 0xC000_020B, ""),
-    ("b", 64502, 0xC000_020C, 0xC000_020C, ""),
-    ("c", 64503, 0xC000_020D, 0xC000_020D, ""),
-    ("d", 64504, 0xC000_020E, 0xC000_020E, ""),
-    ("e", 64505, 0xC000_020F, 0xC000_020F, "a"),
-    ("f", 64506, 0xC000_0210, 0xC000_0210, "b"),
-];
+const SIX_PEERS: &str =
+    "64500 192.0.2.0/24; a,64501,192.0.2.11,192.0.2.11; b,64502,192.0.2.12,192.0.2.12; \
+    c,64503,192.0.2.13,192.0.2.13; d,64504,192.0.2.14,192.0.2.14; e,64505,192.0.2.15,192.0.2.15,a; \
+    f,64506,192.0.2.16,192.0.2.16,b";
 
-// Who has routes, the prefixes on which it has them, and which.
+// Who has routes, the first of the prefixes on which it has them, and which.
 const SENT: [(usize, u32, &str); 3] = [
-    (A, 0x1400_0000, VIA_64501),
-    (B, 0x1500_0000, VIA_64502),
-    (C, 0x1600_0000, VIA_64503),
+    (0, 0x1400_0000, "64501 hop-a"),
+    (1, 0x1500_0000, "64502-65010 hop-a"),
+    (2, 0x1600_0000, "64503-65010 hop-a"),
 ];
 
 // On how many prefixes each of them has one: their rows are more than are spelled in a turn, and their records more
@@ -45,43 +31,40 @@ const ROUTES: u32 = 1400;
 const ROWS: [u32; CLIENTS] = [2800, 2800, 2800, 4200, 2800, 2800];
 
 // Tables of these peers and routes.
-fn large_tables(rt: &impl Abort, alloc: Global) -> Tables {
-    let mut tables = tables(alloc, subnet(), SIX_PEERS).expect(rt, "tables");
-    for (sender, first, route) in SENT {
-        for number in 0..ROUTES {
-            let prefix = Prefix::new(first + number * 256, 24);
-            let route = attributes(alloc, route);
-            announce(rt, &mut tables, (sender, 100 + number), prefix, route);
-        }
+fn large_tables(alloc: Global) -> Option<Tables> {
+    let mut tables = after(alloc, SIX_PEERS, "")?;
+    for (sender, first, words) in SENT {
+        add_routes(alloc, &mut tables, sender, (first, ROUTES), words)?;
     }
-    tables
+    Some(tables)
 }
 
-// The dumps of the lists of all clients' rows.
-fn listed_dumps(rt: &impl Abort, alloc: Global, tables: &Tables) -> Vec<Vec<u8>> {
+// The dumps of the lists of all clients' rows, and how many these are.
+fn listed_dumps(alloc: Global, tables: &Tables) -> Option<Vec<(Result<u32, DumpFault>, Vec<u8>)>> {
     let mut all = Vec::new(alloc);
-    for (client, count) in ROWS.iter().enumerate() {
-        let rows = tables.rows(client).expect(rt, "rows");
-        let to = (tables.plan(), client, 0);
-        let (answer, listed) = dump(rt, alloc, Limits::none(), to, &rows);
-        assert_eq!(rt; (rows.len(), answer), (*count as usize, Ok(*count)));
-        all.push(listed).expect(rt, "room");
+    for client in 0..CLIENTS {
+        all.push(list_dump(alloc, tables, client, Limits::none())?)
+            .ok()?;
     }
-    all
+    Some(all)
 }
 
-// The dump of a client's table, and a writer of it within the limits.
+// The dump of a client's table, and a writer of it that fails after so many calls, if at all.
 fn writing<'a>(
     rt: &impl Abort,
     alloc: Global,
     tables: &'a Tables,
     client: usize,
-    limits: Limits,
+    failing: usize,
 ) -> Writing<'a, MemoryWriter>
     ensures unfailed { IsFalse result.failed }
     ensures fresh { result.out.failures ≡ 0 }
 {
     assert!(rt; client < tables.count());
+    let mut limits = Limits::none();
+    if client == failing {
+        limits.calls_before_failure = Some(1);
+    }
     Writing {
         dump: TableDump::begin(alloc, tables, client, 0).expect(rt, "a dump"),
         out: MemoryWriter::new(alloc, limits),
@@ -89,81 +72,62 @@ fn writing<'a>(
     }
 }
 
-// Writes the dumps of all clients' tables beside each other, within the limits of each one's writer.
-fn written_within<'a, T: Abort + Threads + Sync>(
+// Writes the dumps of all clients' tables beside each other; the writer of one client takes one piece, and fails at the
+// next.
+fn written<'a, T: Abort + Threads + Sync>(
     rt: &T,
     alloc: Global,
     tables: &'a Tables,
-    limits: [Limits; CLIENTS],
+    failing: usize,
 ) -> [Writing<'a, MemoryWriter>; CLIENTS] {
-    let [a, b, c, d, e, f] = limits;
     let mut writings = [
-        writing(rt, alloc, tables, 0, a),
-        writing(rt, alloc, tables, 1, b),
-        writing(rt, alloc, tables, 2, c),
-        writing(rt, alloc, tables, 3, d),
-        writing(rt, alloc, tables, 4, e),
-        writing(rt, alloc, tables, 5, f),
+        writing(rt, alloc, tables, 0, failing),
+        writing(rt, alloc, tables, 1, failing),
+        writing(rt, alloc, tables, 2, failing),
+        writing(rt, alloc, tables, 3, failing),
+        writing(rt, alloc, tables, 4, failing),
+        writing(rt, alloc, tables, 5, failing),
     ];
     write_side_by_side(rt, &mut writings);
     writings
 }
 
-// The dump of a client is out whole.
-fn check_whole(rt: &impl Abort, writing: &Writing<MemoryWriter>, client: usize, whole: &[u8]) {
-    let rows = ROWS.get(client).copied();
-    assert_eq!(rt; answer_of(writing).ok(), rows, "client {client}");
-    assert!(rt; writing.out.octets() == whole, "client {client}");
-}
-
-// A write of the dump of a client failed, and a beginning of it is out.
-fn check_lost(rt: &impl Abort, writing: &Writing<MemoryWriter>, client: usize, whole: &[u8]) {
-    assert_eq!(rt;
-        answer_of(writing),
-        Err(DumpFault::Write),
-        "client {client}"
-    );
+// The dump of a client is out whole, and of the one that failed a beginning of it.
+fn check_written(
+    rt: &impl Abort,
+    writing: &Writing<MemoryWriter>,
+    (client, failing): (usize, usize),
+    (answer, whole): &(Result<u32, DumpFault>, Vec<u8>),
+) {
     let taken = writing.out.octets();
-    assert!(rt;
-        !taken.is_empty() && taken.len() < whole.len(),
-        "client {client}"
+    let rows = ROWS.get(client).copied().ok_or(DumpFault::Write);
+    let wanted = if client == failing {
+        Err(DumpFault::Write)
+    } else {
+        rows
+    };
+    assert_eq!(rt;
+        (answer_of(writing), *answer),
+        (wanted, rows),
+        "client {client} beside {failing}"
     );
-    assert!(rt; whole.starts_with(taken), "client {client}");
+    let is_whole = taken.len() == whole.len();
+    assert!(rt;
+        whole.starts_with(taken) && !taken.is_empty() && is_whole == wanted.is_ok(),
+        "client {client} beside {failing}"
+    );
 }
 
-#[test]
-fn dumps_beside_each_other_are_those_of_the_rows_of_each(rt: HostRuntime) {
-    let alloc = rt.alloc();
-    let tables = large_tables(&rt, alloc);
-    let whole = listed_dumps(&rt, alloc, &tables);
-    let writings = written_within(&rt, alloc, &tables, [Limits::none(); CLIENTS]);
-    for (client, (writing, whole)) in writings.iter().zip(&whole).enumerate() {
-        check_whole(&rt, writing, client, whole);
-    }
-}
-
-// The limits of the writers where that of one client takes one piece whole, and fails at the next.
-fn failing_at(client: usize) -> [Limits; CLIENTS] {
-    let mut limits = [Limits::none(); CLIENTS];
-    if let Some(one) = limits.get_mut(client) {
-        one.calls_before_failure = Some(1);
-    }
-    limits
-}
-
+// The last time none fails.
 #[test]
 fn a_dump_that_fails_leaves_those_beside_it_whole(rt: HostRuntime) {
     let alloc = rt.alloc();
-    let tables = large_tables(&rt, alloc);
-    let whole = listed_dumps(&rt, alloc, &tables);
-    for failing in 0..CLIENTS {
-        let writings = written_within(&rt, alloc, &tables, failing_at(failing));
-        for (client, (writing, whole)) in writings.iter().zip(&whole).enumerate() {
-            if client == failing {
-                check_lost(&rt, writing, client, whole);
-            } else {
-                check_whole(&rt, writing, client, whole);
-            }
+    let tables = large_tables(alloc).expect(&rt, "tables");
+    let listed = listed_dumps(alloc, &tables).expect(&rt, "dumps");
+    for failing in 0..CLIENTS + 1 {
+        let writings = written(&rt, alloc, &tables, failing);
+        for (client, (writing, listed)) in writings.iter().zip(&listed).enumerate() {
+            check_written(&rt, writing, (client, failing), listed);
         }
     }
 }

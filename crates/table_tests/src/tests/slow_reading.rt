@@ -2,6 +2,7 @@
 //! each time.
 
 use super::*;
+use rs_update::Origin;
 
 // A route that a peer has left, with what the decision process asks of it (RFC 4271, sections 9.1.1 and 9.1.2.2).
 #[derive(Clone, Copy)]
@@ -162,38 +163,4 @@ impl History {
         }
         Some(members.first().map(|member| (member.peer, member.time)))
     }
-
-    /// A client's rows on these prefixes, which ascend.
-    pub fn rows(&self, alloc: Global, client: usize, prefixes: &[Prefix]) -> Option<Vec<Shown>> {
-        let mut rows = Vec::new(alloc);
-        for prefix in prefixes {
-            if let Some((peer, time)) = self.best(alloc, client, *prefix)? {
-                rows.push((*prefix, peer, time)).ok()?;
-            }
-        }
-        Some(rows)
-    }
-
-    /// The rows of each of four clients.
-    pub fn all_rows(&self, alloc: Global, prefixes: &[Prefix]) -> Option<Vec<Vec<Shown>>> {
-        let mut all = Vec::new(alloc);
-        for client in 0..4 {
-            all.push(self.rows(alloc, client, prefixes)?).ok()?;
-        }
-        Some(all)
-    }
-}
-
-/// The same change again.
-pub fn again(word: &Word) -> Option<Word> {
-    let body = match &word.body {
-        Body::Announce(prefix, route) => Body::Announce(*prefix, route.clone().ok()?),
-        Body::Withdraw(prefix) => Body::Withdraw(*prefix),
-        Body::Down => Body::Down,
-        Body::Close(reason) => Body::Close(*reason),
-    };
-    Some(Word {
-        time: word.time,
-        body,
-    })
 }

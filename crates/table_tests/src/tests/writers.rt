@@ -1,231 +1,209 @@
 //! Writers that take little at a call, writers that fail, and the texts of faults.
 
 use super::*;
-use dumps::{PLAIN_DUMP, check_octets, dump, row};
-use rs_dump::{DumpFault, TableDump, Writing, write_side_by_side};
+use rs_dump::{DumpFault, TableDump, Writing, write_dump, write_side_by_side};
 use rs_mrt::{Limits, MemoryWriter};
-use rs_table::Row;
-use side_by_side::answer_of;
-use std::thread::Threads;
 
-// A writer that takes so many octets at a call.
-fn in_pieces(piece: usize) -> Limits {
-    Limits {
-        calls_before_failure: None,
-        room: usize::MAX,
-        piece,
+// Which dump is written: that of a table, or that of the list of its rows.
+#[derive(Clone, Copy, Debug)]
+enum Way {
+    Table,
+    List,
+}
+
+/// What `write_dump` answers of the same rows where it comes to the same.
+pub fn answer_of<W>(writing: &Writing<'_, W>) -> Result<u32, DumpFault> {
+    if writing.failed {
+        Err(DumpFault::Write)
+    } else {
+        Ok(writing.dump.spelled())
     }
 }
 
-// A writer that fails after so many calls.
-fn failing_after(calls: u64, piece: usize) -> Limits {
-    Limits {
-        calls_before_failure: Some(calls),
-        room: usize::MAX,
-        piece,
+/// Adds routes of a peer, one on each of so many prefixes from this address on.
+pub fn add_routes(
+    alloc: Global,
+    tables: &mut Tables,
+    peer: usize,
+    (first, count): (u32, u32),
+    words: &str,
+) -> Option<()> {
+    let route = attributes(alloc, words)?;
+    for number in 0..count.min(60000) {
+        let prefix = Prefix::new(first.wrapping_add(number * 256), 24)?;
+        let body = Body::Announce(prefix, route.clone().ok()?);
+        let time = 100 + number;
+        take(tables, peer, Word { time, body })?.ok()?;
     }
+    Some(())
 }
 
-// Of a dump whose writer failed after so many writes of an octet, all that was written before is out.
-fn check_cut(
-    rt: &impl Abort,
-    calls: u64,
-    answer: Result<u32, DumpFault>,
-    written: &[u8],
-    whole: &[u8],
-) {
-    assert_eq!(rt; answer, Err(DumpFault::Write), "after {calls} writes");
-    assert_eq!(rt; written.len() as u64, calls);
-    assert!(rt; whole.starts_with(written));
+// Tables of two peers, of which the first has a route on each of so many prefixes.
+fn many_routes(alloc: Global, count: u32) -> Option<Tables> {
+    let mut tables = after(alloc, TWO_PEERS, "")?;
+    add_routes(alloc, &mut tables, A, (0x1400_0000, count), "64501 hop-a")?;
+    Some(tables)
 }
 
-// A dump of one row was written whole.
-fn check_whole(rt: &impl Abort, answer: Result<u32, DumpFault>, written: &[u8], whole: &[u8]) {
-    assert_eq!(rt; answer, Ok(1));
-    assert_eq!(rt; written, whole);
-}
-
-// Writes the plain dump to memory within the limits; answers what `write_dump` does, and what the writer has
-// taken then.
-fn plain_dump(rt: &impl Abort, alloc: Global, limits: Limits) -> (Result<u32, DumpFault>, Vec<u8>) {
-    let plan = exchange(alloc, subnet(), first_peers(2)).expect(rt, "an exchange");
-    let route = attributes(alloc, VIA_64501).expect(rt, "attributes");
-    let rows = [row(documentation().expect(rt, "a prefix"), &route)];
-    dump(rt, alloc, limits, (&plan, B, 0), &rows)
-}
-
-#[test]
-fn a_writer_may_take_one_octet_a_call(rt: HostRuntime) {
-    let alloc = rt.alloc();
-    let whole = octets(alloc, &[PLAIN_DUMP]).expect(&rt, "octets");
-    let (answer, written) = plain_dump(&rt, alloc, in_pieces(1));
-    check_whole(&rt, answer, &written, &whole);
-    // 97 writes of one octet: each is refused in turn, and what is out then is all that was written before.
-    for calls in 0..97 {
-        let (answer, written) = plain_dump(&rt, alloc, failing_after(calls, 1));
-        check_cut(&rt, calls, answer, &written, &whole);
-    }
-}
-
-// Writes the dump of the table of a client to memory within the limits; answers what `write_dump` does with its
-// rows, and what the writer has taken then.
-fn table_dump<T: Abort + Threads + Sync>(
+// What the dump of a client's table answers, and what its writer has taken.
+fn table_dump<T: Threads + Sync>(
     rt: &T,
     alloc: Global,
-    limits: Limits,
     tables: &Tables,
     client: usize,
-) -> (Result<u32, DumpFault>, Vec<u8>) {
-    assert!(rt; client < tables.count());
-    let dump = TableDump::begin(alloc, tables, client, 0).expect(rt, "a dump");
+    limits: Limits,
+) -> Option<(Result<u32, DumpFault>, Vec<u8>)> {
+    if client >= tables.count() {
+        return None;
+    }
     let mut writings = [Writing {
-        dump,
+        dump: TableDump::begin(alloc, tables, client, 0).ok()?,
         out: MemoryWriter::new(alloc, limits),
         failed: false,
     }];
     write_side_by_side(rt, &mut writings);
     let [writing] = &writings;
-    let taken = writing.out.octets().to_vec(alloc).expect(rt, "octets");
-    (answer_of(writing), taken)
+    Some((answer_of(writing), writing.out.octets().to_vec(alloc).ok()?))
 }
 
-#[test]
-fn a_table_is_dumped_and_may_fail_at_each_octet(rt: HostRuntime) {
-    let alloc = rt.alloc();
-    let tables = announced(&rt, alloc, first_peers(2), &[(A, VIA_64501)]);
-    let whole = octets(alloc, &[PLAIN_DUMP]).expect(&rt, "octets");
-    let (answer, written) = table_dump(&rt, alloc, in_pieces(1), &tables, B);
-    check_whole(&rt, answer, &written, &whole);
-    for calls in 0..97 {
-        let (answer, written) = table_dump(&rt, alloc, failing_after(calls, 1), &tables, B);
-        check_cut(&rt, calls, answer, &written, &whole);
-    }
-}
-
-// Tables of two peers, of which the first has a route on each of so many prefixes.
-fn many_routes(rt: &impl Abort, alloc: Global, count: u32) -> Tables {
-    let mut tables = tables(alloc, subnet(), first_peers(2)).expect(rt, "tables");
-    for number in 0..count.min(60000) {
-        let prefix = Prefix::new(0x1400_0000 + number * 256, 24);
-        let route = attributes(alloc, VIA_64501);
-        announce(rt, &mut tables, (A, 100 + number), prefix, route);
-    }
-    tables
-}
-
-// The octets of the dump of b's table, of so many rows, to memory within the limits.
-fn whole_dump<T: Abort + Threads + Sync>(
-    rt: &T,
+/// What the dump of the list of a client's rows answers, and what its writer has taken.
+pub fn list_dump(
     alloc: Global,
+    tables: &Tables,
+    client: usize,
     limits: Limits,
-    tables: &Tables,
-    count: u32,
-) -> Vec<u8> {
-    let (answer, written) = table_dump(rt, alloc, limits, tables, B);
-    assert_eq!(rt; answer, Ok(count), "{limits:?}");
-    written
+) -> Option<(Result<u32, DumpFault>, Vec<u8>)> {
+    if client >= tables.count() {
+        return None;
+    }
+    let rows = tables.rows(client).ok()?;
+    let mut out = MemoryWriter::new(alloc, limits);
+    let answer = write_dump(alloc, &mut out, tables.plan(), client, &rows, 0);
+    Some((answer, out.into_octets()))
 }
 
-// The octets of the dump of the list of b's rows, of which there are so many.
-fn listed_dump(rt: &impl Abort, alloc: Global, tables: &Tables, count: u32) -> Vec<u8> {
-    let rows = tables.rows(B).expect(rt, "rows");
-    let (answer, listed) = dump(rt, alloc, Limits::none(), (tables.plan(), B, 0), &rows);
-    assert_eq!(rt; (answer, rows.len()), (Ok(count), count as usize));
-    listed
-}
-
-// Of a dump of b's table whose writer fails after so many writes, a beginning is out.
-fn check_beginning<T: Abort + Threads + Sync>(
+// A dump of b's table answers so, and a beginning of the whole dump is out, all of it where the answer is Ok; answers how
+// many octets that are.
+fn taken<T: Abort + Threads + Sync>(
     rt: &T,
     alloc: Global,
-    tables: &Tables,
-    calls: u64,
-    whole: &[u8],
-) {
-    let limits = failing_after(calls, usize::MAX);
-    let (answer, written) = table_dump(rt, alloc, limits, tables, B);
-    assert_eq!(rt; answer, Err(DumpFault::Write), "after {calls} writes");
-    assert!(rt; written.len() < whole.len() && whole.starts_with(&written));
+    (tables, whole): (&Tables, &[u8]),
+    (way, limits): (Way, Limits),
+    wanted: Result<u32, DumpFault>,
+) -> usize {
+    let (answer, written) = match way {
+        Way::Table => table_dump(rt, alloc, tables, B, limits),
+        Way::List => list_dump(alloc, tables, B, limits),
+    }
+    .expect(rt, "a dump");
+    assert_eq!(rt; answer, wanted, "{way:?}, {limits:?}");
+    let is_whole = written.len() == whole.len();
+    assert!(rt;
+        whole.starts_with(&written) && is_whole == answer.is_ok(),
+        "{way:?}, {limits:?}"
+    );
+    written.len()
 }
 
-// The dump of a's table has no row: all routes are its own.
-fn check_no_rows<T: Abort + Threads + Sync>(rt: &T, alloc: Global, tables: &Tables) {
-    let (answer, _) = table_dump(rt, alloc, Limits::none(), tables, A);
-    assert_eq!(rt; answer, Ok(0));
-}
-
-// 256 rows are spelled in one turn, 257 in two and 18,500 in 73: with the octets of the same rows in a list. Writes
-// are refused in turn, the last of each dump among them.
-#[test]
-fn many_rows_are_dumped_as_they_are_listed(rt: HostRuntime) {
-    let alloc = rt.alloc();
-    for (count, first, writes) in [(256, 0, 1), (257, 0, 1), (2049, 0, 2), (18500, 13, 15)] {
-        let tables = many_routes(&rt, alloc, count);
-        check_no_rows(&rt, alloc, &tables);
-        let whole = whole_dump(&rt, alloc, Limits::none(), &tables, count);
-        assert!(rt; whole == listed_dump(&rt, alloc, &tables, count));
-        for calls in first..writes {
-            check_beginning(&rt, alloc, &tables, calls, &whole);
-        }
-        let limits = failing_after(writes, usize::MAX);
-        assert!(rt; whole_dump(&rt, alloc, limits, &tables, count) == whole);
+// A writer that takes so many octets at a call, and fails after so many calls.
+fn within(calls_before_failure: Option<u64>, piece: usize) -> Limits {
+    Limits {
+        calls_before_failure,
+        room: usize::MAX,
+        piece,
     }
 }
 
-#[test]
-fn a_full_device_has_the_beginning_of_the_dump(rt: HostRuntime) {
-    let alloc = rt.alloc();
-    let small = Limits {
+// The dump of one row, of 97 octets, is written an octet a call, fails at each of them in turn, and ends where the device
+// is full.
+fn check_small<T: Abort + Threads + Sync>(
+    rt: &T,
+    alloc: Global,
+    small: (&Tables, &[u8]),
+    way: Way,
+) {
+    let whole = taken(rt, alloc, small, (way, within(None, 1)), Ok(1));
+    assert_eq!(rt; whole, 97);
+    let full = Limits {
         calls_before_failure: None,
         room: 30,
         piece: usize::MAX,
     };
-    let (answer, written) = plain_dump(&rt, alloc, small);
-    assert_eq!(rt; answer, Err(DumpFault::Write));
-    let front = "00000000 000D 0001 00000023 C0000201 0001 62 0002 02 C000020B C000020B";
-    check_octets(&rt, alloc, written, front);
+    let before = taken(rt, alloc, small, (way, full), Err(DumpFault::Write));
+    assert_eq!(rt; before, 30);
+    for calls in 0..97 {
+        let limits = within(Some(calls), 1);
+        let before = taken(rt, alloc, small, (way, limits), Err(DumpFault::Write));
+        assert_eq!(rt; before as u64, calls);
+    }
 }
 
-// After so many writes the writer fails: what the dump of rows answers, and how many octets are out.
-type Outcome = (u64, Result<u32, DumpFault>, usize);
+#[test]
+fn a_dump_may_fail_at_each_octet(rt: HostRuntime) {
+    let alloc = rt.alloc();
+    let tables = after(alloc, TWO_PEERS, "a 100 203.0.113.0/24 64501 hop-a").expect(&rt, "tables");
+    let (_, whole) = list_dump(alloc, &tables, B, Limits::none()).expect(&rt, "a dump");
+    check_small(&rt, alloc, (&tables, &whole), Way::Table);
+    check_small(&rt, alloc, (&tables, &whole), Way::List);
+}
 
-// The dump of rows for b comes out so, and what is out is a beginning of the whole dump.
-fn check_outcome(
-    rt: &impl Abort,
+// The dump of so many rows comes whole of so many writes, and a beginning of it of fewer; a's own table has no row.
+fn check_many<T: Abort + Threads + Sync>(
+    rt: &T,
     alloc: Global,
-    plan: &Exchange,
-    rows: &[Row],
-    (calls, answer, taken): Outcome,
-    whole: &[u8],
+    count: u32,
+    first: u64,
+    writes: u64,
 ) {
-    let limits = failing_after(calls, usize::MAX);
-    let (given, written) = dump(rt, alloc, limits, (plan, B, 0), rows);
-    assert_eq!(rt;
-        (given, written.len()),
-        (answer, taken),
-        "after {calls} writes"
+    let tables = many_routes(alloc, count).expect(rt, "tables");
+    let (answer, whole) = list_dump(alloc, &tables, B, Limits::none()).expect(rt, "a dump");
+    assert_eq!(rt; answer, Ok(count));
+    for calls in first..writes {
+        let limits = within(Some(calls), usize::MAX);
+        taken(
+            rt,
+            alloc,
+            (&tables, &whole),
+            (Way::Table, limits),
+            Err(DumpFault::Write),
+        );
+    }
+    let limits = within(Some(writes), usize::MAX);
+    taken(
+        rt,
+        alloc,
+        (&tables, &whole),
+        (Way::Table, limits),
+        Ok(count),
     );
-    assert!(rt; whole.starts_with(&written));
+    let own = table_dump(rt, alloc, &tables, A, Limits::none());
+    assert_eq!(rt; own.map(|(answer, _)| answer), Some(Ok(0)));
+}
+
+// 256 rows are spelled in one turn, 257 in two and 18,500 in 73.
+#[test]
+fn many_rows_are_dumped_as_they_are_listed(rt: HostRuntime) {
+    for (count, first, writes) in [(256, 0, 1), (257, 0, 1), (2049, 0, 2), (18500, 13, 15)] {
+        check_many(&rt, rt.alloc(), count, first, writes);
+    }
 }
 
 // 3,000 rows of 50 octets each make three pieces: each write is refused in turn.
 #[test]
-fn each_write_may_fail(rt: HostRuntime) {
+fn each_write_of_a_list_may_fail(rt: HostRuntime) {
     let alloc = rt.alloc();
-    let plan = exchange(alloc, subnet(), first_peers(2)).expect(&rt, "an exchange");
-    let route = attributes(alloc, VIA_64501).expect(&rt, "attributes");
-    let row = row(documentation().expect(&rt, "a prefix"), &route);
-    let rows = vec![in alloc; row; 3000].expect(&rt, "rows");
-    let (answer, whole) = dump(&rt, alloc, Limits::none(), (&plan, B, 0), &rows);
-    assert_eq!(rt; answer, Ok(3000));
+    let tables = many_routes(alloc, 3000).expect(&rt, "tables");
+    let (_, whole) = list_dump(alloc, &tables, B, Limits::none()).expect(&rt, "a dump");
     assert_eq!(rt; whole.len(), 47 + 3000 * 50);
-    for outcome in [
+    for (calls, answer, before) in [
         (0, Err(DumpFault::Write), 0),
         (1, Err(DumpFault::Write), 65547),
         (2, Err(DumpFault::Write), 131097),
         (3, Ok(3000), 150047),
     ] {
-        check_outcome(&rt, alloc, &plan, &rows, outcome, &whole);
+        let limits = within(Some(calls), usize::MAX);
+        let written = taken(&rt, alloc, (&tables, &whole), (Way::List, limits), answer);
+        assert_eq!(rt; written, before, "{calls} writes");
     }
 }
 

@@ -3,7 +3,7 @@ use Rattle.std.proofs.lemmas.List.{get_or-map}
 use Rattle.rs_table.specs.RouteView.{row_of}
 use Rattle.rs_table.specs.Table.{TableRow}
 use Rattle.rs_table.specs.declared.route.Row.{Row}
-use Rattle.table_tests.proofs.tests.dumps.are_known.Goals as goal
+use Rattle.write_rows.proofs.are_known.Goals as goal
 
 pub loop-row-preserved : goal.loop-row-preserved
 loop-row-preserved c =

@@ -1,3 +1,0 @@
-pub use Rattle.rs_table.specs.Content
-pub use Rattle.rs_table.specs.Listing
-pub mod Parts

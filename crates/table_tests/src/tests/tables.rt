@@ -1,0 +1,304 @@
+//! Which route each client gets of several, and why; which rows its table has; and what is left of a peer whose session
+//! closed or was lost.
+
+use super::*;
+
+/// A row as the tests compare it: the prefix, the peer that sent the route, and when.
+pub type Shown = (Prefix, usize, u32);
+
+// The list of the rows of a client's table.
+fn listed(alloc: Global, tables: &Tables, client: usize) -> Option<Vec<Shown>> {
+    let rows = tables.rows(client).ok()?;
+    rows.iter()
+        .map(|row| (row.prefix, row.route.peer, row.route.time))
+        .collect(alloc)
+        .ok()
+}
+
+/// The rows of a client's table; None where they are others one after another than in the list.
+pub fn shown(alloc: Global, tables: &Tables, client: usize) -> Option<Vec<Shown>> {
+    let mut shown = Vec::new(alloc);
+    for row in tables.iter_rows(client) {
+        shown
+            .push((row.prefix, row.route.peer, row.route.time))
+            .ok()?;
+    }
+    if listed(alloc, tables, client)? == shown {
+        Some(shown)
+    } else {
+        None
+    }
+}
+
+/// The name of a peer.
+pub fn name(tables: &Tables, peer: usize) -> &str {
+    if peer < tables.plan().count() {
+        tables.plan().peer(peer).name.as_str()
+    } else {
+        "-"
+    }
+}
+
+// Adds a row to a text.
+fn add_row(text: &mut String, tables: &Tables, (prefix, peer, time): Shown) -> Option<()> {
+    let mark = if text.is_empty() { "" } else { ", " };
+    let (address, len) = (Ipv4Addr::from_bits(prefix.address()), prefix.len());
+    let name = name(tables, peer);
+    write!(text, "{mark}{address}/{len} {name} {time}").ok()
+}
+
+/// The rows of a client's table, as a text.
+pub fn table(alloc: Global, tables: &Tables, client: usize) -> Option<String> {
+    let mut text = String::new(alloc);
+    for row in &shown(alloc, tables, client)? {
+        add_row(&mut text, tables, *row)?;
+    }
+    Some(text)
+}
+
+// What a client gets on a prefix: whose route, when it was announced, and its next hop.
+fn best(alloc: Global, tables: &Tables, client: usize, on: &str) -> Option<String> {
+    let Some(route) = tables.best(client, prefix(on)?) else {
+        return String::from_str(alloc, "-").ok();
+    };
+    let (name, time) = (name(tables, route.peer), route.time);
+    let next_hop = Ipv4Addr::from_bits(route.attributes.next_hop());
+    format!(in alloc; "{name} {time} {next_hop}").ok()
+}
+
+// Whose routes the clients get on 203.0.113.0/24.
+fn bests(alloc: Global, tables: &Tables) -> Option<String> {
+    let on = prefix("203.0.113.0/24")?;
+    let mut text = String::new(alloc);
+    for client in 0..tables.count() {
+        let best = tables.best(client, on).map(|route| route.peer);
+        let name = name(tables, best.unwrap_or(usize::MAX));
+        write!(text, "{name}").ok()?;
+    }
+    Some(text)
+}
+
+// Why a client has a peer's route on 203.0.113.0/24, or not.
+fn why(alloc: Global, tables: &Tables, client: &str, peer: &str) -> Option<String> {
+    let client = peer_of(tables.plan(), client)?;
+    let peer = peer_of(tables.plan(), peer)?;
+    let why = tables.why(client, peer, prefix("203.0.113.0/24")?);
+    format!(in alloc; "{why:?}").ok()
+}
+
+// The names of the peers whose sessions are closed.
+fn closed(alloc: Global, tables: &Tables) -> Option<String> {
+    let mut text = String::new(alloc);
+    for peer in 0..tables.count() {
+        if tables.is_closed(peer) {
+            text.push_str(name(tables, peer)).ok()?;
+        }
+    }
+    Some(text)
+}
+
+// How many rows a client's table may have, at least and at most.
+fn hint(alloc: Global, tables: &Tables, client: usize) -> Option<String> {
+    let hint = tables.iter_rows(client).size_hint();
+    format!(in alloc; "{hint:?}").ok()
+}
+
+// The answer to a question; `nobody` is a client that isn't there.
+fn answer(alloc: Global, tables: &Tables, question: &str) -> Option<String> {
+    let mut words = question.split_whitespace();
+    let asked = words.next()?;
+    let name = words.next().unwrap_or("");
+    let client = peer_of(tables.plan(), name).unwrap_or(tables.count());
+    match asked {
+        "bests" => bests(alloc, tables),
+        "best" => best(alloc, tables, client, words.next()?),
+        "table" => table(alloc, tables, client),
+        "why" => why(alloc, tables, name, words.next()?),
+        "closed" => closed(alloc, tables),
+        "hint" => hint(alloc, tables, client),
+        _ => None,
+    }
+}
+
+/// The question of a row has its answer.
+pub fn check_answer(rt: &impl Abort, alloc: Global, tables: &Tables, row: &str, changes: &str) {
+    let (question, wanted) = row.split_once('|').unwrap_or((row, "an answer"));
+    let found = answer(alloc, tables, question);
+    assert_eq!(rt;
+        found.as_deref(),
+        Some(wanted.trim()),
+        "{row} after {changes}"
+    );
+}
+
+// `bests` has a letter for each client: the name of the peer whose route it gets on 203.0.113.0/24, or -.
+const DECISIONS: &str = "
+exchange 64500 192.0.2.0/24; a,64501,192.0.2.11,192.0.2.11; b,64502,192.0.2.12,192.0.2.12; \
+    c,64503,192.0.2.13,192.0.2.13; d,64504,192.0.2.14,192.0.2.14
+bests | ----
+why b a | Absent
+why b b | Own
+after a 100 203.0.113.0/24 64501 hop-a
+bests | -aaa
+why b a | Best
+
+# What policy keeps from one client hides no other (RFC 7947, section 2.3.2.1).
+after a 100 203.0.113.0/24 64501 hop-a 0:64502; c 100 203.0.113.0/24 64503-65010 hop-a
+bests | ccaa
+why b a | Refused
+why b c | Best
+why d c | Lost
+why d a | Best
+why a a | Own
+why a b | Absent
+
+# An ineligible route replaces an eligible one.
+after a 100 203.0.113.0/24 64501 hop-a; a 101 203.0.113.0/24 64501-64500 hop-a
+bests | ----
+why b a | Ineligible
+after a 100 203.0.113.0/24 64501 hop-a; a 101 203.0.113.0/24 64501 hop-server
+bests | ----
+why b a | Ineligible
+after a 100 203.0.113.0/24 64501 hop-a; a 101 203.0.113.0/24 64501 hop-outside
+bests | ----
+why b a | Ineligible
+after a 100 203.0.113.0/24 64501 hop-a; a 101 203.0.113.0/24 64501 hop-other
+bests | -aaa
+best b 203.0.113.0/24 | a 101 192.0.2.20
+
+# Without a subnet any next hop will do but the server's address.
+exchange 64500; a,64501,192.0.2.11,192.0.2.11; b,64502,192.0.2.12,192.0.2.12
+after a 100 203.0.113.0/24 64501 hop-outside
+bests | -a
+after a 100 203.0.113.0/24 64501 hop-server
+bests | --
+
+# MED decides within a neighbour AS (RFC 4271, section 9.1.2.2, c), in any order of the announcements; and what d gets
+# when b has withdrawn.
+exchange 64500 192.0.2.0/24; a,64501,192.0.2.11,0.0.0.1; b,64501,192.0.2.12,0.0.0.9; c,64502,192.0.2.13,0.0.0.5; \
+    d,64504,192.0.2.14,0.0.0.4
+after a 100 203.0.113.0/24 64501-65010 hop-a med-10; b 100 203.0.113.0/24 64501-65010 hop-a med-5; \
+    c 100 203.0.113.0/24 64502-65010 hop-a
+bests | cabc
+after a 100 203.0.113.0/24 64501-65010 hop-a med-10; c 100 203.0.113.0/24 64502-65010 hop-a; \
+    b 100 203.0.113.0/24 64501-65010 hop-a med-5
+bests | cabc
+after b 100 203.0.113.0/24 64501-65010 hop-a med-5; a 100 203.0.113.0/24 64501-65010 hop-a med-10; \
+    c 100 203.0.113.0/24 64502-65010 hop-a
+bests | cabc
+after b 100 203.0.113.0/24 64501-65010 hop-a med-5; c 100 203.0.113.0/24 64502-65010 hop-a; \
+    a 100 203.0.113.0/24 64501-65010 hop-a med-10
+bests | cabc
+after c 100 203.0.113.0/24 64502-65010 hop-a; a 100 203.0.113.0/24 64501-65010 hop-a med-10; \
+    b 100 203.0.113.0/24 64501-65010 hop-a med-5
+bests | cabc
+after c 100 203.0.113.0/24 64502-65010 hop-a; b 100 203.0.113.0/24 64501-65010 hop-a med-5; \
+    a 100 203.0.113.0/24 64501-65010 hop-a med-10
+bests | cabc
+after a 100 203.0.113.0/24 64501-65010 hop-a med-10; b 100 203.0.113.0/24 64501-65010 hop-a med-5; \
+    c 100 203.0.113.0/24 64502-65010 hop-a; b 101 withdraw 203.0.113.0/24
+bests | caaa
+after b 100 203.0.113.0/24 64501-65010 hop-a med-5; c 100 203.0.113.0/24 64502-65010 hop-a; \
+    a 100 203.0.113.0/24 64501-65010 hop-a med-10; b 101 withdraw 203.0.113.0/24
+bests | caaa
+after c 100 203.0.113.0/24 64502-65010 hop-a; b 100 203.0.113.0/24 64501-65010 hop-a med-5; \
+    a 100 203.0.113.0/24 64501-65010 hop-a med-10; b 101 withdraw 203.0.113.0/24
+bests | caaa
+
+# The lower address breaks the last tie (section 9.1.2.2, g).
+exchange 64500 192.0.2.0/24; a,64501,192.0.2.11,192.0.2.9; b,64501,192.0.2.12,192.0.2.9; c,64503,192.0.2.13,192.0.2.13
+after b 100 203.0.113.0/24 64501 hop-other; a 100 203.0.113.0/24 64501 hop-other
+bests | baa
+";
+
+#[test]
+fn each_client_gets_what_the_rules_leave_it(rt: HostRuntime) {
+    check_rows(&rt, rt.alloc(), DECISIONS);
+}
+
+const SESSIONS: &str = "
+# Routes stay at the end of the file, and go at any other close (our choice).
+exchange 64500 192.0.2.0/24; a,64501,192.0.2.11,192.0.2.11; b,64502,192.0.2.12,192.0.2.12; \
+    c,64503,192.0.2.13,192.0.2.13
+after a 100 203.0.113.0/24 64501 hop-a
+closed |
+after a 100 203.0.113.0/24 64501 hop-a; a 101 ended
+closed | a
+bests | -aa
+after a 100 203.0.113.0/24 64501 hop-a; a 101 bgp-3/6
+closed | a
+bests | ---
+after a 100 203.0.113.0/24 64501 hop-a; a 101 mrt-2
+closed | a
+bests | ---
+after a 100 203.0.113.0/24 64501 hop-a; a 101 memory
+closed | a
+bests | ---
+after a 100 203.0.113.0/24 64501 hop-a; a 101 read; b 101 ended
+closed | ab
+bests | ---
+
+# A lost session takes its routes (RFC 4271, section 8.2.2), and announces others when it is back.
+after a 100 203.0.113.0/24 64501 hop-a; c 100 203.0.113.0/24 64503-65010 hop-a
+closed |
+bests | caa
+why b a | Best
+after a 100 203.0.113.0/24 64501 hop-a; c 100 203.0.113.0/24 64503-65010 hop-a; a 101 lost
+closed |
+bests | cc-
+why b a | Absent
+after a 100 203.0.113.0/24 64501 hop-a; c 100 203.0.113.0/24 64503-65010 hop-a; a 101 lost; a 102 lost; \
+    a 103 203.0.113.0/24 64501 hop-a
+closed |
+bests | caa
+why b a | Best
+table b | 203.0.113.0/24 a 103
+";
+
+#[test]
+fn what_a_session_leaves_depends_on_how_it_ends(rt: HostRuntime) {
+    check_rows(&rt, rt.alloc(), SESSIONS);
+}
+
+const TABLES: &str = "
+# Rows ascend by address, then by length, and show the last announcement.
+exchange 64500 192.0.2.0/24; a,64501,192.0.2.11,192.0.2.11; b,64502,192.0.2.12,192.0.2.12; \
+    c,64503,192.0.2.13,192.0.2.13; d,64504,192.0.2.14,192.0.2.14
+table a |
+after a 100 203.0.113.0/24 64501 hop-a; c 101 10.0.0.0/16 64503-65010 hop-a; a 102 10.0.0.0/8 64501 hop-a; \
+    a 103 10.0.0.0/16 64501 hop-a; c 104 10.0.0.0/8 64503-65010 hop-a; c 105 10.0.0.0/8 64503-65010 hop-a
+table a | 10.0.0.0/8 c 105, 10.0.0.0/16 c 101
+table b | 10.0.0.0/8 a 102, 10.0.0.0/16 a 103, 203.0.113.0/24 a 100
+table c | 10.0.0.0/8 a 102, 10.0.0.0/16 a 103, 203.0.113.0/24 a 100
+table nobody |
+best b 10.0.0.0/8 | a 102 192.0.2.11
+best a 10.0.0.0/8 | c 105 192.0.2.11
+best a 203.0.113.0/24 | -
+best b 10.0.0.0/24 | -
+best nobody 10.0.0.0/8 | -
+
+# There are no more rows than prefixes.
+after a 100 203.0.113.0/24 64501 hop-a; b 100 203.0.113.0/24 64502-65010 hop-a; a 100 10.0.0.0/8 64501 hop-a
+table a | 203.0.113.0/24 b 100
+table b | 10.0.0.0/8 a 100, 203.0.113.0/24 a 100
+table c | 10.0.0.0/8 a 100, 203.0.113.0/24 a 100
+table d | 10.0.0.0/8 a 100, 203.0.113.0/24 a 100
+table nobody |
+hint a | (0, Some(2))
+hint b | (0, Some(2))
+hint c | (0, Some(2))
+hint d | (0, Some(2))
+hint nobody | (0, Some(2))
+
+# Three prefixes of one address.
+after b 100 10.0.0.0/24 64502-65010 hop-a; c 100 10.0.0.0/16 64503-65010 hop-a; a 100 10.0.0.0/8 64501 hop-a
+table a | 10.0.0.0/16 c 100, 10.0.0.0/24 b 100
+table b | 10.0.0.0/8 a 100, 10.0.0.0/16 c 100
+table c | 10.0.0.0/8 a 100, 10.0.0.0/24 b 100
+table d | 10.0.0.0/8 a 100, 10.0.0.0/16 c 100, 10.0.0.0/24 b 100
+";
+
+#[test]
+fn rows_ascend_one_after_another_as_in_the_list(rt: HostRuntime) {
+    check_rows(&rt, rt.alloc(), TABLES);
+}
