@@ -1,4 +1,4 @@
--- What a list of changes leaves, on each prefix, after one more change, by a part and by last places: for laws.rt, `apply` of tables.rt, and the lemmas of table_tests.
+-- What a list of changes leaves, on each prefix, after one more change, by a part and by last places: for laws.rt and `apply` of tables.rt.
 use Rattle.std.proofs.Common.{◌≡◌, ℕ, Bool, true, false, cond, ◌||◌, List, [], ◌∷◌, ◌++◌, reverse, filter, Option, Some, None, refl, sym, ap, ◌∙◌, inl, inr}
 use Rattle.std.specs.List.{find, filter_map, cons_option, list_any}
 use Rattle.std.specs.Option.{option_and_then, option_map_or, option_or}

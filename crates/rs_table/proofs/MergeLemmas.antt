@@ -1,4 +1,4 @@
--- Tables that hold different prefixes, made one: for `joined_with` of tables.rt, `merge` of merge.rt, and the lemmas of table_tests.
+-- Tables that hold different prefixes, made one: for `joined_with` of tables.rt and `merge` of merge.rt.
 use Rattle.std.proofs.Common.{◌≡◌, ℕ, zero, suc, ◌+◌, ◌<◌, ◌≤◌, Bool, false, List, [], ◌∷◌, length, map, get_or, Option, Some, None, AllPairs, slice_get, refl, sym, ap, subst, ◌∙◌, arith, inl, inr}
 use Rattle.std.specs.List.{AllByRecursion}
 use Rattle.std.specs.List.Sorted.{IsStrictlySortedBy}

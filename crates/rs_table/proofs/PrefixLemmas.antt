@@ -1,4 +1,4 @@
--- The order of prefixes is total, and tells all prefixes apart: for `join` of cells.rt, LeftLemmas, MergeLemmas, and the lemmas of cells, listing, tables and table_tests.
+-- The order of prefixes is total, and tells all prefixes apart: for `join` of cells.rt, LeftLemmas, MergeLemmas, and the lemmas of cells, listing and tables.
 use Rattle.std.proofs.Common.{◌≡◌, true, false, cond, ◌||◌, List, [], ◌∷◌, Option, Some, None, refl, sym, ap, ◌∙◌, inl, inr}
 use Rattle.std.proofs.lemmas.Bool.{cases_Bool}
 use Rattle.std.specs.List.{filter_map, cons_option, list_any}
