@@ -50,7 +50,7 @@ MARKER 0017 02 0001 0000 | true true
 MARKER 0017 02 0000 0001 | true true
 ";
 
-// Whether a message may concern the prefix, by both standards.
+/// Whether a message may concern the prefix, by both standards.
 pub fn said(alloc: Global, text: &str) -> Result<String, Fail> {
     let (message, prefix) = (message(alloc, text)?, narrow()?);
     let by_rfc_4271 = concerns_prefix(Errors::Rfc4271, &message, prefix);

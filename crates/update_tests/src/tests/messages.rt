@@ -180,7 +180,7 @@ fn said_by(alloc: Global, errors: Errors, message: &[u8]) -> Result<String, Allo
     answer(alloc, &read_message_by(alloc, errors, message))
 }
 
-// What a message says, by both standards where they differ.
+/// What a message says, by both standards where they differ.
 pub fn said(alloc: Global, text: &str) -> Result<String, Fail> {
     let message = message(alloc, text)?;
     let by_rfc_4271 = said_by(alloc, Errors::Rfc4271, &message)?;

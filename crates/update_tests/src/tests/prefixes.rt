@@ -32,7 +32,7 @@ Host bits are cleared, and a length is at most 32.
 0.0.0.0/33 | none
 ";
 
-// The prefix 203.0.113.0/24.
+/// The prefix 203.0.113.0/24.
 pub fn narrow() -> Result<Prefix, Fail> {
     Ok(Prefix::new(0xCB00_7100, 24).ok_or("a length of 24")?)
 }
@@ -45,7 +45,7 @@ fn said_of(alloc: Global, prefix: Prefix) -> Result<String, Fail> {
     Ok(format!(in alloc; "{address}/{len} {multicast} {wide} {place:?}")?)
 }
 
-// What is said of the prefix of an address and a length.
+/// What is said of the prefix of an address and a length.
 pub fn said(alloc: Global, text: &str) -> Result<String, Fail> {
     let (address, len) = text.split_once('/').ok_or("a slash")?;
     let address = address.parse::<Ipv4Addr>()?.to_bits();

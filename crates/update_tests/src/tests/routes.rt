@@ -139,7 +139,7 @@ fn push_all(alloc: Global, text: &mut String, attributes: &Attributes) -> Result
     push_others(text, attributes)
 }
 
-// What the attributes of a route say.
+/// What the attributes of a route say.
 pub fn said(alloc: Global, section: &str) -> Result<String, Fail> {
     let mut text = String::new(alloc);
     push_all(alloc, &mut text, &route(alloc, section)?)?;
@@ -207,7 +207,7 @@ fn written(alloc: Global, section: &str) -> Result<Vec<u8>, Fail> {
     Ok(out)
 }
 
-// Whether a route is written so, and once more as what was written; if it isn't, how it is.
+/// Whether a route is written so, and once more as what was written; if it isn't, how it is.
 pub fn said_of_writing(alloc: Global, text: &str) -> Result<String, Fail> {
     let (section, wanted) = text.split_once(" -> ").ok_or("an arrow")?;
     let (first, second) = (written(alloc, section)?, written(alloc, wanted)?);
