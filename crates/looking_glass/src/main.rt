@@ -7,13 +7,13 @@
 //! Supported standards: RFC 4271, RFC 6793, RFC 1997, RFC 7606, RFC 7947, RFC 6396.
 #![tactic(auto)]
 
-use rs_files::{first_unreadable, open_file};
 use rs_glass::{History, Question, explain_all, read_happenings, read_sessions, replay};
 use rs_glass_ended::{
     Ended, MEMORY_LINE, OUT_OF_MEMORY, configuration, line, open_files, peer_named,
 };
 use rs_glass_texts::{history_json, history_text, why_json, why_text};
 use rs_glass_words::{HistoryQuery, PeersQuery, Query, WhyQuery, WordsFault, read_query};
+use rs_host::{first_unreadable, open_file};
 use rs_inventory::{InventoryFault, read_inventory};
 use rs_listing::{RecordedFile, as_json, as_text, as_toml};
 use std::env;

@@ -7,21 +7,18 @@
 #![tactic(auto)]
 
 ghost use Rattle.std.specs.Prelude.{◌≡◌, ◌≤◌, None, Some, IfErr, IfOk, length};
-ghost use Rattle.rs_ended.specs.Texts.{CanTell};
+ghost use Rattle.rs_program.specs.Texts.{CanTell};
 
-use rs_disk::{
-    Copied, FolderOutlet, ended_at, first_unwritable, octets_of, open_files, print_notes,
-};
-use rs_ended::{Ended, FAILED, MEMORY_LINE, NOT_UTF_8, OUT_OF_MEMORY, OUTPUT_LINE, line, status};
-use rs_files::read_file;
-use rs_lines::each_on_one_line;
+use rs_host::{Options, WordsFault, each_on_one_line, read_file};
 use rs_mrt::IoWriter;
-use rs_options::{Options, WordsFault};
 use rs_outlet::RunFault;
-use rs_progress::{Cleared, Progress};
+use rs_program::{
+    Cleared, Copied, Ended, FAILED, FolderOutlet, MEMORY_LINE, NOT_UTF_8, OUT_OF_MEMORY,
+    OUTPUT_LINE, Progress, ended_at, first_unwritable, line, octets_of, open_files, print_notes,
+    read_words, status,
+};
 use rs_run::run;
 use rs_setup::{Setup, a_configuration_has_a_file_for_each_peer, read_setup};
-use rs_words::read_words;
 use std::env::Env;
 use std::fs::Files;
 use std::io::{ErrorKind, IsTerminal, Stderr};
@@ -162,7 +159,6 @@ fn end<R: AllocGlobal + Print + Eprint>(
     };
     let printed = match ended {
         Ended::Words(WordsFault::Help(_)) => print!(rt; "{text}"),
-        Ended::Words(WordsFault::Version(_)) => print!(rt; "{text}"),
         Ended::Words(WordsFault::Refused(_)) => eprint!(rt; "{text}"),
         _ => eprintln!(rt; "{text}"),
     };

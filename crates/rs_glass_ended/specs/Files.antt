@@ -1,8 +1,8 @@
 -- What the fault of a file ends the program with (docs/LOOKING_GLASS.md, "Statuses and texts"); ours.
 use Rattle.std.specs.Prelude.{◌≡◌, ⊤, ℕ, List, Option, None, Some, slice_get}
 use Rattle.std.specs.Prelude.{option_map, string_bytes}
-use Rattle.rs_files.specs.declared.fault.FileFault.{FileFault}
-use Rattle.rs_files.specs.declared.fault.FileFault.TheVariants as file
+use Rattle.rs_host.specs.declared.fault.FileFault.{FileFault}
+use Rattle.rs_host.specs.declared.fault.FileFault.TheVariants as file
 use Rattle.rs_glass.specs.declared.fault.GlassFault.{GlassFault}
 use Rattle.rs_glass.specs.declared.fault.GlassFault.TheVariants as glass
 use Rattle.rs_glass_ended.specs.declared.ended.Ended.{Ended}

@@ -3,8 +3,8 @@ use Rattle.std.specs.Prelude.{◌++◌, codes, string_bytes}
 use Rattle.rs_glass_ended.specs.declared.ended.Ended.{Ended}
 use Rattle.rs_glass_ended.specs.declared.ended.Ended.TheVariants.{Words, NotUtf8, Setup, NoPeer, Unread, Output, Memory}
 use Rattle.rs_glass_words.specs.declared.query.WordsFault.TheVariants as words
-use Rattle.rs_lines.specs.Line.{Text, named as named_by, one_line, out_of_memory}
-use Rattle.rs_lines.specs.Refusal.{setup_line}
+use Rattle.rs_host.specs.Line.{Text, named as named_by, one_line, out_of_memory}
+use Rattle.rs_host.specs.Refusal.{setup_line}
 
 abbrev pub program : Text
 program = codes "looking_glass"

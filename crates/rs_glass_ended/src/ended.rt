@@ -5,9 +5,9 @@ ghost use Rattle.rs_glass_ended.specs.Files.{EndsAt, EndsReading, NamesFile};
 ghost use Rattle.rs_glass_ended.specs.Status.{status_of};
 
 use rs_choice::PlanFault;
-use rs_files::FileFault;
 use rs_glass::GlassFault;
 use rs_glass_words::WordsFault;
+use rs_host::FileFault;
 use rs_setup::{Setup, SetupFault};
 use std::alloc::{AllocError, Global};
 

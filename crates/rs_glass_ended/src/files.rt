@@ -3,7 +3,7 @@
 ghost use Rattle.std.specs.Prelude.{◌≡◌, ◌<◌, All, IfOk, length};
 
 use crate::ended::Ended;
-use rs_files::{Recorded, first_unreadable, open_file};
+use rs_host::{Recorded, first_unreadable, open_file};
 use std::fs::Files;
 
 /// Opens the files of these paths, in their order, and reads nothing yet. The first that can't be opened is named;

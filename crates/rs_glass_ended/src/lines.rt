@@ -5,7 +5,7 @@ ghost use Rattle.rs_glass_ended.specs.Lines.{line_break, line_of, named};
 
 use crate::ended::Ended;
 use rs_glass_words::WordsFault;
-use rs_lines::{on_one_line, setup_line};
+use rs_host::{on_one_line, setup_line};
 use std::alloc::{AllocError, Global};
 
 // The program's name, as a line of it begins.

@@ -3,7 +3,7 @@
 ghost use Rattle.std.specs.Prelude.{◌≡◌, ◌<◌, IfOk, IfSome, length, slice_get};
 
 use crate::ended::Ended;
-use rs_files::read_file;
+use rs_host::read_file;
 use rs_setup::{Setup, a_configuration_has_a_file_for_each_peer, read_setup};
 use std::fs::Files;
 

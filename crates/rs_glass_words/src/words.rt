@@ -5,8 +5,7 @@ use crate::query::{HistoryQuery, PeersQuery, Query, WhyQuery, WordsFault};
 use crate::values::{PREFIX_FORM, TIME_FORM, prefix_of, time_of};
 use clap::error::ErrorKind;
 use clap::{ArgMatches, Error};
-use rs_lines::each_on_one_line;
-use rs_options::standard_of;
+use rs_host::{each_on_one_line, standard_of};
 use rs_update::{Errors, Prefix};
 use std::alloc::{AllocError, Global};
 

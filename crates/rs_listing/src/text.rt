@@ -1,8 +1,8 @@
 //! Inventories as a text for people.
 
 use crate::recorded_file::RecordedFile;
+use rs_host::on_one_line;
 use rs_inventory::{Compression, Inventory, Kind, Peer, PeerRecords, SessionTimes};
-use rs_lines::on_one_line;
 use rs_mrt::MrtFault;
 use rs_timestamp::Utc;
 use std::alloc::{AllocError, Global};

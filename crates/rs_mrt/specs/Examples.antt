@@ -10,7 +10,7 @@ use Rattle.rs_mrt.specs.Source.{Advances, CountsFailure, IsLeft, stopped_at}
 use Rattle.rs_mrt.specs.Stream.{failed_calls, AppendsBeginning}
 use Rattle.rs_mrt.specs.Memory.{amount_within}
 use Rattle.rs_mrt.specs.Reader.{FileEnds, ReadFails, MayBeLeft, failed_reads}
-use Rattle.rs_mrt.specs.MemoryReading.{MemoryReading, Comes, amount_given}
+use Rattle.rs_mrt.specs.MemoryReading.{MemoryReading, Comes, after_read, amount_given}
 use Rattle.rs_mrt.specs.RecordReading.{end_within, fault_behind}
 
 -- of AS 64501 at 192.0.2.11, the recorder being AS 64500 at 192.0.2.1, over IPv4
@@ -89,9 +89,13 @@ pub record WriterExamples : Type 0 where
   pub no_room : amount_within (record { before_failure = None; room = 30; piece = 7 }) 30 40 ≡ None
   pub failing_call : amount_within (record { before_failure = Some 0; room = 30; piece = 7 }) 0 40 ≡ None
 
--- a reader over three octets, of which a call fails after so many
+-- a reader over three octets, of which a call fails after so many calls, and one after so many octets
+abbrev pub three_in_calls : Option ℕ → Option ℕ → MemoryReading
+three_in_calls calls before =
+    record { left = 1 ∷ 2 ∷ 3 ∷ []; calls = calls; before_failure = before; most = 2; failures = 0 }
+
 abbrev pub three : Option ℕ → MemoryReading
-three before = record { left = 1 ∷ 2 ∷ 3 ∷ []; before_failure = before; most = 2; failures = 0 }
+three before = three_in_calls None before
 
 pub record ReaderExamples : Type 0 where
   pub error : (failed : Failed) → failed_reads (Err failed) ≡ 1
@@ -106,6 +110,9 @@ pub record ReaderExamples : Type 0 where
   pub two_a_call : amount_given (three (Some 3)) 9 ≡ Some 2
   pub one_before_the_failure : amount_given (three (Some 1)) 9 ≡ Some 1
   pub failing_now : amount_given (three (Some 0)) 9 ≡ None
+  pub two_before_a_failing_call : Comes (three_in_calls (Some 1) None) (1 ∷ 2 ∷ []) ReadFails
+  pub whole_before_a_failing_call : Comes (three_in_calls (Some 3) None) (1 ∷ 2 ∷ 3 ∷ []) FileEnds
+  pub second_call_failing : amount_given (after_read (three_in_calls (Some 1) None) (Ok 2)) 9 ≡ None
   pub within : end_within 3 (1 ∷ 2 ∷ []) FileEnds ≡ FileEnds
   pub at_the_limit : end_within 2 (1 ∷ 2 ∷ []) FileEnds ≡ ReadFails
   pub rest_at_a_failure : fault_behind ReadFails [] ≡ Some Read

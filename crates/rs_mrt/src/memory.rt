@@ -3,7 +3,7 @@
 ghost use Rattle.std.specs.Prelude.{◌≡◌, ◌+◌, ◌<◌, ◌≤◌, Option, Some, length, IfOk};
 ghost use Rattle.std.specs.Io.KnownBytes.{WriteAppends};
 ghost use Rattle.rs_mrt.specs.Stream.{failed_calls};
-ghost use Rattle.rs_mrt.specs.Memory.{limits_of, begun, amount_of, amount_within, after_call, after_write};
+ghost use Rattle.rs_mrt.specs.Memory.{limits_of, begun, amount_of, amount_within, after_call, after_write, fewer};
 
 use crate::stream::{Failed, Write};
 use std::alloc::Global;
@@ -125,8 +125,15 @@ fn amount(limits: &Limits, taken: usize, piece: usize) -> Option<usize>
 fn count_call(limits: &mut Limits)
     ensures { limits_of limits.new ≡ after_call (limits_of limits.old) }
 {
-    limits.calls_before_failure = match limits.calls_before_failure {
+    limits.calls_before_failure = fewer(limits.calls_before_failure);
+}
+
+// How many calls go well before the one that fails, after one more.
+pub(crate) fn fewer(calls_before_failure: Option<u64>) -> Option<u64>
+    ensures { result ≡ fewer calls_before_failure }
+{
+    match calls_before_failure {
         Some(calls) if calls > 0 => Some(calls - 1),
         _ => None,
-    };
+    }
 }

@@ -2,7 +2,7 @@
 //!
 //! Our choice: a value may tell which octets it has taken, as one over memory does, or tell nothing, as a device does.
 
-ghost use Rattle.std.specs.Prelude.{◌≡◌, ◌+◌, ◌<◌, ◌≤◌, ℕ, List, Option, None, length, IfOk, OnOk, OnErr};
+ghost use Rattle.std.specs.Prelude.{◌≡◌, ◌+◌, ◌<◌, ◌≤◌, ℕ, List, Option, length, IfOk, OnOk, OnErr};
 ghost use Rattle.std.specs.Io.KnownBytes.{Appends, WriteAppends};
 ghost use Rattle.rs_mrt.specs.Stream.{failed_calls, AppendsBeginning};
 
@@ -57,7 +57,7 @@ pub fn write_all<W: Write>(out: &mut W, piece: &[u8]) -> Result<(), Failed>
     Ok(())
 }
 
-/// A writer of std as a writer of ours, as a file is. It doesn't tell what it has taken.
+/// A writer of std as a writer of ours, as a file is. It tells of the octets that it has taken what that writer tells.
 #[derive(Debug, Drop)]
 pub struct IoWriter<W> {
     inner: W,
@@ -89,7 +89,7 @@ impl<W> IoWriter<W> {
 }
 
 impl<W: io::Write> Write for IoWriter<W> {
-    ghost taken = { λ _. None };
+    ghost taken = { λ w. W.contents w.inner };
 
     ghost failures = { λ w. w.failures };
 

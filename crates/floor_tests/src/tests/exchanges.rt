@@ -168,6 +168,7 @@ pub fn reader_of(file: &[u8], piece: usize, fails: Option<usize>) -> MemoryReade
     let limits = ReadLimits {
         octets_before_failure: fails,
         piece,
+        ..ReadLimits::none()
     };
     MemoryReader::new(file, limits)
 }

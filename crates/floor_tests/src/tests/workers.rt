@@ -161,6 +161,7 @@ fn a_worker_sends_what_came_before_a_failed_read(rt: HostRuntime) {
         let limits = ReadLimits {
             octets_before_failure: *octets_before_failure,
             piece: *piece,
+            ..ReadLimits::none()
         };
         let source = RecordReader::new(MemoryReader::new(&peer.file, limits));
         let found = sent(&rt, rt.alloc(), 1, source, false).expect(&rt, "a text");

@@ -13,6 +13,7 @@ fn limits(piece: usize, octets_before_failure: Option<usize>) -> ReadLimits {
     ReadLimits {
         octets_before_failure,
         piece,
+        ..ReadLimits::none()
     }
 }
 

@@ -3,8 +3,8 @@
 
 ghost use Rattle.std.specs.Prelude.{◌≡◌, ◌<◌, ◌≤◌, length};
 
+use rs_host::Options;
 use rs_mrt::{Limits, MemoryReader, MemoryWriter, ReadLimits};
-use rs_options::Options;
 use rs_outlet::{Kept, MemoryOutlet, Outlet, OutletLimits, RunFault};
 use rs_run::run;
 use rs_setup::{Setup, read_setup};
@@ -240,6 +240,7 @@ fn in_pieces(piece: usize, octets_before_failure: Option<usize>) -> ReadLimits {
     ReadLimits {
         octets_before_failure,
         piece,
+        ..ReadLimits::none()
     }
 }
 

@@ -4,8 +4,8 @@
 ghost use Rattle.std.specs.Prelude.{◌≡◌, ◌<◌, ◌≤◌, length};
 
 use super::outlet_ahead::{Faults, OutletAhead};
+use rs_host::Options;
 use rs_mrt::{Limits, MemoryReader, MemoryWriter, ReadLimits};
-use rs_options::Options;
 use rs_outlet::{Kept, MemoryOutlet, Outlet, OutletLimits, RunFault};
 use rs_run::run;
 use rs_setup::{Setup, read_setup};

@@ -1,9 +1,9 @@
 //! What faults say of themselves to a caller of their crates.
 
 use rs_choice::PlanFault;
-use rs_ended::Ended;
-use rs_options::WordsFault;
+use rs_host::WordsFault;
 use rs_outlet::RunFault;
+use rs_program::Ended;
 use rs_setup::SetupFault;
 use std::alloc::{AllocError, Global};
 use std::fmt::Display;
@@ -84,7 +84,6 @@ fn a_refused_command_line_says_why(rt: HostRuntime) -> Result<(), Fail> {
     let alloc = rt.alloc();
     let faults = [
         WordsFault::Help(key(alloc)?),
-        WordsFault::Version(key(alloc)?),
         WordsFault::Refused(key(alloc)?),
         WordsFault::Memory,
     ];
@@ -92,7 +91,6 @@ fn a_refused_command_line_says_why(rt: HostRuntime) -> Result<(), Fail> {
         &rt,
         &faults,
         "server.as
-server.as
 server.as
 memory was refused while the command line was read
 ",

@@ -331,6 +331,7 @@ fn read(alloc: Global, file: &[u8], way: &str, piece: usize) -> Option<String> {
     let limits = ReadLimits {
         octets_before_failure: number_after(way, "fails "),
         piece,
+        ..ReadLimits::none()
     };
     said_by(
         alloc,

@@ -1,5 +1,7 @@
 //! Readers and writers over memory, with limits and without, and those of std.
 
+ghost use Rattle.std.specs.Prelude.{◌≡◌, ◌++◌, ◌<◌, OnOk};
+
 use rs_mrt::{
     Failed, IoReader, IoWriter, Limits, MemoryReader, MemoryWriter, Read, ReadLimits, RecordReader,
     Source, Write, write_all,
@@ -26,6 +28,7 @@ fn read_seven(said: &mut String) -> Result<(), AllocError> {
     let limits = ReadLimits {
         octets_before_failure: Some(5),
         piece: 3,
+        ..ReadLimits::none()
     };
     let mut reader = MemoryReader::new(&[1, 2, 3, 4, 5, 6, 7], limits);
     let mut into = [0; 4];
@@ -45,6 +48,33 @@ fn a_reader_over_memory_gives_its_octets_in_pieces(rt: HostRuntime) -> Result<()
     assert_eq!(rt;
         said.trim(),
         "3 [1, 2, 3, 0]; 2 [4, 5, 3, 0]; the call failed [4, 5, 3, 0]; 0 [4, 5, 3, 0]; 2 [6, 7, 3, 0]; 0 [6, 7, 3, 0];"
+    );
+    Ok(())
+}
+
+// What comes of reading seven octets, three at once, where the second call fails, and then one after four octets.
+fn read_in_calls(said: &mut String) -> Result<(), AllocError> {
+    let limits = ReadLimits {
+        calls_before_failure: Some(1),
+        octets_before_failure: Some(4),
+        piece: 3,
+    };
+    let mut reader = MemoryReader::new(&[1, 2, 3, 4, 5, 6, 7], limits);
+    let mut into = [0; 4];
+    for _ in 0..6 {
+        add_read(said, reader.read(&mut into), &into)?;
+    }
+    Ok(())
+}
+
+#[test]
+fn a_reader_over_memory_fails_at_a_chosen_call(rt: HostRuntime) -> Result<(), Fail> {
+    let mut said = String::new(rt.alloc());
+    read_in_calls(&mut said)?;
+    assert_eq!(rt;
+        said.trim(),
+        "3 [1, 2, 3, 0]; the call failed [1, 2, 3, 0]; 1 [4, 2, 3, 0]; the call failed [4, 2, 3, 0]; \
+        3 [5, 6, 7, 0]; 0 [5, 6, 7, 0];"
     );
     Ok(())
 }
@@ -166,6 +196,22 @@ fn a_writer_that_failed_works_again(rt: HostRuntime) {
     assert_eq!(rt; answers, [Err(Failed), Ok(2), Ok(0)]);
     let octets = out.into_octets();
     assert_eq!(rt; octets.as_slice(), [3, 4].as_slice());
+}
+
+// Writes the piece to a writer of std that tells what it has taken.
+fn write_to_memory(out: &mut IoWriter<Vec<u8>>, piece: &[u8]) -> Result<(), Failed>
+    requires { out.old.failures < u64.MAX }
+    ensures { OnOk result (out.new.inner.items ≡ out.old.inner.items ++ piece.now) }
+{
+    write_all(out, piece)
+}
+
+#[test]
+fn a_writer_of_std_over_memory_tells_what_it_has_taken(rt: HostRuntime) -> Result<(), Fail> {
+    let mut out = IoWriter::new(Vec::new(rt.alloc()));
+    assert_eq!(rt; write_to_memory(&mut out, &[1, 2, 3]), Ok(()));
+    assert_eq!(rt; out.into_inner().as_slice(), [1, 2, 3].as_slice());
+    Ok(())
 }
 
 #[test]

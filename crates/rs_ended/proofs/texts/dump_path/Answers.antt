@@ -1,6 +1,0 @@
--- The answer is one search, so that a wrong body is refused soon.
-use Rattle.std.proofs.Common.{rules}
-use Rattle.rs_ended.proofs.texts.dump_path.Goals as goal
-
-pub returns : goal.returns
-returns c = search rules

@@ -1,0 +1,36 @@
+-- The line that says why a program refuses a configuration (docs/MANUAL.md, "Texts").
+use Rattle.std.specs.Prelude.{ℕ, ◌++◌, Option, None, Some, codes, string_bytes}
+use Rattle.std.specs.Fmt.{decimal}
+use Rattle.rs_choice.specs.FaultNumber.{number_of_fault, peer_of_fault}
+use Rattle.rs_choice.specs.declared.fault.PlanFault.{PlanFault}
+use Rattle.rs_choice.specs.declared.fault.PlanFault.TheVariants as plan
+use Rattle.rs_host.specs.Line.{Text, named, one_line, out_of_memory}
+use Rattle.rs_setup.specs.declared.setup.SetupFault.{SetupFault}
+use Rattle.rs_setup.specs.declared.setup.SetupFault.TheVariants as setup
+
+-- the number of a fault, and of the peer at fault where there is one
+abbrev pub numbers : ℕ → Option ℕ → Text
+numbers fault None = decimal fault
+numbers fault (Some peer) = decimal fault ++ (codes " at peer " ++ decimal peer)
+
+-- the fault of a plan
+abbrev pub plan_text : PlanFault → Text
+plan_text plan.Memory = out_of_memory
+plan_text fault = codes "plan fault P" ++ numbers (number_of_fault fault) (peer_of_fault fault)
+
+-- what is said of a key of the configuration
+abbrev pub key_text : Text → Text → Text
+key_text key what = codes "configuration: " ++ (one_line key ++ (codes " is " ++ what))
+
+-- why a configuration is refused
+abbrev pub setup_text : SetupFault → Text
+setup_text setup.NotToml = codes "configuration is not TOML"
+setup_text (setup.Unknown key) = key_text (string_bytes key) (codes "unknown")
+setup_text (setup.Missing key) = key_text (string_bytes key) (codes "missing")
+setup_text (setup.NotValid key) = key_text (string_bytes key) (codes "not valid")
+setup_text (setup.Plan fault) = plan_text fault
+setup_text setup.Memory = out_of_memory
+
+-- and the line of a program that says so
+abbrev pub setup_line : Text → SetupFault → Text
+setup_line program fault = named program (setup_text fault)

@@ -1,0 +1,48 @@
+//! What the command line asks for.
+
+ghost use Rattle.std.specs.Prelude.{◌≡◌};
+ghost use Rattle.rs_host.specs.declared.options.WordsFault.TheVariants.{Memory};
+
+use rs_update::Errors;
+use std::alloc::AllocError;
+use thiserror::Error;
+
+/// What the words of the command line ask for.
+#[derive(Drop)]
+pub struct Options {
+    /// The path of the configuration.
+    pub config: String,
+    /// The folder that takes the dumps.
+    pub out: String,
+    /// The Timestamp of every record written, in seconds since 1970 (RFC 6396, section 2).
+    pub time: u32,
+    /// How many changes wait at most between two threads of a run, 1 to 65,536.
+    pub ring: usize,
+    /// How many threads keep the tables, each of them some of the prefixes, 1 to 16.
+    pub shards: usize,
+    /// The standard by which faults in the path attributes of an UPDATE are handled (RFC 4271, section 6.3,
+    /// or RFC 7606).
+    pub errors: Errors,
+}
+
+/// Why the words of the command line give no options.
+#[derive(Debug, Drop, Error)]
+pub enum WordsFault {
+    /// Help or the version was asked for: its text.
+    #[error("{0}")]
+    Help(String),
+    /// The words are refused: the text that says why.
+    #[error("{0}")]
+    Refused(String),
+    /// Memory was refused.
+    #[error("memory was refused while the command line was read")]
+    Memory,
+}
+
+impl From<AllocError> for WordsFault {
+    ghost from_gives = { λ _ fault. fault ≡ Memory };
+
+    fn from(_refused: AllocError) -> WordsFault {
+        WordsFault::Memory
+    }
+}

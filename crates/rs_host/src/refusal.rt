@@ -1,0 +1,57 @@
+//! The line that says why a configuration is refused.
+
+ghost use Rattle.std.specs.Prelude.{◌≡◌, IfOk, string_bytes};
+ghost use Rattle.rs_host.specs.Refusal.{key_text, plan_text, setup_line, setup_text};
+
+use crate::escaped::on_one_line;
+use rs_choice::PlanFault;
+use rs_setup::SetupFault;
+use std::alloc::{AllocError, Global};
+
+// What is said where memory was refused.
+const OUT_OF_MEMORY: &str = "out of memory";
+
+/// The line in which a program says why it refuses a configuration, without a line break at its end. It begins with the
+/// program's name; control characters in a key are escaped, as `on_one_line` shows them. Fails where memory is refused.
+pub fn setup_line(alloc: Global, program: &str, fault: &SetupFault) -> Result<String, AllocError>
+    ensures { IfOk result (λ line. string_bytes line ≡ setup_line program.now fault.now) }
+{
+    let text = setup_text(alloc, fault)?;
+    format!(in alloc; "{program}: {text}")
+}
+
+// Why the configuration is refused.
+fn setup_text(alloc: Global, fault: &SetupFault) -> Result<String, AllocError>
+    ensures { IfOk result (λ text. string_bytes text ≡ setup_text fault.now) }
+{
+    match fault {
+        SetupFault::NotToml => String::from_str(alloc, "configuration is not TOML"),
+        SetupFault::Unknown(key) => key_text(alloc, key, "unknown"),
+        SetupFault::Missing(key) => key_text(alloc, key, "missing"),
+        SetupFault::NotValid(key) => key_text(alloc, key, "not valid"),
+        SetupFault::Plan(fault) => plan_text(alloc, *fault),
+        SetupFault::Memory => String::from_str(alloc, OUT_OF_MEMORY),
+    }
+}
+
+// What is wrong with a key of the configuration.
+fn key_text(alloc: Global, key: &str, what: &str) -> Result<String, AllocError>
+    ensures { IfOk result (λ text. string_bytes text ≡ key_text key.now what.now) }
+{
+    let key = on_one_line(alloc, key)?;
+    format!(in alloc; "configuration: {key} is {what}")
+}
+
+// The fault of a plan.
+fn plan_text(alloc: Global, fault: PlanFault) -> Result<String, AllocError>
+    ensures { IfOk result (λ text. string_bytes text ≡ plan_text fault) }
+{
+    if let PlanFault::Memory = fault {
+        return String::from_str(alloc, OUT_OF_MEMORY);
+    }
+    let number = fault.number();
+    match fault.peer() {
+        None => format!(in alloc; "plan fault P{number}"),
+        Some(peer) => format!(in alloc; "plan fault P{number} at peer {peer}"),
+    }
+}

@@ -1,0 +1,100 @@
+-- The command line: the program's command as `clap` knows it, and the options that its words ask for.
+use Rattle.std.specs.Prelude.{◌≡◌, ◌≢◌, ◌≤◌, ◌⊎◌, ℕ, ⊤, pos, true, List, [], ◌∷◌, Some, codes, option_map, string_bytes}
+use Rattle.std.specs.Str.Parse.{digits_value, without_leading_plus}
+use Rattle.clap.specs.Simple.{on_top}
+use Rattle.clap.specs.Words.{App, IsAmong, Kinds, Row, Rule, Text, fault_of, first_of, matches_of, new_app, new_rule}
+use Rattle.clap.specs.Words.{one_of, with_rule}
+use Rattle.clap.specs.declared.builder.ArgAction.TheVariants.{Set}
+use Rattle.clap.specs.declared.builder.value_parser.ValueParser.TheVariants.{NonEmptyString, Signed, Unsigned}
+use Rattle.clap.specs.declared.error.kind.ErrorKind.{ErrorKind}
+use Rattle.clap.specs.declared.error.kind.ErrorKind.TheVariants.{DisplayHelp, DisplayVersion, OutOfMemory}
+use Rattle.rs_host.specs.Standard.{standard_name}
+use Rattle.rs_host.specs.declared.options.Options.{Options}
+use Rattle.rs_host.specs.declared.options.WordsFault.{WordsFault}
+use Rattle.rs_host.specs.declared.options.WordsFault.TheVariants.{Help, Refused, Memory}
+
+-- an option of one value that must be there
+abbrev pub required_option : Text → Rule
+required_option name = record (new_rule name) { long = Some name; action = Some Set; value_names = 1; required = true }
+
+-- the configuration, a path
+abbrev pub config_rule : Rule
+config_rule = required_option (codes "config")
+
+-- the folder that takes the dumps, a path that isn't empty: an empty one would name the root
+abbrev pub out_rule : Rule
+out_rule = record (required_option (codes "out")) { parser = Some NonEmptyString }
+
+-- an option of one value, with the value that it has where the words don't give it
+abbrev pub option_or : Text → Text → Rule
+option_or name default =
+    record (new_rule name) { long = Some name; action = Some Set; value_names = 1; defaults = default ∷ [] }
+
+-- the Timestamp of the records written: of 32 bits, 0 where the words don't give it (RFC 6396, section 2)
+abbrev pub time_rule : Rule
+time_rule = record (option_or (codes "time") (codes "0")) { parser = Some (Signed (pos 0) (pos 4294967295)) }
+
+-- how many changes wait between two threads: 1 to 65,536, and 1,024 where the words don't give it (our choice)
+abbrev pub ring_rule : Rule
+ring_rule = record (option_or (codes "ring") (codes "1024")) { parser = Some (Unsigned 1 65536) }
+
+-- how many threads keep the tables: 1 to 16, and 1 where the words don't give it (our choice)
+abbrev pub shards_rule : Rule
+shards_rule = record (option_or (codes "shards") (codes "1")) { parser = Some (Unsigned 1 16) }
+
+-- the standard by which faults are handled, by its name: RFC 4271 where the words don't give it (our choice)
+abbrev pub errors_rule : Rule
+errors_rule = option_or (codes "errors") (codes "rfc4271")
+
+-- the three options that every run has
+abbrev pub with_places : App → App
+with_places app = with_rule (with_rule (with_rule app config_rule) out_rule) time_rule
+
+-- the three options that say how a run goes
+abbrev pub with_manner : App → App
+with_manner app = with_rule (with_rule (with_rule app ring_rule) shards_rule) errors_rule
+
+-- a command that tells its version
+abbrev pub with_version : App → App
+with_version app = on_top (λ shape. record shape { has_version = true }) app
+
+-- the program's command, with its six options
+abbrev pub program : App
+program = with_manner (with_places (with_version (new_app (codes "route_server"))))
+
+-- the number that a text of decimal digits stands for
+abbrev pub number_of : Text → ℕ
+number_of text = digits_value 10 (without_leading_plus text)
+
+-- what was found for each argument holds these options, numbers as numbers and the standard by its name
+pub record HoldOptions (rows : List Row) (options : Options) : Type 0 where
+  pub config : first_of (codes "config") rows ≡ Some (string_bytes options.config)
+  pub out : first_of (codes "out") rows ≡ Some (string_bytes options.out)
+  pub time : option_map number_of (one_of (codes "time") rows) ≡ Some options.time
+  pub ring : option_map number_of (one_of (codes "ring") rows) ≡ Some options.ring
+  pub ring_fits : (1 ≤ options.ring) × (options.ring ≤ 65536)
+  pub shards : option_map number_of (one_of (codes "shards") rows) ≡ Some options.shards
+  pub shards_fit : (1 ≤ options.shards) × (options.shards ≤ 16)
+  pub errors : first_of (codes "errors") rows ≡ Some (standard_name options.errors)
+
+-- the options are the values that the command's matches of the words hold, the default included
+abbrev pub AreOptionsOf : List Text → Options → Type 0
+AreOptionsOf words options = HoldOptions (matches_of program words) options
+
+-- what `clap` finds in the words, a request for help or for the version included: its error is of one of
+-- these kinds; none where it takes them
+abbrev pub faults_in : List Text → Kinds
+faults_in words = fault_of program words
+
+-- a kind of error, and what it is told as
+abbrev pub IsToldAs : ErrorKind → WordsFault → Type 0
+IsToldAs kind (Help text) = (kind ≡ DisplayHelp) ⊎ (kind ≡ DisplayVersion)
+IsToldAs kind (Refused text) = (kind ≢ DisplayHelp) × (kind ≢ DisplayVersion) × (kind ≢ OutOfMemory)
+IsToldAs kind Memory = ⊤
+
+-- words are answered with help only where asking for help or for the version is among what is found in them, and
+-- aren't refused where that is all that is found
+abbrev pub SaysWhy : Kinds → WordsFault → Type 0
+SaysWhy kinds (Help text) = IsAmong DisplayHelp kinds ⊎ IsAmong DisplayVersion kinds
+SaysWhy kinds (Refused text) = (kinds ≢ DisplayHelp ∷ []) × (kinds ≢ DisplayVersion ∷ [])
+SaysWhy kinds Memory = ⊤

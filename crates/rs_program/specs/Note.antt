@@ -1,0 +1,47 @@
+-- The line of a note. Nothing here is of a standard: all of it is our choice.
+use Rattle.std.specs.Prelude.{ℕ, [], ◌++◌, Option, None, Some, codes}
+use Rattle.std.specs.Fmt.{decimal}
+use Rattle.std.specs.Int.{to_be_bytes, w32}
+use Rattle.std.specs.Net.Text.{ipv4_text}
+use Rattle.rs_program.specs.Format.{format_name}
+use Rattle.rs_program.specs.declared.hint.Hint.{Hint}
+use Rattle.rs_program.specs.declared.hint.Hint.TheVariants.{NotMrt, NoRecord}
+use Rattle.rs_inventory.specs.declared.kind.Kind.{Kind}
+use Rattle.rs_inventory.specs.declared.kind.Kind.TheVariants as kinds
+use Rattle.rs_inventory.specs.declared.peer.Peer.{Peer}
+use Rattle.rs_host.specs.Line.{Text, one_line}
+
+-- what all records are, where one kind explains them
+abbrev pub kind_text : Option Kind → Text
+kind_text (Some kinds.TableDumpV2) = codes ", all TABLE_DUMP_V2"
+kind_text (Some kinds.TwoOctet) = codes ", all of two-octet sessions"
+kind_text (Some kinds.AddPath) = codes ", all of ADD-PATH sessions"
+kind_text (Some kinds.Ipv6) = codes ", all of IPv6 peers"
+kind_text (Some kind) = []
+kind_text None = []
+
+-- of a file of another format: its path, and the format's name
+abbrev pub format_text : Text → Text → Text
+format_text path format = one_line path ++ (codes " is " ++ (format ++ codes "; only uncompressed MRT is read"))
+
+-- whose records are looked for
+abbrev pub whose_text : Peer → Text
+whose_text peer = ipv4_text (to_be_bytes w32 peer.address) ++ (codes " AS " ++ decimal peer.asn)
+
+-- how many records there are, and of what kind
+abbrev pub count_text : ℕ → Option Kind → Text
+count_text others kind = decimal others ++ (codes " of others" ++ kind_text kind)
+
+-- of a file whose records are all of others: its path, whose are looked for, and how many there are
+abbrev pub others_text : Text → Text → Text → Text
+others_text path whose count =
+    codes "no record of " ++ (whose ++ (codes " in " ++ (one_line path ++ (codes " (" ++ (count ++ codes ")")))))
+
+-- what is noted
+abbrev pub text_of : Text → Peer → Hint → Text
+text_of path peer (NotMrt format) = format_text path (format_name format)
+text_of path peer (NoRecord others kind) = others_text path (whose_text peer) (count_text others kind)
+
+-- and the line of it, of a peer of this name
+abbrev pub note_of : Text → Text → Peer → Hint → Text
+note_of name path peer hint = codes "route_server: note: peer " ++ (name ++ (codes ": " ++ text_of path peer hint))

@@ -1,0 +1,44 @@
+-- The statuses with which the program ends where it stops short.
+use Rattle.std.specs.Prelude.{ℕ}
+use Rattle.rs_choice.specs.declared.fault.PlanFault.TheVariants as plan
+use Rattle.rs_program.specs.declared.ended.Ended.{Ended}
+use Rattle.rs_program.specs.declared.ended.Ended.TheVariants.{Words, Setup, Unread, Memory, Run}
+use Rattle.rs_host.specs.declared.options.WordsFault.TheVariants as words
+use Rattle.rs_outlet.specs.declared.run_fault.RunFault.TheVariants as run
+use Rattle.rs_setup.specs.declared.setup.SetupFault.TheVariants as setup
+
+-- all is done, or help or the version was shown
+abbrev pub done : ℕ
+done = 0
+
+-- the command line or the configuration is refused
+abbrev pub refused : ℕ
+refused = 1
+
+-- a file, a folder or a device failed
+abbrev pub failed : ℕ
+failed = 2
+
+-- memory was refused
+abbrev pub out_of_memory : ℕ
+out_of_memory = 3
+
+-- a peer is unsettled
+abbrev pub unsettled : ℕ
+unsettled = 4
+
+-- the status of each way to stop short
+abbrev pub status_of : Ended → ℕ
+status_of (Words (words.Help text)) = done
+status_of (Words (words.Refused text)) = refused
+status_of (Words words.Memory) = out_of_memory
+status_of (Setup (setup.Plan plan.Memory)) = out_of_memory
+status_of (Setup setup.Memory) = out_of_memory
+status_of (Setup fault) = refused
+status_of (Unread path) = failed
+status_of Memory = out_of_memory
+status_of (Run run.Memory) = out_of_memory
+status_of (Run (run.Unsettled peer)) = unsettled
+status_of (Run (run.Dump client)) = failed
+status_of (Run run.Report) = failed
+status_of (Run (run.Read peer)) = failed

@@ -1,0 +1,229 @@
+//! Reads the words of the command line, with `clap`.
+
+ghost use Rattle.std.specs.Prelude.{◌≡◌, [], IfErr, IfOk, OnOk, false, map, string_bytes};
+ghost use Rattle.clap.specs.Words.{app_of, found_of, kind_of, rows_of, rule_of};
+ghost use Rattle.rs_program.specs.CommandLine.{AreOptionsOf, HoldOptions, IsToldAs, SaysWhy, config_rule, errors_rule};
+ghost use Rattle.rs_program.specs.CommandLine.{faults_in, out_rule, program, ring_rule, shards_rule, time_rule};
+ghost use Rattle.rs_program.specs.CommandLine.{with_manner};
+
+use clap::builder::ValueParser;
+use clap::error::ErrorKind;
+use clap::{Arg, ArgAction, ArgMatches, Command, Error, value_parser};
+use rs_host::{Options, WordsFault, standard_of};
+use std::alloc::{AllocError, Global};
+
+// The program's version.
+const VERSION: &str = "0.1.0";
+
+// What the program does, at the head of its help.
+const ABOUT: &str =
+    "Replays recorded BGP sessions through a BGP-4 route server: which routes does each client get?
+
+Reads the configuration of an exchange and the recorded session of each peer (MRT, BGP4MP), applies
+the export policy and the decision process for each client, and writes each client's table
+(MRT, TABLE_DUMP_V2) and a report.";
+
+// An example, the report and the statuses, at the foot of its help.
+const AFTER_HELP: &str = "Example:
+  route_server --config exchange.toml --out tables
+
+writes tables/NAME.mrt for each client NAME of exchange.toml, and prints, for each peer and then for
+each client, in configured order:
+  peer NAME changes N passed N close REASON
+  table NAME rows N
+
+Status:
+  0  all dumps and the report are written, or help or the version was asked for
+  1  the command line or the configuration is refused
+  2  a file, a folder or a device failed
+  3  memory or a thread was refused
+  4  not all changes of a peer are known to have been applied: the fault is the program's own";
+
+// What `--errors` does, in its help.
+const ERRORS_HELP: &str =
+    "Standard by which faults in path attributes are handled: rfc4271 (the first closes \
+    the session) or rfc7606 (a route is withdrawn where that is enough)";
+
+// The text where an option has no value.
+const INCOMPLETE: &str = "error: an option has no value\n";
+
+// The text where the value of `--errors` names no standard.
+const NO_STANDARD: &str =
+    "error: the value of '--errors <STANDARD>' is neither 'rfc4271' nor 'rfc7606'
+
+For more information, try '--help'.
+";
+
+/// Reads the words of the command line, which begin with the program's own name: `--config FILE --out DIR [--time N]
+/// [--ring N] [--shards N] [--errors rfc4271|rfc7606]`. DIR isn't empty; the time is from 0 to 4,294,967,295, the ring
+/// from 1 to 65,536, the shards from 1 to 16; where they aren't given they are 0, 1,024, 1 and RFC 4271.
+///
+/// Answers `Help` where help or the version is asked for, and `Refused` where the words aren't such, each with the text
+/// of `clap`, or with one of our own where `--errors` names no standard; `Memory` where memory is refused.
+pub fn read_words(alloc: Global, words: Vec<String>) -> Result<Options, WordsFault>
+    ensures options { IfOk result (λ options. AreOptionsOf (map string_bytes words.items) options) }
+    ensures taken { OnOk result (faults_in (map string_bytes words.items) ≡ []) }
+    ensures refused { IfErr result (SaysWhy (faults_in (map string_bytes words.items))) }
+{
+    match program(alloc)?.try_get_matches_from(words.as_slice()) {
+        Ok(matches) => options_of(alloc, &matches),
+        Err(error) => Err(fault_of(alloc, &error)),
+    }
+}
+
+// The options that the matches hold. `clap` gives each of the six a value, and numbers within their limits,
+// so nothing is refused here but memory and a word that names no standard.
+fn options_of(alloc: Global, matches: &ArgMatches<'_>) -> Result<Options, WordsFault>
+    ensures options { IfOk result (HoldOptions (rows_of (found_of matches.now))) }
+    ensures refused { IfErr result (SaysWhy []) }
+{
+    let (Some(config), Some(out), Some(time)) = (
+        matches.get_str("config"),
+        matches.get_str("out"),
+        matches.get_one::<u32>("time"),
+    ) else {
+        return Err(WordsFault::Refused(String::from_str(alloc, INCOMPLETE)?));
+    };
+    let (Some(ring @ 1..=65_536), Some(shards @ 1..=16), Some(standard)) = (
+        matches.get_one::<usize>("ring"),
+        matches.get_one::<usize>("shards"),
+        matches.get_str("errors"),
+    ) else {
+        return Err(WordsFault::Refused(String::from_str(alloc, INCOMPLETE)?));
+    };
+    let Some(errors) = standard_of(standard) else {
+        return Err(WordsFault::Refused(String::from_str(alloc, NO_STANDARD)?));
+    };
+    Ok(Options {
+        config: String::from_str(alloc, config)?,
+        out: String::from_str(alloc, out)?,
+        time,
+        ring,
+        shards,
+        errors,
+    })
+}
+
+// Why the words give no options, with the text of `clap`.
+fn fault_of(alloc: Global, error: &Error) -> WordsFault
+    ensures { IsToldAs (kind_of error.now) result }
+{
+    let Ok(text) = error.to_string(alloc) else {
+        return WordsFault::Memory;
+    };
+    match error.kind() {
+        ErrorKind::OutOfMemory => WordsFault::Memory,
+        ErrorKind::DisplayHelp => WordsFault::Help(text),
+        ErrorKind::DisplayVersion => WordsFault::Help(text),
+        _ => WordsFault::Refused(text),
+    }
+}
+
+// The program's command.
+fn program<'a>(alloc: Global) -> Result<Command<'a>, AllocError>
+    ensures { IfOk result (λ command. app_of command ≡ program) }
+{
+    let command = Command::new(alloc, "route_server")
+        .version(VERSION)
+        .about(ABOUT)
+        .after_help(AFTER_HELP);
+    let command = command
+        .arg(config_argument(alloc))?
+        .arg(out_argument(alloc))?
+        .arg(time_argument(alloc))?;
+    with_manner(alloc, command)
+}
+
+// The command with the three options that say how a run goes.
+fn with_manner<'a>(alloc: Global, command: Command<'a>) -> Result<Command<'a>, AllocError>
+    ensures { IfOk result (λ made. app_of made ≡ with_manner (app_of command.entry)) }
+{
+    command
+        .arg(ring_argument(alloc))?
+        .arg(shards_argument(alloc))?
+        .arg(errors_argument(alloc))
+}
+
+// `--config FILE`
+fn config_argument<'a>(alloc: Global) -> Arg<'a>
+    ensures rule { rule_of result ≡ config_rule }
+    ensures local { result.global ≡ false }
+{
+    Arg::new(alloc, "config")
+        .long("config")
+        .value_name("FILE")
+        .action(ArgAction::Set)
+        .required(true)
+        .help(
+            "Configuration of the exchange: a TOML file of the server, its peers and their recorded files",
+        )
+}
+
+// `--out DIR`
+fn out_argument<'a>(alloc: Global) -> Arg<'a>
+    ensures rule { rule_of result ≡ out_rule }
+    ensures local { result.global ≡ false }
+{
+    Arg::new(alloc, "out")
+        .long("out")
+        .value_name("DIR")
+        .action(ArgAction::Set)
+        .value_parser(ValueParser::NonEmptyString)
+        .required(true)
+        .help("Folder that takes the dumps, one NAME.mrt for each client; it has to be there")
+}
+
+// `--time N`
+fn time_argument<'a>(alloc: Global) -> Arg<'a>
+    ensures rule { rule_of result ≡ time_rule }
+    ensures local { result.global ≡ false }
+{
+    Arg::new(alloc, "time")
+        .long("time")
+        .value_name("N")
+        .action(ArgAction::Set)
+        .value_parser(value_parser!(u32))
+        .default_value("0")
+        .help("Timestamp of every record of the dumps, in seconds since 1970, from 0 to 4294967295")
+}
+
+// `--ring N`
+fn ring_argument<'a>(alloc: Global) -> Arg<'a>
+    ensures rule { rule_of result ≡ ring_rule }
+    ensures local { result.global ≡ false }
+{
+    Arg::new(alloc, "ring")
+        .long("ring")
+        .value_name("N")
+        .action(ArgAction::Set)
+        .value_parser(ValueParser::Unsigned(1, 65_536))
+        .default_value("1024")
+        .help("How many changes of routes wait at most between two threads, from 1 to 65536")
+}
+
+// `--shards N`
+fn shards_argument<'a>(alloc: Global) -> Arg<'a>
+    ensures rule { rule_of result ≡ shards_rule }
+    ensures local { result.global ≡ false }
+{
+    Arg::new(alloc, "shards")
+        .long("shards")
+        .value_name("N")
+        .action(ArgAction::Set)
+        .value_parser(ValueParser::Unsigned(1, 16))
+        .default_value("1")
+        .help("How many threads keep the tables, each of them some of the prefixes, from 1 to 16")
+}
+
+// `--errors STANDARD`
+fn errors_argument<'a>(alloc: Global) -> Arg<'a>
+    ensures rule { rule_of result ≡ errors_rule }
+    ensures local { result.global ≡ false }
+{
+    Arg::new(alloc, "errors")
+        .long("errors")
+        .value_name("STANDARD")
+        .action(ArgAction::Set)
+        .default_value("rfc4271")
+        .help(ERRORS_HELP)
+}
