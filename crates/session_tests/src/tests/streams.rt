@@ -61,10 +61,12 @@ fn read_in_calls(said: &mut String) -> Result<(), AllocError> {
     };
     let mut reader = MemoryReader::new(&[1, 2, 3, 4, 5, 6, 7], limits);
     let mut into = [0; 4];
-    for _ in 0..6 {
-        add_read(said, reader.read(&mut into), &into)?;
-    }
-    Ok(())
+    add_read(said, reader.read(&mut into), &into)?;
+    add_read(said, reader.read(&mut into), &into)?;
+    add_read(said, reader.read(&mut into), &into)?;
+    add_read(said, reader.read(&mut into), &into)?;
+    add_read(said, reader.read(&mut into), &into)?;
+    add_read(said, reader.read(&mut into), &into)
 }
 
 #[test]
