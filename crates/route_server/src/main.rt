@@ -6,7 +6,7 @@
 //! Supported standards: RFC 4271, RFC 6793, RFC 1997, RFC 7606, RFC 7947, RFC 6396.
 #![tactic(auto)]
 
-use rs_floor::PeerEnd;
+use rs_serve::PeerEnd;
 use rs_host::Options;
 use rs_mrt::{Read, Write};
 use rs_outlet::{Outlet, RunFault};
