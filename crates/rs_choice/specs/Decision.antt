@@ -33,7 +33,7 @@ beats steps.Address one other = nat_lt one.address other.address
 abbrev pub decision_steps : List Step
 decision_steps = steps.Preference ∷ steps.PathLength ∷ steps.Origin ∷ steps.Med ∷ steps.Identifier ∷ steps.Address ∷ []
 
--- the members of a set that no member of that set beats at a step
+-- the members of a set that no other member of the set beats at a step
 unfoldable pub unbeaten : {M : Type 0} → (M → Standing) → Step → List M → List M
 unbeaten standing step set =
     filter (λ one. not (list_any (λ other. beats step (standing other) (standing one)) set)) set
@@ -48,7 +48,9 @@ abbrev pub first_member : {M : Type 0} → List M → Option M
 first_member [] = None
 first_member (first ∷ later) = Some first
 
--- the choice among the members of a set: the first of those that all steps leave; none of an empty set
+-- the choice among the members of a set: the member that all steps leave; none of an empty set. One member is left: each
+-- step leaves at least one of a set that isn't empty, and the last step leaves those of the lowest address. No two
+-- peers of a plan have the same address, and a peer has one route on a prefix.
 unfoldable pub choice : {M : Type 0} → (M → Standing) → List M → Option M
 choice standing set = first_member (remaining standing decision_steps set)
 

@@ -3,7 +3,7 @@
 use Rattle.std.specs.Prelude.{◌≡◌, ℕ, zero, suc, List, [], ◌∷◌, ◌++◌, take, Option, None, Some, Result, Ok, Err, refl}
 use Rattle.rs_mrt.specs.declared.stream.Failed.{Failed}
 
--- how the octets of a reader end: as a file ends, or by a read that fails
+-- how the octets of a reader end: the file ends, or a read fails
 pub data ReadEnd : Type 0 where
   FileEnds : ReadEnd
   ReadFails : ReadEnd
@@ -13,9 +13,12 @@ abbrev pub failed_reads : Result ℕ Failed → ℕ
 failed_reads (Err failed) = 1
 failed_reads (Ok n) = 0
 
--- What this answer to `read` says of the octets that may come, where the piece is as the call leaves it: after an error
--- none may come but a failed read; no octet for a piece that isn't empty is the end of the file; else whatever may come
--- afterwards may come before, with the octets that were given in front. An empty piece tells nothing.
+-- What a call to `read` shows of the octets that the reader may give. `old` is what it could give before the call, `new`
+-- what it can give after it, and `piece` what the call left in the caller's buffer.
+--   An error: the reader could fail at once.
+--   No octet for a buffer that isn't empty: the reader could end at once, as a file does.
+--   No octet for an empty buffer: all that it can give now it could give before.
+--   Some octets: all that it can give now it could give before, behind these octets.
 abbrev pub ReadGives : (List ℕ → ReadEnd → Type 0) → (List ℕ → ReadEnd → Type 0) → Result ℕ Failed → List ℕ → Type 0
 ReadGives old new (Err failed) piece = old [] ReadFails
 ReadGives old new (Ok zero) (octet ∷ octets) = old [] FileEnds
@@ -23,7 +26,7 @@ ReadGives old new (Ok zero) [] = (later : List ℕ) (end : ReadEnd) → new late
 ReadGives old new (Ok (suc n)) piece =
     (later : List ℕ) (end : ReadEnd) → new later end → old (take (suc n) piece ++ later) end
 
--- Some octets may be given, and some end.
+-- There is something that the reader may give: some octets, and an end.
 abbrev pub SomethingIsGiven : (List ℕ → ReadEnd → Type 0) → Type 0
 SomethingIsGiven gives = (octets : List ℕ) × (end : ReadEnd) × gives octets end
 

@@ -3,14 +3,14 @@ use Rattle.std.specs.Prelude.{◌≤◌, ℕ, zero, suc, List, [], ◌∷◌, le
 use Rattle.std.specs.Io.KnownBytes.{Appends}
 use Rattle.rs_mrt.specs.declared.stream.Failed.{Failed}
 
--- How many calls failed in a call to write the piece: one where it answers an error, and where it takes nothing of a
--- piece that isn't empty.
+-- Whether a call to write a piece failed, as a number: 1 if it answers an error, or takes nothing of a piece that isn't
+-- empty; else 0.
 abbrev pub failed_calls : Result ℕ Failed → List ℕ → ℕ
 failed_calls (Err failed) piece = 1
 failed_calls (Ok zero) (octet ∷ octets) = 1
 failed_calls (Ok zero) [] = 0
 failed_calls (Ok (suc n)) piece = 0
 
--- Known octets grew by a beginning of the piece.
+-- What a writer has taken grew by a beginning of the piece.
 abbrev pub AppendsBeginning : Option (List ℕ) → Option (List ℕ) → List ℕ → Type 0
 AppendsBeginning old new piece = (n : ℕ) × (n ≤ length piece) × Appends old new (take n piece)

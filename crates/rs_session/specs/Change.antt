@@ -8,14 +8,15 @@ use Rattle.rs_session.specs.declared.word.Reason.{Reason}
 use Rattle.rs_session.specs.declared.word.Reason.TheVariants as reasons
 use Rattle.rs_session.specs.declared.word.Word.{Word}
 
--- what changed: a prefix has these attributes, it has none, all routes are lost with the session, or the session ended
+-- what changed: the peer announced a prefix with attributes, or withdrew it; its session was lost, and all its routes
+-- with it; or its session closed for a reason, which is always the last change
 pub data ChangeBody : Type 0 where
   Announced : IpPrefix → PathAttributes → ChangeBody
   Withdrawn : IpPrefix → ChangeBody
   Lost : ChangeBody
   Closed : Reason → ChangeBody
 
--- a change and its time, in seconds since 1970
+-- a route change and its time, in seconds since 1970
 pub record Change : Type 0 where
   pub time : ℕ
   pub body : ChangeBody

@@ -17,31 +17,32 @@ use Rattle.rs_session.specs.declared.peer.PeerId.{PeerId}
 use Rattle.rs_session.specs.declared.word.Reason.{Reason}
 use Rattle.rs_session.specs.declared.word.Reason.TheVariants as reasons
 
--- a record is passed over, as another peer's, or gives changes, or ends the session
+-- what a record does to the session of one peer: it is passed over, as another peer's; or it gives changes, perhaps
+-- none; or it ends the session
 pub data RecordEffect : Type 0 where
   PassesOver : RecordEffect
   Gives : List Change → RecordEffect
   Ends : Reason → RecordEffect
 
--- the session is lost at a time, and may come up again: records after it are read as before (our choice)
+-- the session is lost, and may come up again: later records are read as before (our choice)
 abbrev pub loss : ℕ → RecordEffect
 loss time = Gives (record { time = time; body = Lost } ∷ [])
 
--- state 6 is Established: the session is lost where it is left (RFC 6396, section 4.4.1); any other change of
--- state has no effect (our choice)
+-- the number of the state Established (RFC 6396, section 4.4.1)
 abbrev pub ESTABLISHED : ℕ
 ESTABLISHED = 6
 
+-- a change of state: the session is lost when it leaves Established; any other change has no effect (our choice)
 abbrev pub effect_of_state : ℕ → ℕ → ℕ → RecordEffect
 effect_of_state time old new = if (old == ESTABLISHED) && not (new == ESTABLISHED) then loss time else Gives []
 
--- the reason by which a faulty message ends the session
+-- why a message at fault ends the session
 abbrev pub reason_of : MessageFault → Reason
 reason_of (message_fault.Bgp code subcode) = reasons.Bgp code subcode
 reason_of message_fault.Memory = reasons.Memory
 
--- a message: OPEN, KEEPALIVE and ROUTE-REFRESH give no change; with a NOTIFICATION the session is lost (RFC
--- 4271, section 6.4); a fault ends it
+-- a message: an UPDATE gives its changes; OPEN, KEEPALIVE and ROUTE-REFRESH give none; a NOTIFICATION loses the session
+-- (RFC 4271, section 6.4); a fault ends it
 abbrev pub effect_of_message : ℕ → Result MessageContent MessageFault → RecordEffect
 effect_of_message time (Ok IsOpen) = Gives []
 effect_of_message time (Ok (IsUpdate update)) = Gives (changes_of_update time update)
@@ -51,8 +52,8 @@ effect_of_message time (Ok IsKeepAlive) = Gives []
 effect_of_message time (Ok IsRefresh) = Gives []
 effect_of_message time (Err fault) = Ends (reason_of fault)
 
--- what a record says, faults in messages being handled by one of the standards: a record of any other kind,
--- and one of another peer, is passed over (our choice)
+-- an entry: a message or a change of state of this peer counts; an entry of another peer, or of another kind, is passed
+-- over (our choice); a record at fault ends the session. Faults in messages are handled by one of the standards.
 abbrev pub effect_of_entry : Errors → PeerId → ℕ → Result Meaning MrtFault → RecordEffect
 effect_of_entry errors peer time (Ok (Message asn address octets)) =
     if is_of peer asn address then effect_of_message time (message_by errors octets) else PassesOver
@@ -61,5 +62,6 @@ effect_of_entry errors peer time (Ok (State asn address old new)) =
 effect_of_entry errors peer time (Ok Other) = PassesOver
 effect_of_entry errors peer time (Err fault) = Ends (reasons.Mrt (number_of fault))
 
+-- what a record does to the session of a peer
 unfoldable pub effect_of : Errors → PeerId → MrtRecord → RecordEffect
 effect_of errors peer r = effect_of_entry errors peer r.time (entry_of r)

@@ -17,20 +17,23 @@ use Rattle.rs_session.specs.declared.word.Reason.TheVariants.{EndOfFile, Mrt, Re
 
 -- ---- one record
 
+-- whether the record ends the session
 abbrev pub ends : RecordEffect → Bool
 ends (Ends reason) = true
 ends (Gives changes) = false
 ends PassesOver = false
 
+-- whether the record is passed over
 abbrev pub passes_over : RecordEffect → Bool
 passes_over PassesOver = true
 passes_over (Gives changes) = false
 passes_over (Ends reason) = false
 
+-- the close of a session at a time, for a reason
 abbrev pub close_at : ℕ → Reason → Change
 close_at time reason = record { time = time; body = Closed reason }
 
--- the changes that an effect at a time gives
+-- the changes of a record with this effect, at the time of the record
 abbrev pub changes_by : ℕ → RecordEffect → List Change
 changes_by time PassesOver = []
 changes_by time (Gives changes) = changes
@@ -38,22 +41,22 @@ changes_by time (Ends reason) = close_at time reason ∷ []
 
 -- ---- all records
 
--- the records that are read while the session is open: all before the first one that ends it
+-- the records before the first one that ends the session
 abbrev pub open_records : Errors → PeerId → List MrtRecord → List MrtRecord
 open_records errors peer records = take_while (λ r. not (ends (effect_of errors peer r))) records
 
--- how a session closes that no record ends; such a close has time 0 (our choice)
+-- why a session closes if no record ends it; such a close has time 0 (our choice)
 abbrev pub reason_at_end : Option SourceFault → Reason
 reason_at_end None = EndOfFile
 reason_at_end (Some (faults.Mrt fault)) = Mrt (number_of fault)
 reason_at_end (Some faults.Read) = Read
 
--- the close: by the first record that ends the session, else by how the records end
+-- the close: by the first record that ends the session, or else by how the file ends
 abbrev pub closing : Errors → PeerId → Option SourceFault → Option MrtRecord → List Change
 closing errors peer end (Some r) = changes_by r.time (effect_of errors peer r)
 closing errors peer end None = close_at 0 (reason_at_end end) ∷ []
 
--- the changes that records say, and then the close; later records say nothing
+-- all changes of a session: those of the records before the close, in order, and then the close
 unfoldable pub changes_of : Errors → PeerId → List MrtRecord → Option SourceFault → List Change
 changes_of errors peer records end =
     flat_map (λ r. changes_by r.time (effect_of errors peer r)) (open_records errors peer records)
@@ -65,11 +68,11 @@ passed_of errors peer records = count_by (λ r. passes_over (effect_of errors pe
 
 -- ---- a file
 
--- the changes that a file says of a peer, faults in messages being handled by one of the standards
+-- all changes of a peer's session that a file has, with faults in messages handled by one of the standards
 abbrev pub changes_in_by : Errors → PeerId → List ℕ → List Change
 changes_in_by errors peer file = changes_of errors peer (records_of file) (source_end (end_of file))
 
--- how many of its records are passed over
+-- how many records of the file are passed over before the close
 abbrev pub passed_in_by : Errors → PeerId → List ℕ → ℕ
 passed_in_by errors peer file = passed_of errors peer (records_of file)
 

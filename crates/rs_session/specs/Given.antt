@@ -1,5 +1,6 @@
--- Recorded files as readers give them (RFC 6396, section 2). Our choices: a session reads no further than the
--- record that ends it, and takes no more than 2^50 octets of a reader.
+-- Which recorded files a reader may give to a session (RFC 6396, section 2). A reader is not a file: the octets to
+-- come are unknown, so statements speak of each file that it may give. Our choices: a session reads no further than
+-- the record that ends it, and takes no more than 2^50 octets of a reader.
 use Rattle.std.specs.Prelude.{◌≡◌, ◌<◌, ◌≤◌, ◌⊎◌, ℕ, Bool, true, false, List, [], ◌++◌, length, take, slice_get, Some}
 use Rattle.std.specs.List.{list_any}
 use Rattle.rs_mrt.specs.Reader.{ReadEnd, FileEnds, ReadFails}
@@ -12,20 +13,20 @@ use Rattle.rs_session.specs.FileChanges.{ends, changes_of, passed_of, changes_in
 use Rattle.rs_session.specs.declared.peer.PeerId.{PeerId}
 use Rattle.rs_update.specs.declared.errors.Errors.{Errors}
 
--- whether a record of these octets ends the session of a peer
+-- whether some record in these octets ends the session of the peer: a message at fault, or a record at fault
 abbrev pub has_end : Errors → PeerId → List ℕ → Bool
 has_end errors peer octets = list_any (λ r. ends (effect_of errors peer r)) (records_of octets)
 
 module _ {R : Type 0} (gives : R → List ℕ → ReadEnd → Type 0) (errors : Errors) where
   -- ---- one reader
 
-  -- the reader may give this file, and then its end
+  -- the reader may give exactly this file, to its end
   pub record IsGivenWhole (reader : R) (file : List ℕ) : Type 0 where
     pub given : gives reader file FileEnds
     pub fits : length file < read_limit
 
-  -- the reader may give this file first, and a record of it ends the session of the peer: what comes behind
-  -- it isn't read
+  -- the reader may give more than this file, but a record in the file ends the session of the peer: the octets after
+  -- the file make no difference
   pub record IsGivenToClose (peer : PeerId) (reader : R) (file : List ℕ) : Type 0 where
     pub later : List ℕ
     pub end : ReadEnd
@@ -33,11 +34,12 @@ module _ {R : Type 0} (gives : R → List ℕ → ReadEnd → Type 0) (errors : 
     pub fits : length file ≤ read_limit
     pub closes : has_end errors peer file ≡ true
 
-  -- the reader may give this file as far as the session of the peer reads
+  -- this is a file that the reader may give, as far as the session of the peer depends on it
   abbrev pub IsGiven : PeerId → R → List ℕ → Type 0
   IsGiven peer reader file = IsGivenWhole reader file ⊎ IsGivenToClose peer reader file
 
-  -- these octets may come while the session of the peer is open, and then a read fails, or no more octets are taken
+  -- the reader may give these octets, no record of which ends the session, and then the next read fails or the limit of
+  -- 2^50 octets is met
   pub record FailsBehind (peer : PeerId) (reader : R) (came : List ℕ) : Type 0 where
     pub later : List ℕ
     pub end : ReadEnd
@@ -45,43 +47,44 @@ module _ {R : Type 0} (gives : R → List ℕ → ReadEnd → Type 0) (errors : 
     pub fails : ((later ≡ []) × (end ≡ ReadFails)) ⊎ (length came ≡ read_limit)
     pub no_end : has_end errors peer came ≡ false
 
+  -- a read may fail while the session of the peer is open
   abbrev pub MayFail : PeerId → R → Type 0
   MayFail peer reader = (came : List ℕ) × FailsBehind peer reader came
 
   -- ---- what a session says in all
 
-  -- these are the changes that a given file says, and so many of its records are passed over
+  -- these are the changes of a file that the reader may give, and so many of its records are passed over
   pub record SaysGiven (peer : PeerId) (reader : R) (changes : List Change) (passed : ℕ) : Type 0 where
     pub file : List ℕ
     pub given : IsGiven peer reader file
     pub says : changes ≡ changes_in_by errors peer file
     pub counts : passed ≡ passed_in_by errors peer file
 
-  -- these are the changes of the whole records that came before a failed read, which closes the session
+  -- a read failed: these are the changes of the whole records before it, and a close for that reason
   pub record SaysFailed (peer : PeerId) (reader : R) (changes : List Change) (passed : ℕ) : Type 0 where
     pub came : List ℕ
     pub fails : FailsBehind peer reader came
     pub says : changes ≡ changes_of errors peer (records_of came) (Some faults.Read)
     pub counts : passed ≡ passed_of errors peer (records_of came)
 
-  -- a session over a reader says what a given file says, or that a read failed
+  -- what a session over a reader gives: the changes of a file that the reader may give, or those up to a failed read
   abbrev pub IsRead : PeerId → R → List Change → ℕ → Type 0
   IsRead peer reader changes passed = SaysGiven peer reader changes passed ⊎ SaysFailed peer reader changes passed
 
   -- ---- a reader for each peer
 
-  -- each reader may give its peer's file
+  -- each reader may give the file of its peer
   pub record AreGiven (peers : List PeerId) (readers : List R) (files : List (List ℕ)) : Type 0 where
     pub as_many : length files ≡ length readers
     pub each : (place : ℕ) (peer : PeerId) (reader : R) (file : List ℕ)
         → slice_get peers place ≡ Some peer → slice_get readers place ≡ Some reader
         → slice_get files place ≡ Some file → IsGiven peer reader file
 
-  -- this holds of files that the readers may give
+  -- there are files that the readers may give, one for each peer, of which this holds
   abbrev pub OverGivenFiles : List PeerId → List R → (List (List ℕ) → Type 0) → Type 0
   OverGivenFiles peers readers Holds = (files : List (List ℕ)) × AreGiven peers readers files × Holds files
 
-  -- the reader at this place may fail, and those before it may give files
+  -- the reader at this place may fail, and the readers before it may give files
   pub record MayFailAt (peers : List PeerId) (readers : List R) (place : ℕ) : Type 0 where
     pub peer : PeerId
     pub reader : R

@@ -1,4 +1,4 @@
--- The changes that one UPDATE says (RFC 4271, sections 3.1 and 4.3).
+-- The route changes of one UPDATE (RFC 4271, sections 3.1 and 4.3).
 use Rattle.std.specs.Prelude.{ℕ, Bool, not, ◌&&◌, ◌==◌, List, [], ◌++◌, Option, Some, None, map, filter}
 use Rattle.std.specs.List.{list_any}
 use Rattle.rs_update.specs.IpPrefix.{IpPrefix}
@@ -23,13 +23,15 @@ unicast prefixes = filter (λ prefix. not (is_multicast prefix)) prefixes
 abbrev pub withdrawn_only : List IpPrefix → List IpPrefix → List IpPrefix
 withdrawn_only withdrawn nlri = filter (λ prefix. not (is_multicast prefix) && not (is_listed nlri prefix)) withdrawn
 
+-- a withdrawal of a prefix
 abbrev pub withdraws : ℕ → IpPrefix → Change
 withdraws time prefix = record { time = time; body = Withdrawn prefix }
 
+-- an announcement of a prefix with these attributes
 abbrev pub announces : ℕ → PathAttributes → IpPrefix → Change
 announces time attributes prefix = record { time = time; body = Announced prefix attributes }
 
--- the routes that it announces, with the attributes that all of them have
+-- the announcements of an UPDATE: all have the same attributes
 abbrev pub announcements : ℕ → Option PathAttributes → List IpPrefix → List Change
 announcements time None prefixes = []
 announcements time (Some attributes) prefixes = map (announces time attributes) prefixes
