@@ -1,0 +1,25 @@
+# Completion of looking_glass for bash.
+_looking_glass() {
+    local word=${COMP_WORDS[COMP_CWORD]} before=${COMP_WORDS[COMP_CWORD-1]} options
+    if [ "$COMP_CWORD" -eq 1 ]; then
+        mapfile -t COMPREPLY < <(compgen -W "why history peers --help --version" -- "$word")
+        return
+    fi
+    case $before in
+        --config) compopt -o filenames; mapfile -t COMPREPLY < <(compgen -f -- "$word"); return ;;
+        --errors) mapfile -t COMPREPLY < <(compgen -W "rfc4271 rfc7606" -- "$word"); return ;;
+        --client | --prefix | --from | --until) COMPREPLY=(); return ;;
+    esac
+    case ${COMP_WORDS[1]} in
+        why) options="--config --client --prefix --until --errors --json --help" ;;
+        history) options="--config --prefix --client --from --until --errors --json --help" ;;
+        peers) options="--json --toml --help" ;;
+    esac
+    if [ "${COMP_WORDS[1]}" = peers ] && [[ $word != -* ]]; then
+        compopt -o filenames
+        mapfile -t COMPREPLY < <(compgen -f -- "$word")
+        return
+    fi
+    mapfile -t COMPREPLY < <(compgen -W "$options" -- "$word")
+}
+complete -F _looking_glass looking_glass
