@@ -1,5 +1,5 @@
 -- Rings before a run on threads.
-use Rattle.std.specs.Prelude.{◌≡◌, ◌≤◌, ◌^◌, ℕ, [], List, All, map, length}
+use Rattle.std.specs.Prelude.{◌≡◌, ◌≤◌, ◌^◌, ◌++◌, ◌∷◌, ℕ, [], List, All, map, length}
 use Rattle.rs_choice.specs.Plan.{Peer, Plan}
 use Rattle.rs_mrt.specs.Reader.{ReadEnd}
 use Rattle.rs_mrt.specs.RecordReading.{RecordReading, unread, room_left}
@@ -30,6 +30,16 @@ pub record IsLine {R : Type 0} (gives : R → List ℕ → ReadEnd → Type 0) (
   pub ready : IsReadyJob job
   pub unreceived : receiver.received ≡ []
 
+-- one line more was opened
+pub record HasLineMore {R : Type 0} (gives : R → List ℕ → ReadEnd → Type 0) (peer : Peer) (reader : R)
+    (jobs_before : List (Job (RecordReading R))) (receivers_before : List (Receiving Word))
+    (jobs : List (Job (RecordReading R))) (receivers : List (Receiving Word)) : Type 0 where
+  pub job : Job (RecordReading R)
+  pub receiver : Receiving Word
+  pub jobs_are : jobs ≡ jobs_before ++ job ∷ []
+  pub receivers_are : receivers ≡ receivers_before ++ receiver ∷ []
+  pub line : IsLine gives peer reader job receiver
+
 -- all workers can do their jobs: each ring has its receiving end here, through which nothing was received
 pub record CanWork {R : Type 0} (jobs : List (Job (RecordReading R))) (receivers : List (Receiving Word)) : Type 0 where
   pub rings : map (λ job. job.out.ring) jobs ≡ map (λ receiver. receiver.ring) receivers
@@ -53,6 +63,15 @@ pub record IsRing (plan : Plan) (job : ShardJob) (sender : Sending Routed) : Typ
   pub ring : job.from.ring ≡ sender.ring
   pub unsent : sender.sent ≡ []
   pub ready : IsReady job
+
+-- one ring more was opened
+pub record HasRingMore (plan : Plan) (jobs_before : List ShardJob) (senders_before : List (Sending Routed))
+    (jobs : List ShardJob) (senders : List (Sending Routed)) : Type 0 where
+  pub job : ShardJob
+  pub sender : Sending Routed
+  pub jobs_are : jobs ≡ jobs_before ++ job ∷ []
+  pub senders_are : senders ≡ senders_before ++ sender ∷ []
+  pub ring : IsRing plan job sender
 
 -- all shards can do their jobs: each ring has its sending end here, through which nothing was sent
 pub record CanShare (jobs : List ShardJob) (senders : List (Sending Routed)) : Type 0 where

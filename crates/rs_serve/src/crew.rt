@@ -3,7 +3,8 @@
 //! Our choices: the shards start before the workers; where the system refuses a thread, those that run are
 //! drained and joined.
 
-ghost use Rattle.std.specs.Prelude.{◌≡◌, ◌<◌, ◌≤◌, true, [], All, IfOk, IfSome, length, map, vec_len, vec_capacity};
+ghost use Rattle.std.specs.Prelude.{◌≡◌, ◌<◌, ◌≤◌, true, [], All, IfOk, IfSome, IsTrue, length, map, vec_len, vec_capacity};
+ghost use mathlib.Core.List.{IsPrefix};
 ghost use Rattle.rs_ring.specs.Items.{is_capacity};
 ghost use Rattle.std.proofs.Props.{props};
 ghost use Rattle.std.specs.Coded.{codes};
@@ -11,7 +12,7 @@ ghost use Rattle.rs_router.specs.Cut.{IsShardCount};
 ghost use Rattle.rs_table.specs.Codes.{rib_code};
 ghost use Rattle.rs_shard.specs.Crew as of_shards;
 ghost use Rattle.rs_worker.specs.Crew.{charge_of, charged};
-ghost use Rattle.rs_serve.specs.Lines.{AreLines, AreRings, CanShare, CanWork};
+ghost use Rattle.rs_serve.specs.Lines.{AreLines, AreRings, CanShare, CanWork, IsReadyJob};
 ghost use Rattle.rs_serve.specs.Run.{HasRun};
 
 use crate::lines::{Lines, open_lines};
@@ -21,41 +22,42 @@ use rs_mrt::{Read, RecordReader};
 use rs_ring::{Receiver, Sender};
 use rs_router::{Routed, route};
 use rs_session::Word;
-use rs_shard::{ShardEnd, ShardOf, join_shards, start_shards};
+use rs_shard::{ShardEnd, ShardJob, ShardOf, join_shards, start_shards};
 use rs_table::Tables;
 use rs_update::Errors;
-use rs_worker::{Gate, Joined, WorkerEnd, WorkerOf, join_workers, start_workers};
+use rs_worker::{Gate, Job, Joined, WorkerEnd, WorkerOf, join_workers, start_workers};
 use std::alloc::{AllocError, Global};
 use std::sync::{Arc, Wait};
-use std::thread::{PromisedHandle, Scope, Threads};
+use std::thread;
+use std::thread::{Promise, PromisedHandle, Scope, Threads};
 
-// All that takes memory before the first thread starts: the rings, the empty tables, and room for what is
-// known of each thread.
+// Room for what is known of each thread: its handle, and what it leaves.
 #[derive(Drop)]
-pub(crate) struct Crew<R: Read> {
-    lines: Lines<R>,
-    rings: Rings,
+struct Room<R: Read> {
     workers: Vec<PromisedHandle<WorkerEnd, WorkerOf<RecordReader<R>>>>,
     shards: Vec<PromisedHandle<ShardEnd, ShardOf>>,
     ends: Vec<Joined>,
     parts: Vec<Tables>,
 }
 
-// A crew whose threads can start: nothing was sent or received, and there is room for what is known of each thread.
+// All that takes memory before the first thread starts: the rings, the empty tables, and room for what is known of
+// each thread. Nothing was sent or received.
 #[derive(Drop)]
-pub(crate) struct Ready<R: Read> {
-    pub(crate) crew: Crew<R>,
-    ghost can_work: { CanWork crew.lines.jobs.items crew.lines.from.items },
-    ghost can_share: { CanShare crew.rings.jobs.items crew.rings.to.items } by { Prim.hlevel (props, codes, rib_code) },
-    ghost few: { length crew.lines.jobs.items ≤ 256 },
-    ghost room_for_workers: { vec_len crew.lines.jobs ≤ vec_capacity crew.workers },
-    ghost room_for_shards: { vec_len crew.rings.jobs ≤ vec_capacity crew.shards },
-    ghost room_for_ends: { vec_len crew.lines.jobs ≤ vec_capacity crew.ends },
-    ghost room_for_parts: { vec_len crew.rings.jobs ≤ vec_capacity crew.parts },
-    ghost no_workers: { crew.workers.items ≡ [] },
-    ghost no_shards: { vec_len crew.shards ≡ 0 },
-    ghost no_ends: { crew.ends.items ≡ [] },
-    ghost no_parts: { vec_len crew.parts ≡ 0 },
+pub(crate) struct Crew<R: Read> {
+    pub(crate) lines: Lines<R>,
+    pub(crate) rings: Rings,
+    room: Room<R>,
+    ghost can_work: { CanWork lines.jobs.items lines.from.items },
+    ghost can_share: { CanShare rings.jobs.items rings.to.items } by { Prim.hlevel (props, codes, rib_code) },
+    ghost few: { length lines.jobs.items ≤ 256 },
+    ghost room_for_workers: { vec_len lines.jobs ≤ vec_capacity room.workers },
+    ghost room_for_shards: { vec_len rings.jobs ≤ vec_capacity room.shards },
+    ghost room_for_ends: { vec_len lines.jobs ≤ vec_capacity room.ends },
+    ghost room_for_parts: { vec_len rings.jobs ≤ vec_capacity room.parts },
+    ghost no_workers: { room.workers.items ≡ [] },
+    ghost no_shards: { vec_len room.shards ≡ 0 },
+    ghost no_ends: { room.ends.items ≡ [] },
+    ghost no_parts: { vec_len room.parts ≡ 0 },
 }
 
 // What a run leaves once all its threads were joined.
@@ -67,6 +69,26 @@ pub(crate) struct Ran {
     pub(crate) parts: Vec<Tables>,
     // Whether no shard was refused memory, and none left an item waiting.
     pub(crate) whole: bool,
+}
+
+impl<R: Read + Drop> Room<R> {
+    // Room for so many peers and shards. Refused where memory is.
+    fn new(alloc: Global, peers: usize, shards: usize) -> Result<Room<R>, AllocError>
+        ensures room_for_handles { IfOk result (λ room. (peers ≤ vec_capacity room.workers)
+            × (shards ≤ vec_capacity room.shards)) }
+        ensures room_for_ends { IfOk result (λ room. (peers ≤ vec_capacity room.ends)
+            × (shards ≤ vec_capacity room.parts)) }
+        ensures no_handles { IfOk result (λ room. (room.workers.items ≡ [])
+            × (vec_len room.shards ≡ 0)) }
+        ensures no_ends { IfOk result (λ room. (room.ends.items ≡ []) × (vec_len room.parts ≡ 0)) }
+    {
+        Ok(Room {
+            workers: Vec::with_capacity(alloc, peers)?,
+            shards: Vec::with_capacity(alloc, shards)?,
+            ends: Vec::with_capacity(alloc, peers)?,
+            parts: Vec::with_capacity(alloc, shards)?,
+        })
+    }
 }
 
 impl<R: Read + Drop> Crew<R> {
@@ -85,45 +107,37 @@ impl<R: Read + Drop> Crew<R> {
         ensures lines { IfOk result (λ crew.
             AreLines R.gives plan.now.value readers.items crew.lines.jobs.items crew.lines.from.items) }
         ensures rings { IfOk result (λ crew. AreRings plan.now.value crew.rings.jobs.items crew.rings.to.items) }
-        ensures few { IfOk result (λ crew. length crew.lines.jobs.items ≤ 256) }
-        ensures room_for_handles { IfOk result (λ crew. (vec_len crew.lines.jobs ≤ vec_capacity crew.workers)
-            × (vec_len crew.rings.jobs ≤ vec_capacity crew.shards)) }
-        ensures room_for_ends { IfOk result (λ crew. (vec_len crew.lines.jobs ≤ vec_capacity crew.ends)
-            × (vec_len crew.rings.jobs ≤ vec_capacity crew.parts)) }
-        ensures no_handles { IfOk result (λ crew. (crew.workers.items ≡ []) × (crew.shards.items ≡ [])) }
-        ensures no_ends { IfOk result (λ crew. (crew.ends.items ≡ []) × (crew.parts.items ≡ [])) }
     {
+        let room = Room::new(alloc, plan.count(), shards)?;
         let lines = open_lines(alloc, plan, readers, capacity)?;
         let rings = open_rings(alloc, plan, capacity, shards)?;
-        Ok(Crew {
-            lines,
-            rings,
-            workers: Vec::with_capacity(alloc, plan.count())?,
-            shards: Vec::with_capacity(alloc, shards)?,
-            ends: Vec::with_capacity(alloc, plan.count())?,
-            parts: Vec::with_capacity(alloc, shards)?,
-        })
+        Ok(Crew { lines, rings, room })
     }
 }
 
-// Runs all threads of a crew that can start in a scope, and joins them. None where the system refuses one.
-pub(crate) fn run_ready<'s, E, T: Threads + Wait + Sync, R: Read + Send + Drop + 's, G: Gate>(
-    scope: &'s Scope<'s, E>,
-    rt: &'s T,
+// Runs all threads of a crew in a scope of their own, and joins them. None where the system refuses one.
+pub(crate) fn run<T: Threads + Wait + Sync, R: Read + Send + Drop, G: Gate>(
+    rt: &T,
     alloc: Global,
-    ready: Ready<R>,
+    crew: Crew<R>,
     errors: Errors,
-    gate: &'s G,
+    gate: &G,
 ) -> Option<Ran>
-    ensures { IfSome result (λ ran. HasRun R.gives (map (charge_of errors) ready.crew.lines.jobs.items)
-        (map of_shards.charge_of ready.crew.rings.jobs.items) ran.ends.items ran.parts.items ran.whole) }
+    ensures { IfSome result (λ ran. HasRun R.gives (map (charge_of errors) crew.lines.jobs.items)
+        (map of_shards.charge_of crew.rings.jobs.items) ran.ends.items ran.parts.items ran.whole) }
 {
-    let Ready { crew } = ready;
-    run(scope, rt, alloc, crew, errors, gate)
+    thread::scope(
+        thread::scope_env(),
+        rt,
+        |scope| -> Option<Ran>
+            ensures { IfSome result (λ ran. HasRun R.gives (map (charge_of errors) crew.lines.jobs.items)
+                (map of_shards.charge_of crew.rings.jobs.items) ran.ends.items ran.parts.items ran.whole) }
+        { run_in(scope, rt, alloc, crew, errors, gate) },
+    )
 }
 
 // Runs all threads in a scope, and joins them. None where the system refuses one.
-fn run<'s, E, T: Threads + Wait + Sync, R: Read + Send + Drop + 's, G: Gate>(
+fn run_in<'s, E, T: Threads + Wait + Sync, R: Read + Send + Drop + 's, G: Gate>(
     scope: &'s Scope<'s, E>,
     rt: &'s T,
     alloc: Global,
@@ -131,69 +145,91 @@ fn run<'s, E, T: Threads + Wait + Sync, R: Read + Send + Drop + 's, G: Gate>(
     errors: Errors,
     gate: &'s G,
 ) -> Option<Ran>
-    requires workers { CanWork crew.lines.jobs.items crew.lines.from.items }
-    requires shards { CanShare crew.rings.jobs.items crew.rings.to.items }
-    requires few { length crew.lines.jobs.items ≤ 256 }
-    requires room_for_handles { (vec_len crew.lines.jobs ≤ vec_capacity crew.workers)
-        × (vec_len crew.rings.jobs ≤ vec_capacity crew.shards) }
-    requires room_for_ends { (vec_len crew.lines.jobs ≤ vec_capacity crew.ends)
-        × (vec_len crew.rings.jobs ≤ vec_capacity crew.parts) }
-    requires no_handles { (crew.workers.items ≡ []) × (crew.shards.items ≡ []) }
-    requires no_ends { (crew.ends.items ≡ []) × (crew.parts.items ≡ []) }
     ensures { IfSome result (λ ran. HasRun R.gives (map (charge_of errors) crew.lines.jobs.items)
         (map of_shards.charge_of crew.rings.jobs.items) ran.ends.items ran.parts.items ran.whole) }
 {
-    let Crew {
-        lines,
-        rings,
-        workers,
-        shards,
-        ends,
-        parts,
-    } = crew;
+    let Crew { lines, rings, room } = crew;
     let Lines { jobs, from } = lines;
     let Rings {
         jobs: shard_jobs,
         to,
     } = rings;
-    let mut workers = workers;
-    let mut shards = shards;
-    if !start_shards(scope, rt, shard_jobs, gate, &mut shards) {
-        give_up(rt, workers, shards, from, to);
+    let mut room = room;
+    if !start(
+        scope,
+        rt,
+        alloc,
+        jobs,
+        shard_jobs,
+        errors,
+        gate,
+        &mut room.workers,
+        &mut room.shards,
+    ) {
+        give_up(rt, room, from, to);
         return None;
     }
-    if !start_workers(scope, rt, alloc, jobs, errors, gate, &mut workers) {
-        give_up(rt, workers, shards, from, to);
-        return None;
+    Some(join_all(rt, room, from, to))
+}
+
+// Starts all threads, and keeps their handles. Answers whether all were started; where the system refuses one, the
+// handles are those of the first.
+fn start<'s, E, T: Threads + Wait + Sync, R: Read + Send + Drop + 's, G: Gate>(
+    scope: &'s Scope<'s, E>,
+    rt: &'s T,
+    alloc: Global,
+    jobs: Vec<Job<RecordReader<R>>>,
+    shard_jobs: Vec<ShardJob>,
+    errors: Errors,
+    gate: &'s G,
+    workers: &mut Vec<PromisedHandle<WorkerEnd, WorkerOf<RecordReader<R>>>>,
+    shards: &mut Vec<PromisedHandle<ShardEnd, ShardOf>>,
+) -> bool
+    requires ready { All IsReadyJob jobs.items × All of_shards.IsReady shard_jobs.items }
+    requires room { (vec_len jobs ≤ vec_capacity workers.old)
+        × (vec_len shard_jobs ≤ vec_capacity shards.old) }
+    requires no_handles { (workers.old.items ≡ []) × (shards.old.items ≡ []) }
+    ensures workers { IsPrefix (map (λ handle. charged handle.promise) workers.new.items)
+        (map (charge_of errors) jobs.items) }
+    ensures shards { IsPrefix (map (λ handle. of_shards.charged handle.promise) shards.new.items)
+        (map of_shards.charge_of shard_jobs.items) }
+    ensures all { IsTrue result → (vec_len workers.new ≡ vec_len jobs)
+        × (vec_len shards.new ≡ vec_len shard_jobs) }
+{
+    if !start_shards(scope, rt, shard_jobs, gate, shards) {
+        return false;
     }
-    Some(join_all(rt, workers, shards, from, to, ends, parts))
+    start_workers(scope, rt, alloc, jobs, errors, gate, workers)
 }
 
 // Routes all changes, and joins all threads.
 fn join_all<T: Threads + Wait, R: Read>(
     rt: &T,
-    workers: Vec<PromisedHandle<WorkerEnd, WorkerOf<RecordReader<R>>>>,
-    shards: Vec<PromisedHandle<ShardEnd, ShardOf>>,
+    room: Room<R>,
     from: Vec<Receiver<Word>>,
     to: Vec<Sender<Routed>>,
-    ends: Vec<Joined>,
-    parts: Vec<Tables>,
 ) -> Ran
     requires shards { IsShardCount (length to.items) }
     requires peers { length from.items ≤ 256 }
     requires unreceived { All (λ receiver. receiver.received ≡ []) from.items }
     requires unsent { All (λ sender. sender.sent ≡ []) to.items }
-    requires worker_rings { map (λ handle. (charged handle.promise).ring) workers.items
+    requires worker_rings { map (λ handle. (charged handle.promise).ring) room.workers.items
         ≡ map (λ receiver. receiver.ring) from.items }
-    requires shard_rings { map (λ handle. (of_shards.charged handle.promise).ring) shards.items
+    requires shard_rings { map (λ handle. (of_shards.charged handle.promise).ring) room.shards.items
         ≡ map (λ sender. sender.ring) to.items }
-    requires no_ends { (ends.items ≡ []) × (parts.items ≡ []) }
-    requires room_for_ends { vec_len workers ≤ vec_capacity ends }
-    requires room_for_parts { vec_len shards ≤ vec_capacity parts }
-    ensures { HasRun R.gives (map (λ handle. charged handle.promise) workers.items)
-        (map (λ handle. of_shards.charged handle.promise) shards.items)
+    requires no_ends { (room.ends.items ≡ []) × (room.parts.items ≡ []) }
+    requires room_for_ends { vec_len room.workers ≤ vec_capacity room.ends }
+    requires room_for_parts { vec_len room.shards ≤ vec_capacity room.parts }
+    ensures { HasRun R.gives (map (λ handle. charged handle.promise) room.workers.items)
+        (map (λ handle. of_shards.charged handle.promise) room.shards.items)
         result.ends.items result.parts.items result.whole }
 {
+    let Room {
+        workers,
+        shards,
+        ends,
+        parts,
+    } = room;
     let mut from = from;
     let mut to = to;
     let mut ends = ends;
@@ -207,40 +243,34 @@ fn join_all<T: Threads + Wait, R: Read>(
 // Drains the rings of the threads that were started, and joins them.
 fn give_up<T: Threads + Wait, R: Read>(
     rt: &T,
-    workers: Vec<PromisedHandle<WorkerEnd, WorkerOf<RecordReader<R>>>>,
-    shards: Vec<PromisedHandle<ShardEnd, ShardOf>>,
+    room: Room<R>,
     from: Vec<Receiver<Word>>,
     to: Vec<Sender<Routed>>,
 )
-    requires workers { length workers.items ≤ length from.items }
-    requires shards { length shards.items ≤ length to.items }
-    requires few_peers { length workers.items ≤ 256 }
-    requires few_shards { length shards.items ≤ 16 }
+    requires workers { length room.workers.items ≤ length from.items }
+    requires shards { length room.shards.items ≤ length to.items }
+    requires few_peers { length room.workers.items ≤ 256 }
+    requires few_shards { length room.shards.items ≤ 16 }
     requires unreceived { All (λ receiver. receiver.received ≡ []) from.items }
     requires unsent { All (λ sender. sender.sent ≡ []) to.items }
 {
+    let Room {
+        workers,
+        shards,
+        ..
+    } = room;
     let mut from = from;
     let mut to = to;
     if !shards.is_empty() {
         route(rt, &mut from[..workers.len()], &mut to[..shards.len()]);
     }
-    join_each_worker(rt, workers);
-    join_each_shard(rt, shards);
+    join_each(rt, workers);
+    join_each(rt, shards);
 }
 
-// Joins workers in their order, whatever they did.
-fn join_each_worker<R: Read>(
-    rt: &impl Threads,
-    workers: Vec<PromisedHandle<WorkerEnd, WorkerOf<RecordReader<R>>>>,
-) {
-    for worker in workers {
-        worker.join(rt);
-    }
-}
-
-// Joins shards in their order, whatever they did.
-fn join_each_shard(rt: &impl Threads, shards: Vec<PromisedHandle<ShardEnd, ShardOf>>) {
-    for shard in shards {
-        shard.join(rt);
+// Joins threads in their order, whatever they did.
+fn join_each<V: Drop, P: Promise<V>>(rt: &impl Threads, handles: Vec<PromisedHandle<V, P>>) {
+    for handle in handles {
+        handle.join(rt);
     }
 }

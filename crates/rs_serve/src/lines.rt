@@ -1,9 +1,9 @@
 //! The rings of all peers, before a run on threads.
 
-ghost use Rattle.std.specs.Prelude.{◌≡◌, ◌<◌, true, All, IfOk, length};
+ghost use Rattle.std.specs.Prelude.{◌≡◌, ◌<◌, true, All, IfOk, OnOk, length};
 ghost use Rattle.rs_ring.specs.Items.{is_capacity};
 ghost use Rattle.rs_choice.specs.Plan.{peer_of};
-ghost use Rattle.rs_serve.specs.Lines.{AreLines, IsLine};
+ghost use Rattle.rs_serve.specs.Lines.{AreLines, HasLineMore};
 
 use crate::identity::peer_id;
 use rs_choice::{Exchange, PeerSpec};
@@ -32,38 +32,41 @@ pub(crate) fn open_lines<R: Read + Drop>(
     requires capacity { is_capacity capacity ≡ true }
     ensures { IfOk result (λ lines. AreLines R.gives plan.now readers.items lines.jobs.items lines.from.items) }
 {
-    let mut jobs = Vec::with_capacity(alloc, plan.count())?;
-    let mut from = Vec::with_capacity(alloc, plan.count())?;
-    let mut number = 0;
+    let mut lines = Lines {
+        jobs: Vec::new(alloc),
+        from: Vec::new(alloc),
+    };
     for reader in readers {
-        let peer = plan.peer(number);
-        let (job, receiver) = open_line(alloc, peer, reader, capacity)?;
-        jobs.push(job)?;
-        from.push(receiver)?;
-        number += 1;
+        let peer = plan.peer(lines.jobs.len());
+        lines.open(alloc, peer, reader, capacity)?;
     }
-    Ok(Lines { jobs, from })
+    Ok(lines)
 }
 
-// The ring of one peer: the job of its worker, and the receiving end. Refused where memory is.
-fn open_line<R: Read + Drop>(
-    alloc: Global,
-    peer: &PeerSpec,
-    reader: R,
-    capacity: usize,
-) -> Result<(Job<RecordReader<R>>, Receiver<Word>), AllocError>
-    requires failures { R.failures reader < u64.MAX }
-    requires capacity { is_capacity capacity ≡ true }
-    ensures { IfOk result (λ line. IsLine R.gives (peer_of peer.now) reader line.0 line.1) }
-{
-    a_reader_gives_a_file_or_fails(&reader);
-    let Ok((out, receiver)) = ring(alloc, capacity) else {
-        return Err(AllocError);
-    };
-    let job = Job {
-        source: RecordReader::new(reader),
-        id: peer_id(peer),
-        out,
-    };
-    Ok((job, receiver))
+impl<R: Read + Drop> Lines<R> {
+    // Opens the ring of one peer more: the job of its worker, and the receiving end. Refused where memory is.
+    fn open(
+        &mut self,
+        alloc: Global,
+        peer: &PeerSpec,
+        reader: R,
+        capacity: usize,
+    ) -> Result<(), AllocError>
+        requires failures { R.failures reader < u64.MAX }
+        requires capacity { is_capacity capacity ≡ true }
+        ensures { OnOk result (HasLineMore R.gives (peer_of peer.now) reader
+            self.old.jobs.items self.old.from.items self.new.jobs.items self.new.from.items) }
+    {
+        a_reader_gives_a_file_or_fails(&reader);
+        let Ok((out, receiver)) = ring(alloc, capacity) else {
+            return Err(AllocError);
+        };
+        self.jobs.push(Job {
+            source: RecordReader::new(reader),
+            id: peer_id(peer),
+            out,
+        })?;
+        self.from.push(receiver)?;
+        Ok(())
+    }
 }

@@ -1,9 +1,9 @@
 //! The rings and the empty tables of all shards, before a run on threads.
 
-ghost use Rattle.std.specs.Prelude.{◌≡◌, ◌<◌, true, IfOk, length};
+ghost use Rattle.std.specs.Prelude.{◌≡◌, ◌<◌, true, IfOk, OnOk, length};
 ghost use Rattle.rs_ring.specs.Items.{is_capacity};
 ghost use Rattle.rs_router.specs.Cut.{IsShardCount};
-ghost use Rattle.rs_serve.specs.Lines.{AreRings, IsRing};
+ghost use Rattle.rs_serve.specs.Lines.{AreRings, HasRingMore};
 
 use rs_choice::Exchange;
 use rs_ring::{Sender, ring};
@@ -32,28 +32,34 @@ pub(crate) fn open_rings(
     ensures rings { IfOk result (λ rings. AreRings plan.now.value rings.jobs.items rings.to.items) }
     ensures count { IfOk result (λ rings. length rings.jobs.items ≡ shards) }
 {
-    let mut jobs = Vec::with_capacity(alloc, shards)?;
-    let mut to = Vec::with_capacity(alloc, shards)?;
+    let mut rings = Rings {
+        jobs: Vec::new(alloc),
+        to: Vec::new(alloc),
+    };
     for shard in 0..shards {
-        let (job, sender) = open_ring(alloc, plan, capacity)?;
-        jobs.push(job)?;
-        to.push(sender)?;
+        rings.open(alloc, plan, capacity)?;
     }
-    Ok(Rings { jobs, to })
+    Ok(rings)
 }
 
-// The ring of one shard: its job, with empty tables, and the sending end. Refused where memory is.
-fn open_ring(
-    alloc: Global,
-    plan: &Arc<Exchange>,
-    capacity: usize,
-) -> Result<(ShardJob, Sender<Routed>), AllocError>
-    requires { is_capacity capacity ≡ true }
-    ensures { IfOk result (λ ring. IsRing plan.now.value ring.0 ring.1) }
-{
-    let Ok((sender, from)) = ring(alloc, capacity) else {
-        return Err(AllocError);
-    };
-    let tables = Tables::new(alloc, plan.clone()?)?;
-    Ok((ShardJob { tables, from }, sender))
+impl Rings {
+    // Opens the ring of one shard more: its job, with empty tables, and the sending end. Refused where memory is.
+    fn open(
+        &mut self,
+        alloc: Global,
+        plan: &Arc<Exchange>,
+        capacity: usize,
+    ) -> Result<(), AllocError>
+        requires { is_capacity capacity ≡ true }
+        ensures { OnOk result (HasRingMore plan.now.value
+            self.old.jobs.items self.old.to.items self.new.jobs.items self.new.to.items) }
+    {
+        let Ok((sender, from)) = ring(alloc, capacity) else {
+            return Err(AllocError);
+        };
+        let tables = Tables::new(alloc, plan.clone()?)?;
+        self.jobs.push(ShardJob { tables, from })?;
+        self.to.push(sender)?;
+        Ok(())
+    }
 }

@@ -1,18 +1,16 @@
 //! A run on threads: one for each peer's recorded session, and one for each shard of the tables.
 
 ghost use Rattle.std.specs.List.{list_any};
-ghost use Rattle.std.specs.Prelude.{◌≡◌, ◌<◌, ◌||◌, not, All, IfErr, IfOk, IfSome, IsTrue, length, map};
+ghost use Rattle.std.specs.Prelude.{◌≡◌, ◌<◌, ◌||◌, not, All, IfErr, IfOk, IsTrue, OnOk, length, map, true};
 ghost use Rattle.rs_session.specs.Change.{is_read};
-ghost use Rattle.rs_shard.specs.Crew as of_shards;
-ghost use Rattle.rs_worker.specs.Crew.{charge_of};
 ghost use Rattle.rs_worker.specs.Worked as spec;
-ghost use Rattle.rs_serve.specs.Run.{CanMerge, HasRun, IsAnswer, IsRefusal, end_of};
+ghost use Rattle.rs_serve.specs.Run.{CanMerge, IsAnswer, IsRefusal, IsWell, end_of};
 ghost use Rattle.rs_router.specs.Cut.{IsShardCount};
 ghost use Rattle.rs_serve.specs.ServeAnswer.{ServeAnswer};
 ghost use Rattle.rs_serve.specs.Served.{is_shard_count};
 
 use crate::capacity::has_room;
-use crate::crew::{Crew, Ran, Ready, run_ready};
+use crate::crew::{Crew, Ran, run};
 use crate::ended::PeerEnd;
 use crate::fault::FloorRefused;
 use crate::outcome::verdict;
@@ -27,7 +25,6 @@ use rs_update::Errors;
 use rs_worker::{Gate, Joined};
 use std::alloc::{AllocError, Global};
 use std::sync::{Arc, Wait};
-use std::thread;
 use std::thread::Threads;
 
 /// Runs the recorded sessions of all peers at once: a thread for each peer reads its file and sends the
@@ -64,16 +61,7 @@ pub fn serve_by<T: Threads + Wait + Sync, R: Read + Send + Drop, G: Gate>(
     run_shards_are_whole();
     shards_merge();
     let crew = Crew::new(alloc, plan, readers, capacity, shards)?;
-    let ready = Ready { crew };
-    let ran = thread::scope(
-        thread::scope_env(),
-        rt,
-        |scope| -> Option<Ran>
-            ensures { IfSome result (λ ran. HasRun R.gives (map (charge_of errors) ready.crew.lines.jobs.items)
-                (map of_shards.charge_of ready.crew.rings.jobs.items) ran.ends.items ran.parts.items ran.whole) }
-        { run_ready(scope, rt, alloc, ready, errors, gate) },
-    );
-    match ran {
+    match run(rt, alloc, crew, errors, gate) {
         Some(ran) => settle(alloc, ran),
         None => Err(FloorRefused::Memory),
     }
@@ -94,14 +82,23 @@ fn settle(alloc: Global, ran: Ran) -> Result<Served, FloorRefused>
     ensures refused { IfErr result (IsRefusal ran.ends.items ran.whole) }
 {
     let Ran { ends, parts, whole } = ran;
-    let memory = is_refused_memory(&ends, whole);
-    let failed = failed_reads(alloc, &ends)?;
-    let settled = settled_peers(alloc, &ends)?;
-    verdict(memory, &failed, &settled)?;
+    judge(alloc, &ends, whole)?;
     let ends = peer_ends(alloc, &ends)?;
     let tables = Tables::merge(parts)?;
+    // It tells that the tables have what each peer of the plan has left.
     let _peers = tables.count();
     Ok(Served::new(tables, ends))
+}
+
+// Whether all is well with a run of which all threads were joined, or why not.
+fn judge(alloc: Global, ends: &[Joined], whole: bool) -> Result<(), FloorRefused>
+    ensures well { OnOk result ((whole ≡ true) × All IsWell ends.now) }
+    ensures refused { IfErr result (IsRefusal ends.now whole) }
+{
+    let memory = is_refused_memory(ends, whole);
+    let failed = failed_reads(alloc, ends)?;
+    let settled = settled_peers(alloc, ends)?;
+    verdict(memory, &failed, &settled)
 }
 
 // Whether a worker was refused memory, or the tables of a shard are missing.

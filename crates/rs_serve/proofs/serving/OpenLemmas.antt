@@ -1,8 +1,8 @@
 -- Rings as they are opened, one after another: for `open_lines` of lines.rt, and `open_rings` of rings.rt.
-use Rattle.std.proofs.Common.{◌≡◌, ◌∙◌, sym, ap, ℕ, arith, List, [], ◌∷◌, ◌++◌, All, drop, length, map, take, ◌≤◌, Some, length-append}
+use Rattle.std.proofs.Common.{◌≡◌, ◌∙◌, sym, ap, refl, ℕ, arith, List, [], ◌∷◌, ◌++◌, All, drop, length, map, take, ◌≤◌, Some, length-append}
 use Rattle.std.specs.Prelude.{slice_get}
 use Rattle.std.proofs.lemmas.List.{length-drop, map-append, take_all}
-use Rattle.std.proofs.lemmas.List.Elements.{All-push}
+use Rattle.std.proofs.lemmas.List.Elements.{All-nil, All-push}
 use Rattle.rs_choice.specs.Plan.{Peer, Plan}
 use Rattle.rs_mrt.specs.Reader.{ReadEnd}
 use Rattle.rs_mrt.specs.RecordReading.{RecordReading, unread}
@@ -31,6 +31,16 @@ pub record Opening {R : Type 0} (gives : R → List ℕ → ReadEnd → Type 0) 
   pub can : CanWork jobs receivers
 
 module _ {R : Type 0} (gives : R → List ℕ → ReadEnd → Type 0) (plan : Plan) where
+  pub opening-none : (all : List R) (jobs : List (Job (RecordReading R))) (receivers : List (Receiving Word)) → jobs ≡ [] → receivers ≡ [] → Opening gives plan.peers all all jobs receivers
+  opening-none all jobs receivers no_jobs no_receivers =
+      rw (no_jobs, no_receivers) (record {
+        left = refl;
+        sources = refl;
+        says = All-nil (GivesFileOrFails gives);
+        ids = refl;
+        can = record { rings = refl; ready = All-nil IsReadyJob; unreceived = All-nil (λ (r : Receiving Word). r.received ≡ []) };
+      })
+
   pub opening-next : (all rest : List R) (jobs : List (Job (RecordReading R))) (receivers : List (Receiving Word)) (peer : Peer) (reader : R) (job : Job (RecordReading R)) (receiver : Receiving Word)
       → Opening gives plan.peers all (reader ∷ rest) jobs receivers → slice_get plan.peers (length jobs) ≡ Some peer → IsLine gives peer reader job receiver → Opening gives plan.peers all rest (jobs ++ job ∷ []) (receivers ++ receiver ∷ [])
   opening-next all rest jobs receivers peer reader job receiver so_far at line =

@@ -1,7 +1,6 @@
--- The answer to a run of which all threads were joined: for `settle` of serving.rt.
+-- The answer to a run of which all threads were joined: for `judge` and `settle` of serving.rt.
 use Rattle.std.proofs.Common.{◌≡◌, ◌∙◌, sym, ap, subst, ℕ, zero, Bool, true, false, not, List, [], ◌∷◌, All, length, map, Result, Ok, Err}
-use Rattle.std.specs.Prelude.{◌||◌, IfErr}
-use Rattle.std.specs.Result.{IsErrAnd}
+use Rattle.std.specs.Prelude.{◌||◌, IfErr, OnOk}
 use Rattle.std.specs.List.{list_any}
 use Rattle.std.proofs.lemmas.Bool.{not-false, or_parts}
 use Rattle.std.proofs.lemmas.List.Elements.{All-nil, All-cons, All-head, All-tail}
@@ -25,7 +24,7 @@ wells (e ∷ es) none reads settled =
     (wells es parts.1 (All-tail (λ v. v ≡ false) (is_read e.reason) (map (λ (end : Joined). is_read end.reason) es) reads) (All-tail (λ v. v ≡ true) e.settled (map (λ (end : Joined). end.settled) es) settled))
 
 -- where the verdict is well, all is
-pub all-well : (ends : List Joined) (memory whole : Bool) (failed settled : List Bool) → memory ≡ (list_any (λ end. is_memory end.reason) ends || not whole) → failed ≡ map (λ end. is_read end.reason) ends → settled ≡ map (λ end. end.settled) ends
+all-well : (ends : List Joined) (memory whole : Bool) (failed settled : List Bool) → memory ≡ (list_any (λ end. is_memory end.reason) ends || not whole) → failed ≡ map (λ end. is_read end.reason) ends → settled ≡ map (λ end. end.settled) ends
     → (memory ≡ false) × All (λ v. v ≡ false) failed × All (λ v. v ≡ true) settled → (whole ≡ true) × All IsWell ends
 all-well ends memory whole failed settled is reads settles verdict =
     let parts = or_parts (list_any (λ (end : Joined). is_memory end.reason) ends) (not whole) (sym is ∙ verdict.0) in
@@ -49,7 +48,7 @@ no-reads (e ∷ es) none =
     (no-reads es (All-tail (λ v. v ≡ false) (is_read e.reason) (map (λ (end : Joined). is_read end.reason) es) none))
 
 -- where it isn't, the verdict says why
-pub refusal : (ends : List Joined) (memory whole : Bool) (failed settled : List Bool) (fault : FloorRefused) → memory ≡ (list_any (λ end. is_memory end.reason) ends || not whole) → failed ≡ map (λ end. is_read end.reason) ends → settled ≡ map (λ end. end.settled) ends
+refusal : (ends : List Joined) (memory whole : Bool) (failed settled : List Bool) (fault : FloorRefused) → memory ≡ (list_any (λ end. is_memory end.reason) ends || not whole) → failed ≡ map (λ end. is_read end.reason) ends → settled ≡ map (λ end. end.settled) ends
     → IsVerdict memory failed settled (Err fault) → IsRefusal ends whole fault
 refusal ends memory whole failed settled Memory is reads settles verdict = tt
 refusal ends memory whole failed settled (Read peer) is reads settles verdict =
@@ -67,9 +66,13 @@ refusal ends memory whole failed settled (Unsettled peer) is reads settles verdi
     }
 refusal ends memory whole failed settled fault is reads settles verdict = absurd verdict
 
--- so it is of an answer that is this one
-pub refusal-of : (ends : List Joined) (memory whole : Bool) (failed settled : List Bool) (fault : FloorRefused) {A : Type 0} (result : Result A FloorRefused) → IsErrAnd result (λ found. found ≡ fault)
-    → memory ≡ (list_any (λ end. is_memory end.reason) ends || not whole) → failed ≡ map (λ end. is_read end.reason) ends → settled ≡ map (λ end. end.settled) ends
-    → IsVerdict memory failed settled (Err fault) → IfErr result (IsRefusal ends whole)
-refusal-of ends memory whole failed settled fault (Ok answer) same is reads settles verdict = tt
-refusal-of ends memory whole failed settled fault (Err found) same is reads settles verdict = subst (IsRefusal ends whole) (sym same) (refusal ends memory whole failed settled fault is reads settles verdict)
+-- so it is of the verdict's answer
+pub well-of : (ends : List Joined) (memory whole : Bool) (failed settled : List Bool) (result : Result (Unit {0}) FloorRefused) → memory ≡ (list_any (λ end. is_memory end.reason) ends || not whole) → failed ≡ map (λ end. is_read end.reason) ends → settled ≡ map (λ end. end.settled) ends
+    → IsVerdict memory failed settled result → OnOk result ((whole ≡ true) × All IsWell ends)
+well-of ends memory whole failed settled (Ok done) is reads settles verdict = all-well ends memory whole failed settled is reads settles verdict
+well-of ends memory whole failed settled (Err fault) is reads settles verdict = tt
+
+pub refused-of : (ends : List Joined) (memory whole : Bool) (failed settled : List Bool) (result : Result (Unit {0}) FloorRefused) → memory ≡ (list_any (λ end. is_memory end.reason) ends || not whole) → failed ≡ map (λ end. is_read end.reason) ends → settled ≡ map (λ end. end.settled) ends
+    → IsVerdict memory failed settled result → IfErr result (IsRefusal ends whole)
+refused-of ends memory whole failed settled (Ok done) is reads settles verdict = tt
+refused-of ends memory whole failed settled (Err fault) is reads settles verdict = refusal ends memory whole failed settled fault is reads settles verdict

@@ -5,6 +5,6 @@ use Rattle.rs_serve.proofs.rings.open_rings.Given as goal
 
 abbrev pub invariant-loop-shard : goal.invariant-loop-shard
 invariant-loop-shard l = record {
-  opening : OpeningRings l.plan.value l.jobs.items l.to.items;
-  counted : length l.jobs.items ≡ l.shard;
+  opening : OpeningRings l.plan.value l.rings.jobs.items l.rings.to.items;
+  counted : length l.rings.jobs.items ≡ l.shard;
 }

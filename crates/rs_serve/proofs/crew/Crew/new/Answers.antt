@@ -1,31 +1,24 @@
 -- There is room for what is known of each thread.
-use Rattle.std.proofs.Common.{◌≡◌, ap, length, arith}
+use Rattle.std.proofs.Common.{◌≡◌, ◌∙◌, sym, ap, length, arith}
 use Rattle.rs_choice.specs.Plan.{Plan}
 use Rattle.rs_serve.specs.Identity.{id_of}
 use Rattle.rs_worker.proofs.PlaceLemmas.{same-counted}
 use Rattle.rs_serve.proofs.crew.Crew.new.Goals as goal
 
-pub returns-clause-few : goal.returns-clause-few
-returns-clause-few g c =
-    let counts : length c.in_ok-lines.lines.jobs.items ≡ length c.deref.result.now.peers = same-counted (λ job. job.id) id_of c.in_ok-lines.lines.jobs.items c.deref.result.now.peers c.in_ok-lines.ensures.peers in
-    let first : length c.deref.result.now.peers ≡ length c.args.plan.now.value.peers = ap (λ (p : Plan). length p.peers) c.deref.ensures in
-    let same : length c.deref-2.result.now.peers ≡ length c.args.plan.now.value.peers = ap (λ (p : Plan). length p.peers) c.deref-2.ensures in
-    omega (arith, counts, first, same, c.count.ensures.value, c.count.ensures.bound)
-
-pub returns-clause-room_for_handles : goal.returns-clause-room_for_handles
-returns-clause-room_for_handles g c =
-    let counts : length c.in_ok-lines.lines.jobs.items ≡ length c.deref.result.now.peers = same-counted (λ job. job.id) id_of c.in_ok-lines.lines.jobs.items c.deref.result.now.peers c.in_ok-lines.ensures.peers in
-    let first : length c.deref.result.now.peers ≡ length c.args.plan.now.value.peers = ap (λ (p : Plan). length p.peers) c.deref.ensures in
-    let same : length c.deref-2.result.now.peers ≡ length c.args.plan.now.value.peers = ap (λ (p : Plan). length p.peers) c.deref-2.ensures in (
-      omega (arith, counts, first, same, c.count.ensures.value, c.in_ok-lines.lines.jobs.ok.0, c.in_ok-with_capacity.ensures.capacity),
-      omega (arith, c.in_ok-rings.ensures.count, c.in_ok-rings.rings.jobs.ok.0, c.in_ok-with_capacity-2.ensures.capacity),
-    )
-
-pub returns-clause-room_for_ends : goal.returns-clause-room_for_ends
-returns-clause-room_for_ends g c =
-    let counts : length c.in_ok-lines.lines.jobs.items ≡ length c.deref.result.now.peers = same-counted (λ job. job.id) id_of c.in_ok-lines.lines.jobs.items c.deref.result.now.peers c.in_ok-lines.ensures.peers in
-    let first : length c.deref.result.now.peers ≡ length c.args.plan.now.value.peers = ap (λ (p : Plan). length p.peers) c.deref.ensures in
-    let same : length c.deref-3.result.now.peers ≡ length c.args.plan.now.value.peers = ap (λ (p : Plan). length p.peers) c.deref-3.ensures in (
-      omega (arith, counts, first, same, c.count-2.ensures.value, c.in_ok-lines.lines.jobs.ok.0, c.in_ok-with_capacity-3.ensures.capacity),
-      omega (arith, c.in_ok-rings.ensures.count, c.in_ok-rings.rings.jobs.ok.0, c.in_ok-with_capacity-4.ensures.capacity),
-    )
+pub invariant_of-result : goal.invariant_of-result
+invariant_of-result g c =
+    let counts : length c.in_ok-lines.lines.jobs.items ≡ length c.deref-2.result.now.peers = same-counted (λ job. job.id) id_of c.in_ok-lines.lines.jobs.items c.deref-2.result.now.peers c.in_ok-lines.ensures.peers in
+    let plans : length c.deref-2.result.now.peers ≡ length c.deref.result.now.peers = ap (λ (p : Plan). length p.peers) (c.deref-2.ensures ∙ sym c.deref.ensures) in
+    record {
+      can_work = c.in_ok-lines.ensures.can;
+      can_share = c.in_ok-rings.ensures.rings.can;
+      few = omega (arith, counts, plans, c.count.ensures.value, c.count.ensures.bound);
+      room_for_workers = omega (arith, counts, plans, c.count.ensures.value, c.in_ok-lines.lines.jobs.ok.0, c.in_ok-room.ensures.room_for_handles.0);
+      room_for_shards = omega (arith, c.in_ok-rings.ensures.count, c.in_ok-rings.rings.jobs.ok.0, c.in_ok-room.ensures.room_for_handles.1);
+      room_for_ends = omega (arith, counts, plans, c.count.ensures.value, c.in_ok-lines.lines.jobs.ok.0, c.in_ok-room.ensures.room_for_ends.0);
+      room_for_parts = omega (arith, c.in_ok-rings.ensures.count, c.in_ok-rings.rings.jobs.ok.0, c.in_ok-room.ensures.room_for_ends.1);
+      no_workers = c.in_ok-room.ensures.no_handles.0;
+      no_shards = c.in_ok-room.ensures.no_handles.1;
+      no_ends = c.in_ok-room.ensures.no_ends.0;
+      no_parts = c.in_ok-room.ensures.no_ends.1;
+    }
