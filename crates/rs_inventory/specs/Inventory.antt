@@ -91,6 +91,10 @@ pub record Holds (findings : List Finding) (content : Content) : Type 0 where
   pub recorder : content.recorder ≡ first_found (λ f. f.recorder) findings
   pub peers : (peer : Peer) → peer_at content.peers peer ≡ known_of (told_of peer findings)
 
+-- nothing is held: no record of any kind, no time, no octet, no recorder, no peer, and no end within a record
+abbrev pub HoldsNothing : Content → Type 0
+HoldsNothing content = Holds [] content × (content.end ≡ None)
+
 -- whatever records held this, with one record more they hold that
 abbrev pub TakesFinding : Content → Finding → Content → Type 0
 TakesFinding old one new = (findings : List Finding) → Holds findings old → Holds (findings ++ one ∷ []) new

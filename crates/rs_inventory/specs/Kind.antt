@@ -1,6 +1,6 @@
 -- What kind of record it is (RFC 6396, sections 4.3 and 4.4; RFC 8050, section 3).
 use Rattle.std.specs.Prelude.{ℕ, ◌==◌, ◌&&◌, ◌||◌, nat_lt, nat_le, Bool, if◌then◌else◌, List, length, drop, Option}
-use Rattle.std.specs.Prelude.{Some, None}
+use Rattle.std.specs.Prelude.{Some, None, codes}
 use Rattle.byteorder.specs.Endian.{big_number}
 use Rattle.rs_mrt.specs.Entry.{type_bgp4mp, type_bgp4mp_et, subtype_message_as4, subtype_state_change_as4}
 use Rattle.rs_mrt.specs.Entry.{microseconds_len, family_place, family_end}
@@ -23,6 +23,22 @@ place_of kinds.Ipv6 = 9
 place_of kinds.TableDumpV2 = 10
 place_of kinds.CutShort = 11
 place_of kinds.Other = 12
+
+-- the name of a kind in lists for people (our choice)
+abbrev pub kind_name : Kind → List ℕ
+kind_name kinds.Update = codes "UPDATE"
+kind_name kinds.Open = codes "OPEN"
+kind_name kinds.Notification = codes "NOTIFICATION"
+kind_name kinds.KeepAlive = codes "KEEPALIVE"
+kind_name kinds.RouteRefresh = codes "ROUTE-REFRESH"
+kind_name kinds.Faulty = codes "messages with a fault"
+kind_name kinds.StateChange = codes "changes of state"
+kind_name kinds.TwoOctet = codes "not read: two-octet AS numbers"
+kind_name kinds.AddPath = codes "not read: ADD-PATH"
+kind_name kinds.Ipv6 = codes "not read: IPv6 peers"
+kind_name kinds.TableDumpV2 = codes "not read: TABLE_DUMP_V2"
+kind_name kinds.CutShort = codes "shorter than their fields"
+kind_name kinds.Other = codes "not read: others"
 
 -- whether a kind is this one
 abbrev pub is_kind : Kind → Kind → Bool

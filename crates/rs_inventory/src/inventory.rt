@@ -1,7 +1,7 @@
 //! What a recorded file holds (RFC 6396).
 
-ghost use Rattle.std.specs.Prelude.{◌≡◌, [], OnOk, Some, None, slice_index};
-ghost use Rattle.rs_inventory.specs.Inventory.{Holds, TakesFinding, TakesNote, WithCounts, earlier_of, later_of};
+ghost use Rattle.std.specs.Prelude.{◌≡◌, OnOk, Some, None, slice_index};
+ghost use Rattle.rs_inventory.specs.Inventory.{HoldsNothing, TakesFinding, TakesNote, WithCounts, earlier_of, later_of};
 ghost use Rattle.rs_inventory.specs.Inventory.{sum_of};
 ghost use Rattle.rs_inventory.specs.Kind.{place_of};
 
@@ -51,7 +51,7 @@ impl Model for Inventory {
 impl Inventory {
     /// An inventory of no record.
     pub(crate) fn none(alloc: Global, compression: Option<Compression>) -> Inventory
-        ensures holds { Holds [] result }
+        ensures holds { HoldsNothing result }
         ensures compression { result.compression ≡ compression }
     {
         Inventory {

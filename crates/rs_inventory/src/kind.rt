@@ -7,7 +7,7 @@
 ghost use Rattle.std.specs.Prelude.{◌≡◌, ◌<◌, Some, slice_get};
 ghost use Rattle.std.specs.Option.{option_map};
 ghost use Rattle.rs_mrt.specs.Record.{record_of};
-ghost use Rattle.rs_inventory.specs.Kind.{fields_of, is_ipv6, place_of, session_kind, unread_kind};
+ghost use Rattle.rs_inventory.specs.Kind.{fields_of, is_ipv6, kind_name, place_of, session_kind, unread_kind};
 
 use byteorder::{BigEndian, ByteOrder};
 use rs_mrt::{BGP4MP, BGP4MP_ET, MESSAGE_AS4, Record, STATE_CHANGE_AS4};
@@ -94,7 +94,9 @@ impl Kind {
     }
 
     /// The kind's name in lists for people.
-    pub fn name(self) -> &'static str {
+    pub fn name(self) -> &'static str
+        ensures { result.now ≡ kind_name self }
+    {
         match self {
             Kind::Update => "UPDATE",
             Kind::Open => "OPEN",

@@ -2,6 +2,7 @@
 
 ghost use Rattle.std.specs.Prelude.{◌≡◌, ◌+◌, ◌<◌, ◌≤◌, IfOk, IfSome, IsErrOf, None};
 ghost use Rattle.rs_mrt.specs.RecordReading.{MayCome, unread};
+ghost use Rattle.rs_inventory.specs.Inventory.{HoldsNothing};
 ghost use Rattle.rs_inventory.specs.Reading.{GivesFinding, IsInventoryOf, MayBeCompressed, MayFail};
 ghost use Rattle.rs_inventory.specs.declared.reading.InventoryFault.TheVariants.{Memory, Read};
 
@@ -41,7 +42,8 @@ impl From<Failed> for InventoryFault {
 }
 
 /// Reads a recorded file and tells what it holds: whether it is compressed, and of one that isn't what its records say.
-/// Memory is taken for its peers and their sessions, not for its octets.
+/// Of a compressed one no record is read, so it tells of no record, no peer and no end. Memory is taken for its peers
+/// and their sessions, not for its octets.
 ///
 /// `Read` is answered where a read fails, or 2^50 octets come of the reader; `Memory` where memory is refused.
 pub fn read_inventory<R: Read + Drop>(
@@ -51,6 +53,8 @@ pub fn read_inventory<R: Read + Drop>(
     requires { R.failures reader < u64.MAX }
     // It is compressed as octets are that the reader may give.
     ensures compressed { IfOk result (λ held. MayBeCompressed R.gives reader held.compression) }
+    // Of a compressed file nothing is counted, no peer is known, and no end.
+    ensures unread { IfOk result (λ held. IfSome held.compression (λ _. HoldsNothing held)) }
     // Of a file that isn't it is the inventory of records that the reader may give, to their end.
     ensures records { IfOk result (λ held. held.compression ≡ None
         → IsInventoryOf (MayCome R.gives) (unread reader) held) }
