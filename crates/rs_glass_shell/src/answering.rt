@@ -1,0 +1,182 @@
+//! Answers the question of the command line: reads what it names, and writes what comes of it.
+
+ghost use Rattle.std.specs.Prelude.{◌≡◌, ◌<◌, length};
+
+use crate::ended::Ended;
+use crate::files::open_files;
+use crate::history_lines::history_text;
+use crate::history_object::history_json;
+use crate::listing_lines::as_text;
+use crate::listing_object::as_json;
+use crate::listing_toml::as_toml;
+use crate::query::{HistoryQuery, PeersQuery, Query, WhyQuery};
+use crate::recorded_file::RecordedFile;
+use crate::setup::{configuration, peer_named};
+use crate::why_lines::why_text;
+use crate::why_object::why_json;
+use crate::words::read_query;
+use rs_glass::{Answers, History, Question, explain_all, read_happenings, read_sessions, replay};
+use rs_host::{first_unreadable, open_file};
+use rs_inventory::{InventoryFault, read_inventory};
+use rs_setup::Setup;
+use std::env;
+use std::env::Env;
+use std::fs::Files;
+use std::io::ErrorKind;
+use std::thread::Threads;
+
+/// Answers the question of the command line, as it is printed: reads the configuration and the recorded files that it
+/// names. Fails with why the program stops short.
+pub fn answer<R: AllocGlobal + Env + Files + Threads + Sync>(rt: &R) -> Result<String, Ended>
+where
+    R::File: Send,
+{
+    match command_line(rt)? {
+        Query::Why(query) => why(rt, &query),
+        Query::History(query) => history(rt, &query),
+        Query::Peers(query) => peers(rt, query),
+    }
+}
+
+// The question of the command line.
+fn command_line<R: AllocGlobal + Env>(rt: &R) -> Result<Query, Ended> {
+    let alloc = rt.alloc();
+    match env::args(rt) {
+        Ok(words) => Ok(read_query(alloc, words.collect(alloc)?)?),
+        Err(error) if error.kind() == ErrorKind::OutOfMemory => Err(Ended::Memory),
+        Err(_) => Err(Ended::NotUtf8),
+    }
+}
+
+// Why a client has each peer's route, or not.
+fn why<R: AllocGlobal + Files + Threads + Sync>(rt: &R, query: &WhyQuery) -> Result<String, Ended>
+where
+    R::File: Send,
+{
+    let alloc = rt.alloc();
+    let setup = configuration(rt, &query.config)?;
+    let client = peer_named(rt, &setup, &query.client)?;
+    let answers = explained(rt, &setup, client, query)?;
+    if query.json {
+        Ok(why_json(alloc, &setup.plan, &answers)?)
+    } else {
+        Ok(why_text(alloc, &setup.plan, &answers)?)
+    }
+}
+
+// The answers of a configuration.
+fn explained<R: AllocGlobal + Files + Threads + Sync>(
+    rt: &R,
+    setup: &Setup,
+    client: usize,
+    query: &WhyQuery,
+) -> Result<Answers, Ended>
+where
+    R::File: Send,
+    requires client_known { client < length setup.now.plan.value.peers }
+    requires one_for_each { length setup.now.files.items ≡ length setup.now.plan.value.peers }
+{
+    let alloc = rt.alloc();
+    let question = Question {
+        prefix: query.prefix,
+        until: query.until,
+        errors: query.errors,
+    };
+    let files = open_files(rt, &setup.files)?;
+    match read_sessions(rt, alloc, &setup.plan, files, &question) {
+        Ok(reading) => Ok(explain_all(alloc, &reading, client, &question)?),
+        Err(fault) => Err(Ended::by_reading(alloc, fault, setup)),
+    }
+}
+
+// What happened on a prefix.
+fn history<R: AllocGlobal + Files + Threads + Sync>(
+    rt: &R,
+    query: &HistoryQuery,
+) -> Result<String, Ended>
+where
+    R::File: Send,
+{
+    let alloc = rt.alloc();
+    let setup = configuration(rt, &query.config)?;
+    let client = match &query.client {
+        Some(name) => Some(peer_named(rt, &setup, name)?),
+        None => None,
+    };
+    let history = replayed(rt, &setup, client, query)?;
+    if query.json {
+        Ok(history_json(alloc, &setup.plan, &history)?)
+    } else {
+        Ok(history_text(alloc, &setup.plan, &history)?)
+    }
+}
+
+// The history of a configuration.
+fn replayed<R: AllocGlobal + Files + Threads + Sync>(
+    rt: &R,
+    setup: &Setup,
+    client: Option<usize>,
+    query: &HistoryQuery,
+) -> Result<History, Ended>
+where
+    R::File: Send,
+    requires { length setup.now.files.items ≡ length setup.now.plan.value.peers }
+{
+    let alloc = rt.alloc();
+    let question = Question {
+        prefix: query.prefix,
+        until: query.until,
+        errors: query.errors,
+    };
+    let files = open_files(rt, &setup.files)?;
+    match read_happenings(rt, alloc, &setup.plan, files, &question) {
+        Ok(happenings) => {
+            let asked = History::of(alloc, &question, client, query.from);
+            Ok(replay(alloc, &setup.plan, happenings, asked)?)
+        }
+        Err(fault) => Err(Ended::by_reading(alloc, fault, setup)),
+    }
+}
+
+// What recorded files hold.
+fn peers<R: AllocGlobal + Files>(rt: &R, query: PeersQuery) -> Result<String, Ended> {
+    let alloc = rt.alloc();
+    let PeersQuery { files, json, toml } = query;
+    let held = recorded_files(rt, files)?;
+    if json {
+        Ok(as_json(alloc, &held)?)
+    } else if toml {
+        Ok(as_toml(alloc, &held)?)
+    } else {
+        Ok(as_text(alloc, &held)?)
+    }
+}
+
+// What the recorded files at these paths hold, in their order.
+fn recorded_files<R: AllocGlobal + Files>(
+    rt: &R,
+    paths: Vec<String>,
+) -> Result<Vec<RecordedFile>, Ended> {
+    if let Some(number) = first_unreadable(rt, &paths)? {
+        return Err(Ended::by_path(rt.alloc(), &paths[number]));
+    }
+    let mut held = Vec::new(rt.alloc());
+    for path in paths {
+        held.push(recorded_file(rt, path)?)
+            .map_err(|_| Ended::Memory)?;
+    }
+    Ok(held)
+}
+
+// What the recorded file at a path holds.
+fn recorded_file<R: AllocGlobal + Files>(rt: &R, path: String) -> Result<RecordedFile, Ended> {
+    let reader = match open_file(rt, &path) {
+        Ok(reader) => reader,
+        Err(fault) => return Err(Ended::by_file(rt.alloc(), fault, &path)),
+    };
+    match read_inventory(rt.alloc(), reader) {
+        Ok(inventory) => Ok(RecordedFile { path, inventory }),
+        Err(InventoryFault::Memory) => Err(Ended::Memory),
+        Err(InventoryFault::Read) => Err(Ended::Unread(path)),
+    }
+}

@@ -1,0 +1,146 @@
+//! Inventories as a configuration to start from: each peer of which a message is recorded, with its file.
+//!
+//! Our choices: the server is the recorder that the first file with messages names; a peer is named after its AS
+//! number; an address that stands twice is a comment the second time, since no two peers have the same.
+
+use crate::recorded_file::RecordedFile;
+use rs_inventory::{Inventory, Peer, PeerRecords};
+use std::alloc::{AllocError, Global};
+use std::collections::{BTreeMap, BTreeSet};
+use std::net::Ipv4Addr;
+
+// A configuration that is being written.
+#[derive(Drop)]
+struct Configuration {
+    text: String,
+    // The addresses of the peers so far.
+    addresses: BTreeSet<u32>,
+    // How many peers of an AS number there are so far.
+    peers_of: BTreeMap<u32, u32>,
+}
+
+/// A configuration to start from, with the peers of all files of which a message of a session with four-octet AS
+/// numbers is recorded. Where no file has any, it has comments alone. Fails where memory is refused.
+pub fn as_toml(alloc: Global, files: &[RecordedFile]) -> Result<String, AllocError> {
+    let mut configuration = Configuration {
+        text: String::new(alloc),
+        addresses: BTreeSet::new(alloc),
+        peers_of: BTreeMap::new(alloc),
+    };
+    configuration.add_server(files)?;
+    for file in files {
+        configuration.add_file(alloc, file)?;
+    }
+    Ok(configuration.text)
+}
+
+impl Configuration {
+    // Adds the server: the first recorder that is named.
+    fn add_server(&mut self, files: &[RecordedFile]) -> Result<(), AllocError> {
+        let recorder = files.iter().find_map(|file| file.inventory.recorder());
+        let Some(Peer { address, asn }) = recorder else {
+            return writeln!(
+                self.text,
+                "# no message of a session with four-octet AS numbers is recorded"
+            );
+        };
+        let address = Ipv4Addr::from_bits(address);
+        writeln!(
+            self.text,
+            "# The recorder as the server: put your route server in its place where it is another."
+        )?;
+        writeln!(self.text, "[server]")?;
+        writeln!(self.text, "as = {asn}")?;
+        writeln!(self.text, "address = \"{address}\"")
+    }
+
+    // Adds the peers of a file.
+    fn add_file(&mut self, alloc: Global, file: &RecordedFile) -> Result<(), AllocError> {
+        let path = quoted(alloc, &file.path)?;
+        self.add_peers(&file.inventory, &path)
+    }
+
+    // Adds the peers of an inventory, with the path of its file.
+    fn add_peers(&mut self, inventory: &Inventory, path: &str) -> Result<(), AllocError> {
+        for (peer, records) in inventory.peers() {
+            self.add_peer(*peer, records, path)?;
+        }
+        Ok(())
+    }
+
+    // Adds a peer, or a comment where it can't be one.
+    fn add_peer(
+        &mut self,
+        peer: Peer,
+        records: &PeerRecords,
+        path: &str,
+    ) -> Result<(), AllocError> {
+        let address = Ipv4Addr::from_bits(peer.address);
+        let asn = peer.asn;
+        writeln!(self.text)?;
+        if records.messages() == 0 {
+            return writeln!(
+                self.text,
+                "# {address} AS {asn} in {path}: no message of a session with four-octet AS numbers"
+            );
+        }
+        if self.addresses.contains(&peer.address) {
+            return writeln!(
+                self.text,
+                "# {address} AS {asn} in {path}: a peer above has this address"
+            );
+        }
+        self.addresses.insert(peer.address)?;
+        writeln!(self.text, "[[peer]]")?;
+        self.add_name(asn)?;
+        writeln!(self.text, "as = {asn}")?;
+        writeln!(self.text, "address = \"{address}\"")?;
+        self.add_identifier(records)?;
+        writeln!(self.text, "file = {path}")
+    }
+
+    // Adds the name of the next peer with an AS number: after the first one it is numbered.
+    fn add_name(&mut self, asn: u32) -> Result<(), AllocError> {
+        let Some(count) = self.peers_of.get_mut(&asn) else {
+            self.peers_of.insert(asn, 1)?;
+            return writeln!(self.text, "name = \"as{asn}\"");
+        };
+        *count = count.saturating_add(1);
+        let count = *count;
+        writeln!(self.text, "name = \"as{asn}-{count}\"")
+    }
+
+    // Adds the BGP Identifier of a peer's last OPEN.
+    fn add_identifier(&mut self, records: &PeerRecords) -> Result<(), AllocError> {
+        match records.identifiers().last() {
+            Some(identifier) => {
+                let identifier = Ipv4Addr::from_bits(*identifier);
+                writeln!(self.text, "id = \"{identifier}\"")
+            }
+            None => writeln!(self.text, "# no OPEN is recorded, so its id is its address"),
+        }
+    }
+}
+
+// The text as a basic string of TOML (TOML 1.0, "String").
+fn quoted(alloc: Global, text: &str) -> Result<String, AllocError> {
+    let mut quoted = String::from_str(alloc, "\"")?;
+    for character in text.chars() {
+        push_quoted(&mut quoted, character)?;
+    }
+    quoted.push('"')?;
+    Ok(quoted)
+}
+
+// Adds one character of a basic string.
+fn push_quoted(quoted: &mut String, character: char) -> Result<(), AllocError> {
+    match character {
+        '"' => quoted.push_str("\\\""),
+        '\\' => quoted.push_str("\\\\"),
+        control if control.is_control() => {
+            let number = control as u32;
+            write!(quoted, "\\u{number:04x}")
+        }
+        character => quoted.push(character),
+    }
+}

@@ -1,0 +1,88 @@
+//! What the command line asks.
+
+ghost use Rattle.std.specs.Prelude.{◌≡◌};
+ghost use Rattle.rs_glass_shell.specs.declared.query.WordsFault.TheVariants.{Memory};
+
+use rs_update::{Errors, Prefix};
+use std::alloc::AllocError;
+use thiserror::Error;
+
+/// A question.
+#[derive(Drop)]
+pub enum Query {
+    /// Why a client has each peer's route on a prefix, or not.
+    Why(WhyQuery),
+    /// What happened on a prefix, in the order of time.
+    History(HistoryQuery),
+    /// What recorded files hold.
+    Peers(PeersQuery),
+}
+
+/// Why a client has each peer's route on a prefix, or not. Times are in seconds since 1970.
+#[derive(Drop)]
+pub struct WhyQuery {
+    /// The path of the configuration.
+    pub config: String,
+    /// The name of the client.
+    pub client: String,
+    /// The prefix.
+    pub prefix: Prefix,
+    /// Up to when changes count; all of them where it isn't given.
+    pub until: Option<u32>,
+    /// The standard by which faults in path attributes are handled.
+    pub errors: Errors,
+    /// Whether the answer is written as JSON.
+    pub json: bool,
+}
+
+/// What happened on a prefix, in the order of time. Times are in seconds since 1970.
+#[derive(Drop)]
+pub struct HistoryQuery {
+    /// The path of the configuration.
+    pub config: String,
+    /// The prefix.
+    pub prefix: Prefix,
+    /// The name of the client whose table is shown beside, where one is given.
+    pub client: Option<String>,
+    /// From when on changes are shown; all of them where it isn't given.
+    pub from: Option<u32>,
+    /// Up to when changes count; all of them where it isn't given.
+    pub until: Option<u32>,
+    /// The standard by which faults in path attributes are handled.
+    pub errors: Errors,
+    /// Whether the answer is written as JSON.
+    pub json: bool,
+}
+
+/// What recorded files hold.
+#[derive(Drop)]
+pub struct PeersQuery {
+    /// The paths of the files.
+    pub files: Vec<String>,
+    /// Whether the answer is written as JSON.
+    pub json: bool,
+    /// Whether a configuration to start from is written.
+    pub toml: bool,
+}
+
+/// Why the words of the command line ask no question.
+#[derive(Debug, Drop, Error)]
+pub enum WordsFault {
+    /// Help or the version was asked for: its text.
+    #[error("{0}")]
+    Shown(String),
+    /// The words are refused: the text that says why.
+    #[error("{0}")]
+    Refused(String),
+    /// Memory was refused.
+    #[error("memory was refused while the command line was read")]
+    Memory,
+}
+
+impl From<AllocError> for WordsFault {
+    ghost from_gives = { λ _ fault. fault ≡ Memory };
+
+    fn from(_refused: AllocError) -> WordsFault {
+        WordsFault::Memory
+    }
+}

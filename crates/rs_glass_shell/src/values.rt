@@ -1,0 +1,21 @@
+//! What the texts of values stand for.
+
+use crate::times::read_time;
+use rs_setup::slashed_subnet;
+use rs_update::Prefix;
+
+// How a prefix is written.
+pub(crate) const PREFIX_FORM: &str = "an IPv4 prefix, as 192.0.2.0/24";
+
+// How a time is written.
+pub(crate) const TIME_FORM: &str = "seconds since 1970 or a time as 2026-11-22T06:36:20Z";
+
+// The prefix that a text writes. Host bits are cleared.
+pub(crate) fn prefix_of(text: &str) -> Option<Prefix> {
+    slashed_subnet(text)
+}
+
+// The time that a text writes.
+pub(crate) fn time_of(text: &str) -> Option<u32> {
+    read_time(text)
+}
