@@ -1,19 +1,19 @@
 //! The records of recorded files, and what single records say.
 
-use super::rows::{add_fault, add_shown, check_rows};
+use super::{add_fault, add_shown, check_rows};
 use rs_mrt::{Records, write_header};
 use spelled_in_hex::octets;
 use std::alloc::AllocError;
 use std::test::*;
 
-// The rows: `rows` says how they are read.
+// The rows: the head of `recordings` says how they are read.
 const RECORDS: &str = "
 # What is said (RFC 6396, section 4.4): messages and changes of state of IPv4 peers, with AS numbers of four octets,
 # with microseconds or without.
 
 a message
-    100 16.4 of-64501 marker update
-    100 17.4 000F423F of-64501 marker update
+    100 16.4 of-64501 MARKER UPDATE
+    100 17.4 000F423F of-64501 MARKER UPDATE
     100 16.4 of-64501 nothing
   by entries
     100 192.0.2.11 AS64501 message FFFFFFFFFFFFFFFFFFFFFFFFFFFFFFFF002F02000000144001010040020602010000FBF5400304C000020B18CB0071
@@ -45,8 +45,8 @@ Quagga: Clearing; BIRD: a dead connection; OpenBGPD: the recorder's address firs
     end
 
 other records: TABLE_DUMP_V2, OSPFv2
-    100 13.1 of-64501 marker update
-    100 11.0 of-64501 marker update
+    100 13.1 of-64501 MARKER UPDATE
+    100 11.0 of-64501 MARKER UPDATE
   by entries
     100 other
     100 other
@@ -55,10 +55,10 @@ other records: TABLE_DUMP_V2, OSPFv2
 
 other records: AS numbers of two octets, the recorder's own messages, path identifiers (RFC 8050)
     100 16.0 nothing
-    100 16.1 of-64501 marker update
+    100 16.1 of-64501 MARKER UPDATE
     100 16.6 nothing
-    100 16.7 of-64501 marker update
-    100 16.9 of-64501 marker update
+    100 16.7 of-64501 MARKER UPDATE
+    100 16.9 of-64501 MARKER UPDATE
   by entries
     100 other
     100 other
@@ -110,13 +110,13 @@ microseconds alone; 11 octets; 12 octets of IPv4; 19 octets; a new state that is
     end
 
 a recorder writes all peers into one file
-    100 16.4 of-64501 marker update
+    100 16.4 of-64501 MARKER UPDATE
     100 16.4 of-64502 nothing
     100 16.4 0000FBF5 0000FBF4 0000 0002 20010DB8 00*11 01 20010DB8 00*11 02
     100 16.1 of-two-octets
     100 16.5 of-64503 0006 0001
-    100 16.4 of-64504 marker keepalive
-    101 17.4 00000000 of-64501 marker update
+    100 16.4 of-64504 MARKER KEEPALIVE
+    101 17.4 00000000 of-64501 MARKER UPDATE
   by entries
     100 192.0.2.11 AS64501 message FFFFFFFFFFFFFFFFFFFFFFFFFFFFFFFF002F02000000144001010040020602010000FBF5400304C000020B18CB0071
     100 192.0.2.12 AS64502 message
@@ -140,7 +140,7 @@ no record
     end
 
 one record, in a file of 79 octets
-    100 16.4 of-64501 marker update
+    100 16.4 of-64501 MARKER UPDATE
   by bodies
     100 16.4 0000FBF50000FBF400000001C000020BC0000201FFFFFFFFFFFFFFFFFFFFFFFFFFFFFFFF002F02000000144001010040020602010000FBF5400304C000020B18CB0071
     end
@@ -297,8 +297,8 @@ a record of 10,012 octets and two after it
 ";
 
 #[test]
-fn records_say_what_their_rows_want(rt: HostRuntime) {
-    check_rows(&rt, rt.alloc(), RECORDS);
+fn records_say_what_their_rows_want(rt: HostRuntime) -> Result<(), Fail> {
+    check_rows(&rt, rt.alloc(), RECORDS)
 }
 
 #[test]

@@ -1,7 +1,6 @@
 //! The attributes of what is announced, and the most items of a ring of changes.
 
-use super::PEER;
-use super::rows::file_of;
+use super::{PEER, file_of};
 use rs_mrt::Records;
 use rs_ring::Closing;
 use rs_session::{Body, Reason, Session, Word};
@@ -25,12 +24,12 @@ fn next_attributes(session: &mut Session<Records<'_>>) -> Option<Arc<Attributes>
 }
 
 // An UPDATE that announces 1.0.0.0/8, 2.0.0.0/8 and 3.0.0.0/8.
-const THREE: &str = "100 16.4 of-64501 marker 0031 02 0000 0014 path 0801 0802 0803";
+const THREE: &str = "100 16.4 of-64501 MARKER 0031 02 0000 0014 MANDATORY 0801 0802 0803";
 
 // The two share with one another, and with the announcement that is still to come.
 #[test]
-fn announcements_of_one_update_share_their_attributes(rt: HostRuntime) {
-    let file = file_of(rt.alloc(), THREE).expect(&rt, "a file");
+fn announcements_of_one_update_share_their_attributes(rt: HostRuntime) -> Result<(), Fail> {
+    let file = file_of(rt.alloc(), THREE)?;
     let mut session = Session::new(rt.alloc(), &file, PEER);
     let one = next_attributes(&mut session).expect(&rt, "an announcement");
     let other = next_attributes(&mut session).expect(&rt, "an announcement");
@@ -40,11 +39,12 @@ fn announcements_of_one_update_share_their_attributes(rt: HostRuntime) {
         (counts.0 == counts.1, 0xC000_020B)
     );
     assert!(rt; counts.0 >= 3);
+    Ok(())
 }
 
 // A second ORIGIN, and an AGGREGATOR of six octets: both are discarded (RFC 7606, sections 3, 7.7).
 const DISCARDED: &str =
-    "100 16.4 of-64501 marker 003C 02 0000 0021 40010100 40010103 40020602010000FBF5 400304C000020B C007060000FBF5C000 18CB0071";
+    "100 16.4 of-64501 MARKER 003C 02 0000 0021 40010100 40010103 40020602010000FBF5 400304C000020B C007060000FBF5C000 18CB0071";
 
 // The attributes of the first change of a file, faults being handled by RFC 7606.
 fn first_attributes(alloc: Global, file: &[u8]) -> Option<Arc<Attributes>> {
@@ -52,11 +52,12 @@ fn first_attributes(alloc: Global, file: &[u8]) -> Option<Arc<Attributes>> {
 }
 
 #[test]
-fn what_is_discarded_is_not_announced(rt: HostRuntime) {
-    let file = file_of(rt.alloc(), DISCARDED).expect(&rt, "a file");
+fn what_is_discarded_is_not_announced(rt: HostRuntime) -> Result<(), Fail> {
+    let file = file_of(rt.alloc(), DISCARDED)?;
     let attributes = first_attributes(rt.alloc(), &file).expect(&rt, "an announcement");
     let found = (attributes.origin(), attributes.aggregator().is_none());
     assert_eq!(rt; found, (Origin::Igp, true));
+    Ok(())
 }
 
 #[test]

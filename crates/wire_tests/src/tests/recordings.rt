@@ -1,79 +1,41 @@
-//! How a row is read. It has its name, and then its records, each on a line of its own: the time, Type and Subtype (RFC
-//! 6396, section 2), and the body as words: hexadecimal digits, and names of digits that recur; `FF*5000` stands for
-//! 5,000 such octets. Each line `by ..` says how the file is read, and the lines after it what is wanted: `session`,
-//! and behind the name of a standard that of faults; `prefix`, a session that is asked for 203.0.113.0/24, and up to
-//! which time; `entries`, what each record says; `bodies` and `lengths`, the records themselves. Of the file there may
-//! be just some `octets`; a reader gives at most a piece at a time, of each of these `pieces`, and `fails` after so
-//! many.
+//! Recorded files, row by row, as records, as sessions and as inventories, and what no row shows: readers, writers,
+//! shared attributes, and refused memory.
+//!
+//! A row has its name, and then its records, each on a line of its own: the time, Type and Subtype (RFC 6396, section
+//! 2), and the words of the body; or `octets`, and words. Each line `by ..` says how the file is read, and the lines
+//! after it what is wanted: `session`, and behind the name of a standard that of faults; `prefix`, a session that is
+//! asked for 203.0.113.0/24, and up to which time; `entries`, what each record says; `bodies` and `lengths`, the
+//! records themselves; `inventory`, what the file holds, of which the lines are some, and `whole inventory`, of which
+//! they are all. Of the file there may be just some `octets`; a reader gives at most a piece at a time, of each of
+//! these `pieces`, and `fails` after so many.
 
-use super::PEER;
+mod attributes;
+mod inventories;
+mod records;
+mod refusals;
+mod sessions;
+mod streams;
+mod told;
+
+use super::words::spelled;
 use rs_mrt::{
     Entry, MemoryReader, MrtFault, ReadLimits, Record, RecordReader, Records, Source, SourceFault,
     entry, write_header,
 };
 use rs_ring::Closing;
-use rs_session::{Body, Reason, Session, Word};
+use rs_session::{Body, PeerId, Reason, Session, Word};
 use rs_update::{Errors, Prefix};
-use spelled_in_hex::octets;
 use std::alloc::{AllocError, Global};
 use std::net::Ipv4Addr;
 use std::process::Abort;
+use std::test::Fail;
+use told::told_of;
 
-// The names of digits. Of a record of a peer: its AS number, AS 64500, interface 0, IPv4, its address and 192.0.2.1
-// (RFC 6396, section 4.4.3). Of a path: ORIGIN IGP, AS_PATH 64501, NEXT_HOP 192.0.2.11; an UPDATE that announces
-// 203.0.113.0/24 by it; and a NOTIFICATION of Cease, Administrative Shutdown.
-const NAMES: &[(&str, &str)] = &[
-    ("of-64501", "0000FBF50000FBF400000001C000020BC0000201"),
-    ("of-64502", "0000FBF60000FBF400000001C000020CC0000201"),
-    ("of-64503", "0000FBF70000FBF400000001C000020DC0000201"),
-    ("of-64504", "0000FBF80000FBF400000001C000020EC0000201"),
-    ("of-two-octets", "FBF5FBF400000001C000020BC0000201"),
-    ("marker", "FFFFFFFFFFFFFFFFFFFFFFFFFFFFFFFF"),
-    ("path", "4001010040020602010000FBF5400304C000020B"),
-    ("faulty-path", "4001010340020602010000FBF5400304C000020B"),
-    (
-        "update",
-        "002F02000000144001010040020602010000FBF5400304C000020B18CB0071",
-    ),
-    ("keepalive", "001304"),
-    ("cease", "0015030602"),
-    ("nothing", ""),
-];
-
-// The digits that a word stands for.
-fn digits(word: &str) -> &str {
-    for (name, digits) in NAMES {
-        if word == *name {
-            return digits;
-        }
-    }
-    word
-}
-
-// Appends an octet so many times.
-fn add_times(out: &mut Vec<u8>, octet: u8, times: &str) -> Option<()> {
-    let len = out.len().saturating_add(times.parse().ok()?);
-    out.resize(len, octet).ok()
-}
-
-// Appends the octets of a word.
-fn add_word(out: &mut Vec<u8>, alloc: Global, word: &str) -> Option<()> {
-    let (word, times) = word.split_once('*').unwrap_or((word, ""));
-    let piece = octets(alloc, &[digits(word)]).ok()?;
-    if times.is_empty() {
-        return out.extend_from_slice(&piece).ok();
-    }
-    add_times(out, *piece.first()?, times)
-}
-
-// The octets of words.
-fn body_of(alloc: Global, words: &str) -> Option<Vec<u8>> {
-    let mut body = Vec::new(alloc);
-    for word in words.split_whitespace() {
-        add_word(&mut body, alloc, word)?;
-    }
-    Some(body)
-}
+// The peer whose sessions are read: AS 64501 at 192.0.2.11.
+const PEER: PeerId = PeerId {
+    address: 0xC000_020B,
+    asn: 64501,
+};
 
 // The time, Type and Subtype of a record, and the words of its body.
 fn heading(line: &str) -> Option<(u32, u16, u16, &str)> {
@@ -89,21 +51,29 @@ fn heading(line: &str) -> Option<(u32, u16, u16, &str)> {
 }
 
 // Appends the record of a line, its Length counted.
-fn add_record(file: &mut Vec<u8>, alloc: Global, line: &str) -> Option<()> {
-    let (time, kind, subtype, words) = heading(line)?;
-    let body = body_of(alloc, words)?;
-    let length = u32::try_from(body.len()).ok()?;
-    write_header(file, time, kind, subtype, length).ok()?;
-    file.extend_from_slice(&body).ok()
+fn add_record(file: &mut Vec<u8>, alloc: Global, line: &str) -> Result<(), Fail> {
+    let (time, kind, subtype, words) = heading(line).ok_or("a record")?;
+    let body = spelled(alloc, words)?;
+    write_header(file, time, kind, subtype, u32::try_from(body.len())?)?;
+    file.extend_from_slice(&body)?;
+    Ok(())
 }
 
-/// The file of these lines of records.
-pub fn file_of(alloc: Global, lines: &str) -> Option<Vec<u8>> {
+// Appends the octets or the record of a line.
+fn add_line(file: &mut Vec<u8>, alloc: Global, line: &str) -> Result<(), Fail> {
+    match line.trim_start().strip_prefix("octets ") {
+        Some(words) => Ok(file.extend_from_slice(&spelled(alloc, words)?)?),
+        None => add_record(file, alloc, line),
+    }
+}
+
+/// The file of these lines.
+pub fn file_of(alloc: Global, lines: &str) -> Result<Vec<u8>, Fail> {
     let mut file = Vec::new(alloc);
     for line in lines.lines() {
-        add_record(&mut file, alloc, line)?;
+        add_line(&mut file, alloc, line)?;
     }
-    Some(file)
+    Ok(file)
 }
 
 // The number after a word of a line.
@@ -306,66 +276,95 @@ fn asked(way: &str) -> (Option<Prefix>, Option<u32>) {
 }
 
 // What a source says to the one who reads it so.
-fn said_by<S: Source + Drop>(alloc: Global, source: S, way: &str) -> Option<String> {
+fn said_by<S: Source + Drop>(alloc: Global, source: S, way: &str) -> Result<String, Fail> {
     let mut said = String::new(alloc);
     if way == "session" {
         let session = Session::over(alloc, source, PEER);
-        add_session(&mut said, session, None, None).ok()?;
+        add_session(&mut said, session, None, None)?;
     } else if way.starts_with("session") || way.starts_with("prefix") {
         let session = Session::over_by(alloc, source, PEER, standard(way));
         let (prefix, until) = asked(way);
-        add_session(&mut said, session, prefix, until).ok()?;
+        add_session(&mut said, session, prefix, until)?;
     } else {
-        add_source(&mut said, source, way).ok()?;
+        add_source(&mut said, source, way)?;
     }
-    Some(said)
+    Ok(said)
 }
 
 // What a file says to the one who reads it so, in pieces of at most so many octets, or at hand where they are none.
-fn read(alloc: Global, file: &[u8], way: &str, piece: usize) -> Option<String> {
+fn read(alloc: Global, file: &[u8], way: &str, piece: usize) -> Result<String, Fail> {
     let count = number_after(way, "octets ").unwrap_or(file.len());
-    let file = file.get(..count)?;
-    if piece == 0 {
-        return said_by(alloc, Records::new(file), way);
-    }
-    let limits = ReadLimits {
-        octets_before_failure: number_after(way, "fails "),
-        piece,
-        ..ReadLimits::none()
+    let file = file.get(..count).ok_or("so many octets")?;
+    let octets_before_failure = number_after(way, "fails ");
+    let limits = match piece {
+        0 => ReadLimits::none(),
+        piece => ReadLimits {
+            octets_before_failure,
+            piece,
+            ..ReadLimits::none()
+        },
     };
-    said_by(
-        alloc,
-        RecordReader::new(MemoryReader::new(file, limits)),
-        way,
-    )
+    if way.contains("inventory") {
+        return told_of(alloc, file, limits);
+    }
+    match piece {
+        0 => said_by(alloc, Records::new(file), way),
+        _ => said_by(
+            alloc,
+            RecordReader::new(MemoryReader::new(file, limits)),
+            way,
+        ),
+    }
+}
+
+// What is said in a way to read a file is what its lines want: that they are all, or of an inventory some.
+fn check_said(rt: &impl Abort, said: &str, way: &str, wanted: &str, row: &str) {
+    if !way.starts_with("inventory") {
+        assert_eq!(rt; said.trim(), wanted.trim(), "{row}, by {way}");
+        return;
+    }
+    for line in wanted.lines() {
+        assert!(rt;
+            said.lines().any(|told| told == line),
+            "{row}, by {way}: {line} in {said}"
+        );
+    }
 }
 
 // What comes of one way of reading a file is what its lines say.
-fn check_way(rt: &impl Abort, alloc: Global, name: &str, file: &[u8], lines: &str) {
-    let (way, wanted) = lines.split_once('\n').expect(rt, "what is wanted");
+fn check_way(
+    rt: &impl Abort,
+    alloc: Global,
+    row: &str,
+    file: &[u8],
+    lines: &str,
+) -> Result<(), Fail> {
+    let (way, wanted) = lines.split_once('\n').ok_or("what is wanted")?;
     let first = number_after(way, "pieces ").unwrap_or(0);
     let last = number_after(way, "to ").unwrap_or(first);
     for piece in first..=last {
-        let found = read(alloc, file, way, piece).expect(rt, "what a file says");
-        assert_eq!(rt; found.trim(), wanted.trim(), "{name}, by {way}: {piece}");
+        check_said(rt, &read(alloc, file, way, piece)?, way, wanted, row);
     }
+    Ok(())
 }
 
 // What comes of each way of reading a row's file is what it says.
-fn check_row(rt: &impl Abort, alloc: Global, row: &str) {
-    let (head, ways) = row.split_once("\n  by ").expect(rt, "a way to read a row");
+fn check_row(rt: &impl Abort, alloc: Global, row: &str) -> Result<(), Fail> {
+    let (head, ways) = row.split_once("\n  by ").ok_or("a way to read a row")?;
     let (name, lines) = head.split_once('\n').unwrap_or((head, ""));
-    let file = file_of(alloc, lines).expect(rt, name);
+    let file = file_of(alloc, lines)?;
     for way in ways.split("\n  by ") {
-        check_way(rt, alloc, name, &file, way);
+        check_way(rt, alloc, name, &file, way)?;
     }
+    Ok(())
 }
 
 /// Each of these rows is right. Empty lines part them, and what begins with # is a comment.
-pub fn check_rows(rt: &impl Abort, alloc: Global, rows: &str) {
+pub fn check_rows(rt: &impl Abort, alloc: Global, rows: &str) -> Result<(), Fail> {
     for row in rows.trim().split("\n\n") {
         if !row.starts_with('#') {
-            check_row(rt, alloc, row);
+            check_row(rt, alloc, row)?;
         }
     }
+    Ok(())
 }

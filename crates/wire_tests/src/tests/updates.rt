@@ -1,8 +1,7 @@
 //! Messages by hand, each with what it says, by the formats of RFC 4271, RFC 6793, RFC 1997 and RFC 7606.
 //!
 //! They are rows of texts. What is wanted stands behind a bar; a line without one is a remark. A message is spelled
-//! whole, or as the fields of an UPDATE: withdrawn routes / path attributes / NLRI. Its words are hexadecimal digits,
-//! as `00*10` where they stand ten times, or a name that stands for some.
+//! whole, or as the fields of an UPDATE: withdrawn routes / path attributes / NLRI.
 
 mod concerning;
 mod messages;
@@ -11,6 +10,7 @@ mod prefixes;
 mod refusals;
 mod routes;
 
+use super::words::spelled;
 use rs_update::{
     Attributes, Errors, Message, MessageFault, Prefix, Update, read_message, read_message_by,
     write_attributes,
@@ -20,39 +20,6 @@ use std::alloc::{AllocError, Global};
 use std::net::Ipv4Addr;
 use std::process::Abort;
 use std::test::Fail;
-
-// The digits that a word stands for: the Marker of a header; an attribute with its flags, type, length and value,
-// which is IGP, 64501 or 192.0.2.11; the prefix 203.0.113.0/24.
-fn digits_of(word: &str) -> &str {
-    match word {
-        "MARKER" => "FFFFFFFFFFFFFFFFFFFFFFFFFFFFFFFF",
-        "ORIGIN" => "40010100",
-        "AS_PATH" => "40020602010000FBF5",
-        "NEXT_HOP" => "400304C000020B",
-        "MANDATORY" => "4001010040020602010000FBF5400304C000020B",
-        "ROUTE" => "18CB0071",
-        _ => word,
-    }
-}
-
-// Appends the octets that a word spells.
-fn push_word(alloc: Global, spelled: &mut Vec<u8>, word: &str) -> Result<(), Fail> {
-    let (word, times) = word.split_once('*').unwrap_or((word, "1"));
-    let octets = octets(alloc, &[digits_of(word)])?;
-    for _ in 0..times.parse::<u16>()? {
-        spelled.extend_from_slice(&octets)?;
-    }
-    Ok(())
-}
-
-// The octets that words spell.
-fn spelled(alloc: Global, words: &str) -> Result<Vec<u8>, Fail> {
-    let mut spelled = Vec::new(alloc);
-    for word in words.split_whitespace() {
-        push_word(alloc, &mut spelled, word)?;
-    }
-    Ok(spelled)
-}
 
 // Appends a length of two octets, to which so many are added, and octets.
 fn push_field(contents: &mut Vec<u8>, field: &[u8], more: u16) -> Result<(), Fail> {

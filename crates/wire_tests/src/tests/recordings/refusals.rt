@@ -3,8 +3,7 @@
 ghost use Rattle.std.specs.Prelude.{◌≡◌, List, [], Option, Some, None, Result, Err, refl};
 ghost use Rattle.rs_mrt.specs.declared.fault.SourceFault.TheVariants.{Read};
 
-use super::PEER;
-use super::rows::{add_change, add_session};
+use super::{PEER, add_change, add_session};
 use rs_mrt::{Record, Source, SourceFault};
 use rs_session::{Session, Word};
 use std::alloc::{AllocError, Global};

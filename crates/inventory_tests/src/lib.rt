@@ -1,5 +1,0 @@
-//! Tests of inventories: `rs_inventory` through its public calls.
-#![tactic(auto)]
-
-#[cfg(test)]
-mod tests;
