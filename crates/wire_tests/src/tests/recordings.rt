@@ -305,7 +305,7 @@ fn read(alloc: Global, file: &[u8], way: &str, piece: usize) -> Result<String, F
         },
     };
     if way.contains("inventory") {
-        return told_of(alloc, MemoryReader::new(file, limits));
+        return told_of(alloc, file, limits);
     }
     match piece {
         0 => said_by(alloc, Records::new(file), way),

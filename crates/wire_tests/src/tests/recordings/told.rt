@@ -1,7 +1,7 @@
 //! What is told of what a recorded file holds.
 
 use rs_inventory::{Inventory, Kind, read_inventory};
-use rs_mrt::MemoryReader;
+use rs_mrt::{MemoryReader, ReadLimits};
 use std::alloc::{AllocError, Global};
 use std::net::Ipv4Addr;
 use std::test::Fail;
@@ -59,8 +59,8 @@ fn told(alloc: Global, held: &Inventory) -> Result<String, AllocError> {
     Ok(text)
 }
 
-/// What is told of the file that a reader gives, line by line.
-pub fn told_of(alloc: Global, reader: MemoryReader<'_>) -> Result<String, Fail> {
-    let held = read_inventory(alloc, reader)?;
+/// What is told, line by line, of a file whose reader has these limits.
+pub fn told_of(alloc: Global, file: &[u8], limits: ReadLimits) -> Result<String, Fail> {
+    let held = read_inventory(alloc, MemoryReader::new(file, limits))?;
     Ok(told(alloc, &held)?)
 }
