@@ -1,5 +1,5 @@
 -- What tables hold of the items that they took, with one item more.
-use Rattle.std.proofs.Common.{◌≡◌, ◌≢◌, ◌∙◌, sym, ap, subst, refl, ℕ, ◌<◌, ◌≤◌, arith, inl, inr, true, false, [], ◌∷◌, ◌++◌, length, Result, Ok, Err}
+use Rattle.std.proofs.Common.{◌≡◌, ◌≢◌, ◌∙◌, sym, ap, subst, ℕ, ◌<◌, ◌≤◌, arith, inl, inr, true, false, [], ◌∷◌, ◌++◌, length, Result, Ok, Err}
 use Rattle.std.specs.Prelude.{OnOk}
 use Rattle.std.specs.List.{list_any}
 use Rattle.std.proofs.lemmas.Bool.Decides.{eqb_tells}
@@ -14,9 +14,9 @@ use Rattle.rs_shard.specs.Held.{HoldReceived, Takes, through_close}
 use Rattle.rs_table.proofs.RibLemmas.{rib_left-nothing, rib_left-more}
 use Rattle.rs_shard.proofs.CloseLemmas.{through-closed, through-more, through-none, any-through}
 
--- tables that took nothing yet
-pub held-nothing : (new : TablesContent) → ((peer : ℕ) → rib_of new peer ≡ nothing_held) → HoldReceived new [] new
-held-nothing new empty = record { plan = refl; count = refl; ribs = λ peer below. empty peer ∙ sym rib_left-nothing }
+-- nothing was taken yet
+pub held-nothing : (new begun : TablesContent) → begun.plan ≡ new.plan → length begun.ribs ≡ length new.ribs → ((peer : ℕ) → rib_of begun peer ≡ nothing_held) → HoldReceived new [] begun
+held-nothing new begun plan count empty = record { plan = plan; count = count; ribs = λ peer below. empty peer ∙ sym rib_left-nothing }
 
 -- the last item changes nothing
 pub took-last : (tables : TablesContent) → Takes routed.Last tables tables
@@ -78,7 +78,7 @@ took-change before after peer word unclosed become closes stay plan count new it
         more ∙ ap rib_left (sym (through-more (of_peer peer items) (change_of word) open_yet)) ∙ ap (λ cs. rib_left (through_close cs)) (sym (of_peer-own peer items word)) in
         subst (λ (n : ℕ). rib_of after n ≡ rib_left (through_close (of_peer n (items ++ routed.Word peer word ∷ [])))) (sym same) taken
 
--- what follows from two facts of a success holds of it
-pub ok-both : {A E : Type 0} (result : Result A E) (P Q R : Type 0) → OnOk result P → OnOk result Q → (P → Q → R) → OnOk result R
-ok-both (Ok value) P Q R p q h = h p q
-ok-both (Err fault) P Q R p q h = tt
+-- two facts of a success
+pub ok-both : {A E : Type 0} (result : Result A E) (P Q : Type 0) → OnOk result P → OnOk result Q → OnOk result (P × Q)
+ok-both (Ok value) P Q p q = (p, q)
+ok-both (Err fault) P Q p q = tt

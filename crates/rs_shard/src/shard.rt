@@ -7,7 +7,7 @@ ghost use Rattle.rs_router.specs.Routing.{EndsLast};
 ghost use Rattle.rs_table.specs.Content.{nothing_held, rib_of};
 ghost use Rattle.rs_shard.specs.Held.{HoldReceived};
 
-use crate::taking::after_item;
+use crate::taking::{after_item, begun, settled};
 use rs_ring::{Numbered, Receiver};
 use rs_router::Routed;
 use rs_table::Tables;
@@ -24,9 +24,10 @@ pub struct ShardEnd {
 }
 
 /// Takes all items that come through a ring, up to the last one, into tables of which no peer has a route
-/// yet. A change of a peer that isn't there, or whose session closed, is dropped.
+/// yet. A change of a peer that isn't there, or whose session closed, is dropped. The changes are gathered, and
+/// each client's choice on each prefix is made once, after the last item.
 ///
-/// It passes the gate once for each item, before it handles it. Refused memory it drops the tables and all
+/// It passes the gate once for each item, before it handles it. Refused memory it drops what it gathered and all
 /// later changes, but receives them, so that no other thread waits for it.
 pub fn shard_worker<G: Gate>(
     rt: &impl Wait,
@@ -43,14 +44,17 @@ pub fn shard_worker<G: Gate>(
     ensures ring { result.from.ring ≡ from.ring }
 {
     let mut from = from;
-    let mut tables = Some(tables);
+    let mut gathered = begun(tables);
     for _ in rt.forever() {
         if from.closed() {
-            return ShardEnd { tables, from };
+            return ShardEnd {
+                tables: settled(gathered),
+                from,
+            };
         }
         let Numbered { number, item } = next_item(rt, &mut from);
         gate.shard_pass(shard, number);
-        tables = after_item(tables, item);
+        gathered = after_item(gathered, item);
     }
     unreachable!()
 }

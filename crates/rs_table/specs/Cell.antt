@@ -40,6 +40,11 @@ pub record AreHeld (plan : Plan) (held : List HeldRoute) : Type 0 where
   pub row : IsRow 0 (length plan.peers) (map sent_of_held held)
   pub judged : All (IsJudged plan) held
 
+-- a cell of which nothing is decided yet: it may have no route
+pub record IsUndecided (plan : Plan) (cell : CellContent) : Type 0 where
+  pub held : AreHeld plan cell.held
+  pub count : length cell.bests ≡ length plan.peers
+
 -- what they keep of a prefix: some route, and for each client the number of the peer whose route it gets
 pub record IsCell (plan : Plan) (cell : CellContent) : Type 0 where
   pub held : AreHeld plan cell.held

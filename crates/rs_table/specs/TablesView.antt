@@ -4,12 +4,15 @@ use Rattle.std.specs.List.{enumerate_from}
 use Rattle.rs_table.specs.declared.tables.Tables.TheInside.{Inside}
 use Rattle.rs_table.specs.Content.{RibContent, TablesContent}
 use Rattle.rs_table.specs.Cells.{Entries, AreCells, routes_from}
+use Rattle.rs_table.specs.Left.{Routes}
 
--- what is held of each peer, from one number on
+-- what is held of each peer, from one number on, by each peer's routes
+abbrev pub ribs_by : (ℕ → Routes) → ℕ → List Bool → List RibContent
+ribs_by routes first closed =
+    map (λ (peer, is_closed). record { routes = routes peer; closed = is_closed }) (enumerate_from first closed)
+
 abbrev pub ribs_from : Entries → ℕ → List Bool → List RibContent
-ribs_from entries first closed =
-    map (λ (peer, is_closed). record { routes = routes_from entries peer; closed = is_closed })
-    (enumerate_from first closed)
+ribs_from entries first closed = ribs_by (routes_from entries) first closed
 
 abbrev pub tables_view : Inside → TablesContent
 tables_view fields = record { plan = fields.plan.value; ribs = ribs_from fields.cells.entries 0 fields.closed.items }

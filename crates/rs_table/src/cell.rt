@@ -9,7 +9,7 @@ ghost use Rattle.rs_choice.specs.Held.{sent_of_held, IsJudged};
 ghost use Rattle.rs_choice.specs.RouteChanges.{IsChange, IsKnown};
 ghost use Rattle.rs_table.specs.ByPeer.{place_of, route_at, with_one, with_route, without_one, without_route};
 ghost use Rattle.rs_table.specs.ByPeer.{IsAscending, IsPut, IsTaken};
-ghost use Rattle.rs_table.specs.Cell.{routes_in, stored_best, AreHeld, IsCell};
+ghost use Rattle.rs_table.specs.Cell.{routes_in, stored_best, AreHeld, IsCell, IsUndecided};
 ghost use Rattle.rs_table.specs.RouteView.{sent_route_of};
 ghost use Rattle.rs_table.specs.Table.{sent_by};
 
@@ -53,13 +53,59 @@ impl Cell {
         ensures routes { IfOk result (λ cell. routes_in cell ≡ sent_of_held route ∷ []) }
         ensures cell { IfOk result (λ cell. IsCell plan.now cell) }
     {
+        let mut cell = Cell::undecided(alloc, plan, route)?;
+        cell.decide(plan);
+        Ok(cell)
+    }
+
+    // A cell of one route, of which nothing is decided yet. Refused memory, there is none.
+    pub(crate) fn undecided(
+        alloc: Global,
+        plan: &Exchange,
+        route: HeldRoute,
+    ) -> Result<Cell, AllocError>
+        requires { IsJudged plan.now route }
+        ensures routes { IfOk result (λ cell. routes_in cell ≡ sent_of_held route ∷ []) }
+        ensures cell { IfOk result (λ cell. IsUndecided plan.now cell) }
+    {
         let count = plan.count();
         let bests = SmallVec::from_elem(alloc, 0, count)?;
         let mut held = Vec::with_capacity(alloc, count)?;
         held.push(route)?;
-        let mut cell = Cell { held, bests };
-        cell.decide(plan);
-        Ok(cell)
+        Ok(Cell { held, bests })
+    }
+
+    // Puts a route in the place of any that its peer has, and decides nothing. It takes no memory.
+    pub(crate) fn put(&mut self, plan: &Exchange, route: HeldRoute)
+        requires judged { IsJudged plan.now route }
+        requires cell { IsUndecided plan.now self.old }
+        ensures routes { routes_in self.new ≡ with_route (routes_in self.old) (sent_of_held route) }
+        ensures cell { IsUndecided plan.now self.new }
+    {
+        let _change = put(&mut self.held, route);
+    }
+
+    // Removes a peer's route, if it has one, and decides nothing.
+    pub(crate) fn take_out(&mut self, plan: &Exchange, peer: usize)
+        requires { IsUndecided plan.now self.old }
+        ensures routes { routes_in self.new ≡ without_route (routes_in self.old) peer }
+        ensures cell { IsUndecided plan.now self.new }
+    {
+        let _change = take_out(&mut self.held, peer);
+    }
+
+    // Decides for every client, where there is a route. Answers whether there is one.
+    pub(crate) fn settle(&mut self, plan: &Exchange) -> bool
+        requires { IsUndecided plan.now self.old }
+        ensures routes { routes_in self.new ≡ routes_in self.old }
+        ensures some { IsTrue result → IsCell plan.now self.new }
+        ensures none { IsFalse result → routes_in self.new ≡ [] }
+    {
+        if self.held.is_empty() {
+            return false;
+        }
+        self.decide(plan);
+        true
     }
 
     // Puts a route in the place of any that its peer has. It takes no memory.

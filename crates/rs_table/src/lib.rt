@@ -5,21 +5,26 @@
 //!
 //! Reading order: `tables` (what each peer has left, and what a client gets on a prefix), `route` (what is
 //! answered), `client_rows` and `listing` (a client's whole table), `why` (and why not), `merge` (parts made
-//! one), `laws` (of the definitions). Below them `cells` (of all prefixes) and `cell` (of one; who gets which
-//! route on it is decided in `rs_choice`).
+//! one), `gathering` (changes before tables are made of them), `laws` (of the definitions). Below them `cells`
+//! (of all prefixes), `cell` (of one; who gets which route on it is decided in `rs_choice`), `log` (changes in a
+//! list) and `settling` (the cells of such lists).
 #![tactic(auto)]
 
 mod cell;
 mod cells;
 mod client_rows;
+mod gathering;
 mod laws;
 mod listing;
+mod log;
 mod merge;
 mod route;
+mod settling;
 mod tables;
 mod why;
 
 pub use client_rows::ClientRows;
+pub use gathering::{FEW_ENTRIES, Gathering};
 pub use laws::{
     examples_hold, left_after_one_more, left_by_last_changes, left_by_part, table_is_computed,
 };

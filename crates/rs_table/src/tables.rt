@@ -4,18 +4,19 @@
 //! They are kept by prefix: a cell has the routes of all peers on one prefix, and what each client gets of
 //! them, decided anew with each change.
 
-ghost use Rattle.std.specs.Prelude.{◌≡◌, ◌≢◌, ◌<◌, ◌≤◌, ℕ, false, IfOk, OnOk, OnErr, None, Some, length};
+ghost use Rattle.std.specs.Prelude.{◌≡◌, ◌≢◌, ◌<◌, ◌≤◌, ℕ, false, IfOk, OnOk, OnErr, None, Some, length, slice_index_or};
 ghost use Rattle.std.specs.Option.{option_map};
 ghost use Rattle.rs_update.specs.IpPrefix.{IpPrefix};
 ghost use Rattle.rs_session.specs.Change.{change_of, is_close};
 ghost use Rattle.rs_table.specs.Cell.{CellContent, stored_best};
-ghost use Rattle.rs_table.specs.Cells.{cell_at};
+ghost use Rattle.rs_table.specs.Cells.{cell_at, AreCells};
 ghost use Rattle.rs_table.specs.Content.{nothing_held, rib_of};
 ghost use Rattle.rs_table.specs.Left.{BecomeBy, IsNewAnnouncement};
 ghost use Rattle.rs_table.specs.Listing.{is_held, IsFirstAnnouncement};
 ghost use Rattle.rs_table.specs.Merge.{AreParts, IsJoined};
 ghost use Rattle.rs_table.specs.RouteView.{sent_route_of};
 ghost use Rattle.rs_table.specs.Table.{best_of, route_from};
+ghost use Rattle.rs_table.specs.TablesView.{ribs_from};
 
 use crate::cell::Cell;
 use crate::cells::{change, join};
@@ -166,6 +167,33 @@ impl Tables {
         })
     }
 
+    // The plan, and of each peer whether its session closed.
+    pub(crate) fn into_peers(self) -> (Arc<Exchange>, Vec<bool>)
+        ensures plan { result.0.value ≡ self.plan }
+        ensures count { length result.1.items ≡ length self.ribs }
+        ensures peers { length result.1.items ≡ length self.plan.peers }
+        ensures closed { (peer : ℕ) → slice_index_or result.1.items peer false ≡ (rib_of self peer).closed }
+    {
+        (self.plan, self.closed)
+    }
+
+    // Tables of a plan by whose sessions closed and their cells.
+    pub(crate) fn of_cells(
+        plan: Arc<Exchange>,
+        closed: Vec<bool>,
+        cells: BTreeMap<Prefix, Cell>,
+    ) -> Tables
+        requires peers { length closed.items ≡ length plan.value.peers }
+        requires cells { AreCells plan.value cells.entries }
+        ensures { result ≡ record { plan = plan.value; ribs = ribs_from cells.entries 0 closed.items } }
+    {
+        Tables {
+            plan,
+            closed,
+            cells,
+        }
+    }
+
     // The allocator.
     pub(crate) fn allocator(&self) -> Global {
         *self.closed.allocator()
@@ -180,7 +208,7 @@ impl Tables {
 }
 
 // Whether a change closes the session.
-fn closes(word: &Word) -> bool
+pub(crate) fn closes(word: &Word) -> bool
     ensures { result ≡ is_close (change_of word.now) }
 {
     matches!(word.body, Body::Close(_))

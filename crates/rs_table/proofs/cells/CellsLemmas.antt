@@ -1,6 +1,6 @@
 -- The cells of all prefixes, and the peers' routes in them: for `announce` and `withdraw` of cells.rt, tables.rt, `iter_rows` of listing.rt, and MergeLemmas.
 use Rattle.std.proofs.Common.{◌≡◌, ℕ, zero, suc, ◌+◌, ◌<◌, ◌≤◌, Bool, true, false, cond, List, [], ◌∷◌, length, map, get_or, Option, Some, None, refl, sym, ap, subst, ◌∙◌, arith, inl, inr}
-use Rattle.std.specs.List.{filter_map, cons_option, enumerate_from, list_any}
+use Rattle.std.specs.List.{AllByRecursion, filter_map, cons_option, enumerate_from, list_any}
 use Rattle.std.specs.Map.{remove_entry, set_value}
 use Rattle.std.specs.BTreeMap.{BTreeMap, Updates, insert_entry, is_at}
 use Rattle.std.specs.Cmp.{eq_by_cmp_equiv}
@@ -15,14 +15,14 @@ use Rattle.std.proofs.lemmas.List.{get_or_past}
 use Rattle.rs_update.specs.IpPrefix.{IpPrefix}
 use Rattle.rs_update.specs.PrefixOrder.{prefix_cmp}
 use Rattle.rs_choice.specs.Plan.{Plan}
-use Rattle.rs_table.specs.Left.{same_prefix}
+use Rattle.rs_table.specs.Left.{Routes, same_prefix}
 use Rattle.rs_table.specs.Content.{nothing_held}
 use Rattle.rs_table.specs.Table.{sent_by, routes_on}
 use Rattle.rs_choice.specs.Decision.{SentRoute}
 use Rattle.rs_table.specs.ByPeer.{IsRow, route_at}
 use Rattle.rs_table.specs.Cell.{CellContent, IsCell}
 use Rattle.rs_table.specs.Cells.{Entries, AreCells, cell_at, routes_at, routes_of, routes_from}
-use Rattle.rs_table.specs.TablesView.{ribs_from}
+use Rattle.rs_table.specs.TablesView.{ribs_by, ribs_from}
 use Rattle.rs_table.proofs.PrefixLemmas.{prefix_total, same_prefix-true, find-entries}
 use Rattle.rs_table.proofs.cell.RowLemmas.{route_at-before}
 
@@ -32,22 +32,42 @@ pub absent : {X : Type 0} (o : Option X) → is_some o ≡ false → o ≡ None
 absent None e = refl
 absent (Some x) e = absurd (cc e)
 
-module _ (plan : Plan) where
-  pub cell-IsCell : (entries : Entries) (prefix : IpPrefix) (cell : CellContent) → AreCells plan entries → cell_at entries prefix ≡ Some cell → IsCell plan cell
-  cell-IsCell [] prefix cell all is = absurd (cc is)
-  cell-IsCell (e ∷ es) prefix cell all is =
+-- all cells of some entries have a property
+module _ (P : CellContent → Type 0) where
+  abbrev Each : Entries → Type 0
+  Each entries = AllByRecursion (λ (entry : IpPrefix × CellContent). P entry.1) entries
+
+  pub each-at : (entries : Entries) (prefix : IpPrefix) (cell : CellContent) → Each entries → cell_at entries prefix ≡ Some cell → P cell
+  each-at [] prefix cell all is = absurd (cc is)
+  each-at (e ∷ es) prefix cell all is =
       elim (cases_Bool (is_at (prefix_cmp prefix) e.0)) [
-        | inl here ↦ let same : e.1 ≡ cell = cc (rw here at is) in subst (IsCell plan) same all.0
-        | inr there ↦ cell-IsCell es prefix cell all.1 (rw there at is)
+        | inl here ↦ let same : e.1 ≡ cell = cc (rw here at is) in subst P same all.0
+        | inr there ↦ each-at es prefix cell all.1 (rw there at is)
       ]
 
-  pub AreCells-set : (test : IpPrefix → Bool) (entries : Entries) (cell : CellContent) → AreCells plan entries → IsCell plan cell → AreCells plan (set_value test entries cell)
-  AreCells-set test [] cell all one = tt
-  AreCells-set test (e ∷ es) cell all one =
-      elim (test e.0) as (λ b. AreCells plan (cond b ((e.0, cell) ∷ es) (e ∷ set_value test es cell))) [
+  pub each-set : (test : IpPrefix → Bool) (entries : Entries) (cell : CellContent) → Each entries → P cell → Each (set_value test entries cell)
+  each-set test [] cell all one = tt
+  each-set test (e ∷ es) cell all one =
+      elim (test e.0) as (λ b. Each (cond b ((e.0, cell) ∷ es) (e ∷ set_value test es cell))) [
         | true ↦ (one, all.1)
-        | false ↦ (all.0, AreCells-set test es cell all.1 one)
+        | false ↦ (all.0, each-set test es cell all.1 one)
       ]
+
+  pub each-insert : (entries : Entries) (prefix : IpPrefix) (cell : CellContent) → Each entries → P cell → Each (insert_entry prefix_cmp entries prefix cell)
+  each-insert [] prefix cell all one = (one, tt)
+  each-insert (e ∷ es) prefix cell all one =
+      elim (prefix_cmp prefix e.0) as (λ o. Each (match_ordering o ((prefix, cell) ∷ e ∷ es) ((e.0, cell) ∷ es) (e ∷ insert_entry prefix_cmp es prefix cell))) [
+        | Less ↦ (one, (all.0, all.1))
+        | Equal ↦ (one, all.1)
+        | Greater ↦ (all.0, each-insert es prefix cell all.1 one)
+      ]
+
+module _ (plan : Plan) where
+  pub cell-IsCell : (entries : Entries) (prefix : IpPrefix) (cell : CellContent) → AreCells plan entries → cell_at entries prefix ≡ Some cell → IsCell plan cell
+  cell-IsCell = each-at (IsCell plan)
+
+  pub AreCells-set : (test : IpPrefix → Bool) (entries : Entries) (cell : CellContent) → AreCells plan entries → IsCell plan cell → AreCells plan (set_value test entries cell)
+  AreCells-set = each-set (IsCell plan)
 
   pub AreCells-remove : (test : IpPrefix → Bool) (entries : Entries) → AreCells plan entries → AreCells plan (remove_entry test entries)
   AreCells-remove test [] all = tt
@@ -58,13 +78,7 @@ module _ (plan : Plan) where
       ]
 
   pub AreCells-insert : (entries : Entries) (prefix : IpPrefix) (cell : CellContent) → AreCells plan entries → IsCell plan cell → AreCells plan (insert_entry prefix_cmp entries prefix cell)
-  AreCells-insert [] prefix cell all one = (one, tt)
-  AreCells-insert (e ∷ es) prefix cell all one =
-      elim (prefix_cmp prefix e.0) as (λ o. AreCells plan (match_ordering o ((prefix, cell) ∷ e ∷ es) ((e.0, cell) ∷ es) (e ∷ insert_entry prefix_cmp es prefix cell))) [
-        | Less ↦ (one, (all.0, all.1))
-        | Equal ↦ (one, all.1)
-        | Greater ↦ (all.0, AreCells-insert es prefix cell all.1 one)
-      ]
+  AreCells-insert = each-insert (IsCell plan)
 
 -- ---- what one change of the map leaves
 
@@ -100,6 +114,23 @@ remove-set test (e ∷ es) w =
 pub AreCells-removed : (plan : Plan) (test : IpPrefix → Bool) (entries : Entries) (w : CellContent) → AreCells plan entries → AreCells plan (remove_entry test (set_value test entries w))
 AreCells-removed plan test entries w all = subst (AreCells plan) (sym (remove-set test entries w)) (AreCells-remove plan test entries all)
 
+-- ---- what is held of each peer, by each peer's routes
+
+module _ (routes : ℕ → Routes) where
+  pub by-at : (first : ℕ) (closed : List Bool) (k : ℕ) → k < length closed →
+      get_or (ribs_by routes first closed) k nothing_held ≡ record { routes = routes (first + k); closed = get_or closed k false }
+  by-at first [] k within = absurd (omega (arith, within))
+  by-at first (c ∷ cs) zero within = ap (λ n. record { routes = routes n; closed = c }) (omega arith)
+  by-at first (c ∷ cs) (suc k) within =
+      by-at (first + 1) cs k (omega (arith, within)) ∙ ap (λ n. record { routes = routes n; closed = get_or cs k false }) (omega arith)
+
+  pub by-length : (first : ℕ) (closed : List Bool) → length (ribs_by routes first closed) ≡ length closed
+  by-length first [] = refl
+  by-length first (c ∷ cs) = ap suc (by-length (first + 1) cs)
+
+  pub by-past : (first : ℕ) (closed : List Bool) (k : ℕ) → length closed ≤ k → get_or (ribs_by routes first closed) k nothing_held ≡ nothing_held
+  by-past first closed k past = get_or_past (ribs_by routes first closed) k nothing_held (omega (arith, by-length first closed, past))
+
 -- ---- the routes of each peer
 
 module _ (entries : Entries) where
@@ -117,17 +148,13 @@ module _ (entries : Entries) where
   -- what is held of the peers from one number on
   pub rib-at : (first : ℕ) (closed : List Bool) (k : ℕ) → k < length closed →
       get_or (ribs_from entries first closed) k nothing_held ≡ record { routes = routes_from entries (first + k); closed = get_or closed k false }
-  rib-at first [] k within = absurd (omega (arith, within))
-  rib-at first (c ∷ cs) zero within = ap (λ n. record { routes = routes_from entries n; closed = c }) (omega arith)
-  rib-at first (c ∷ cs) (suc k) within =
-      rib-at (first + 1) cs k (omega (arith, within)) ∙ ap (λ n. record { routes = routes_from entries n; closed = get_or cs k false }) (omega arith)
+  rib-at = by-at (routes_from entries)
 
   pub length-ribs : (first : ℕ) (closed : List Bool) → length (ribs_from entries first closed) ≡ length closed
-  length-ribs first [] = refl
-  length-ribs first (c ∷ cs) = ap suc (length-ribs (first + 1) cs)
+  length-ribs = by-length (routes_from entries)
 
   pub rib-past : (first : ℕ) (closed : List Bool) (k : ℕ) → length closed ≤ k → get_or (ribs_from entries first closed) k nothing_held ≡ nothing_held
-  rib-past first closed k past = get_or_past (ribs_from entries first closed) k nothing_held (omega (arith, length-ribs first closed, past))
+  rib-past = by-past (routes_from entries)
 
   -- the routes that peers have left on a prefix are those of its cell
   module _ (prefix : IpPrefix) where

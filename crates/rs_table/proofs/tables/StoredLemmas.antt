@@ -21,7 +21,7 @@ use Rattle.rs_table.proofs.listing.TableLemmas.{choice-nil}
 abbrev left_of : SentRoute → RouteLeft
 left_of route = record { time = route.time; attributes = route.attributes }
 
-filter_passes : {X : Type 0} (test : X → Bool) (xs : List X) → AllByRecursion (λ x. test x ≡ true) (filter test xs)
+pub filter_passes : {X : Type 0} (test : X → Bool) (xs : List X) → AllByRecursion (λ x. test x ≡ true) (filter test xs)
 filter_passes test [] = tt
 filter_passes test (x ∷ xs) =
     elim (cases_Bool (test x)) [

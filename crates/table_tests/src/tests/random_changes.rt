@@ -1,6 +1,7 @@
 //! Random changes: after each one every client gets what the rules, read slowly, say.
 
 use super::*;
+use rs_table::Gathering;
 use slow_reading::History;
 use tables::shown;
 
@@ -109,6 +110,44 @@ fn check_round(rt: &impl Abort, alloc: Global, random: &mut Random) -> Option<()
         check_clients(rt, alloc, &tables, &history, &change);
     }
     Some(())
+}
+
+// Gathers a change, where the peer is open, and adds it to the list of all changes.
+fn gather_both(
+    alloc: Global,
+    gathering: &mut Gathering,
+    history: &mut History,
+    text: &str,
+) -> Option<()> {
+    let (peer, word) = change(alloc, history.plan(), text)?;
+    if peer >= gathering.count() || gathering.is_closed(peer) {
+        return Some(());
+    }
+    gathering.receive(peer, word).ok()?;
+    let (peer, word) = change(alloc, history.plan(), text)?;
+    history.add(peer, word)
+}
+
+// Gathers a hundred changes of six peers in lists of which those with so many entries are compacted.
+fn check_gathered(rt: &impl Abort, alloc: Global, random: &mut Random, few: usize) -> Option<()> {
+    let mut gathering = Gathering::new(after(alloc, SIX_PEERS, "")?, few).ok()?;
+    let mut history = History::new(alloc, exchange(alloc, SIX_PEERS)?);
+    for time in 0..100 {
+        let change = some_change(alloc, random, time)?;
+        gather_both(alloc, &mut gathering, &mut history, &change)?;
+    }
+    let tables = gathering.settle().ok()?;
+    check_clients(rt, alloc, &tables, &history, "settled");
+    Some(())
+}
+
+#[test]
+fn gathered_changes_leave_what_the_rules_say(rt: HostRuntime) {
+    let mut random = Random { state: 2 };
+    for few in 2..65 {
+        let checked = check_gathered(&rt, rt.alloc(), &mut random, few);
+        assert!(rt; checked.is_some(), "lists of {few}");
+    }
 }
 
 #[test]

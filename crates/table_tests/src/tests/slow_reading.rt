@@ -98,6 +98,11 @@ impl History {
         }
     }
 
+    /// The exchange.
+    pub fn plan(&self) -> &Exchange {
+        &self.plan
+    }
+
     /// Appends a change.
     pub fn add(&mut self, peer: usize, word: Word) -> Option<()> {
         self.changes.push((peer, word)).ok()

@@ -1,5 +1,5 @@
 -- One more shard was joined.
-use Rattle.std.proofs.Common.{◌≡◌, ◌∙◌, sym, arith, List, length, map, get_or, Some, rules}
+use Rattle.std.proofs.Common.{◌≡◌, ◌∙◌, sym, arith, List, map, get_or, Some, rules}
 use Rattle.std.specs.Prelude.{slice_get}
 use Rattle.std.specs.Vec.Iter.{into_iter_items}
 use Rattle.std.proofs.lemmas.List.{length-map}

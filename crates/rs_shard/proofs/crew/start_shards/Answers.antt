@@ -1,5 +1,5 @@
 -- One more shard was started.
-use Rattle.std.proofs.Common.{All, map, rules}
+use Rattle.std.proofs.Common.{map, rules}
 use Rattle.std.proofs.lemmas.List.Elements.{All-tail}
 use Rattle.std.specs.Vec.Iter.{into_iter_items}
 use Rattle.rs_shard.specs.Crew.{charge_of, charged, IsReady}

@@ -11,6 +11,6 @@ invariant-loop g l = record {
   next : (goal.iterator-loop g).can_next l.iterator';
   finite : (goal.iterator-loop g).is_finite l.iterator';
   ring : l.from.ring ≡ l.fn.from.ring;
-  tables : IfSome l.tables (HoldReceived l.fn.tables l.from.received);
+  gathered : IfSome l.gathered (HoldReceived l.fn.tables l.from.received);
   ended : has_close is_last l.from.received ≡ true → EndsLast l.from.received;
 }

@@ -1,4 +1,4 @@
--- Tables that took some items took one more.
+-- What took some items took one more.
 use Rattle.std.proofs.Common.{subst, Option, rules}
 use Rattle.std.specs.Prelude.{IfSome}
 use Rattle.rs_table.specs.Content.{TablesContent}
@@ -7,11 +7,11 @@ use Rattle.rs_shard.proofs.taking.after_item.Goals as goal
 
 pub returns-in-Ok : goal.returns-in-Ok
 returns-in-Ok c before items held =
-    let P : Option TablesContent → Type 0 = λ tables. IfSome tables (HoldReceived before items) in
-    c.in-Ok.ensures before items (subst P c.in_ok-tables.was held)
+    let P : Option TablesContent → Type 0 = λ gathered. IfSome gathered (HoldReceived before items) in
+    c.in-Ok.ensures before items (subst P c.in_ok-gathered.was held)
 
 pub returns-in-Err : goal.returns-in-Err
 returns-in-Err c = search rules
 
-pub returns-in_err-tables : goal.returns-in_err-tables
-returns-in_err-tables c = search rules
+pub returns-in_err-gathered : goal.returns-in_err-gathered
+returns-in_err-gathered c = search rules

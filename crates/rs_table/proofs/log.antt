@@ -1,0 +1,3 @@
+-- Lists of changes, and what they leave.
+pub mod ListLemmas
+pub mod CompactLemmas

@@ -1,0 +1,42 @@
+use Rattle.std.proofs.Common.{◌≡◌, Some, None, ◌∙◌, ap, sym, subst}
+use Rattle.std.specs.BTreeMap.{BTreeMap, Updates, insert_entry, is_at}
+use Rattle.std.specs.Option.{is_some, option_copied_mut}
+use Rattle.rs_update.specs.IpPrefix.{IpPrefix}
+use Rattle.rs_update.specs.PrefixOrder.{prefix_cmp}
+use Rattle.rs_table.specs.ByPeer.{with_route}
+use Rattle.rs_table.specs.Cell.{CellContent, IsUndecided}
+use Rattle.rs_choice.specs.Held.{sent_of_held}
+use Rattle.rs_table.specs.Cells.{AreUndecided, cell_at, routes_of}
+use Rattle.rs_table.proofs.cells.CellsLemmas.{each-at, each-set, each-insert, at-update, updated}
+use Rattle.rs_table.proofs.settling.put.Goals as goal
+
+pub put-requires-clause-cell : goal.put-requires-clause-cell
+put-requires-clause-cell c = each-at (IsUndecided c.args.plan.now) c.args.cells.now.entries c.args.prefix c.in-Some.cell.now c.requires.cells (sym c.in-Some.ensures.value)
+
+pub returns-in-Some-clause-routes : goal.returns-in-Some-clause-routes
+returns-in-Some-clause-routes c =
+    let m = c.args.cells.now in
+    let n = c.get_mut.follows.lender c.put.new.self in
+    let found : cell_at m.entries c.args.prefix ≡ Some c.in-Some.cell.now = sym c.in-Some.ensures.value in
+    updated m n c.args.prefix (λ routes. with_route routes (sent_of_held c.args.route)) (Some c.put.new.self)
+    (at-update m n c.args.prefix (Some c.put.new.self) ((c.get_mut.follows.holds c.put.new.self).3 (ap is_some found)))
+    (c.put.ensures.routes ∙ ap (λ cell. with_route (routes_of cell) (sent_of_held c.args.route)) (sym found))
+
+pub returns-in-Some-clause-cells : goal.returns-in-Some-clause-cells
+returns-in-Some-clause-cells c =
+    subst (AreUndecided c.args.plan.now) (sym (c.get_mut.follows.holds c.put.new.self).0)
+    (each-set (IsUndecided c.args.plan.now) (is_at (prefix_cmp c.args.prefix)) c.args.cells.now.entries c.put.new.self c.requires.cells c.put.ensures.cell)
+
+pub returns-clause-routes : goal.returns-clause-routes
+returns-clause-routes c =
+    let m = c.args.cells.now in
+    let none : cell_at m.entries c.args.prefix ≡ None = sym c.get_mut.ensures.value ∙ ap option_copied_mut c.in_default.is in
+    updated m c.insert.new.self c.args.prefix (λ routes. with_route routes (sent_of_held c.args.route)) (Some c.in_ok-cell.cell)
+    (at-update m c.insert.new.self c.args.prefix (Some c.in_ok-cell.cell)
+    (subst (λ old. Updates prefix_cmp old c.insert.new.self c.args.prefix (Some c.in_ok-cell.cell)) c.get_mut.follows.holds-at-none c.in_ok-insert.ensures.updates))
+    (c.in_ok-cell.ensures.routes ∙ ap (λ cell. with_route (routes_of cell) (sent_of_held c.args.route)) (sym none))
+
+pub returns-clause-cells : goal.returns-clause-cells
+returns-clause-cells c =
+    subst (AreUndecided c.args.plan.now) (sym (c.in_ok-insert.ensures.entries ∙ ap (λ (m : BTreeMap IpPrefix CellContent). insert_entry prefix_cmp m.entries c.args.prefix c.in_ok-cell.cell) c.get_mut.follows.holds-at-none))
+    (each-insert (IsUndecided c.args.plan.now) c.args.cells.now.entries c.args.prefix c.in_ok-cell.cell c.requires.cells c.in_ok-cell.ensures.cell)

@@ -1,0 +1,221 @@
+//! Changes of all peers, gathered before tables are made of them.
+//!
+//! A change is appended to the list of its prefix's first octet, and a loss of a session is counted: what each
+//! peer has left, and what each client gets, is found once, when all changes came (our choice).
+
+ghost use Rattle.std.specs.Prelude.{◌≡◌, ◌≢◌, ◌+◌, ◌<◌, ◌≤◌, ℕ, false, [], IfOk, OnOk, OnErr, length, slice_index_or, slice_set};
+ghost use Rattle.rs_session.specs.Change.{change_of, is_close};
+ghost use Rattle.rs_table.specs.Content.{nothing_held, rib_of};
+ghost use Rattle.rs_table.specs.Gathered.{AreLogs, GathersTo, IsAdded, lists_of};
+ghost use Rattle.rs_table.specs.Left.{BecomeBy};
+
+use crate::log::{Entry, Log, first_octet};
+use crate::settling::settle;
+use crate::tables::{Tables, closes};
+use rs_choice::{Exchange, MAX_PEERS};
+use rs_session::{Body, Reason, Word};
+use rs_update::{Attributes, Prefix};
+use std::alloc::{AllocError, Global};
+use std::marker::Model;
+use std::sync::Arc;
+
+/// With fewer entries than this a list is not compacted.
+pub const FEW_ENTRIES: usize = 1024;
+
+// How many lists there are: one for each first octet of a prefix.
+const LISTS: usize = 256;
+
+/// The changes of all peers so far. Seen from outside, they are the routes that these changes have left, and
+/// whose sessions closed, as of tables.
+#[derive(Drop)]
+pub struct Gathering {
+    plan: Arc<Exchange>,
+    // Of each peer, whether its session closed.
+    closed: Vec<bool>,
+    // Of each peer, how many times its session was lost, or closed for another reason than the end of its file.
+    losses: Vec<u32>,
+    // The changes on the prefixes of each first octet.
+    logs: Vec<Log>,
+}
+
+impl Model for Gathering {
+    ghost use Rattle.rs_table.specs.Codes.{tables_code};
+    ghost use Rattle.rs_table.specs.Content.{TablesContent};
+
+    ghost Value = { TablesContent };
+
+    ghost coded = { tables_code };
+
+    ghost use Rattle.rs_table.specs.GatheringView.{gathering_view, IsGathering};
+
+    ghost view = { gathering_view };
+
+    ghost invariant = { IsGathering };
+}
+
+impl Gathering {
+    /// Begins with tables of which no peer has a route yet. A list with fewer entries than `few` is not
+    /// compacted.
+    ///
+    /// Fails where memory is refused.
+    pub fn new(tables: Tables, few: usize) -> Result<Gathering, AllocError>
+        requires { (peer : ℕ) → rib_of tables peer ≡ nothing_held }
+        ensures plan { IfOk result (λ gathering. gathering.plan ≡ tables.plan) }
+        ensures empty { IfOk result (λ gathering. (peer : ℕ) → rib_of gathering peer ≡ nothing_held) }
+        ensures count { IfOk result (λ gathering. length gathering.ribs ≡ length tables.ribs) }
+    {
+        let alloc = tables.allocator();
+        let (plan, closed) = tables.into_peers();
+        let mut losses = Vec::with_capacity(alloc, closed.len())?;
+        losses.resize(closed.len(), 0)?;
+        let logs = empty_logs(alloc, few)?;
+        Ok(Gathering {
+            plan,
+            closed,
+            losses,
+            logs,
+        })
+    }
+
+    /// How many peers there are: as many as the plan has.
+    pub fn count(&self) -> usize
+        ensures peers { result ≡ length self.now.plan.peers }
+        ensures ribs { result ≡ length self.now.ribs }
+        ensures bound { result ≤ MAX_PEERS }
+    {
+        let _closed = &self.closed;
+        self.plan.count()
+    }
+
+    /// Whether the session of the peer of number `peer` closed; false where there is no such peer.
+    pub fn is_closed(&self, peer: usize) -> bool
+        ensures { result ≡ (rib_of self.now peer).closed }
+    {
+        match self.closed.get(peer) {
+            Some(closed) => *closed,
+            None => false,
+        }
+    }
+
+    /// Takes the next change of the peer of number `peer`, as `Tables::apply` does.
+    ///
+    /// Fails where memory is refused, and where a session is lost for the 2^32nd time. Nothing is said then of
+    /// what is gathered.
+    pub fn receive(&mut self, peer: usize, word: Word) -> Result<(), AllocError>
+        requires known { peer < length self.old.plan.peers }
+        requires open { (rib_of self.old peer).closed ≡ false }
+        ensures routes { OnOk result (BecomeBy (rib_of self.old peer).routes (change_of word)
+            (rib_of self.new peer).routes) }
+        ensures closed { OnOk result ((rib_of self.new peer).closed ≡ is_close (change_of word)) }
+        ensures others { OnOk result ((other : ℕ) → other ≢ peer → rib_of self.new other ≡ rib_of self.old other) }
+        ensures plan { OnOk result (self.new.plan ≡ self.old.plan) }
+        ensures count { OnOk result (length self.new.ribs ≡ length self.old.ribs) }
+    {
+        // So few peers that a number of one is an octet.
+        let _count = self.plan.count();
+        let closes = closes(&word);
+        take_in(&mut self.logs, &mut self.losses, peer, word)?;
+        if closes {
+            self.closed[peer] = true;
+        }
+        Ok(())
+    }
+
+    /// The tables of what was gathered. Each client's choice on each prefix is made here, once.
+    ///
+    /// Fails where memory is refused.
+    pub fn settle(self) -> Result<Tables, AllocError>
+        ensures { IfOk result (λ tables. tables ≡ self) }
+    {
+        let Gathering {
+            plan,
+            closed,
+            losses,
+            logs,
+        } = self;
+        let cells = settle(*closed.allocator(), &plan, &losses, logs)?;
+        Ok(Tables::of_cells(plan, closed, cells))
+    }
+}
+
+// A list without entries for each first octet.
+fn empty_logs(alloc: Global, few: usize) -> Result<Vec<Log>, AllocError>
+    ensures { IfOk result (λ logs. (length logs.items ≡ LISTS)
+        × ((octet : ℕ) → slice_index_or (lists_of logs.items) octet [] ≡ [])) }
+{
+    let mut logs = Vec::with_capacity(alloc, LISTS)?;
+    for _ in 0..LISTS {
+        logs.push(Log {
+            entries: Vec::new(alloc),
+            limit: few,
+        })?;
+    }
+    Ok(logs)
+}
+
+// Takes a change of a peer into the lists.
+fn take_in(logs: &mut [Log], losses: &mut [u32], peer: usize, word: Word) -> Result<(), AllocError>
+    requires known { (peer < length losses.old) × (peer < MAX_PEERS) }
+    requires logs { AreLogs losses.old logs.old }
+    ensures routes { OnOk result (GathersTo peer (change_of word) losses.old logs.old losses.new logs.new) }
+    ensures logs { AreLogs losses.new logs.new }
+    ensures count { length losses.new ≡ length losses.old }
+{
+    let Word { time, body } = word;
+    match body {
+        Body::Announce(prefix, attributes) => {
+            enter(logs, losses, peer, time, prefix, Some(attributes))
+        }
+        Body::Withdraw(prefix) => enter(logs, losses, peer, time, prefix, None),
+        Body::Down => lose(losses, peer),
+        Body::Close(reason) => {
+            if reason == Reason::EndOfFile {
+                return Ok(());
+            }
+            lose(losses, peer)
+        }
+    }
+}
+
+// Enters a peer's change on a prefix into the list of the prefix.
+fn enter(
+    logs: &mut [Log],
+    losses: &[u32],
+    peer: usize,
+    time: u32,
+    prefix: Prefix,
+    attributes: Option<Arc<Attributes>>,
+) -> Result<(), AllocError>
+    requires known { (peer < length losses.now) × (peer < MAX_PEERS) }
+    requires logs { AreLogs losses.now logs.old }
+    ensures routes { OnOk result (IsAdded losses.now (record {
+      prefix = prefix;
+      time = time;
+      losses = slice_index_or losses.now peer 0;
+      peer = peer;
+      attributes = attributes;
+    }) logs.old logs.new) }
+    ensures logs { AreLogs losses.now logs.new }
+{
+    let entry = Entry {
+        prefix,
+        time,
+        losses: losses[peer],
+        peer: peer as u8,
+        attributes,
+    };
+    logs[first_octet(prefix)].push(entry, losses)
+}
+
+// Counts a loss of a peer, whose entries so far are void by it.
+fn lose(losses: &mut [u32], peer: usize) -> Result<(), AllocError>
+    requires { peer < length losses.old }
+    ensures lost { OnOk result (losses.new ≡ slice_set losses.old peer (slice_index_or losses.old peer 0 + 1)) }
+    ensures err { OnErr result (losses.new ≡ losses.old) }
+{
+    let Some(more) = losses[peer].checked_add(1) else {
+        return Err(AllocError);
+    };
+    losses[peer] = more;
+    Ok(())
+}
