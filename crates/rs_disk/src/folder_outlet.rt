@@ -1,4 +1,4 @@
-//! An outlet over a folder: each dump becomes a file in it. It doesn't tell what it has kept.
+//! An outlet over a folder: each dump becomes a file in it. It doesn't tell what it has kept, nor what is out.
 //!
 //! Our choice: where nothing or a file stands in the place of a dump, the dump is written beside it, to a part file of
 //! its own, which takes that place once the dump is kept. So a reader finds the older dump there or the new one, never a
@@ -79,6 +79,8 @@ where
 
     ghost kept = { λ _. None };
 
+    ghost started = { λ _. None };
+
     ghost failures = { λ failures. failures };
 
     fn start(&mut self, name: &str) -> Result<IoWriter<FileAt<R::File>>, Unopened> {
@@ -96,12 +98,8 @@ where
         if !takes_part_file(self.rt, place.as_str()).ok()? {
             return None;
         }
-        let file = create_part(self.rt, self.alloc, self.folder, name, place).ok()?;
+        let file = create_part(self.rt, self.alloc, place).ok()?;
         Some(IoWriter::new(file))
-    }
-
-    fn give_back(&mut self, _name: &str, out: IoWriter<FileAt<R::File>>) {
-        remove_part(self.rt, out.into_inner());
     }
 
     fn keep(&mut self, _name: &str, out: IoWriter<FileAt<R::File>>) -> Result<(), Unopened> {
@@ -116,7 +114,7 @@ where
 
     fn lost(&mut self, out: IoWriter<FileAt<R::File>>) {
         remove_part(self.rt, out.into_inner());
-        self.failures += 1;
+        self.failures = self.failures.saturating_add(1);
     }
 }
 
@@ -130,10 +128,12 @@ pub(crate) fn takes_part_file<R: Files>(rt: &R, place: &str) -> Result<bool, All
     }
 }
 
-/// The path of the part file of the dump of this name. Fails where memory is refused.
-pub(crate) fn part_path(alloc: Global, folder: &str, name: &str) -> Result<String, AllocError> {
-    let part = format!(in alloc; ".{name}.part")?;
-    path_in(alloc, folder, part.as_str())
+/// The path of the part file of the dump whose place is this path. Fails where memory is refused.
+pub(crate) fn part_path(alloc: Global, place: &str) -> Result<String, AllocError> {
+    match place.rsplit_once('/') {
+        Some((folder, name)) => format!(in alloc; "{folder}/.{name}.part"),
+        None => format!(in alloc; ".{place}.part"),
+    }
 }
 
 // Makes the part file of a dump, or else opens what stands in the place of the dump.
@@ -147,7 +147,7 @@ fn create<R: Files>(
         return Err(Unopened);
     };
     match takes_part_file(rt, place.as_str()) {
-        Ok(true) => create_part(rt, alloc, folder, name, place),
+        Ok(true) => create_part(rt, alloc, place),
         Ok(false) => create_in_place(rt, place.as_str()),
         Err(_) => Err(Unopened),
     }
@@ -165,11 +165,9 @@ fn create_in_place<R: Files>(rt: &R, place: &str) -> Result<FileAt<R::File>, Uno
 fn create_part<R: Files>(
     rt: &R,
     alloc: Global,
-    folder: &str,
-    name: &str,
     place: String,
 ) -> Result<FileAt<R::File>, Unopened> {
-    let Ok(path) = part_path(alloc, folder, name) else {
+    let Ok(path) = part_path(alloc, place.as_str()) else {
         return Err(Unopened);
     };
     let _ = fs::remove_file(rt, path.as_str());

@@ -8,7 +8,7 @@ use rs_ended::{Ended, dump_path};
 use rs_files::{FileIdentity, found_at};
 use rs_options::Options;
 use rs_setup::Setup;
-use std::alloc::{AllocError, Global};
+use std::alloc::AllocError;
 use std::fs::Files;
 
 /// The first client whose dump, or its part file, would be written over the configuration or over a peer's recorded
@@ -24,26 +24,12 @@ pub fn first_overwritten<R: AllocGlobal + Files>(
     let read = files_read(rt, setup, options)?;
     for client in 0..setup.plan.count() {
         let path = dump_path(rt.alloc(), setup, options, client)?;
-        let part = part_path_of(rt.alloc(), setup, options, client)?;
+        let part = part_path(rt.alloc(), &path)?;
         if is_among(rt, &path, &read)? || is_among(rt, &part, &read)? {
             return Ok(Some(client));
         }
     }
     Ok(None)
-}
-
-// The path of the part file of a client's dump.
-fn part_path_of(
-    alloc: Global,
-    setup: &Setup,
-    options: &Options,
-    client: usize,
-) -> Result<String, AllocError>
-    requires { client < length setup.now.plan.value.peers }
-{
-    let name = setup.plan.peer(client).name.as_str();
-    let name = format!(in alloc; "{name}.mrt")?;
-    part_path(alloc, &options.out, &name)
 }
 
 // The files that the program reads.
