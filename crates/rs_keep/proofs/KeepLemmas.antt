@@ -1,5 +1,5 @@
 -- Client by client: what is kept, and what the report says of it. `rs_run` cites `stop-memory` and `Grows-none`.
-use Rattle.std.proofs.Common.{◌≡◌, ℕ, ◌+◌, ◌≤◌, List, [], ◌∷◌, ◌++◌, Option, Some, None, length, take, sym, ap, subst, ◌∙◌, append_assoc, arith, Result, Ok, Err, inl, inr}
+use Rattle.std.proofs.Common.{◌≡◌, ℕ, zero, suc, refl, ◌+◌, ◌≤◌, List, [], ◌∷◌, ◌++◌, Option, Some, None, length, take, sym, ap, subst, ◌∙◌, append_assoc, arith, Result, Ok, Err}
 use Rattle.std.specs.Prelude.{slice_get, ◌<◌, IfErr}
 use Rattle.std.specs.Result.{IsErrAnd}
 use Rattle.std.specs.List.{flat_map, enumerate_from}
@@ -15,7 +15,7 @@ use Rattle.rs_outlet.specs.declared.run_fault.RunFault.TheVariants.{Memory, Unse
 use Rattle.rs_table.specs.Content.{TablesContent}
 use Rattle.rs_table.specs.Table.{table_of}
 use Rattle.rs_keep.specs.Kept.{dump_name, kept_dump_of, dumps_of, GrowsByBeginning, IsFaultAt, IsStop}
-use Rattle.rs_keep.specs.TableLines.{table_line, table_line_of, table_lines}
+use Rattle.rs_keep.specs.TableLines.{row_count_of, row_counts, table_line, table_line_of, table_lines}
 use Rattle.rs_keep.specs.Written.{TellsTaken}
 use Rattle.rs_keep.proofs.ListingLemmas.{flat_map-one_more, lines-one_more, slice_get-enumerated, take-one_more}
 
@@ -81,14 +81,25 @@ pub stop-memory : (tables : TablesContent) (time : ℕ) (old new : Option (List 
 stop-memory tables time old new before after (Ok value) is grown same = tt
 stop-memory tables time old new before after (Err fault) is grown same = subst (IsStop tables time old new before after) (sym is) (grown, same)
 
--- of a dump of no rows a fault is one of any rows
-pub fault-of-any : (client rows before after : ℕ) (fault : RunFault) → IsFaultAt client 0 before after fault → IsFaultAt client rows before after fault
-fault-of-any client rows before after Memory is = is
-fault-of-any client rows before after (Dump at) (same, inl counted) = (same, inl counted)
-fault-of-any client rows before after (Dump at) (same, inr (stays, many)) = absurd (omega (arith, many))
-fault-of-any client rows before after (Unsettled peer) is = absurd is
-fault-of-any client rows before after Report is = absurd is
-fault-of-any client rows before after (Read peer) is = absurd is
+-- there is a peer for each number below their count
+pub peer-at : (peers : List Peer) (client : ℕ) → client < length peers → (peer : Peer) × (slice_get peers client ≡ Some peer)
+peer-at [] client known = absurd (omega (arith, known))
+peer-at (peer ∷ peers) zero known = (peer, refl)
+peer-at (peer ∷ peers) (suc client) known = peer-at peers client (omega (arith, known))
+
+-- a client's table has so many rows
+pub row_count-at : (tables : TablesContent) (client : ℕ) (peer : Peer) → slice_get tables.plan.peers client ≡ Some peer → slice_get (row_counts tables) client ≡ Some (length (table_of tables client))
+row_count-at tables client peer here =
+    slice_get-map (row_count_of tables) (enumerate_from 0 tables.plan.peers) client ∙ ap (option_map (row_count_of tables)) (slice_get-enumerated tables.plan.peers client peer here)
+
+-- the rows of all clients' tables are counted
+pub length-counts : (tables : TablesContent) → length (row_counts tables) ≡ length tables.plan.peers
+length-counts tables =
+    omega (arith, length-map (enumerate_from 0 tables.plan.peers) (row_count_of tables), length-enumerate_from 0 tables.plan.peers)
+
+pub counts-all : (tables : TablesContent) (client : ℕ) → length tables.plan.peers ≤ client → take client (row_counts tables) ≡ row_counts tables
+counts-all tables client past =
+    take_all client (row_counts tables) (omega (arith, past, length-counts tables))
 
 -- the dumps of the clients before one were kept, and its own was not
 pub stop-at : (tables : TablesContent) (time client before after : ℕ) (old new : Option (List KeptDump)) (fault : RunFault) → client < length tables.plan.peers → Grows old new (take client (dumps_of tables time))

@@ -1,3 +1,4 @@
 pub mod KeepLemmas
 pub mod ListingLemmas
+pub mod StartedLemmas
 pub mod WrittenLemmas

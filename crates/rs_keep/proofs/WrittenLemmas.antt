@@ -53,7 +53,6 @@ module _ {W : Type 0} (taken : W → Option (List ℕ)) (failures : W → ℕ) (
       record {
         told = λ ok. tells kept (taken old.out) (taken new.out) old.dump.octets _ begun.nothing_taken begun.octets (written.sent ok);
         rows = λ ok. written.rows ok ∙ begun.rows;
-        lost = λ failed none. absurd (omega (arith, (written.lost failed).failure, none));
       }
 
   -- those that are left, or were written anew where none was
@@ -64,7 +63,7 @@ module _ {W : Type 0} (taken : W → Option (List ℕ)) (failures : W → ℕ) (
       record {
         each = λ k d below.
             let one = some.each k d below in
-            record { told = λ ok. told-before base mid dumps (taken (slice_index_or now k d).out) _ grown (one.told ok); rows = one.rows; lost = one.lost };
+            record { told = λ ok. told-before base mid dumps (taken (slice_index_or now k d).out) _ grown (one.told ok); rows = one.rows };
         known = some.known;
       }
   refilled base mid dumps client (writing ∷ others) now grown before left anew =

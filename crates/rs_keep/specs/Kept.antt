@@ -1,5 +1,5 @@
 -- What is kept of tables. Nothing here is of a standard: all of it is our choice.
-use Rattle.std.specs.Prelude.{◌≡◌, ℕ, ◌+◌, ◌<◌, ◌⊎◌, List, ◌++◌, Option, codes, length, map, take}
+use Rattle.std.specs.Prelude.{◌≡◌, ℕ, ◌<◌, ◌⊎◌, List, ◌++◌, Option, codes, length, map, take}
 use Rattle.std.specs.List.{enumerate_from}
 use Rattle.rs_choice.specs.Plan.{Peer}
 use Rattle.rs_dump.specs.Dump.{dumped}
@@ -30,9 +30,9 @@ GrowsByBeginning old new dumps = (n : ℕ) × Grows old new (take n dumps)
 abbrev pub MAX_ROWS : ℕ
 MAX_ROWS = 4294967295
 
--- a dump of so many rows is not kept since the outlet counted a failure, or else since these rows are too many
+-- a dump of so many rows is not kept since the outlet counted failures, or else since these rows are too many
 abbrev pub IsDumpFailure : ℕ → ℕ → ℕ → Type 0
-IsDumpFailure before after rows = (after ≡ before + 1) ⊎ ((after ≡ before) × (MAX_ROWS < rows))
+IsDumpFailure before after rows = (before < after) ⊎ ((after ≡ before) × (MAX_ROWS < rows))
 
 -- how keeping stops at the dump of a client
 abbrev pub IsFaultAt : ℕ → ℕ → ℕ → ℕ → RunFault → Type 0

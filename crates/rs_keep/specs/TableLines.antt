@@ -1,5 +1,5 @@
 -- What the report says of the tables. Nothing here is of a standard: all of it is our choice.
-use Rattle.std.specs.Prelude.{ℕ, List, ◌++◌, codes, length}
+use Rattle.std.specs.Prelude.{ℕ, List, ◌++◌, codes, length, map}
 use Rattle.std.specs.Fmt.{decimal}
 use Rattle.std.specs.List.{flat_map, enumerate_from}
 use Rattle.rs_choice.specs.Plan.{Peer}
@@ -16,3 +16,10 @@ table_line_of tables (client, peer) = table_line peer.name (length (table_of tab
 -- a line for each client's table, in their order
 abbrev pub table_lines : TablesContent → List ℕ
 table_lines tables = flat_map (table_line_of tables) (enumerate_from 0 tables.plan.peers)
+
+-- how many rows the table of each client has, in their order
+abbrev pub row_count_of : TablesContent → ℕ × Peer → ℕ
+row_count_of tables (client, peer) = length (table_of tables client)
+
+abbrev pub row_counts : TablesContent → List ℕ
+row_counts tables = map (row_count_of tables) (enumerate_from 0 tables.plan.peers)

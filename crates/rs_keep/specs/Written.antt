@@ -1,5 +1,5 @@
 -- Dumps that are begun, written and kept. Nothing here is of a standard: all of it is our choice.
-use Rattle.std.specs.Prelude.{◌≡◌, ◌≢◌, ℕ, ⊤, ◌+◌, ◌<◌, ◌≤◌, List, Option, None, Some, IsFalse, IsTrue}
+use Rattle.std.specs.Prelude.{◌≡◌, ℕ, ⊤, ◌+◌, ◌<◌, ◌≤◌, List, Option, None, Some, IsFalse}
 use Rattle.std.specs.Prelude.{length, map, slice_index_or, string_bytes}
 use Rattle.rs_choice.specs.Plan.{Plan}
 use Rattle.rs_dump.specs.Dump.{dumped}
@@ -38,7 +38,6 @@ module _ {W : Type 0} (taken : W → Option (List ℕ)) (failures : W → ℕ) (
     pub told : IsFalse writing.failed
         → TellsTaken kept (taken writing.out) (dumped tables.plan client (table_of tables client) time)
     pub rows : IsFalse writing.failed → writing.dump.spelled ≡ length (table_of tables client)
-    pub lost : IsTrue writing.failed → failures writing.out ≢ 0
 
   -- the dumps of clients one after another are begun, of which this is the first
   abbrev pub AreBegun : ℕ → List (Writing W) → Type 0

@@ -2,12 +2,15 @@
 //!
 //! Our choices: of an exchange with more than 1,024 prefixes, up to 16 dumps are written beside each other, which
 //! bounds their memory by 1.3 MB; fewer where the outlet gives no writer ahead, or memory is refused. What comes
-//! of a run is the same: where a dump isn't kept, those behind it are given back.
+//! of a run is the same: where a dump isn't kept, those behind it are lost. Memory for a dump is taken before it is
+//! started, so that each dump that is started is kept or lost.
 
-ghost use Rattle.std.specs.Prelude.{◌≡◌, ◌+◌, ◌<◌, ◌≤◌, IfErr, IfOk, IfSome, OnOk, length, vec_capacity};
+ghost use Rattle.std.specs.Prelude.{◌≡◌, ◌+◌, ◌-◌, ◌<◌, ◌≤◌, List, Option, ℕ, IfErr, IfOk, IfSome, OnErr, OnOk};
+ghost use Rattle.std.specs.Prelude.{length, vec_capacity};
 ghost use Rattle.std.specs.Vec.Iter.{into_iter_items};
 ghost use Rattle.rs_table.specs.Table.{table_of};
 ghost use Rattle.rs_keep.specs.Kept.{IsFaultAt};
+ghost use Rattle.rs_keep.specs.StartedDumps.{AreOutToo, AreOutTooAhead, names_from};
 ghost use Rattle.rs_keep.specs.Written.{AreBegun, AreDumpFiles, AreWritten, IsBegun};
 
 use rs_choice::Exchange;
@@ -44,32 +47,45 @@ pub(crate) fn dump_files(alloc: Global, plan: &Exchange) -> Result<Vec<DumpFile>
     Ok(files)
 }
 
+// What the dumps of all clients are made of, and the files in which they are kept.
+#[derive(Clone, Copy, Drop)]
+pub(crate) struct Dumping<'a> {
+    pub(crate) alloc: Global,
+    pub(crate) tables: &'a Tables,
+    pub(crate) files: &'a [DumpFile],
+    pub(crate) time: u32,
+}
+
 // Where no dump is left that was written and not kept, writes those of this client and of some behind it.
 pub(crate) fn refill<'a, T: Threads + Sync, O: Outlet>(
     rt: &T,
-    alloc: Global,
-    tables: &'a Tables,
+    dumping: &Dumping<'a>,
     client: usize,
-    files: &[DumpFile],
-    time: u32,
     outlet: &mut O,
     written: &mut IntoIter<Writing<'a, O::Out>>,
 ) -> Result<(), RunFault>
-    requires client_known { client < length tables.now.plan.peers }
-    requires files { AreDumpFiles tables.now.plan files.now }
+    requires client_known { client < length dumping.now.tables.now.plan.peers }
+    requires files { AreDumpFiles dumping.now.tables.now.plan dumping.now.files.now }
     requires failures { O.failures outlet.old < u64.MAX }
     ensures left { 0 < length (into_iter_items written.old) → written.new ≡ written.old }
     ensures some { OnOk result (0 < length (into_iter_items written.new)) }
     ensures written { length (into_iter_items written.old) ≡ 0 → OnOk result
-        (AreWritten O.Out.taken O.Out.failures (O.kept outlet.old) tables.now time client
+        (AreWritten O.Out.taken O.Out.failures (O.kept outlet.old) dumping.now.tables.now dumping.now.time client
         (into_iter_items written.new)) }
+    ensures started { (before : Option (List (List ℕ)))
+        → AreOutToo before (O.started outlet.old)
+        (names_from dumping.now.files.now client (length (into_iter_items written.old)))
+        → OnOk result (AreOutToo before (O.started outlet.new)
+        (names_from dumping.now.files.now client (length (into_iter_items written.new)))) }
+    ensures refused { OnErr result ((length (into_iter_items written.old) ≡ 0)
+        × (O.started outlet.new ≡ O.started outlet.old)) }
     ensures kept { O.kept outlet.new ≡ O.kept outlet.old }
     ensures no_failure { OnOk result (O.failures outlet.new ≡ O.failures outlet.old) }
-    ensures fault { IfErr result (IsFaultAt client (length (table_of tables.now client)) (O.failures outlet.old)
-        (O.failures outlet.new)) }
+    ensures fault { IfErr result (IsFaultAt client (length (table_of dumping.now.tables.now client))
+        (O.failures outlet.old) (O.failures outlet.new)) }
 {
     if written.len() == 0 {
-        let more = write_some(rt, alloc, tables, client, files, time, outlet)?;
+        let more = write_some(rt, dumping, client, outlet)?;
         *written = more.into_iter();
     }
     Ok(())
@@ -78,31 +94,31 @@ pub(crate) fn refill<'a, T: Threads + Sync, O: Outlet>(
 // Writes the dump of a client, and those of some behind it beside it.
 fn write_some<'a, T: Threads + Sync, O: Outlet>(
     rt: &T,
-    alloc: Global,
-    tables: &'a Tables,
+    dumping: &Dumping<'a>,
     client: usize,
-    files: &[DumpFile],
-    time: u32,
     outlet: &mut O,
 ) -> Result<Vec<Writing<'a, O::Out>>, RunFault>
-    requires client_known { client < length tables.now.plan.peers }
-    requires files { AreDumpFiles tables.now.plan files.now }
+    requires client_known { client < length dumping.now.tables.now.plan.peers }
+    requires files { AreDumpFiles dumping.now.tables.now.plan dumping.now.files.now }
     requires failures { O.failures outlet.old < u64.MAX }
     ensures some { IfOk result (λ some. 0 < length some.items) }
-    ensures written { IfOk result (λ some. AreWritten O.Out.taken O.Out.failures (O.kept outlet.old) tables.now time client
-        some.items) }
+    ensures written { IfOk result (λ some. AreWritten O.Out.taken O.Out.failures (O.kept outlet.old)
+        dumping.now.tables.now dumping.now.time client some.items) }
+    ensures started { IfOk result (λ some. AreOutToo (O.started outlet.old) (O.started outlet.new)
+        (names_from dumping.now.files.now client (length some.items))) }
+    ensures refused { OnErr result (O.started outlet.new ≡ O.started outlet.old) }
     ensures kept { O.kept outlet.new ≡ O.kept outlet.old }
     ensures no_failure { OnOk result (O.failures outlet.new ≡ O.failures outlet.old) }
-    ensures fault { IfErr result (IsFaultAt client (length (table_of tables.now client)) (O.failures outlet.old)
-        (O.failures outlet.new)) }
+    ensures fault { IfErr result (IsFaultAt client (length (table_of dumping.now.tables.now client))
+        (O.failures outlet.old) (O.failures outlet.new)) }
 {
-    let most = most_at_once(tables, client);
-    let mut some = Vec::with_capacity(alloc, most)?;
-    let first = begin(alloc, tables, client, files, time, outlet)?;
+    let most = most_at_once(dumping.tables, client);
+    let mut some = Vec::with_capacity(dumping.alloc, most)?;
+    let first = begin(dumping, client, outlet)?;
     let Ok(()) = some.push(first) else {
         unreachable!();
     };
-    begin_behind(alloc, tables, client, files, time, outlet, most, &mut some);
+    begin_behind(dumping, client, outlet, most, &mut some);
     write_side_by_side(rt, &mut some);
     Ok(some)
 }
@@ -121,29 +137,30 @@ fn most_at_once(tables: &Tables, client: usize) -> usize
 
 // Begins and starts the dump of a client in its turn.
 fn begin<'a, O: Outlet>(
-    alloc: Global,
-    tables: &'a Tables,
+    dumping: &Dumping<'a>,
     client: usize,
-    files: &[DumpFile],
-    time: u32,
     outlet: &mut O,
 ) -> Result<Writing<'a, O::Out>, RunFault>
-    requires client_known { client < length tables.now.plan.peers }
-    requires files { AreDumpFiles tables.now.plan files.now }
+    requires client_known { client < length dumping.now.tables.now.plan.peers }
+    requires files { AreDumpFiles dumping.now.tables.now.plan dumping.now.files.now }
     requires failures { O.failures outlet.old < u64.MAX }
-    ensures begun { IfOk result (IsBegun O.Out.taken O.Out.failures (O.kept outlet.old) tables.now time client) }
+    ensures begun { IfOk result (IsBegun O.Out.taken O.Out.failures (O.kept outlet.old) dumping.now.tables.now
+        dumping.now.time client) }
+    ensures started { OnOk result (AreOutToo (O.started outlet.old) (O.started outlet.new)
+        (names_from dumping.now.files.now client 1)) }
+    ensures refused { OnErr result (O.started outlet.new ≡ O.started outlet.old) }
     ensures kept { O.kept outlet.new ≡ O.kept outlet.old }
     ensures no_failure { OnOk result (O.failures outlet.new ≡ O.failures outlet.old) }
-    ensures fault { IfErr result (IsFaultAt client (length (table_of tables.now client)) (O.failures outlet.old)
-        (O.failures outlet.new)) }
+    ensures fault { IfErr result (IsFaultAt client (length (table_of dumping.now.tables.now client))
+        (O.failures outlet.old) (O.failures outlet.new)) }
 {
-    let dump = match TableDump::begin(alloc, tables, client, time) {
+    let dump = match TableDump::begin(dumping.alloc, dumping.tables, client, dumping.time) {
         Ok(dump) => dump,
         Err(DumpFault::Memory) => return Err(RunFault::Memory),
         Err(DumpFault::TooManyRows) => return Err(RunFault::Dump(client)),
         Err(DumpFault::Write) => unreachable!(),
     };
-    match outlet.start(files[client].name.as_str()) {
+    match outlet.start(dumping.files[client].name.as_str()) {
         Ok(out) => Ok(Writing {
             dump,
             out,
@@ -153,30 +170,31 @@ fn begin<'a, O: Outlet>(
     }
 }
 
-// Begins the dumps behind those that are begun, of which the first is this client's, until there are so many, or one
-// can't be begun ahead of its turn.
+// Begins the dumps behind the one that is begun, which is this client's, until there are so many, or one can't be begun
+// ahead of its turn.
 fn begin_behind<'a, O: Outlet>(
-    alloc: Global,
-    tables: &'a Tables,
+    dumping: &Dumping<'a>,
     client: usize,
-    files: &[DumpFile],
-    time: u32,
     outlet: &mut O,
     most: usize,
     some: &mut Vec<Writing<'a, O::Out>>,
 )
-    requires known { client + most ≤ length tables.now.plan.peers }
-    requires files { AreDumpFiles tables.now.plan files.now }
+    requires known { client + most ≤ length dumping.now.tables.now.plan.peers }
+    requires files { AreDumpFiles dumping.now.tables.now.plan dumping.now.files.now }
     requires capacity { most ≤ vec_capacity some.old }
-    requires begun { AreBegun O.Out.taken O.Out.failures (O.kept outlet.old) tables.now time client some.old.items }
-    requires some { (1 ≤ length some.old.items) × (length some.old.items ≤ most) }
-    ensures begun { AreBegun O.Out.taken O.Out.failures (O.kept outlet.old) tables.now time client some.new.items }
+    requires begun { AreBegun O.Out.taken O.Out.failures (O.kept outlet.old) dumping.now.tables.now
+        dumping.now.time client some.old.items }
+    requires some { (length some.old.items ≡ 1) × (1 ≤ most) }
+    ensures begun { AreBegun O.Out.taken O.Out.failures (O.kept outlet.old) dumping.now.tables.now
+        dumping.now.time client some.new.items }
     ensures some { (1 ≤ length some.new.items) × (length some.new.items ≤ most) }
+    ensures started { AreOutToo (O.started outlet.old) (O.started outlet.new)
+        (names_from dumping.now.files.now (client + 1) (length some.new.items - 1)) }
     ensures kept { O.kept outlet.new ≡ O.kept outlet.old }
     ensures no_failure { O.failures outlet.new ≡ O.failures outlet.old }
 {
     while some.len() < most {
-        let Some(next) = begin_ahead(alloc, tables, client + some.len(), files, time, outlet) else {
+        let Some(next) = begin_ahead(dumping, client + some.len(), outlet) else {
             break;
         };
         let Ok(()) = some.push(next) else {
@@ -187,30 +205,26 @@ fn begin_behind<'a, O: Outlet>(
 
 // Begins the dump of a client ahead of its turn, where the outlet gives a writer and there is memory.
 fn begin_ahead<'a, O: Outlet>(
-    alloc: Global,
-    tables: &'a Tables,
+    dumping: &Dumping<'a>,
     client: usize,
-    files: &[DumpFile],
-    time: u32,
     outlet: &mut O,
 ) -> Option<Writing<'a, O::Out>>
-    requires client_known { client < length tables.now.plan.peers }
-    requires files { AreDumpFiles tables.now.plan files.now }
-    ensures begun { IfSome result (IsBegun O.Out.taken O.Out.failures (O.kept outlet.old) tables.now time client) }
+    requires client_known { client < length dumping.now.tables.now.plan.peers }
+    requires files { AreDumpFiles dumping.now.tables.now.plan dumping.now.files.now }
+    ensures begun { IfSome result (IsBegun O.Out.taken O.Out.failures (O.kept outlet.old) dumping.now.tables.now
+        dumping.now.time client) }
+    ensures started { AreOutTooAhead result (O.started outlet.old) (O.started outlet.new)
+        (names_from dumping.now.files.now client 1) }
     ensures kept { O.kept outlet.new ≡ O.kept outlet.old }
     ensures no_failure { O.failures outlet.new ≡ O.failures outlet.old }
 {
-    let file = files[client].name.as_str();
-    let out = outlet.start_ahead(file)?;
-    match TableDump::begin(alloc, tables, client, time) {
-        Ok(dump) => Some(Writing {
-            dump,
-            out,
-            failed: false,
-        }),
-        Err(_) => {
-            outlet.give_back(file, out);
-            None
-        }
-    }
+    let Ok(dump) = TableDump::begin(dumping.alloc, dumping.tables, client, dumping.time) else {
+        return None;
+    };
+    let out = outlet.start_ahead(dumping.files[client].name.as_str())?;
+    Some(Writing {
+        dump,
+        out,
+        failed: false,
+    })
 }

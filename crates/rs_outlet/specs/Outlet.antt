@@ -23,9 +23,10 @@ abbrev pub TellsNothingTaken : Option (List KeptDump) → Option (List ℕ) → 
 TellsNothingTaken None taken = ⊤
 TellsNothingTaken (Some kept) taken = taken ≡ Some []
 
--- what an outlet over memory has kept, and how many failures it has counted
+-- what an outlet over memory has kept, for which dumps a writer of it is out, and how many failures it has counted
 pub record InMemory : Type 0 where
   pub kept : List KeptDump
+  pub started : List (List ℕ)
   pub failures : ℕ
 
 -- a kept dump by its values

@@ -1,8 +1,11 @@
-//! An outlet over memory, which tells what it has kept. It can be made to fail, for tests of those who write dumps.
+//! An outlet over memory, which tells what it has kept and for which dumps a writer is out. It can be made to fail, for
+//! tests of those who write dumps.
 
-ghost use Rattle.std.specs.Prelude.{◌≡◌, ◌+◌, ◌∷◌, ◌++◌, [], Some, None, map, OnOk, OnErr};
+ghost use Rattle.std.specs.Prelude.{◌≡◌, ◌+◌, ◌∷◌, ◌++◌, [], Some, None, ◌<◌, length, map, slice_index_or, string_bytes, OnOk, OnErr};
+ghost use Rattle.std.specs.List.{Contains};
 ghost use Rattle.rs_mrt.specs.Memory.{limits_of};
 ghost use Rattle.rs_outlet.specs.Outlet.{InMemory, dump_of};
+ghost use Rattle.rs_outlet.specs.Started.{ComesBack};
 
 use crate::outlet::{Outlet, Unopened};
 use rs_mrt::{Limits, MemoryWriter};
@@ -51,27 +54,34 @@ impl OutletLimits {
 pub struct MemoryOutlet {
     alloc: Global,
     kept: Vec<Kept>,
+    // The names of the dumps for which a writer is out.
+    started: Vec<String>,
     failures: u64,
     limits: OutletLimits,
 }
 
 impl Model for MemoryOutlet {
-    ghost use Rattle.std.specs.Prelude.{map};
+    ghost use Rattle.std.specs.Prelude.{map, string_bytes};
     ghost use Rattle.rs_outlet.specs.Outlet.{InMemory, dump_of};
 
     ghost Value = { InMemory };
 
-    ghost view = { λ outlet. record { kept = map dump_of outlet.kept.items; failures = outlet.failures } };
+    ghost view = { λ outlet. record {
+      kept = map dump_of outlet.kept.items;
+      started = map (λ name. string_bytes name) outlet.started.items;
+      failures = outlet.failures;
+    } };
 }
 
 impl MemoryOutlet {
     /// Begins with no dumps, within the limits. It takes no memory yet.
     pub fn new(alloc: Global, limits: OutletLimits) -> MemoryOutlet
-        ensures { result ≡ record { kept = []; failures = 0 } }
+        ensures { result ≡ record { kept = []; started = []; failures = 0 } }
     {
         MemoryOutlet {
             alloc,
             kept: Vec::new(alloc),
+            started: Vec::new(alloc),
             failures: 0,
             limits,
         }
@@ -101,11 +111,11 @@ impl MemoryOutlet {
         }
     }
 
-    // Keeps a dump, unless the call is to be refused or there is no memory.
-    fn try_keep(&mut self, name: &str, out: MemoryWriter) -> Result<(), Unopened>
-        ensures ok { OnOk result (self.new.kept
-            ≡ self.old.kept ++ (record { name = name.now; octets = out.taken } ∷ [])) }
-        ensures err { OnErr result (self.new.kept ≡ self.old.kept) }
+    // Adds this name to those for which a writer is out, unless the call is to be refused or there is no memory.
+    fn try_start(&mut self, name: &str) -> Result<(), Unopened>
+        ensures ok { OnOk result (self.new.started ≡ name.now ∷ self.old.started) }
+        ensures err { OnErr result (self.new.started ≡ self.old.started) }
+        ensures kept { self.new.kept ≡ self.old.kept }
         ensures failures { self.new.failures ≡ self.old.failures }
     {
         if self.is_refused() {
@@ -114,6 +124,35 @@ impl MemoryOutlet {
         let Ok(name) = String::from_str(self.alloc, name) else {
             return Err(Unopened);
         };
+        match self.started.insert(0, name) {
+            Ok(()) => Ok(()),
+            Err(_) => Err(Unopened),
+        }
+    }
+
+    // Takes this name out of those for which a writer is out.
+    fn take_back(&mut self, name: &str) -> String
+        requires { Contains self.old.started name.now }
+        ensures name { string_bytes result ≡ name.now }
+        ensures back { ComesBack (Some self.old.started) (Some self.new.started) name.now }
+        ensures kept { self.new.kept ≡ self.old.kept }
+        ensures failures { self.new.failures ≡ self.old.failures }
+    {
+        let place = place_of(&self.started, name);
+        self.started.remove(place)
+    }
+
+    // Keeps a dump, unless the call is to be refused or there is no memory.
+    fn try_keep(&mut self, name: String, out: MemoryWriter) -> Result<(), Unopened>
+        ensures ok { OnOk result (self.new.kept
+            ≡ self.old.kept ++ (record { name = string_bytes name; octets = out.taken } ∷ [])) }
+        ensures err { OnErr result (self.new.kept ≡ self.old.kept) }
+        ensures started { self.new.started ≡ self.old.started }
+        ensures failures { self.new.failures ≡ self.old.failures }
+    {
+        if self.is_refused() {
+            return Err(Unopened);
+        }
         let dump = Kept {
             name,
             octets: out.into_octets(),
@@ -125,17 +164,33 @@ impl MemoryOutlet {
     }
 }
 
+// The place of a name among these.
+fn place_of(names: &[String], name: &str) -> usize
+    requires { Contains (map (λ one. string_bytes one) names.now) name.now }
+    ensures known { result < length names.now }
+    ensures here { slice_index_or (map (λ one. string_bytes one) names.now) result name.now ≡ name.now }
+{
+    for place in 0..names.len() {
+        if names[place].as_str() == name {
+            return place;
+        }
+    }
+    unreachable!()
+}
+
 impl Outlet for MemoryOutlet {
     type Out = MemoryWriter;
 
     ghost kept = { λ outlet. Some outlet.kept };
 
+    ghost started = { λ outlet. Some outlet.started };
+
     ghost failures = { λ outlet. outlet.failures };
 
-    fn start(&mut self, _name: &str) -> Result<MemoryWriter, Unopened> {
-        if self.is_refused() {
+    fn start(&mut self, name: &str) -> Result<MemoryWriter, Unopened> {
+        if let Err(refused) = self.try_start(name) {
             self.failures += 1;
-            return Err(Unopened);
+            return Err(refused);
         }
         let limits = if self.kept.len() == self.limits.dumps_before_limits {
             self.limits.writer
@@ -146,6 +201,7 @@ impl Outlet for MemoryOutlet {
     }
 
     fn keep(&mut self, name: &str, out: MemoryWriter) -> Result<(), Unopened> {
+        let name = self.take_back(name);
         let answer = self.try_keep(name, out);
         if answer.is_err() {
             self.failures += 1;
@@ -154,6 +210,8 @@ impl Outlet for MemoryOutlet {
     }
 
     fn lost(&mut self, _out: MemoryWriter) {
-        self.failures += 1;
+        // The writer doesn't tell its name.
+        let _name = self.started.remove(0);
+        self.failures = self.failures.saturating_add(1);
     }
 }

@@ -1,9 +1,11 @@
-//! Where dumps go: a trait whose contract names what was kept and counts the failures.
+//! Where dumps go: a trait whose contract names what was kept, for which dumps a writer is out, and counts the failures.
 //!
-//! Our choice: an outlet may tell what it has kept, as one over memory does, or tell nothing, as a folder does.
+//! Our choice: an outlet may tell what it has kept and what is out, as one over memory does, or tell nothing, as a folder
+//! does.
 
-ghost use Rattle.std.specs.Prelude.{◌≡◌, ◌≢◌, ◌+◌, ◌<◌, ℕ, List, Option, IfOk, IfSome, OnOk, OnErr};
+ghost use Rattle.std.specs.Prelude.{◌≡◌, ◌+◌, ◌<◌, ◌≤◌, ℕ, List, Option, IfOk, IfSome, OnOk, OnErr};
 ghost use Rattle.rs_outlet.specs.Outlet.{KeptDump, KeepsTaken, TellsNothingTaken};
+ghost use Rattle.rs_outlet.specs.Started.{GoesOut, GoesOutAhead, IsOut, IsSomeOut, ComesBack, OneComesBack};
 
 use rs_mrt::Write;
 
@@ -11,13 +13,17 @@ use rs_mrt::Write;
 #[derive(Clone, Copy, Debug, PartialEq, Eq, Drop)]
 pub struct Unopened;
 
-/// Where dumps go: each is written to a writer of its own, and kept once it is written whole.
+/// Where dumps go: each is written to a writer of its own, and kept once it is written whole. Each writer that was given
+/// comes back: to `keep`, or else to `lost`.
 pub trait Outlet {
     /// What takes the octets of one dump, on any thread.
     type Out: Write + Drop + Send;
 
     // The dumps that it has kept, in order, where it tells them.
     ghost kept: { Self → Option (List KeptDump) };
+
+    // The names of the dumps for which a writer is out, where it tells them.
+    ghost started: { Self → Option (List (List ℕ)) };
 
     // How many failures it has counted: each refusal is one, and each writer that is lost.
     ghost failures: { Self → ℕ };
@@ -27,7 +33,9 @@ pub trait Outlet {
         requires { failures self.old < u64.MAX }
         ensures fresh { IfOk result (λ out. Self.Out.failures out ≡ 0) }
         ensures nothing_taken { IfOk result (λ out. TellsNothingTaken (kept self.old) (Self.Out.taken out)) }
+        ensures ok_started { OnOk result (GoesOut (started self.old) (started self.new) name.now) }
         ensures ok_failures { OnOk result (failures self.new ≡ failures self.old) }
+        ensures err_started { OnErr result (started self.new ≡ started self.old) }
         ensures err_failures { OnErr result (failures self.new ≡ failures self.old + 1) }
         ensures kept { kept self.new ≡ kept self.old };
 
@@ -37,32 +45,30 @@ pub trait Outlet {
     fn start_ahead(&mut self, _name: &str) -> Option<Self::Out>
         ensures fresh { IfSome result (λ out. Self.Out.failures out ≡ 0) }
         ensures nothing_taken { IfSome result (λ out. TellsNothingTaken (kept self.old) (Self.Out.taken out)) }
+        ensures started { GoesOutAhead result (started self.old) (started self.new) _name.now }
         ensures failures { failures self.new ≡ failures self.old }
         ensures kept { kept self.new ≡ kept self.old }
     {
         None
     }
 
-    /// Takes back a writer that was given ahead for the dump of this name, which is not to be kept since one before it
-    /// can't be: nothing of it is to stay. That is no failure of the outlet, and what it has kept stays.
-    fn give_back(&mut self, _name: &str, _out: Self::Out)
-        ensures failures { failures self.new ≡ failures self.old }
-        ensures kept { kept self.new ≡ kept self.old }
-    {}
-
-    /// Keeps what a writer has taken under this name, once the dump is written whole. Refused, it keeps
-    /// nothing and counts one failure.
+    /// Keeps what a writer has taken under the name for which it was given, once the dump is written whole. Refused, it
+    /// keeps nothing and counts one failure.
     fn keep(&mut self, name: &str, out: Self::Out) -> Result<(), Unopened>
-        requires { failures self.old < u64.MAX }
+        requires started { IsOut (started self.old) name.now }
+        requires failures { failures self.old < u64.MAX }
+        ensures back { ComesBack (started self.old) (started self.new) name.now }
         ensures ok { OnOk result (KeepsTaken (kept self.old) (kept self.new) name.now (Self.Out.taken out)) }
         ensures ok_failures { OnOk result (failures self.new ≡ failures self.old) }
         ensures err { OnErr result (kept self.new ≡ kept self.old) }
         ensures err_failures { OnErr result (failures self.new ≡ failures self.old + 1) };
 
-    /// Takes back a writer that failed, and counts one failure.
+    /// Takes back a writer of a dump that isn't to be kept: it failed, or one before it. Nothing of that dump is to
+    /// stay. It counts one failure, while it can count on.
     fn lost(&mut self, out: Self::Out)
-        requires failed { Self.Out.failures out ≢ 0 }
-        requires failures { failures self.old < u64.MAX }
+        requires started { IsSomeOut (started self.old) }
+        ensures back { OneComesBack (started self.old) (started self.new) }
         ensures kept { kept self.new ≡ kept self.old }
-        ensures failures { failures self.new ≡ failures self.old + 1 };
+        ensures failures { failures self.old < u64.MAX → failures self.new ≡ failures self.old + 1 }
+        ensures no_fewer { failures self.old ≤ failures self.new };
 }

@@ -1,25 +1,33 @@
-//! An outlet over a folder: each dump becomes a file in it. It doesn't tell what it has kept.
+//! An outlet over a folder: each dump becomes a file in it. It doesn't tell what it has kept, nor what is out.
 //!
-//! Our choice: ahead of its turn a dump becomes a new file, in place of one that stands there already, so that two
-//! dumps that are written beside each other are never one file. Where something else than a file stands there, such as
-//! a pipe or a link, it is opened in its turn.
+//! Our choice: where nothing or a file stands in the place of a dump, the dump is written beside it, to a part file of
+//! its own, which takes that place once the dump is kept. So a reader finds the older dump there or the new one, never a
+//! part of one, and a dump that isn't kept leaves the older one as it was. Where something else stands there, such as a
+//! link, a pipe or a device, that is opened itself, in the turn of the dump.
 
 ghost use Rattle.std.specs.Prelude.{◌≡◌, None};
 
 use crate::paths::path_in;
 use rs_mrt::IoWriter;
 use rs_outlet::{Outlet, Unopened};
-use std::alloc::Global;
+use std::alloc::{AllocError, Global};
 use std::fs::{File, Files};
 use std::io::{ErrorKind, Write};
 use std::marker::Model;
 use std::{fs, io};
 
-/// A file, and the path at which it was made.
+/// The file to which a dump is written.
 #[derive(Drop)]
 pub struct FileAt<F> {
-    path: String,
     file: F,
+    part: Option<Part>,
+}
+
+// A part file, and the place that it takes once the dump is whole.
+#[derive(Drop)]
+struct Part {
+    path: String,
+    place: String,
 }
 
 impl<F: Write> Write for FileAt<F> {
@@ -71,6 +79,8 @@ where
 
     ghost kept = { λ _. None };
 
+    ghost started = { λ _. None };
+
     ghost failures = { λ failures. failures };
 
     fn start(&mut self, name: &str) -> Result<IoWriter<FileAt<R::File>>, Unopened> {
@@ -84,54 +94,109 @@ where
     }
 
     fn start_ahead(&mut self, name: &str) -> Option<IoWriter<FileAt<R::File>>> {
-        let path = path_in(self.alloc, self.folder, name).ok()?;
-        let file = create_anew(self.rt, path.as_str())?;
-        Some(IoWriter::new(FileAt { path, file }))
-    }
-
-    fn give_back(&mut self, _name: &str, out: IoWriter<FileAt<R::File>>) {
-        let _ = fs::remove_file(self.rt, out.into_inner().path.as_str());
+        let place = path_in(self.alloc, self.folder, name).ok()?;
+        if !takes_part_file(self.rt, place.as_str()).ok()? {
+            return None;
+        }
+        let file = create_part(self.rt, self.alloc, place).ok()?;
+        Some(IoWriter::new(file))
     }
 
     fn keep(&mut self, _name: &str, out: IoWriter<FileAt<R::File>>) -> Result<(), Unopened> {
-        match out.into_inner().flush() {
+        match put_in_place(self.rt, out.into_inner()) {
             Ok(()) => Ok(()),
-            Err(_) => {
+            Err(refused) => {
                 self.failures += 1;
-                Err(Unopened)
+                Err(refused)
             }
         }
     }
 
-    fn lost(&mut self, _out: IoWriter<FileAt<R::File>>) {
-        self.failures += 1;
+    fn lost(&mut self, out: IoWriter<FileAt<R::File>>) {
+        remove_part(self.rt, out.into_inner());
+        self.failures = self.failures.saturating_add(1);
     }
 }
 
-// Makes the file, or cuts it to nothing.
+/// Whether a dump whose place is this path is written to a part file: nothing is there that can be told of, or a file.
+/// Fails where memory is refused.
+pub(crate) fn takes_part_file<R: Files>(rt: &R, place: &str) -> Result<bool, AllocError> {
+    match fs::symlink_metadata(rt, place) {
+        Ok(found) => Ok(found.is_file()),
+        Err(error) if error.kind() == ErrorKind::OutOfMemory => Err(AllocError),
+        Err(_) => Ok(true),
+    }
+}
+
+/// The path of the part file of the dump whose place is this path. Fails where memory is refused.
+pub(crate) fn part_path(alloc: Global, place: &str) -> Result<String, AllocError> {
+    match place.rsplit_once('/') {
+        Some((folder, name)) => format!(in alloc; "{folder}/.{name}.part"),
+        None => format!(in alloc; ".{place}.part"),
+    }
+}
+
+// Makes the part file of a dump, or else opens what stands in the place of the dump.
 fn create<R: Files>(
     rt: &R,
     alloc: Global,
     folder: &str,
     name: &str,
 ) -> Result<FileAt<R::File>, Unopened> {
-    let Ok(path) = path_in(alloc, folder, name) else {
+    let Ok(place) = path_in(alloc, folder, name) else {
         return Err(Unopened);
     };
-    match File::create(rt, path.as_str()) {
-        Ok(file) => Ok(FileAt { path, file }),
+    match takes_part_file(rt, place.as_str()) {
+        Ok(true) => create_part(rt, alloc, place),
+        Ok(false) => create_in_place(rt, place.as_str()),
         Err(_) => Err(Unopened),
     }
 }
 
-// Makes a file that isn't there, or takes the place of one that is; none where something else is there, or where this
-// is refused.
-fn create_anew<R: Files>(rt: &R, path: &str) -> Option<R::File> {
-    match fs::symlink_metadata(rt, path) {
-        Ok(found) if found.is_file() => fs::remove_file(rt, path).ok()?,
-        Ok(_) => return None,
-        Err(error) if error.kind() == ErrorKind::NotFound => {}
-        Err(_) => return None,
+// Opens what stands in the place of a dump.
+fn create_in_place<R: Files>(rt: &R, place: &str) -> Result<FileAt<R::File>, Unopened> {
+    match File::create(rt, place) {
+        Ok(file) => Ok(FileAt { file, part: None }),
+        Err(_) => Err(Unopened),
     }
-    File::create_new(rt, path).ok()
+}
+
+// Makes the part file of a dump, in the place of one that a run has left which was stopped.
+fn create_part<R: Files>(
+    rt: &R,
+    alloc: Global,
+    place: String,
+) -> Result<FileAt<R::File>, Unopened> {
+    let Ok(path) = part_path(alloc, place.as_str()) else {
+        return Err(Unopened);
+    };
+    let _ = fs::remove_file(rt, path.as_str());
+    match File::create_new(rt, path.as_str()) {
+        Ok(file) => Ok(FileAt {
+            file,
+            part: Some(Part { path, place }),
+        }),
+        Err(_) => Err(Unopened),
+    }
+}
+
+// Puts a dump that is whole in its place.
+fn put_in_place<R: Files>(rt: &R, dump: FileAt<R::File>) -> Result<(), Unopened> {
+    let FileAt { mut file, part } = dump;
+    let Some(part) = part else {
+        return file.flush().map_err(|_| Unopened);
+    };
+    if file.flush().is_ok() && fs::rename(rt, part.path.as_str(), part.place.as_str()).is_ok() {
+        return Ok(());
+    }
+    let _ = fs::remove_file(rt, part.path.as_str());
+    Err(Unopened)
+}
+
+// Takes the part file of a dump away that isn't to be kept.
+fn remove_part<R: Files>(rt: &R, dump: FileAt<R::File>) {
+    let FileAt { file: _, part } = dump;
+    if let Some(part) = part {
+        let _ = fs::remove_file(rt, part.path.as_str());
+    }
 }

@@ -1,16 +1,18 @@
-//! Keeps the program from writing a dump over a file that it reads.
+//! Keeps the program from writing a dump, or the part file of one, over a file that it reads.
 
 ghost use Rattle.std.specs.Prelude.{◌<◌, None, IfErr, IfOk, IfSome, length};
 ghost use Rattle.rs_program.specs.Texts.{CanTell};
 
 use crate::ended::Ended;
+use crate::folder_outlet::part_path;
 use crate::texts::dump_path;
 use rs_host::{FileIdentity, Options, found_at};
 use rs_setup::Setup;
 use std::alloc::AllocError;
 use std::fs::Files;
 
-/// The first client whose dump would be written over the configuration or over a peer's recorded file.
+/// The first client whose dump, or its part file, would be written over the configuration or over a peer's recorded
+/// file.
 pub fn first_overwritten<R: AllocGlobal + Files>(
     rt: &R,
     setup: &Setup,
@@ -22,7 +24,8 @@ pub fn first_overwritten<R: AllocGlobal + Files>(
     let read = files_read(rt, setup, options)?;
     for client in 0..setup.plan.count() {
         let path = dump_path(rt.alloc(), setup, options, client)?;
-        if is_among(rt, &path, &read)? {
+        let part = part_path(rt.alloc(), &path)?;
+        if is_among(rt, &path, &read)? || is_among(rt, &part, &read)? {
             return Ok(Some(client));
         }
     }

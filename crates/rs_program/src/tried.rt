@@ -1,17 +1,18 @@
 //! Tries the folder of the dumps before the recorded sessions are read, so that nobody waits for a run to
 //! learn of a mistyped path.
 //!
-//! Our choice: a dump that stands there already is not touched before the run; where one doesn't, a file of
+//! Our choice: a dump that stands there already is not touched before the run. Where one is to be a new file, a file of
 //! another name is made in the folder and taken away again.
 
 ghost use Rattle.std.specs.Prelude.{◌<◌, None, IfErr, IfOk, IfSome, length};
 ghost use Rattle.rs_program.specs.Texts.{CanTell};
 
 use crate::ended::Ended;
+use crate::folder_outlet::takes_part_file;
 use crate::overwritten::first_overwritten;
 use crate::paths::path_in;
 use crate::texts::dump_path;
-use rs_host::{Options, found_at};
+use rs_host::Options;
 use rs_setup::Setup;
 use std::alloc::AllocError;
 use std::fs;
@@ -37,7 +38,7 @@ pub fn first_unwritable<R: AllocGlobal + Files>(
     }
 }
 
-// The first client whose dump isn't there yet, where the folder takes no files.
+// The first client whose dump is to be a new file, where the folder takes no files.
 fn first_unmade<R: AllocGlobal + Files>(
     rt: &R,
     setup: &Setup,
@@ -48,7 +49,7 @@ fn first_unmade<R: AllocGlobal + Files>(
 {
     for client in 0..setup.plan.count() {
         let path = dump_path(rt.alloc(), setup, options, client)?;
-        if found_at(rt, &path)?.is_none() {
+        if takes_part_file(rt, &path)? {
             return Ok(if can_make_files(rt, &options.out)? {
                 None
             } else {

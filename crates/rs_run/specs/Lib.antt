@@ -7,3 +7,4 @@ pub mod RunAnswer  -- what a run answers, by its result
 -- What the contracts name of the crates below:
 pub use Rattle.rs_keep.specs.Kept
 pub use Rattle.rs_outlet.specs.Outlet
+pub use Rattle.rs_outlet.specs.Started

@@ -7,6 +7,7 @@
 ghost use Rattle.std.specs.Prelude.{◌≡◌, ◌<◌, ◌≤◌, All, IfOk, IfErr, OnOk, length, string_bytes};
 ghost use Rattle.rs_keep.specs.Kept.{dumps_of, IsStop};
 ghost use Rattle.rs_outlet.specs.Outlet.{Grows};
+ghost use Rattle.rs_outlet.specs.Started.{AreAsMany};
 ghost use Rattle.rs_run.specs.Recorded.{OverFiles, tables_of_files};
 ghost use Rattle.rs_run.specs.Report.{report_of};
 ghost use Rattle.rs_run.specs.Run.{IsReadStop};
@@ -41,7 +42,7 @@ const LINES_LEN: usize = 256;
 /// comes where the outlet failed, or the writer of a dump, or where a table has more than 4,294,967,295 rows;
 /// the dumps of the clients before that one are kept. `Report` comes where a write of the report failed; all
 /// dumps are kept, and a beginning of the report is out. `Memory` comes where memory was refused; a beginning
-/// of the dumps is kept, and nothing of the report is out.
+/// of the dumps is kept, and nothing of the report is out. Whatever comes, each writer that the outlet gave is back.
 ///
 /// Once all dumps are kept a thread frees the tables, which may outlast the call; all others end before it.
 pub fn run<T: Threads + Wait + Sync, O: Outlet, W: Write, R: Read + Send + Drop>(
@@ -62,6 +63,7 @@ pub fn run<T: Threads + Wait + Sync, O: Outlet, W: Write, R: Read + Send + Drop>
     ensures answer { RunAnswer R.gives O.kept O.failures W.taken W.failures
         options.now.errors setup.now.plan.value options.now.time readers.items
         outlet.old outlet.new report.old report.new result }
+    ensures back { AreAsMany (O.started outlet.old) (O.started outlet.new) }
 {
     match run_with_ends(rt, alloc, setup, readers, options, outlet, report) {
         Ok(_) => Ok(()),
@@ -177,6 +179,7 @@ fn keep_and_report<T: Threads + Sync, O: Outlet>(
     ensures no_failure { OnOk result (O.failures outlet.new ≡ O.failures outlet.old) }
     ensures fault { IfErr result (IsStop served.now.tables time (O.kept outlet.old) (O.kept outlet.new)
         (O.failures outlet.old) (O.failures outlet.new)) }
+    ensures back { AreAsMany (O.started outlet.old) (O.started outlet.new) }
 {
     let mut text = String::with_capacity(alloc, plan.count() * LINES_LEN)?;
     add_peer_lines(&mut text, plan, served)?;

@@ -1,20 +1,20 @@
 //! An outlet over memory that gives writers ahead of their turn, and shows what was asked of it. It can be made to fail
-//! at the dump of one client.
+//! at the dumps of some clients.
 
-ghost use Rattle.std.specs.Prelude.{◌≡◌, None};
+ghost use Rattle.std.specs.Prelude.{◌≡◌, IfSome, None, Some};
 
-use rs_mrt::{Limits, MemoryWriter};
+use rs_mrt::{Failed, Limits, MemoryWriter, Write};
 use rs_outlet::{Kept, Outlet, Unopened};
 use std::alloc::Global;
 
-/// Where the outlet fails: at the dumps of clients of these names, of none where a name is empty.
+/// Where the outlet fails: at the dumps of the clients of these names, which are letters.
 #[derive(Clone, Copy, Debug, Drop)]
 pub struct Faults {
-    /// The one whose writer takes 1,000 octets and then fails.
+    /// Those whose writers take 1,000 octets and then fail.
     pub failing: &'static str,
-    /// The one that can't be kept.
+    /// Those that can't be kept.
     pub not_kept: &'static str,
-    /// The one for which no writer is given ahead.
+    /// Those for which no writer is given ahead.
     pub not_ahead: &'static str,
 }
 
@@ -29,6 +29,23 @@ impl Faults {
     }
 }
 
+/// A writer over memory, and the name for which it was given.
+#[derive(Drop)]
+pub struct NamedWriter {
+    name: String,
+    inner: MemoryWriter,
+}
+
+impl Write for NamedWriter {
+    ghost taken = { λ writer. Some writer.inner.taken };
+
+    ghost failures = { λ writer. writer.inner.failures };
+
+    fn write(&mut self, piece: &[u8]) -> Result<usize, Failed> {
+        self.inner.write(piece)
+    }
+}
+
 /// An outlet that keeps in memory the dumps of clients whose names are the letters from `a` on.
 #[derive(Drop)]
 pub struct OutletAhead {
@@ -40,8 +57,6 @@ pub struct OutletAhead {
     pub ahead: Vec<Kept>,
     /// The dumps that were kept.
     pub kept: Vec<Kept>,
-    /// What had been written of those that came back.
-    pub given_back: Vec<Kept>,
     /// What had been written of those that were lost.
     pub lost: Vec<Kept>,
     /// How many failures it has counted.
@@ -59,28 +74,34 @@ impl OutletAhead {
             started: Vec::new(alloc),
             ahead: Vec::new(alloc),
             kept: Vec::new(alloc),
-            given_back: Vec::new(alloc),
             lost: Vec::new(alloc),
             failures: 0,
         }
     }
 }
 
-// The writer of the dump of this name.
-fn writer(alloc: Global, faults: &Faults, name: &str) -> MemoryWriter
-    ensures { result.failures ≡ 0 }
+// The writer of the dump of this name; none where memory is refused.
+fn writer(alloc: Global, faults: &Faults, name: &str) -> Option<NamedWriter>
+    ensures { IfSome result (λ writer. writer.inner.failures ≡ 0) }
 {
     let mut limits = Limits::none();
     if is_of(faults.failing, name) {
         limits.calls_before_failure = Some(1);
         limits.piece = 1000;
     }
-    MemoryWriter::new(alloc, limits)
+    let name = String::from_str(alloc, name).ok()?;
+    Some(NamedWriter {
+        name,
+        inner: MemoryWriter::new(alloc, limits),
+    })
 }
 
-// Whether the dump of this name is that of a client, whose name is a letter.
-fn is_of(client: &str, name: &str) -> bool {
-    !client.is_empty() && name.starts_with(client)
+// Whether the dump of this name is that of one of these clients, whose names are letters.
+fn is_of(clients: &str, name: &str) -> bool {
+    match name.chars().next() {
+        Some(letter) => clients.contains(letter),
+        None => false,
+    }
 }
 
 // Adds what was written of the dump of this name. Where memory is refused it is missing, and the test fails.
@@ -91,41 +112,45 @@ fn add(alloc: Global, dumps: &mut Vec<Kept>, name: &str, octets: Vec<u8>) {
 }
 
 impl Outlet for OutletAhead {
-    type Out = MemoryWriter;
+    type Out = NamedWriter;
 
     ghost kept = { λ _. None };
 
+    ghost started = { λ _. None };
+
     ghost failures = { λ outlet. outlet.failures };
 
-    fn start(&mut self, name: &str) -> Result<MemoryWriter, Unopened> {
+    fn start(&mut self, name: &str) -> Result<NamedWriter, Unopened> {
         add(self.alloc, &mut self.started, name, Vec::new(self.alloc));
-        Ok(writer(self.alloc, &self.faults, name))
+        match writer(self.alloc, &self.faults, name) {
+            Some(writer) => Ok(writer),
+            None => {
+                self.failures += 1;
+                Err(Unopened)
+            }
+        }
     }
 
-    fn start_ahead(&mut self, name: &str) -> Option<MemoryWriter> {
+    fn start_ahead(&mut self, name: &str) -> Option<NamedWriter> {
         if is_of(self.faults.not_ahead, name) {
             return None;
         }
         add(self.alloc, &mut self.ahead, name, Vec::new(self.alloc));
-        Some(writer(self.alloc, &self.faults, name))
+        writer(self.alloc, &self.faults, name)
     }
 
-    fn give_back(&mut self, name: &str, out: MemoryWriter) {
-        add(self.alloc, &mut self.given_back, name, out.into_octets());
-    }
-
-    fn keep(&mut self, name: &str, out: MemoryWriter) -> Result<(), Unopened> {
+    fn keep(&mut self, name: &str, out: NamedWriter) -> Result<(), Unopened> {
         if is_of(self.faults.not_kept, name) {
             self.failures += 1;
             return Err(Unopened);
         }
-        add(self.alloc, &mut self.kept, name, out.into_octets());
+        add(self.alloc, &mut self.kept, name, out.inner.into_octets());
         Ok(())
     }
 
-    fn lost(&mut self, out: MemoryWriter) {
-        self.failures += 1;
-        let name = self.faults.failing;
-        add(self.alloc, &mut self.lost, name, out.into_octets());
+    fn lost(&mut self, out: NamedWriter) {
+        let NamedWriter { name, inner } = out;
+        add(self.alloc, &mut self.lost, &name, inner.into_octets());
+        self.failures = self.failures.saturating_add(1);
     }
 }

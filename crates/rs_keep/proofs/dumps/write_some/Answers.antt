@@ -1,8 +1,9 @@
-use Rattle.std.proofs.Common.{◌≡◌, ◌∙◌, ◌<◌, ◌+◌, List, Option, ap, arith, drop, length, slice_index_or, subst, sym}
+use Rattle.std.proofs.Common.{◌≡◌, ◌∙◌, ◌<◌, ◌+◌, ◌-◌, ◌++◌, take, List, Option, ap, arith, drop, length, slice_index_or, subst, sym}
 use Rattle.std.proofs.lemmas.List.{take_at}
 use Rattle.rs_dump.specs.declared.side_by_side.Writing.{Writing}
 use Rattle.rs_outlet.specs.Outlet.{KeptDump}
 use Rattle.rs_keep.specs.Written.{AreBegun, AreWritten}
+use Rattle.rs_keep.proofs.StartedLemmas.{too-more}
 use Rattle.rs_keep.proofs.WrittenLemmas.{written-of}
 use Rattle.rs_keep.proofs.dumps.write_some.Goals as goal
 
@@ -10,8 +11,8 @@ pub returns-clause-written : goal.returns-clause-written
 returns-clause-written g c =
     let Out = g.O.Out.Write in
     let kept = g.O.Outlet.kept c.args.outlet.now in
-    let tables = c.args.tables.now in
-    let time = c.args.time in
+    let tables = c.args.dumping.now.tables.now in
+    let time = c.args.dumping.now.time in
     let client = c.args.client in
     let begun = c.deref_mut.result.now in
     let new = c.write_side_by_side.new.writings in
@@ -26,3 +27,15 @@ returns-clause-written g c =
           written-of Out.taken Out.failures tables time kept (client + k) (slice_index_or begun k d) (slice_index_or new k d) (all k d within) (c.write_side_by_side.ensures.written k d within);
       known = omega (arith, count, c.begin_behind.ensures.some.1, c.most_at_once-most.ensures.known);
     }
+
+pub returns-clause-started : goal.returns-clause-started
+returns-clause-started g c =
+    let O = g.O.Outlet in
+    let client = c.args.client in
+    let begun = c.begin_behind.new.some.items in
+    let new = c.write_side_by_side.new.writings in
+    let count : length new ≡ length begun = c.write_side_by_side.ensures.count ∙ ap length c.deref_mut.ensures.value in
+    let all = take c.begin_behind.new.some.len (new ++ drop (length new) begun) in
+    let whole : length all ≡ length new = ap length (take_at new (drop (length new) begun) c.begin_behind.new.some.len (omega (arith, count))) in
+    too-more (O.started c.args.outlet.now) (O.started c.begin.new.outlet) (O.started c.begin_behind.new.outlet) c.args.dumping.now.files.now client 1 (client + 1) (length begun - 1) (length all) (omega arith)
+    (omega (arith, whole, count, c.begin_behind.ensures.some.0)) c.in_ok-first.ensures.started c.begin_behind.ensures.started

@@ -1,0 +1,16 @@
+-- A writer is out for the client's file.
+use Rattle.std.proofs.Common.{◌≡◌, ◌∙◌, ◌<◌, ap, arith, get_or, length, rules, sym}
+use Rattle.rs_keep.specs.Written.{file_name}
+use Rattle.rs_keep.proofs.StartedLemmas.{goes-out}
+use Rattle.rs_keep.proofs.WrittenLemmas.{files-count}
+use Rattle.rs_keep.proofs.dumps.begin.Goals as goal
+
+pub returns-in-Ok-start-clause-started : goal.returns-in-Ok-start-clause-started
+returns-in-Ok-start-clause-started g c =
+    let O = g.O.Outlet in
+    let files = c.args.dumping.now.files.now in
+    let client = c.args.client in
+    let file = c.index-dumping-client.result in
+    let below : client < length files = omega (arith, c.requires.client_known, files-count c.args.dumping.now.tables.now.plan files c.requires.files) in
+    let is : file ≡ get_or files client file = search rules in
+    goes-out (O.started c.args.outlet.now) (O.started c.start.new.self) files client file c.as_str.result.now below is (c.as_str.ensures.value ∙ ap file_name (sym is)) c.in-Ok-start.ensures.ok_started
