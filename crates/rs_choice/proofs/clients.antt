@@ -1,7 +1,4 @@
--- What each client gets: the choice among its candidates, and whom a change of a route may touch.
+-- What each client gets: the choice among its candidates.
 pub mod ChosenLemmas
 pub mod ContenderLemmas
 pub mod ClientLemmas
-pub mod StayLemmas
-pub mod RecipientLemmas
-pub mod NewRouteLemmas

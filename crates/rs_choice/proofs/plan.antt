@@ -2,4 +2,3 @@
 pub mod PlanLemmas
 pub mod PlanLaws
 pub mod PolicyLemmas
-pub mod CommunityLemmas

@@ -1,5 +1,5 @@
 -- Routes as they are held for decisions.
-use Rattle.std.specs.Prelude.{◌≡◌, ◌≢◌, ◌<◌, ◌↔◌, ℕ, IfSome, IsTrue, List, length, slice_get, slice_index_or, unwrap_or}
+use Rattle.std.specs.Prelude.{◌≡◌, ◌≢◌, ◌<◌, ◌↔◌, ℕ, IfSome, IsTrue, List, length, slice_get, slice_index_or, unwrap_or, Some}
 use Rattle.std.specs.List.{All}
 use Rattle.std.specs.Option.{option_map_or}
 use Rattle.rs_update.specs.AsPath.{neighbour_of}
@@ -32,6 +32,10 @@ abbrev pub AscendByPeer : List HeldRoute → Type 0
 AscendByPeer held =
     (i j : ℕ) (one : HeldRoute) → i < j → j < length held
     → (slice_index_or held i one).peer < (slice_index_or held j one).peer
+
+-- the route of a peer stands at a place
+abbrev pub IsAt : List HeldRoute → ℕ → ℕ → Type 0
+IsAt held place peer = (one : HeldRoute) × (slice_get held place ≡ Some one) × (one.peer ≡ peer)
 
 -- all are eligible
 abbrev pub AreEligible : Plan → List SentRoute → Type 0

@@ -5,7 +5,6 @@ pub mod Policy  -- which routes a client may get
 pub mod Decision  -- the six steps and the choice
 pub mod Clients  -- what each client gets
 pub mod Comparison  -- two candidates by several steps at once
-pub mod RouteChanges  -- whom a change of one route is of no matter to
 pub mod Laws  -- what holds of all of these
 pub mod Naturality  -- what the choice does not look at
 -- How the bodies decide:
@@ -17,7 +16,6 @@ pub mod Grouping  -- a pass by neighbour groups
 pub mod GroupsView  -- the groups by their fields
 pub mod Sharing  -- what all clients share
 pub mod Contenders  -- candidates without those that are outdone
-pub mod Recipients  -- marks of the clients that a change may reach
 -- How a plan is checked and kept:
 pub mod Checks  -- its tests over peers as they are configured
 pub mod FaultNumber  -- the number of its fault

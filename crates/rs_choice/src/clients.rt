@@ -11,7 +11,7 @@ ghost use Rattle.std.specs.List.{All};
 ghost use Rattle.std.specs.Option.{option_map};
 ghost use Rattle.rs_choice.specs.Candidacy.{is_candidate};
 ghost use Rattle.rs_choice.specs.Clients.{best_peer_for, is_sent_to, peer_or_own, AreBest};
-ghost use Rattle.rs_choice.specs.Contenders.{AreContenders, Contends, HoldCandidates, IsCommon, IsOutdone};
+ghost use Rattle.rs_choice.specs.Contenders.{AreContenders, Contends, HoldCandidates, IsOutdone};
 ghost use Rattle.rs_choice.specs.Decision.{choice, member_at, standing_of};
 ghost use Rattle.rs_choice.specs.Entrants.{chosen_of};
 ghost use Rattle.rs_choice.specs.Held.{held_standing, sent_of_held, AreEligible, IsJudged};
@@ -25,17 +25,6 @@ use crate::held_route::HeldRoute;
 use crate::neighbour_groups::{Group, NeighbourGroups};
 use crate::places::Places;
 use crate::plan::MAX_PEERS;
-
-// What the decisions after a change have in common.
-#[derive(Drop)]
-pub(crate) struct Common<'a> {
-    // Marks of the ASes whose clients the change may reach; none where it may reach all.
-    pub(crate) marks: &'a [bool],
-    // The places of the routes that may be candidates of these clients, once they are asked for.
-    pub(crate) places: Option<Places>,
-    // What is decided among all eligible routes, where there are no marks.
-    pub(crate) shared: Option<Shared>,
-}
 
 // What is decided among all eligible routes.
 #[derive(Drop)]
@@ -65,34 +54,6 @@ impl Exchange {
         }
     }
 
-    // What the decisions after a change have in common, where it is known which clients it may reach.
-    pub(crate) fn common<'a>(
-        &self,
-        held: &[HeldRoute],
-        marks: &'a [bool],
-        groups: &mut NeighbourGroups,
-    ) -> Common<'a>
-        requires judged { All (IsJudged self.now) held.now }
-        requires bound { length held.now ≤ MAX_PEERS }
-        ensures common { IsCommon self.now held.now result }
-        ensures marks { result.marks.now ≡ marks.now }
-    {
-        if !marks.is_empty() {
-            return Common {
-                marks,
-                places: None,
-                shared: None,
-            };
-        }
-        let eligible = eligible(held);
-        let shared = self.share(held, &eligible, groups);
-        Common {
-            marks,
-            places: Some(eligible),
-            shared: Some(shared),
-        }
-    }
-
     // What is decided among all eligible routes. The groups are those of some other decision before and of
     // this one after: so their arrays are filled once for all clients.
     fn share(&self, held: &[HeldRoute], eligible: &Places, groups: &mut NeighbourGroups) -> Shared
@@ -112,28 +73,6 @@ impl Exchange {
         let weighing = weighing(eligible, groups, &first);
         let peer = first_peer(held, eligible, &first);
         Shared { peer, weighing }
-    }
-
-    // The number of the peer whose route a client gets, or its own number where it gets none, with what is
-    // shared or without it. Its candidates are among the routes at some places.
-    pub(crate) fn choose_with(
-        &self,
-        held: &[HeldRoute],
-        places: &Places,
-        shared: &Option<Shared>,
-        client: usize,
-        groups: &mut NeighbourGroups,
-    ) -> u8
-        requires judged { All (IsJudged self.now) held.now }
-        requires candidates { HoldCandidates self.now client held.now places.now }
-        requires shared { IfSome shared.now (IsShared self.now held.now) }
-        requires client_known { client < length self.now.peers }
-        ensures { result ≡ best_peer_for self.now client (map sent_of_held held.now) }
-    {
-        match shared {
-            None => self.choose_alone(held, places, client, groups),
-            Some(shared) => self.choose_for(held, places, shared, client, groups),
-        }
     }
 
     // The number of the peer whose route a client gets, or its own number where it gets none.

@@ -2,8 +2,7 @@
 
 ghost use Rattle.std.specs.Prelude.{◌<◌, ◌≤◌, ◌↔◌, IsTrue, length};
 ghost use Rattle.std.specs.List.Sorted.{IsPartitionPoint};
-ghost use Rattle.rs_choice.specs.Held.{AscendByPeer};
-ghost use Rattle.rs_choice.specs.RouteChanges.{IsAt};
+ghost use Rattle.rs_choice.specs.Held.{AscendByPeer, IsAt};
 
 use crate::held_route::HeldRoute;
 

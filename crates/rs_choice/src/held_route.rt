@@ -124,16 +124,6 @@ impl Exchange {
         }
     }
 
-    // Whether a held route is ahead of another by preference, path length and origin.
-    pub(crate) fn held_is_ahead(&self, one: &HeldRoute, other: &HeldRoute) -> bool
-        requires one_known { one.now.peer < length self.now.peers }
-        requires other_known { other.now.peer < length self.now.peers }
-        ensures { IsTrue result ↔ IsAhead (held_standing self.now one.now) (held_standing self.now other.now) }
-    {
-        self.standing_without_med(one)
-            .is_ahead_of(&self.standing_without_med(other))
-    }
-
     // Whether something is ahead of a held route by preference, path length and origin.
     pub(crate) fn leaves_behind(&self, leader: &Standing, one: &HeldRoute) -> bool
         requires { one.now.peer < length self.now.peers }
@@ -152,21 +142,6 @@ impl Exchange {
         let front = self.standing_without_med(one);
         best.is_ahead_of(&front)
             || (best.is_level_with(&front) && best.outdoes_by_med(&self.held_standing(one)))
-    }
-
-    // Whether one held route outdoes another, in the same way.
-    pub(crate) fn held_outdoes(&self, one: &HeldRoute, other: &HeldRoute) -> bool
-        requires one_judged { IsJudged self.now one.now }
-        requires other_judged { IsJudged self.now other.now }
-        ensures { IsTrue result ↔ Outdoes (held_standing self.now one.now) (held_standing self.now other.now) }
-    {
-        let front = self.standing_without_med(one);
-        let other_front = self.standing_without_med(other);
-        front.is_ahead_of(&other_front)
-            || (front.is_level_with(&other_front)
-                && self
-                    .held_standing(one)
-                    .outdoes_by_med(&self.held_standing(other)))
     }
 
     // Whether a client may get a held route.

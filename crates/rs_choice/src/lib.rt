@@ -8,11 +8,9 @@
 //! `exchange` (a plan that is not), `eligibility`, `policy`, `candidate`, `step`, `entrants` and
 //! `neighbour_groups` (what takes part in a decision, and who stands for each neighbour AS), `decision` (the
 //! pass that decides), `candidacy`, `held_route`, `held_order`, `places` and `clients` (the decisions of all
-//! clients), `recipients` and `route_change` (which of them a change may touch), `new_route` (who gets the
-//! new one), `scan` (the same decision for lists of any length), `laws`.
+//! clients), `scan` (the same decision for lists of any length), `laws`.
 //!
-//! The program decides by `choose_for_all` and `choose_after`; tests alone call `choose` and
-//! `choose_by_groups`.
+//! The program decides by `choose_for_all`; tests alone call `choose` and `choose_by_groups`.
 #![tactic(auto)]
 
 mod candidacy;
@@ -28,12 +26,9 @@ mod held_order;
 mod held_route;
 mod laws;
 mod neighbour_groups;
-mod new_route;
 mod places;
 mod plan;
 mod policy;
-mod recipients;
-mod route_change;
 mod scan;
 mod step;
 
@@ -50,5 +45,4 @@ pub use laws::{
     those_behind_are_no_matter,
 };
 pub use plan::{Local, MAX_NAME_LEN, MAX_PEERS, PeerSpec};
-pub use route_change::RouteChange;
 pub use step::Step;

@@ -10,7 +10,7 @@ use crate::exchange::Exchange;
 use rs_update::{Attributes, Communities};
 
 // The numbers that half a community can hold (RFC 1997).
-pub(crate) const HALF: u32 = 65536;
+const HALF: u32 = 65536;
 
 impl Exchange {
     /// Whether the peer of number `client` may get a route of the peer of number `peer`; no client gets a
@@ -93,7 +93,7 @@ fn permitted_by_list(local_asn: u32, client_asn: u32, list: Communities<'_>) -> 
 }
 
 // Whether a value is the community (`high`, `low`).
-pub(crate) fn is_community(value: u32, high: u32, low: u32) -> bool
+fn is_community(value: u32, high: u32, low: u32) -> bool
     ensures { result ≡ has_value (value ∷ []) high low }
 {
     high < HALF && low < HALF && value == high * HALF + low

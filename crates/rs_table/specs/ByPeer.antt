@@ -1,10 +1,9 @@
 -- Routes on one prefix in ascending order of their peers, at most one of each.
-use Rattle.std.specs.Prelude.{◌≡◌, ◌<◌, ◌≤◌, ◌+◌, ℕ, suc, ◌==◌, nat_lt, not, if◌then◌else◌, List, [], ◌∷◌, map, filter}
-use Rattle.std.specs.Prelude.{Option, None, Some, slice_get}
+use Rattle.std.specs.Prelude.{◌<◌, ◌≤◌, ◌+◌, ℕ, suc, ◌==◌, nat_lt, not, if◌then◌else◌, List, [], ◌∷◌, map, filter}
+use Rattle.std.specs.Prelude.{Option, None, Some}
 use Rattle.rs_choice.specs.declared.held_route.HeldRoute.{HeldRoute}
 use Rattle.rs_choice.specs.Decision.{SentRoute}
 use Rattle.rs_choice.specs.Held.{sent_of_held}
-use Rattle.rs_choice.specs.RouteChanges.{IsAt}
 use Rattle.rs_table.specs.Left.{RouteLeft}
 
 -- at most one route of each peer from one number to below another, in ascending order of the peers
@@ -46,13 +45,3 @@ with_route routes route = with_one (λ one. one.peer) routes route
 
 abbrev pub without_route : List SentRoute → ℕ → List SentRoute
 without_route routes peer = without_one (λ one. one.peer) routes peer
-
--- a route was put at a place
-abbrev pub IsPut : List HeldRoute → HeldRoute → Option ℕ → Type 0
-IsPut held one new = (place : ℕ) × (new ≡ Some place) × (slice_get held place ≡ Some one)
-
--- the route that a change took from a peer is at the place of that peer's; where it took none, none of that
--- peer stands there
-abbrev pub IsTaken : List HeldRoute → ℕ → Option HeldRoute → Type 0
-IsTaken held peer (Some one) = slice_get held (place_of (λ one. one.peer) held peer) ≡ Some one
-IsTaken held peer None = IsAt held (place_of (λ one. one.peer) held peer) peer → ⊥

@@ -28,4 +28,3 @@ pub use Rattle.rs_choice.specs.Eligibility
 pub use Rattle.rs_choice.specs.Held
 pub use Rattle.rs_choice.specs.Plan
 pub use Rattle.rs_choice.specs.Policy
-pub use Rattle.rs_choice.specs.RouteChanges

@@ -3,22 +3,20 @@
 //!
 //! A cell is made whole, with room for a route of every peer, so that no later change of it takes memory.
 
-ghost use Rattle.std.specs.Prelude.{◌≡◌, ◌<◌, ◌≤◌, ◌∷◌, [], IfOk, IsTrue, IsFalse, None, length, vec_capacity};
+ghost use Rattle.std.specs.Prelude.{◌≡◌, ◌<◌, ◌≤◌, ◌∷◌, [], IfOk, IsTrue, IsFalse, length, vec_capacity};
 ghost use Rattle.std.specs.Option.{option_map};
 ghost use Rattle.rs_choice.specs.Held.{sent_of_held, IsJudged};
-ghost use Rattle.rs_choice.specs.RouteChanges.{IsChange, IsKnown};
 ghost use Rattle.rs_table.specs.ByPeer.{place_of, route_at, with_one, with_route, without_one, without_route};
-ghost use Rattle.rs_table.specs.ByPeer.{IsAscending, IsPut, IsTaken};
+ghost use Rattle.rs_table.specs.ByPeer.{IsAscending};
 ghost use Rattle.rs_table.specs.Cell.{routes_in, stored_best, AreHeld, IsCell, IsUndecided};
 ghost use Rattle.rs_table.specs.RouteView.{sent_route_of};
 ghost use Rattle.rs_table.specs.Table.{sent_by};
 
 use crate::route::Route;
-use rs_choice::{Exchange, HeldRoute, RouteChange, is_at, place_of_peer};
+use rs_choice::{Exchange, HeldRoute, is_at, place_of_peer};
 use smallvec::SmallVec;
 use std::alloc::{AllocError, Global};
 use std::marker::Model;
-use std::mem::replace;
 
 // How many clients have their octets in the cell itself: a small exchange takes no block of memory for them. More
 // would make each cell larger, and with it the map.
@@ -82,7 +80,7 @@ impl Cell {
         ensures routes { routes_in self.new ≡ with_route (routes_in self.old) (sent_of_held route) }
         ensures cell { IsUndecided plan.now self.new }
     {
-        let _change = put(&mut self.held, route);
+        put(&mut self.held, route);
     }
 
     // Removes a peer's route, if it has one, and decides nothing.
@@ -91,7 +89,7 @@ impl Cell {
         ensures routes { routes_in self.new ≡ without_route (routes_in self.old) peer }
         ensures cell { IsUndecided plan.now self.new }
     {
-        let _change = take_out(&mut self.held, peer);
+        let _had = take_out(&mut self.held, peer);
     }
 
     // Decides for every client, where there is a route. Answers whether there is one.
@@ -115,8 +113,8 @@ impl Cell {
         ensures routes { routes_in self.new ≡ with_route (routes_in self.old) (sent_of_held route) }
         ensures cell { IsCell plan.now self.new }
     {
-        let change = put(&mut self.held, route);
-        self.decide_after(plan, &change);
+        self.put(plan, route);
+        self.decide(plan);
     }
 
     // Removes a peer's route, if it has one; answers whether a route is left. Where the peer has none, nothing is
@@ -127,18 +125,13 @@ impl Cell {
         ensures some { IsTrue result → IsCell plan.now self.new }
         ensures none { IsFalse result → routes_in self.new ≡ [] }
     {
-        let change = take_out(&mut self.held, peer);
-        if change.old.is_none() {
+        if !take_out(&mut self.held, peer) {
             return true;
         }
-        if self.held.is_empty() {
-            return false;
-        }
-        self.decide_after(plan, &change);
-        true
+        self.settle(plan)
     }
 
-    // Decides anew, for every client, whose route it gets.
+    // Decides, for every client, whose route it gets.
     fn decide(&mut self, plan: &Exchange)
         requires held { AreHeld plan.now self.old.held }
         requires some { 0 < length self.old.held }
@@ -148,20 +141,6 @@ impl Cell {
     {
         let _peers = plan.count();
         plan.choose_for_all(&self.held, &mut self.bests);
-    }
-
-    // Decides anew after a change, for the clients to which it may be of matter.
-    fn decide_after(&mut self, plan: &Exchange, change: &RouteChange)
-        requires held { AreHeld plan.now self.old.held }
-        requires some { 0 < length self.old.held }
-        requires count { length self.old.bests ≡ length plan.now.peers }
-        requires known { IsKnown plan.now self.old.held change.now }
-        requires change { IsChange plan.now self.old.held change.now self.old.bests }
-        ensures held { self.new.held ≡ self.old.held }
-        ensures cell { IsCell plan.now self.new }
-    {
-        let _peers = plan.count();
-        plan.choose_after(&self.held, change, &mut self.bests);
     }
 
     // The route of a peer.
@@ -193,50 +172,34 @@ impl Cell {
 }
 
 // Puts a route in the place of any that its peer has, where there is room for all routes.
-fn put(held: &mut Vec<HeldRoute>, route: HeldRoute) -> RouteChange
+fn put(held: &mut Vec<HeldRoute>, route: HeldRoute)
     requires ascending { IsAscending held.old.items }
     requires room { length (with_one (λ one. one.peer) held.old.items route) ≤ vec_capacity held.old }
     ensures held { held.new.items ≡ with_one (λ one. one.peer) held.old.items route }
-    ensures peer { result.peer ≡ route.peer }
-    ensures old { IsTaken held.old.items route.peer result.old }
-    ensures new { IsPut held.new.items route result.new }
     ensures capacity { vec_capacity held.old ≤ vec_capacity held.new }
 {
     let peer = usize::from(route.peer);
     let place = place(held, peer);
-    let old = if is_at(held, place, peer) {
-        Some(replace(&mut held[place], route))
-    } else {
-        let _inserted = held.insert(place, route);
-        None
-    };
-    RouteChange {
-        peer,
-        old,
-        new: Some(place),
+    if is_at(held, place, peer) {
+        held[place] = route;
+        return;
     }
+    let _inserted = held.insert(place, route);
 }
 
-// Removes a peer's route, if it has one.
-fn take_out(held: &mut Vec<HeldRoute>, peer: usize) -> RouteChange
+// Removes a peer's route, if it has one. Answers whether it had.
+fn take_out(held: &mut Vec<HeldRoute>, peer: usize) -> bool
     requires { IsAscending held.old.items }
     ensures held { held.new.items ≡ without_one (λ one. one.peer) held.old.items peer }
-    ensures peer { result.peer ≡ peer }
-    ensures old { IsTaken held.old.items peer result.old }
-    ensures new { result.new ≡ None }
+    ensures same { IsFalse result → held.new.items ≡ held.old.items }
     ensures capacity { vec_capacity held.new ≡ vec_capacity held.old }
 {
     let place = place(held, peer);
-    let old = if is_at(held, place, peer) {
-        Some(held.remove(place))
-    } else {
-        None
-    };
-    RouteChange {
-        peer,
-        old,
-        new: None,
+    if !is_at(held, place, peer) {
+        return false;
     }
+    let _old = held.remove(place);
+    true
 }
 
 // How many routes stand before that of a peer, or before the place where it would stand.

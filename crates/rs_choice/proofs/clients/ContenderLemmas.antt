@@ -1,5 +1,4 @@
--- A client's candidates, gone over one after another, without those that one before them outdoes: for `contenders` of clients.rt; and
--- the places of routes among which they are: for `places_for_marked` of recipients.rt.
+-- A client's candidates, gone over one after another, without those that one before them outdoes: for `contenders` of clients.rt.
 use Rattle.std.proofs.Common.{◌≡◌, ◌∙◌, sym, ap, subst, Bool, true, false, ◌⊎◌, inl, inr, List, [], ◌∷◌, ◌++◌, Option, Some, None, ℕ}
 use Rattle.std.proofs.lemmas.Bool.{cases_Bool}
 use Rattle.std.specs.Prelude.{slice_get}
@@ -77,21 +76,6 @@ module _ (plan : Plan) (client : ℕ) (routes : List SentRoute) (one : SentRoute
     without_one None has (inr outdone) = absurd outdone
     without_one (Some standing) has (inr outdoes) =
         without_outdone has.0 has.1 (rw has.2 at outdoes)
-
--- one more eligible route is a candidate among some routes and among all, or among neither
-pub both_more : (plan : Plan) (client : ℕ) (some routes : List SentRoute) (one : SentRoute) → is_eligible plan one.peer one.attributes ≡ true →
-    candidates_among plan client some ≡ candidates_among plan client routes →
-    candidates_among plan client (some ++ one ∷ []) ≡ candidates_among plan client (routes ++ one ∷ [])
-both_more plan client some routes one eligible same = elim (cases_Bool (is_sent_to plan client one)) [
-  | inl permitted ↦
-      with_candidate plan client some one eligible permitted
-      ∙ ap (λ list. list ++ one ∷ []) same
-      ∙ sym (with_candidate plan client routes one eligible permitted)
-  | inr refused ↦
-      without_candidate plan client some one (inr refused)
-      ∙ same
-      ∙ sym (without_candidate plan client routes one (inr refused))
-]
 
 -- a route at one of the places among which candidates are is eligible
 pub eligible_at : (plan : Plan) (client : ℕ) (held : List HeldRoute) (places : List ℕ) → HoldCandidates plan client held places →

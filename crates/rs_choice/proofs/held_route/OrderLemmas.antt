@@ -4,8 +4,7 @@ use Rattle.std.specs.List.Sorted.{IsNonDecreasingBy, IsPartitionPoint}
 use Rattle.std.proofs.lemmas.Bool.Decides.{eqb_tells}
 use Rattle.std.proofs.lemmas.Option.{get_or_from_slice_get, slice_get_within}
 use Rattle.rs_choice.specs.declared.held_route.HeldRoute.{HeldRoute}
-use Rattle.rs_choice.specs.Held.{AscendByPeer}
-use Rattle.rs_choice.specs.RouteChanges.{IsAt}
+use Rattle.rs_choice.specs.Held.{AscendByPeer, IsAt}
 
 -- the numbers don't fall
 pub rising : (held : List HeldRoute) → AscendByPeer held → IsNonDecreasingBy (λ (one : HeldRoute). one.peer) held

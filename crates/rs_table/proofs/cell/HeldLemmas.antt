@@ -1,4 +1,4 @@
--- The routes that a cell holds, with one more and with one less: for `announce`, `withdraw`, `decide` and `decide_after` of cell.rt, and ChangeLemmas.
+-- The routes that a cell holds, with one more and with one less: for `put`, `take_out`, `withdraw` and `decide` of cell.rt.
 use Rattle.std.proofs.Common.{◌≡◌, ℕ, ◌≤◌, List, length, map, not, ◌==◌, All, ap, sym, subst, arith, ◌∙◌}
 use Rattle.std.specs.Prelude.{vec_capacity}
 use Rattle.std.proofs.lemmas.List.{length-map}

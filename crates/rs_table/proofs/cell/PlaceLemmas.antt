@@ -5,8 +5,7 @@ use Rattle.std.specs.List.Sorted.{IsPartitionPoint}
 use Rattle.std.proofs.lemmas.Bool.{cases_Bool}
 use Rattle.std.proofs.lemmas.Bool.Decides.{eqb_tells, nat_tests}
 use Rattle.std.proofs.lemmas.List.{get_or_default}
-use Rattle.rs_choice.specs.Held.{sent_of_held, AscendByPeer}
-use Rattle.rs_choice.specs.RouteChanges.{IsAt}
+use Rattle.rs_choice.specs.Held.{sent_of_held, AscendByPeer, IsAt}
 use Rattle.rs_choice.specs.declared.held_route.HeldRoute.{HeldRoute}
 use Rattle.rs_table.specs.ByPeer.{place_of, route_at, IsAscending}
 use Rattle.rs_table.specs.Left.{RouteLeft}
