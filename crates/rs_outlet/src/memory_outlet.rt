@@ -1,7 +1,8 @@
 //! An outlet over memory, which tells what it has kept and for which dumps a writer is out. It can be made to fail, for
 //! tests of those who write dumps.
 
-ghost use Rattle.std.specs.Prelude.{◌≡◌, ◌+◌, ◌∷◌, ◌++◌, [], Some, None, ◌<◌, length, map, slice_index_or, string_bytes, OnOk, OnErr};
+ghost use Rattle.std.specs.Prelude.{◌≡◌, ◌+◌, ◌<◌, ◌∷◌, ◌++◌, [], Some, None, length, map, slice_index_or};
+ghost use Rattle.std.specs.Prelude.{string_bytes, OnOk, OnErr};
 ghost use Rattle.std.specs.List.{Contains};
 ghost use Rattle.rs_mrt.specs.Memory.{limits_of};
 ghost use Rattle.rs_outlet.specs.Outlet.{InMemory, dump_of};

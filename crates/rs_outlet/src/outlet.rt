@@ -1,7 +1,8 @@
-//! Where dumps go: a trait whose contract names what was kept, for which dumps a writer is out, and counts the failures.
+//! Where dumps go: a trait whose contract names what was kept and for which dumps a writer is out, and counts the
+//! failures.
 //!
-//! Our choice: an outlet may tell what it has kept and what is out, as one over memory does, or tell nothing, as a folder
-//! does.
+//! Our choice: an outlet may tell what it has kept and what is out, as one over memory does, or tell nothing, as a
+//! folder does.
 
 ghost use Rattle.std.specs.Prelude.{◌≡◌, ◌+◌, ◌<◌, ◌≤◌, ℕ, List, Option, IfOk, IfSome, OnOk, OnErr};
 ghost use Rattle.rs_outlet.specs.Outlet.{KeptDump, KeepsTaken, TellsNothingTaken};
@@ -13,8 +14,8 @@ use rs_mrt::Write;
 #[derive(Clone, Copy, Debug, PartialEq, Eq, Drop)]
 pub struct Unopened;
 
-/// Where dumps go: each is written to a writer of its own, and kept once it is written whole. Each writer that was given
-/// comes back: to `keep`, or else to `lost`.
+/// Where dumps go: each is written to a writer of its own, and kept once it is written whole. Each writer that was
+/// given comes back: to `keep`, or else to `lost`.
 pub trait Outlet {
     /// What takes the octets of one dump, on any thread.
     type Out: Write + Drop + Send;
