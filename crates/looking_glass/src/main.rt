@@ -7,7 +7,8 @@
 //! Supported standards: RFC 4271, RFC 6793, RFC 1997, RFC 7606, RFC 7947, RFC 6396.
 #![tactic(auto)]
 
-use rs_glass_shell::{Ended, MEMORY_LINE, OUT_OF_MEMORY, WordsFault, answer, line};
+use rs_glass_shell::answer;
+use rs_question::{Ended, MEMORY_LINE, OUT_OF_MEMORY, WordsFault, line};
 use std::process::ExitCode;
 
 fn main(rt: HostRuntime) -> ExitCode {

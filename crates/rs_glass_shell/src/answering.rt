@@ -2,22 +2,21 @@
 
 ghost use Rattle.std.specs.Prelude.{◌≡◌, ◌<◌, length};
 
-use crate::ended::Ended;
-use crate::files::open_files;
 use crate::history_lines::history_text;
 use crate::history_object::history_json;
 use crate::listing_lines::as_text;
 use crate::listing_object::as_json;
 use crate::listing_toml::as_toml;
-use crate::query::{HistoryQuery, PeersQuery, Query, WhyQuery};
 use crate::recorded_file::RecordedFile;
-use crate::setup::{configuration, peer_named};
 use crate::why_lines::why_text;
 use crate::why_object::why_json;
 use crate::words::read_query;
 use rs_glass::{Answers, History, Question, explain_all, read_happenings, read_sessions, replay};
 use rs_host::{first_unreadable, open_file};
 use rs_inventory::{InventoryFault, read_inventory};
+use rs_question::{
+    Ended, HistoryQuery, PeersQuery, Query, WhyQuery, configuration, open_files, peer_named,
+};
 use rs_setup::Setup;
 use std::env;
 use std::env::Env;

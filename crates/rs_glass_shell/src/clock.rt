@@ -1,9 +1,9 @@
 //! How times are shown: those of one day by the clock, and else with their dates, in UTC.
 
 use crate::columns::add_cell;
-use crate::times::{Utc, civil_time};
 use rs_explain::LastSaid;
 use rs_glass::Said;
+use rs_question::{Utc, civil_time};
 use std::alloc::{AllocError, Global};
 
 // The seconds of a day.

@@ -5,9 +5,9 @@ use crate::columns::add_cell;
 use crate::names::{add_gets, name_at, name_width, prefix_text};
 use crate::reasons::close_text;
 use crate::route_text::add_route;
-use crate::times::Utc;
 use rs_choice::Exchange;
 use rs_glass::{Event, Gets, History};
+use rs_question::Utc;
 use rs_session::Reason;
 use std::alloc::{AllocError, Global};
 

@@ -1,10 +1,10 @@
 //! Inventories as a text for people.
 
 use crate::recorded_file::RecordedFile;
-use crate::times::Utc;
 use rs_host::on_one_line;
 use rs_inventory::{Compression, Inventory, Kind, Peer, PeerRecords, SessionTimes};
 use rs_mrt::MrtFault;
+use rs_question::Utc;
 use std::alloc::{AllocError, Global};
 use std::net::Ipv4Addr;
 

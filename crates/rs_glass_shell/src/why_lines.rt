@@ -4,9 +4,9 @@ use crate::clock::Clock;
 use crate::columns::add_cell;
 use crate::names::{add_gets, asn_at, name_at, name_width};
 use crate::reasons::{answer_name, because};
-use crate::times::Utc;
 use rs_choice::Exchange;
 use rs_glass::{Answer, Answers, LessSpecific};
+use rs_question::Utc;
 use std::alloc::{AllocError, Global};
 
 // How wide the columns of AS numbers and of answers are.

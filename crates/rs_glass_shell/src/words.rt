@@ -1,11 +1,11 @@
 //! Reads the words of the command line, with `clap`.
 
 use crate::command::program;
-use crate::query::{HistoryQuery, PeersQuery, Query, WhyQuery, WordsFault};
 use crate::values::{PREFIX_FORM, TIME_FORM, prefix_of, time_of};
 use clap::error::ErrorKind;
 use clap::{ArgMatches, Error};
 use rs_host::{each_on_one_line, standard_of};
+use rs_question::{HistoryQuery, PeersQuery, Query, WhyQuery, WordsFault};
 use rs_update::{Errors, Prefix};
 use std::alloc::{AllocError, Global};
 

@@ -1,6 +1,6 @@
 use Rattle.std.proofs.Common.{◌∙◌, sym, string_bytes}
 use Rattle.std.proofs.lemmas.List.{length-map}
-use Rattle.rs_glass_shell.proofs.setup.configuration.Goals as goal
+use Rattle.rs_question.proofs.setup.configuration.Goals as goal
 
 pub returns-in-Ok-read_setup : goal.returns-in-Ok-read_setup
 returns-in-Ok-read_setup g c =

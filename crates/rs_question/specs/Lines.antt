@@ -1,8 +1,8 @@
 -- The line that says why the program stops short, with its line break (docs/LOOKING_GLASS.md, "Statuses and texts").
 use Rattle.std.specs.Prelude.{◌++◌, codes, string_bytes}
-use Rattle.rs_glass_shell.specs.declared.ended.Ended.{Ended}
-use Rattle.rs_glass_shell.specs.declared.ended.Ended.TheVariants.{Words, NotUtf8, Setup, NoPeer, Unread, Output, Memory}
-use Rattle.rs_glass_shell.specs.declared.query.WordsFault.TheVariants as words
+use Rattle.rs_question.specs.declared.ended.Ended.{Ended}
+use Rattle.rs_question.specs.declared.ended.Ended.TheVariants.{Words, NotUtf8, Setup, NoPeer, Unread, Output, Memory}
+use Rattle.rs_question.specs.declared.query.WordsFault.TheVariants as words
 use Rattle.rs_host.specs.Line.{Text, named as named_by, one_line, out_of_memory}
 use Rattle.rs_host.specs.Refusal.{setup_line}
 

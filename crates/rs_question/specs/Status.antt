@@ -1,9 +1,9 @@
 -- The statuses with which the program ends where it stops short (docs/LOOKING_GLASS.md, "Statuses and texts").
 use Rattle.std.specs.Prelude.{ℕ}
 use Rattle.rs_choice.specs.declared.fault.PlanFault.TheVariants as plan
-use Rattle.rs_glass_shell.specs.declared.ended.Ended.{Ended}
-use Rattle.rs_glass_shell.specs.declared.ended.Ended.TheVariants.{Words, NotUtf8, Setup, NoPeer, Unread, Output, Memory}
-use Rattle.rs_glass_shell.specs.declared.query.WordsFault.TheVariants as words
+use Rattle.rs_question.specs.declared.ended.Ended.{Ended}
+use Rattle.rs_question.specs.declared.ended.Ended.TheVariants.{Words, NotUtf8, Setup, NoPeer, Unread, Output, Memory}
+use Rattle.rs_question.specs.declared.query.WordsFault.TheVariants as words
 use Rattle.rs_setup.specs.declared.setup.SetupFault.TheVariants as setup
 
 -- help or the version was shown

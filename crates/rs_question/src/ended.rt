@@ -1,8 +1,8 @@
 //! How the program ends where it stops short: its status.
 
 ghost use Rattle.std.specs.Prelude.{◌≡◌};
-ghost use Rattle.rs_glass_shell.specs.Files.{EndsAt, EndsReading, NamesFile};
-ghost use Rattle.rs_glass_shell.specs.Status.{status_of};
+ghost use Rattle.rs_question.specs.Files.{EndsAt, EndsReading, NamesFile};
+ghost use Rattle.rs_question.specs.Status.{status_of};
 
 use crate::query::WordsFault;
 use rs_choice::PlanFault;

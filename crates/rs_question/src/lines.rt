@@ -1,7 +1,7 @@
 //! The line that says why the program stops short.
 
 ghost use Rattle.std.specs.Prelude.{◌≡◌, ◌++◌, IfOk, string_bytes};
-ghost use Rattle.rs_glass_shell.specs.Lines.{line_break, line_of, named};
+ghost use Rattle.rs_question.specs.Lines.{line_break, line_of, named};
 
 use crate::ended::Ended;
 use crate::query::WordsFault;

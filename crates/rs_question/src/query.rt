@@ -1,7 +1,7 @@
 //! What the command line asks.
 
 ghost use Rattle.std.specs.Prelude.{◌≡◌};
-ghost use Rattle.rs_glass_shell.specs.declared.query.WordsFault.TheVariants.{Memory};
+ghost use Rattle.rs_question.specs.declared.query.WordsFault.TheVariants.{Memory};
 
 use rs_update::{Errors, Prefix};
 use std::alloc::AllocError;

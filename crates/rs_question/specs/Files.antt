@@ -5,8 +5,8 @@ use Rattle.rs_host.specs.declared.fault.FileFault.{FileFault}
 use Rattle.rs_host.specs.declared.fault.FileFault.TheVariants as file
 use Rattle.rs_glass.specs.declared.fault.GlassFault.{GlassFault}
 use Rattle.rs_glass.specs.declared.fault.GlassFault.TheVariants as glass
-use Rattle.rs_glass_shell.specs.declared.ended.Ended.{Ended}
-use Rattle.rs_glass_shell.specs.declared.ended.Ended.TheVariants.{Unread, Memory}
+use Rattle.rs_question.specs.declared.ended.Ended.{Ended}
+use Rattle.rs_question.specs.declared.ended.Ended.TheVariants.{Unread, Memory}
 use Rattle.rs_setup.specs.declared.setup.Setup.{Setup as SetUp}
 
 -- the file at this path is named, unless memory for that is refused
