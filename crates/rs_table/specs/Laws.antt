@@ -38,8 +38,8 @@ TableIsComputed =
     (tables : TablesContent) (client : ℕ) (rows : List TableRow)
     → IsTable tables client rows ↔ (rows ≡ table_of tables client)
 
--- where an entry of a list counts for a peer and a prefix, and none behind it does, the list leaves there what that entry
--- says; where none counts, it leaves nothing
+-- where an entry of a list counts for a peer and a prefix, and none behind it does, the list leaves there what that
+-- entry says; where none counts, it leaves nothing
 abbrev pub LeftByLastEntries : Type 0
 LeftByLastEntries =
     (losses : List ℕ) (peer : ℕ) (prefix : IpPrefix)

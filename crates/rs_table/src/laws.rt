@@ -1,7 +1,8 @@
 //! Laws of this crate's definitions. Each function does nothing: its contract is the law.
 
 ghost use Rattle.rs_table.specs.Examples.{LeftExamples, TableExamples};
-ghost use Rattle.rs_table.specs.Laws.{LeftAfterOneMore, LeftByLastChanges, LeftByLastEntries, LeftByPart, TableIsComputed};
+ghost use Rattle.rs_table.specs.Laws.{LeftAfterOneMore, LeftByLastChanges, LeftByLastEntries, LeftByPart};
+ghost use Rattle.rs_table.specs.Laws.{TableIsComputed};
 
 /// The routes that a list of changes leaves are those announced last on their prefix and since the session
 /// was last lost (RFC 4271, section 9.1), none where the list closes but at the end of its file.
