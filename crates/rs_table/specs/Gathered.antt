@@ -1,6 +1,6 @@
 -- Changes gathered in lists, one for each first octet of a prefix, and the routes that they leave (our choice).
-use Rattle.std.specs.Prelude.{◌≡◌, ◌≤◌, ◌/◌, ◌^◌, ℕ, ◌==◌, Bool, false, ◌&&◌, if◌then◌else◌, List, [], reverse, length, map, All}
-use Rattle.std.specs.Prelude.{Option, Some, None, slice_get, slice_index_or}
+use Rattle.std.specs.Prelude.{◌≡◌, ◌≤◌, ◌/◌, ◌^◌, ℕ, ◌==◌, Bool, false, ◌&&◌, if◌then◌else◌, List, [], All}
+use Rattle.std.specs.Prelude.{Option, Some, None, length, map, reverse, slice_get, slice_index_or}
 use Rattle.std.specs.List.{find, filter_map, flat_map}
 use Rattle.std.specs.Option.{option_map, option_map_or}
 use Rattle.std.specs.FinMap.{from_entries}

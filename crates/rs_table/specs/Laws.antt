@@ -1,10 +1,13 @@
 -- Laws of the definitions.
-use Rattle.std.specs.Prelude.{◌≡◌, ◌↔◌, ◌++◌, ◌∷◌, [], ℕ, Bool, true, List, filter, Some, None}
+use Rattle.std.specs.Prelude.{◌≡◌, ◌↔◌, ◌++◌, ◌∷◌, [], ℕ, Bool, true, false, List, filter, Some, None}
 use Rattle.std.specs.FinMap.{get}
+use Rattle.std.specs.List.{list_any}
 use Rattle.rs_update.specs.IpPrefix.{IpPrefix}
 use Rattle.rs_session.specs.Change.{Change}
 use Rattle.rs_table.specs.Left.{RouteLeft, Leaves, HasNoClose, body_prefix, is_on, left, after}
+use Rattle.rs_table.specs.declared.log.Entry.{Entry}
 use Rattle.rs_table.specs.Content.{TablesContent}
+use Rattle.rs_table.specs.Gathered.{counts, entry_route, left_in}
 use Rattle.rs_table.specs.Table.{TableRow, IsTable, table_of}
 
 -- what a list leaves by its last announcements is what is computed
@@ -34,3 +37,14 @@ abbrev pub TableIsComputed : Type 0
 TableIsComputed =
     (tables : TablesContent) (client : ℕ) (rows : List TableRow)
     → IsTable tables client rows ↔ (rows ≡ table_of tables client)
+
+-- where an entry of a list counts for a peer and a prefix, and none behind it does, the list leaves there what that
+-- entry says; where none counts, it leaves nothing
+abbrev pub LeftByLastEntries : Type 0
+LeftByLastEntries =
+    (losses : List ℕ) (peer : ℕ) (prefix : IpPrefix)
+    → ((earlier later : List Entry) (entry : Entry) → counts losses peer prefix entry ≡ true
+    → list_any (counts losses peer prefix) later ≡ false
+    → left_in losses (earlier ++ entry ∷ later) peer prefix ≡ entry_route entry)
+    × ((entries : List Entry) → list_any (counts losses peer prefix) entries ≡ false
+    → left_in losses entries peer prefix ≡ None)

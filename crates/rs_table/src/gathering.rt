@@ -3,7 +3,8 @@
 //! A change is appended to the list of its prefix's first octet, and a loss of a session is counted: what each
 //! peer has left, and what each client gets, is found once, when all changes came (our choice).
 
-ghost use Rattle.std.specs.Prelude.{◌≡◌, ◌≢◌, ◌+◌, ◌<◌, ◌≤◌, ℕ, false, [], IfOk, OnOk, OnErr, length, slice_index_or, slice_set};
+ghost use Rattle.std.specs.Prelude.{◌≡◌, ◌≢◌, ◌+◌, ◌<◌, ◌≤◌, ℕ, false, [], IfOk, OnOk, OnErr, length};
+ghost use Rattle.std.specs.Prelude.{slice_index_or, slice_set};
 ghost use Rattle.rs_session.specs.Change.{change_of, is_close};
 ghost use Rattle.rs_table.specs.Content.{nothing_held, rib_of};
 ghost use Rattle.rs_table.specs.Gathered.{AreLogs, GathersTo, IsAdded, lists_of};

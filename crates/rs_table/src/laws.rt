@@ -1,7 +1,8 @@
 //! Laws of this crate's definitions. Each function does nothing: its contract is the law.
 
 ghost use Rattle.rs_table.specs.Examples.{LeftExamples, TableExamples};
-ghost use Rattle.rs_table.specs.Laws.{LeftByLastChanges, LeftByPart, LeftAfterOneMore, TableIsComputed};
+ghost use Rattle.rs_table.specs.Laws.{LeftAfterOneMore, LeftByLastChanges, LeftByLastEntries, LeftByPart};
+ghost use Rattle.rs_table.specs.Laws.{TableIsComputed};
 
 /// The routes that a list of changes leaves are those announced last on their prefix and since the session
 /// was last lost (RFC 4271, section 9.1), none where the list closes but at the end of its file.
@@ -19,6 +20,12 @@ pub fn left_after_one_more()
 /// own.
 pub fn left_by_part()
     ensures { LeftByPart }
+{}
+
+/// A list of gathered changes leaves a peer on a prefix what the last of its entries says that is of both and not
+/// void.
+pub fn left_by_last_entries()
+    ensures { LeftByLastEntries }
 {}
 
 /// A client has one table: the rows that ascend strictly and say of each prefix what the client gets are

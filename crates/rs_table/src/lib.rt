@@ -26,7 +26,8 @@ mod why;
 pub use client_rows::ClientRows;
 pub use gathering::{FEW_ENTRIES, Gathering};
 pub use laws::{
-    examples_hold, left_after_one_more, left_by_last_changes, left_by_part, table_is_computed,
+    examples_hold, left_after_one_more, left_by_last_changes, left_by_last_entries, left_by_part,
+    table_is_computed,
 };
 pub use route::{Route, Row};
 pub use tables::Tables;

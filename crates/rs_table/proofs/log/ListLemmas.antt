@@ -41,6 +41,12 @@ module _ (losses : List ℕ) (peer : ℕ) (prefix : IpPrefix) where
   left-none entries before none =
       ap (λ (o : Option Entry). option_map_or entry_route o before) (find_none (counts losses peer prefix) (reverse entries) (list_any-reverse (counts losses peer prefix) entries none))
 
+  -- the last entry that counts says what is left
+  pub left-by-last : (earlier later : List Entry) (entry : Entry) (before : Option RouteLeft) → counts losses peer prefix entry ≡ true → list_any (counts losses peer prefix) later ≡ false
+      → left_over losses (earlier ++ entry ∷ later) peer prefix before ≡ entry_route entry
+  left-by-last [] later entry before here none = left-cons entry later before ∙ left-none later _ none ∙ rw here refl
+  left-by-last (first ∷ earlier) later entry before here none = left-cons first (earlier ++ entry ∷ later) before ∙ left-by-last earlier later entry _ here none
+
   -- an entry on another prefix doesn't count, nor does a void one
   pub uncounted-elsewhere : (entry : Entry) → same_prefix prefix entry.prefix ≡ false → counts losses peer prefix entry ≡ false
   uncounted-elsewhere entry other = rw other (ap (λ b. b && is_current losses entry) (and_right (entry.peer == peer) false refl))

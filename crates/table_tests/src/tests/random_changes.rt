@@ -130,7 +130,10 @@ fn gather_both(
 
 // Gathers a hundred changes of six peers in lists of which those with so many entries are compacted.
 fn check_gathered(rt: &impl Abort, alloc: Global, random: &mut Random, few: usize) -> Option<()> {
-    let mut gathering = Gathering::new(after(alloc, SIX_PEERS, "")?, few).ok()?;
+    let Ok(tables) = Tables::new(alloc, exchange(alloc, SIX_PEERS)?) else {
+        return None;
+    };
+    let mut gathering = Gathering::new(tables, few).ok()?;
     let mut history = History::new(alloc, exchange(alloc, SIX_PEERS)?);
     for time in 0..100 {
         let change = some_change(alloc, random, time)?;
