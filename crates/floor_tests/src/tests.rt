@@ -1,6 +1,8 @@
 //! Rings in one thread and between two; workers, the router and shards on threads of their own; whole runs and schedules.
 
+mod by_hand;
 mod changes;
+mod dumps;
 mod exchanges;
 mod gates;
 mod items;
@@ -9,5 +11,6 @@ mod ring_threads;
 mod rings;
 mod routers;
 mod rows;
+mod sessions;
 mod shards;
 mod workers;

@@ -1,6 +1,7 @@
 //! Exchanges, what is recorded of their peers, and runs and schedules of them.
 
-ghost use Rattle.std.specs.Prelude.{◌≡◌};
+ghost use Rattle.std.specs.Prelude.{◌≡◌, length};
+ghost use Rattle.rs_floor.specs.FloorContent.{FitAll};
 
 use rs_choice::{Exchange, Local, PeerSpec};
 use rs_floor::{Floor, FloorRefused, Gate, Served, Turn, replay, serve_by};
@@ -36,8 +37,8 @@ impl Peer {
     }
 }
 
-// The address of the peer of this place.
-fn address_of(place: u32) -> u32 {
+/// The address of the peer of this place.
+pub fn address_of(place: u32) -> u32 {
     place.wrapping_add(0xC000_020B)
 }
 
@@ -161,6 +162,26 @@ pub fn announcer(alloc: Global, place: u32, count: u32) -> Option<Peer> {
     Some(peer)
 }
 
+/// Two peers, the first of which announces so many prefixes.
+pub fn two_peers(alloc: Global, count: u32) -> Option<Vec<Peer>> {
+    let mut peers = Vec::new(alloc);
+    peers.push(announcer(alloc, 0, count)?).ok()?;
+    peers.push(announcer(alloc, 1, 0)?).ok()?;
+    Some(peers)
+}
+
+/// The turns of a schedule that takes one peer after another: so many sends of each, and a receipt after each send.
+pub fn turns_by_peer(alloc: Global, peers: usize, each: usize) -> Option<Vec<Turn>> {
+    let mut turns = Vec::new(alloc);
+    for peer in 0..peers {
+        for _ in 0..each {
+            turns.push(Turn::Send(peer)).ok()?;
+            turns.push(Turn::Receive(peer)).ok()?;
+        }
+    }
+    Some(turns)
+}
+
 /// A reader of a file that gives at most so many octets at once, and fails after so many, where a number is given.
 pub fn reader_of(file: &[u8], piece: usize, fails: Option<usize>) -> MemoryReader<'_>
     ensures { result.failures ≡ 0 }
@@ -200,21 +221,39 @@ pub fn run<R: Threads + Wait + Sync + Abort, G: Gate>(
     )
 }
 
+/// The exchange of peers and their files at hand, as schedules and runs over files take them.
+#[derive(Drop)]
+pub struct AtHand<'a> {
+    pub plan: Arc<Exchange>,
+    pub files: Vec<&'a [u8]>,
+    ghost one_for_each: { length files.items ≡ length plan.value.peers },
+    ghost limit: { FitAll files.items },
+}
+
+/// The files of these peers.
+pub fn at_hand<'a>(alloc: Global, peers: &'a [Peer]) -> Option<AtHand<'a>> {
+    let plan = exchange(alloc, peers)?;
+    let files: Vec<&[u8]> = peers
+        .iter()
+        .map(|peer| peer.file.as_slice())
+        .collect(alloc)
+        .ok()?;
+    let fit = files.iter().all(|file| file.len() < 1 << 50);
+    if !fit || files.len() != plan.count() {
+        return None;
+    }
+    Some(AtHand { plan, files })
+}
+
 /// What comes of a schedule over peers' files.
 pub fn schedule(
-    rt: &impl Abort,
     alloc: Global,
     peers: &[Peer],
     capacity: usize,
     turns: &[Turn],
 ) -> Result<Floor, FloorRefused> {
-    let plan = exchange(alloc, peers).ok_or(FloorRefused::Memory)?;
-    let files: Vec<&[u8]> = peers
-        .iter()
-        .map(|peer| peer.file.as_slice())
-        .collect(alloc)?;
-    let fit = files.iter().all(|file| file.len() < 1 << 50);
-    assert!(rt; fit);
-    assert!(rt; files.len() == plan.count());
+    let Some(AtHand { plan, files }) = at_hand(alloc, peers) else {
+        return Err(FloorRefused::Memory);
+    };
     replay(alloc, &plan, &files, capacity, turns)
 }

@@ -1,6 +1,6 @@
 //! Runs that are watched and held at their gates.
 
-use super::exchanges::{Peer, announcer, run};
+use super::exchanges::{run, two_peers};
 use rs_floor::Gate;
 use std::alloc::Global;
 use std::process::Abort;
@@ -77,14 +77,6 @@ impl Gate for Crossing {
             self.cross(shard, number);
         }
     }
-}
-
-// The first of two peers announces so many prefixes.
-fn two_peers(alloc: Global, count: u32) -> Option<Vec<Peer>> {
-    let mut peers = Vec::new(alloc);
-    peers.push(announcer(alloc, 0, count)?).ok()?;
-    peers.push(announcer(alloc, 1, 0)?).ok()?;
-    Some(peers)
 }
 
 // How many rows the second of two peers has after a run in which the first announces so many prefixes, through rings of

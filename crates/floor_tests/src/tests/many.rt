@@ -1,7 +1,8 @@
 //! Many runs, many peers, and reads that fail one after another.
 
 use super::exchanges::{
-    Peer, Recorded, add_announcement, add_withdrawal, announcer, exchange, reader_of, run, schedule,
+    AtHand, Peer, Recorded, add_announcement, add_withdrawal, at_hand, exchange, reader_of, run,
+    schedule, turns_by_peer, two_peers,
 };
 use super::rows::{peers_of, said_of_run, said_of_schedule, said_of_tables, threaded};
 use rs_floor::{Open, Turn, serve, serve_readers, serve_sharded};
@@ -115,8 +116,8 @@ fn busy_peer(alloc: Global, place: u32, asn: u32, id: u32) -> Option<Peer> {
     Some(peer)
 }
 
-// Six of them.
-fn busy_peers(alloc: Global) -> Option<Vec<Peer>> {
+/// Six peers that say two dozen things each, of fourteen prefixes in as many shards.
+pub fn busy_peers(alloc: Global) -> Option<Vec<Peer>> {
     let mut peers = Vec::new(alloc);
     let mut place = 0;
     for (asn, id) in SIX {
@@ -124,16 +125,6 @@ fn busy_peers(alloc: Global) -> Option<Vec<Peer>> {
         place = place.wrapping_add(1);
     }
     Some(peers)
-}
-
-// A schedule that takes one peer after another.
-fn turns_by_peer(alloc: Global) -> Option<Vec<Turn>> {
-    let mut turns = Vec::new(alloc);
-    for number in 0..6 * 25usize {
-        turns.push(Turn::Send(number / 25)).ok()?;
-        turns.push(Turn::Receive(number / 25)).ok()?;
-    }
-    Some(turns)
 }
 
 // A schedule of turns that look random, of seven peers (multiplicative, modulo 2^32).
@@ -161,7 +152,7 @@ fn left_by(
     capacity: usize,
     turns: &[Turn],
 ) -> Option<String> {
-    said_of_schedule(rt, alloc, schedule(rt, alloc, peers, capacity, turns))
+    said_of_schedule(rt, alloc, schedule(alloc, peers, capacity, turns))
 }
 
 // However the turns are taken, all is sent and received, and the same is left.
@@ -169,7 +160,7 @@ fn left_by(
 fn schedules_leave_the_same_tables(rt: HostRuntime) {
     let alloc = rt.alloc();
     let peers = busy_peers(alloc).expect(&rt, "peers");
-    let ordered = turns_by_peer(alloc).expect(&rt, "turns");
+    let ordered = turns_by_peer(alloc, 6, 25).expect(&rt, "turns");
     let random = random_turns(alloc, 10_000).expect(&rt, "turns");
     let one = left_by(&rt, alloc, &peers, 1, &ordered).expect(&rt, "memory");
     let other = left_by(&rt, alloc, &peers, 3, &random).expect(&rt, "memory");
@@ -179,9 +170,9 @@ fn schedules_leave_the_same_tables(rt: HostRuntime) {
 }
 
 // The tables of a schedule that takes one peer after another.
-fn tables_by_peer(rt: &impl Abort, alloc: Global, peers: &[Peer]) -> Option<String> {
-    let turns = turns_by_peer(alloc)?;
-    let floor = schedule(rt, alloc, peers, 1, &turns).ok()?;
+fn tables_by_peer(alloc: Global, peers: &[Peer]) -> Option<String> {
+    let turns = turns_by_peer(alloc, 6, 25)?;
+    let floor = schedule(alloc, peers, 1, &turns).ok()?;
     said_of_tables(alloc, floor.tables())
 }
 
@@ -195,19 +186,43 @@ fn tables_of_run<R: Threads + Wait + Sync + Abort>(
     said_of_tables(alloc, served.tables())
 }
 
-// Five hundred runs leave the tables of a schedule, each with other rings or shards than the one before it: the rings
-// are of `least` changes or of up to three more.
-fn check_runs<R: Threads + Wait + Sync + Abort>(rt: &R, alloc: Global, least: usize) {
-    let peers = busy_peers(alloc).expect(rt, "peers");
-    let tables = tables_by_peer(rt, alloc, &peers).expect(rt, "tables");
-    assert!(rt; tables.split(" of ").count() > 6 * 4);
-    assert_eq!(rt; tables_of_run(rt, alloc, &peers), Some(tables));
-    let first = threaded(rt, alloc, &peers, 1, 1, false).expect(rt, "a run");
+// What comes of a run whose tables have many routes, and are those of a schedule.
+fn said_as_scheduled<R: Threads + Wait + Sync + Abort>(
+    rt: &R,
+    alloc: Global,
+    peers: &[Peer],
+) -> Option<String> {
+    let tables = tables_by_peer(alloc, peers)?;
+    if tables.split(" of ").count() <= 6 * 4 || tables_of_run(rt, alloc, peers)? != tables {
+        return None;
+    }
+    threaded(rt, alloc, peers, 1, 1, false)
+}
+
+// Five hundred runs leave the same, each with other rings or shards than the one before it: the rings are of `least`
+// changes or of up to three more. Answers the first that doesn't.
+fn first_other<R: Threads + Wait + Sync + Abort>(
+    rt: &R,
+    alloc: Global,
+    peers: &[Peer],
+    least: usize,
+    wanted: &str,
+) -> Option<usize> {
     for number in 0..500usize {
         let (capacity, shards) = (least.wrapping_add(number % 4), number / 4 % 4 + 1);
-        let found = threaded(rt, alloc, &peers, capacity, shards, false).expect(rt, "a run");
-        assert_eq!(rt; found.as_str(), first.as_str(), "run {number}");
+        match threaded(rt, alloc, peers, capacity, shards, false) {
+            Some(found) if found.as_str() == wanted => {}
+            _ => return Some(number),
+        }
     }
+    None
+}
+
+// Five hundred runs leave the tables of a schedule.
+fn check_runs<R: Threads + Wait + Sync + Abort>(rt: &R, alloc: Global, least: usize) {
+    let peers = busy_peers(alloc).expect(rt, "peers");
+    let wanted = said_as_scheduled(rt, alloc, &peers).expect(rt, "the tables of a schedule");
+    assert_eq!(rt; first_other(rt, alloc, &peers, least, &wanted), None);
 }
 
 #[test]
@@ -226,15 +241,7 @@ fn by_files<R: Threads + Wait + Sync + Abort>(
     alloc: Global,
     peers: &[Peer],
 ) -> Option<String> {
-    let plan = exchange(alloc, peers)?;
-    let files: Vec<&[u8]> = peers
-        .iter()
-        .map(|peer| peer.file.as_slice())
-        .collect(alloc)
-        .ok()?;
-    let fit = files.iter().all(|file| file.len() < 1 << 50);
-    assert!(rt; fit);
-    assert!(rt; files.len() == plan.count());
+    let AtHand { plan, files } = at_hand(alloc, peers)?;
     said_of_run(rt, alloc, serve(rt, alloc, &plan, &files, 2, &Open))
 }
 
@@ -269,4 +276,22 @@ fn each_call_leaves_the_same(rt: HostRuntime) {
     assert_eq!(rt; by_files(&rt, alloc, &peers), wanted);
     assert_eq!(rt; by_readers(&rt, alloc, &peers, None), wanted);
     assert_eq!(rt; by_readers(&rt, alloc, &peers, Some(3)), wanted);
+}
+
+// How many rows the second of two peers has after a schedule, and how many changes of the first one were received: it
+// announces so many prefixes, through a ring of one change.
+fn scheduled_rows(alloc: Global, count: u32, turns: &[Turn]) -> Option<(usize, u64)> {
+    let peers = two_peers(alloc, count)?;
+    let floor = schedule(alloc, &peers, 1, turns).ok()?;
+    if floor.tables().count() == 0 {
+        return None;
+    }
+    Some((floor.tables().rows(1).ok()?.len(), floor.received(0)))
+}
+
+#[test]
+fn a_schedule_of_many_changes_leaves_a_row_for_each_prefix(rt: HostRuntime) {
+    let turns = turns_by_peer(rt.alloc(), 2, 5_000).expect(&rt, "turns");
+    let left = scheduled_rows(rt.alloc(), 4_999, &turns);
+    assert_eq!(rt; left, Some((4_999, 5_000)));
 }

@@ -101,8 +101,8 @@ const FILES: &[(&str, &str)] = &[
     ),
 ];
 
-// The digits of what is recorded.
-fn digits(name: &str) -> Option<&'static str> {
+/// The digits of what is recorded.
+pub fn digits(name: &str) -> Option<&'static str> {
     for (known, digits) in FILES {
         if name == *known {
             return Some(digits);
@@ -260,7 +260,7 @@ fn scheduled(
     words: &str,
 ) -> Option<String> {
     let turns = turns_of(alloc, words)?;
-    said_of_schedule(rt, alloc, schedule(rt, alloc, peers, capacity, &turns))
+    said_of_schedule(rt, alloc, schedule(alloc, peers, capacity, &turns))
 }
 
 // Counts the workers that came, and the changes and items that workers and shards were about to handle.
@@ -278,6 +278,13 @@ impl Passes {
             changes: AtomicU64::new(0),
             items: AtomicU64::new(0),
         }
+    }
+
+    // No worker and no shard came.
+    fn are_none(&self) -> bool {
+        let workers = self.workers.load(Ordering::SeqCst);
+        let changes = self.changes.load(Ordering::SeqCst);
+        workers == 0 && changes == 0 && self.items.load(Ordering::SeqCst) == 0
     }
 
     // Each of so many shards handled all that it was sent: the changes on its prefixes, every close and the last item.
@@ -587,4 +594,25 @@ fn refused_memory_or_a_refused_thread_refuses_a_run(rt: HostRuntime) {
 #[test]
 fn refused_memory_refuses_a_schedule(rt: HostRuntime) {
     let _ = check_rows(&rt, rt.alloc(), SCHEDULES);
+}
+
+// A run that is refused leaves its gate as it was, where no thread is refused.
+fn check_refusal<R: Threads + Wait + Sync + Abort>(
+    rt: &R,
+    alloc: Global,
+    line: &str,
+) -> Option<()> {
+    let peers = peers_of(alloc, line)?;
+    let gate = Passes::none();
+    let refused = run(rt, alloc, &peers, 1, 2, &gate).is_err();
+    assert!(rt; !refused || gate.are_none());
+    Some(())
+}
+
+// It holds whichever allocation is refused before the first thread starts: then no worker and no shard comes to the
+// gate. `tools/refuse_in_tests` refuses each of these in turn.
+#[test]
+fn a_run_that_is_refused_before_its_first_thread_has_none(rt: HostRuntime) {
+    let line = "64501/11:restricted 64502/12:nothing 64503/13:longer 64504/14:nothing";
+    let _ = check_refusal(&rt, rt.alloc(), line);
 }

@@ -4,7 +4,7 @@ ghost use Rattle.std.specs.Prelude.{◌≡◌, [], ℕ, IfSome};
 ghost use Rattle.rs_table.specs.Content.{nothing_held, rib_of};
 
 use super::changes::{change_of, prefix_at, ring_of, route_of};
-use super::exchanges::exchange;
+use super::exchanges::{Peer, exchange};
 use super::rows::peers_of;
 use rs_ring::{Closing, SendRefused, Sender};
 use rs_router::Routed;
@@ -68,12 +68,19 @@ fn send_all(rt: &impl Wait, sender: Sender<Routed>, route: &Arc<Attributes>) -> 
     send(rt, &mut sender, Routed::Last)
 }
 
+/// The tables of peers before any change.
+pub fn empty_tables(alloc: Global, peers: &[Peer]) -> Option<Tables>
+    ensures { IfSome result (λ tables. (peer : ℕ) → rib_of tables peer ≡ nothing_held) }
+{
+    Tables::new(alloc, exchange(alloc, peers)?).ok()
+}
+
 // The tables of three peers before any change.
 fn no_routes(alloc: Global) -> Option<Tables>
     ensures { IfSome result (λ tables. (peer : ℕ) → rib_of tables peer ≡ nothing_held) }
 {
     let peers = peers_of(alloc, "64501/11:nothing 64502/12:nothing 64503/13:nothing")?;
-    Tables::new(alloc, exchange(alloc, &peers)?).ok()
+    empty_tables(alloc, &peers)
 }
 
 // What the shard of number 3 holds of all changes, which come through a ring of this capacity from another thread.
