@@ -1,4 +1,4 @@
-//! Tests of runs on threads, over the public calls of the crates that run them.
+//! Tests of rings, of runs on threads and of schedules, over the public calls of the crates that run them.
 #![tactic(auto)]
 
 #[cfg(test)]

@@ -1,9 +1,12 @@
-//! Workers, the router and shards on threads of their own, and whole runs and schedules.
+//! Rings in one thread and between two; workers, the router and shards on threads of their own; whole runs and schedules.
 
 mod changes;
 mod exchanges;
 mod gates;
+mod items;
 mod many;
+mod ring_threads;
+mod rings;
 mod routers;
 mod rows;
 mod shards;

@@ -1,8 +1,3 @@
--- Runs on threads: their rings, their start and join, and what they serve.
-pub mod OpenLemmas
-pub mod ServedLemmas
-pub mod AllServedLemmas
-pub mod RunLemmas
-pub mod SettleLemmas
+-- Whole runs over files at hand.
 pub mod FileLemmas
 pub mod AtHandLemmas

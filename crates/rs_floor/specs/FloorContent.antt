@@ -6,9 +6,9 @@ use Rattle.std.specs.List.{zip}
 use Rattle.rs_choice.specs.Plan.{Peer, Plan}
 use Rattle.rs_session.specs.Change.{Change}
 use Rattle.rs_session.specs.FileChanges.{changes_in}
-use Rattle.rs_session.specs.declared.peer.PeerId.{PeerId}
 use Rattle.rs_table.specs.Codes.{tables_code}
 use Rattle.rs_table.specs.Content.{TablesContent, rib_left}
+use Rattle.rs_serve.specs.Identity.{id_of}
 use Rattle.rs_floor.specs.Lane.{LaneContent, fresh_lane}
 use Rattle.rs_floor.specs.Schedule.{at_start, after_turns}
 use Rattle.rs_floor.specs.declared.counts.Counts.{Counts}
@@ -28,10 +28,6 @@ abbrev pub floor_code : Coded FloorContent
 floor_code =
     code_by (TablesContent × List Counts) (coded× tables_code (coded_list counts_code)) (λ f. (f.tables, f.counts))
     (λ p. record { tables = p.0; counts = p.1 }) (λ _. refl)
-
--- who a peer is in a recording
-abbrev pub id_of : Peer → PeerId
-id_of peer = record { address = peer.address; asn = peer.asn }
 
 -- the changes in each peer's file, in the order of the peers
 abbrev pub recorded_by : Plan → List (List ℕ) → List (List Change)

@@ -1,8 +1,11 @@
 -- What holds of the definitions: each is the contract of a function that does nothing.
-use Rattle.std.specs.Prelude.{◌≡◌, ℕ, List, map, length, slice_get, Some}
+use Rattle.std.specs.Prelude.{◌≡◌, ℕ, List, length, slice_get, Some}
 use Rattle.rs_choice.specs.Plan.{Plan}
 use Rattle.rs_session.specs.Change.{Change}
-use Rattle.rs_table.specs.Content.{TablesContent, rib_left}
+use Rattle.rs_dump.specs.Dump.{dumped}
+use Rattle.rs_serve.specs.Served.{tables_of}
+use Rattle.rs_table.specs.Content.{TablesContent}
+use Rattle.rs_table.specs.Table.{table_of}
 use Rattle.rs_floor.specs.FloorContent.{FloorContent, IsReplayed, recorded_by}
 use Rattle.rs_floor.specs.declared.counts.Counts.{Counts}
 use Rattle.rs_floor.specs.declared.turn.Turn.{Turn}
@@ -14,13 +17,33 @@ IsDrained recorded floor =
     → slice_get floor.counts peer ≡ Some counts
     → counts.received ≡ length changes
 
--- the tables of a plan of whose peers this is recorded, whatever the order
-abbrev pub tables_of : Plan → List (List Change) → TablesContent
-tables_of plan recorded = record { plan = plan; ribs = map rib_left recorded }
-
 -- where all was received, the tables are those of what is recorded, whatever the capacity and the turns
 abbrev pub DrainedSchedulesAgree : Type 0
 DrainedSchedulesAgree =
     (plan : Plan) (files : List (List ℕ)) (capacity : ℕ) (turns : List Turn) (floor : FloorContent)
     → IsReplayed plan (recorded_by plan files) capacity turns floor → IsDrained (recorded_by plan files) floor
     → floor.tables ≡ tables_of plan (recorded_by plan files)
+
+-- ---- the dumps (RFC 6396, section 4.3)
+
+-- the dump of a client of these tables
+abbrev pub dump_of : TablesContent → ℕ → ℕ → List ℕ
+dump_of tables client time = dumped tables.plan client (table_of tables client) time
+
+-- where all that the files say was received, each dump is that of the files alone
+abbrev pub DrainedDumpsAreOfFiles : Type 0
+DrainedDumpsAreOfFiles =
+    (plan : Plan) (files : List (List ℕ)) (capacity : ℕ) (turns : List Turn) (floor : FloorContent)
+    → IsReplayed plan (recorded_by plan files) capacity turns floor → IsDrained (recorded_by plan files) floor
+    → (client time : ℕ)
+    → dump_of floor.tables client time ≡ dump_of (tables_of plan (recorded_by plan files)) client time
+
+-- so any two such schedules, of whatever capacity, give the same octets
+abbrev pub DrainedDumpsAgree : Type 0
+DrainedDumpsAgree =
+    (plan : Plan) (files : List (List ℕ)) (capacity other_capacity : ℕ) (turns other_turns : List Turn)
+    (one other : FloorContent)
+    → IsReplayed plan (recorded_by plan files) capacity turns one → IsDrained (recorded_by plan files) one
+    → IsReplayed plan (recorded_by plan files) other_capacity other_turns other
+    → IsDrained (recorded_by plan files) other
+    → (client time : ℕ) → dump_of one.tables client time ≡ dump_of other.tables client time

@@ -1,17 +1,16 @@
--- What a run comes to:
-pub mod Outcome  -- how it ended
-pub mod Run  -- what it leaves
-pub mod Served  -- what its tables and sessions are
-pub mod ServeAnswer  -- what a run answers, by its result
-pub mod Laws  -- what holds of these
 -- One thread, step by step:
 pub mod Lane  -- one peer: its session and its ring
 pub mod Schedule  -- its two counts
 pub mod Steps  -- tables beside the lanes
 pub mod FloorContent  -- the end of a schedule
 pub mod LaneView  -- a lane by its fields
--- Before the threads:
-pub mod Lines  -- rings that are made
+pub mod Laws  -- what holds of these, and of the dumps
+-- On threads:
+pub mod ServeFiles  -- what a run answers over files at hand
+pub use Rattle.rs_serve.specs.ServeAnswer
+pub use Rattle.rs_serve.specs.Served
+pub use Rattle.rs_serve.specs.Identity
+pub use Rattle.rs_serve.specs.Outcome
 -- What the contracts name of the crates below:
 pub use Rattle.rs_table.specs.Content
 pub use Rattle.rs_table.specs.Left

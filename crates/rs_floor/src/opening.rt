@@ -5,9 +5,9 @@ ghost use Rattle.rs_ring.specs.Items.{is_capacity};
 ghost use Rattle.rs_floor.specs.FloorContent.{AreFresh, FitAll};
 
 use crate::counts::Counts;
-use crate::identity::peer_id;
 use crate::lane::Lane;
 use rs_choice::Exchange;
+use rs_serve::peer_id;
 use std::alloc::{AllocError, Global};
 
 // A lane for each peer, in the order of the peers. Refused where memory is.

@@ -3,15 +3,14 @@
 ghost use Rattle.std.specs.Prelude.{◌≡◌, length, map, true, false, Err, IfOk, IfErr};
 ghost use Rattle.rs_ring.specs.Items.{is_capacity};
 ghost use Rattle.rs_floor.specs.FloorContent.{FitAll, IsReplayed, recorded_by};
-ghost use Rattle.rs_floor.specs.declared.fault.FloorRefused.TheVariants.{Capacity, Memory};
+ghost use Rattle.rs_serve.specs.declared.fault.FloorRefused.TheVariants.{Capacity, Memory};
 
-use crate::fault::FloorRefused;
 use crate::floor::Floor;
 use crate::opening::open_lanes;
 use crate::steps::run_turns;
 use crate::turn::Turn;
 use rs_choice::Exchange;
-use rs_ring::MAX_CAPACITY;
+use rs_serve::{FloorRefused, has_room};
 use rs_table::Tables;
 use std::alloc::Global;
 use std::sync::Arc;
@@ -43,11 +42,4 @@ pub fn replay(
     let mut lanes = open_lanes(alloc, plan, files, capacity)?;
     let counts = run_turns(alloc, &mut lanes, &mut tables, turns)?;
     Ok(Floor::new(tables, counts))
-}
-
-// Whether a ring may have room for so many changes.
-pub(crate) fn has_room(capacity: usize) -> bool
-    ensures { result ≡ is_capacity capacity }
-{
-    (1..=MAX_CAPACITY).contains(&capacity)
 }

@@ -1,171 +1,20 @@
-//! Runs on threads: one for each peer's recorded session, and one for each shard of the tables.
+//! Whole runs on threads by the default standard: with so many shards, with one, and over files at hand.
 
-ghost use Rattle.std.specs.List.{list_any};
-ghost use Rattle.std.specs.Prelude.{◌≡◌, ◌<◌, ◌^◌, ◌||◌, not, All, IfErr, IfOk, IfSome, IsTrue, length, map};
-ghost use Rattle.rs_session.specs.Change.{is_read};
-ghost use Rattle.rs_shard.specs.Crew as of_shards;
-ghost use Rattle.rs_worker.specs.Crew.{charge_of};
-ghost use Rattle.rs_worker.specs.Worked as spec;
-ghost use Rattle.rs_floor.specs.Run.{CanMerge, HasRun, IsAnswer, IsRefusal, end_of};
-ghost use Rattle.rs_router.specs.Cut.{IsShardCount};
+ghost use Rattle.std.specs.Prelude.{◌≡◌, ◌<◌, ◌^◌, All, IfOk, length, map};
+ghost use Rattle.std.specs.Prelude.{Err};
+ghost use Rattle.rs_floor.specs.ServeFiles.{ServeFilesAnswer, whole_of};
+ghost use Rattle.rs_serve.specs.ServeAnswer.{ServeAnswer};
+ghost use Rattle.rs_serve.specs.declared.fault.FloorRefused.TheVariants.{Shards};
 ghost use Rattle.rs_session.specs.FileChanges.{default_standard};
-ghost use Rattle.rs_floor.specs.ServeAnswer.{ServeAnswer, ServeFilesAnswer};
-ghost use Rattle.rs_floor.specs.Served.{is_shard_count};
 
-use crate::crew::{Crew, Ran, Ready, run_ready};
-use crate::ended::PeerEnd;
-use crate::fault::FloorRefused;
-use crate::outcome::verdict;
-use crate::schedule::has_room;
-use crate::served::Served;
 use rs_choice::Exchange;
-use rs_mrt::{IoReader, Read};
-use rs_router::MAX_SHARDS;
-use rs_session::{Reason, a_failed_read_closes_last, a_session_closes_once};
-use rs_shard::{run_shards_are_whole, shards_merge};
-use rs_table::Tables;
+use rs_mrt::{MemoryReader, Read, ReadLimits};
+use rs_serve::{FloorRefused, Served, has_room, serve_by};
 use rs_update::Errors;
-use rs_worker::{Gate, Joined};
+use rs_worker::Gate;
 use std::alloc::{AllocError, Global};
 use std::sync::{Arc, Wait};
-use std::thread;
 use std::thread::Threads;
-
-/// Runs the recorded sessions of all peers at once: a thread for each peer reads its file and sends the
-/// changes through a ring of this capacity, the calling thread routes them to the shards, and a thread for
-/// each shard holds the tables of its prefixes. `readers` has the reader of each peer's file, in the order of
-/// the peers. Faults in messages are handled by one of the standards.
-///
-/// Fails with `Capacity` where the capacity isn't from 1 to 65,536, then with `Shards` where the number of
-/// shards isn't from 1 to 16, then with `Memory` where memory or a thread is refused, then with `Read` of the
-/// least peer of which a read failed, then with `Unsettled` of the least peer of which not all that was sent
-/// is known to have been received. All threads are joined before any answer.
-pub fn serve_by<T: Threads + Wait + Sync, R: Read + Send + Drop, G: Gate>(
-    rt: &T,
-    alloc: Global,
-    plan: &Arc<Exchange>,
-    readers: Vec<R>,
-    capacity: usize,
-    shards: usize,
-    errors: Errors,
-    gate: &G,
-) -> Result<Served, FloorRefused>
-    requires as_many { length readers.items ≡ length plan.now.value.peers }
-    requires failures { All (λ reader. R.failures reader < u64.MAX) readers.items }
-    ensures answer { ServeAnswer R.gives errors plan.now.value readers.items capacity shards result }
-{
-    if !has_room(capacity) {
-        return Err(FloorRefused::Capacity);
-    }
-    if !has_place(shards) {
-        return Err(FloorRefused::Shards);
-    }
-    a_failed_read_closes_last();
-    a_session_closes_once();
-    run_shards_are_whole();
-    shards_merge();
-    let crew = Crew::new(alloc, plan, readers, capacity, shards)?;
-    let ready = Ready { crew };
-    let ran = thread::scope(
-        thread::scope_env(),
-        rt,
-        |scope| -> Option<Ran>
-            ensures { IfSome result (λ ran. HasRun R.gives (map (charge_of errors) ready.crew.lines.jobs.items)
-                (map of_shards.charge_of ready.crew.rings.jobs.items) ran.ends.items ran.parts.items ran.whole) }
-        { run_ready(scope, rt, alloc, ready, errors, gate) },
-    );
-    match ran {
-        Some(ran) => settle(alloc, ran),
-        None => Err(FloorRefused::Memory),
-    }
-}
-
-// Whether there may be so many shards.
-fn has_place(shards: usize) -> bool
-    ensures value { result ≡ is_shard_count shards }
-    ensures count { IsTrue result → IsShardCount shards }
-{
-    (1..=MAX_SHARDS).contains(&shards)
-}
-
-// The answer to a run of which all threads were joined.
-fn settle(alloc: Global, ran: Ran) -> Result<Served, FloorRefused>
-    requires { IsTrue ran.whole → CanMerge (length ran.ends.items) ran.parts.items }
-    ensures served { IfOk result (IsAnswer ran.ends.items ran.parts.items ran.whole) }
-    ensures refused { IfErr result (IsRefusal ran.ends.items ran.whole) }
-{
-    let Ran { ends, parts, whole } = ran;
-    let memory = is_refused_memory(&ends, whole);
-    let failed = failed_reads(alloc, &ends)?;
-    let settled = settled_peers(alloc, &ends)?;
-    verdict(memory, &failed, &settled)?;
-    let ends = peer_ends(alloc, &ends)?;
-    let tables = Tables::merge(parts)?;
-    let _peers = tables.count();
-    Ok(Served::new(tables, ends))
-}
-
-// Whether a worker was refused memory, or the tables of a shard are missing.
-fn is_refused_memory(ends: &[Joined], whole: bool) -> bool
-    ensures { result ≡ (list_any (λ end. spec.is_memory end.reason) ends.now || not whole) }
-{
-    is_any_refused(ends) || !whole
-}
-
-// Whether a worker was refused memory.
-fn is_any_refused(ends: &[Joined]) -> bool
-    ensures { result ≡ list_any (λ end. spec.is_memory end.reason) ends.now }
-{
-    ends.iter().any(|end| is_memory(end.reason))
-}
-
-// Of each peer whether a read failed.
-fn failed_reads(alloc: Global, ends: &[Joined]) -> Result<Vec<bool>, AllocError>
-    ensures { IfOk result (λ failed. failed.items ≡ map (λ end. is_read end.reason) ends.now) }
-{
-    ends.iter()
-        .map(|end| is_failed_read(end.reason))
-        .collect(alloc)
-}
-
-// Of each peer whether all that was sent is known to have been received.
-fn settled_peers(alloc: Global, ends: &[Joined]) -> Result<Vec<bool>, AllocError>
-    ensures { IfOk result (λ settled. settled.items ≡ map (λ end. end.settled) ends.now) }
-{
-    ends.iter().map(|end| end.settled).collect(alloc)
-}
-
-// How the session of each peer ended.
-fn peer_ends(alloc: Global, ends: &[Joined]) -> Result<Vec<PeerEnd>, AllocError>
-    ensures { IfOk result (λ all. all.items ≡ map end_of ends.now) }
-{
-    ends.iter().map(peer_end).collect(alloc)
-}
-
-// How the session of a peer ended.
-fn peer_end(end: &Joined) -> PeerEnd
-    ensures { result ≡ end_of end.now }
-{
-    PeerEnd {
-        changes: end.changes,
-        passed: end.passed,
-        reason: end.reason,
-    }
-}
-
-// Whether a session ended for want of memory.
-fn is_memory(reason: Reason) -> bool
-    ensures { result ≡ spec.is_memory reason }
-{
-    matches!(reason, Reason::Memory)
-}
-
-// Whether a session ended with a failed read.
-fn is_failed_read(reason: Reason) -> bool
-    ensures { result ≡ is_read reason }
-{
-    matches!(reason, Reason::Read)
-}
 
 /// `serve_by` that handles faults in messages as RFC 4271 says.
 pub fn serve_sharded<T: Threads + Wait + Sync, R: Read + Send + Drop, G: Gate>(
@@ -193,7 +42,7 @@ pub fn serve_sharded<T: Threads + Wait + Sync, R: Read + Send + Drop, G: Gate>(
     )
 }
 
-/// `serve_sharded` with one shard.
+/// `serve_sharded` with one shard. So it never fails with `Shards`.
 pub fn serve_readers<T: Threads + Wait + Sync, R: Read + Send + Drop, G: Gate>(
     rt: &T,
     alloc: Global,
@@ -205,11 +54,14 @@ pub fn serve_readers<T: Threads + Wait + Sync, R: Read + Send + Drop, G: Gate>(
     requires as_many { length readers.items ≡ length plan.now.value.peers }
     requires failures { All (λ reader. R.failures reader < u64.MAX) readers.items }
     ensures answer { ServeAnswer R.gives default_standard plan.now.value readers.items capacity 1 result }
+    // One shard is a number of shards.
+    ensures one_shard { result ≡ Err Shards → ⊥ }
 {
     serve_sharded(rt, alloc, plan, readers, capacity, 1, gate)
 }
 
-/// `serve_readers` over files that are at hand as a whole, each shorter than 2^50 octets.
+/// `serve_readers` over files that are at hand as a whole, each shorter than 2^50 octets. So it never fails with
+/// `Shards` or with `Read`.
 pub fn serve<T: Threads + Wait + Sync, G: Gate>(
     rt: &T,
     alloc: Global,
@@ -230,12 +82,14 @@ pub fn serve<T: Threads + Wait + Sync, G: Gate>(
     serve_readers(rt, alloc, plan, readers, capacity, gate)
 }
 
-// A reader of each file.
-fn readers_of<'a>(alloc: Global, files: &[&'a [u8]]) -> Result<Vec<IoReader<&'a [u8]>>, AllocError>
+// A reader of each file, of which no read fails.
+fn readers_of<'a>(alloc: Global, files: &[&'a [u8]]) -> Result<Vec<MemoryReader<'a>>, AllocError>
     ensures count { IfOk result (λ readers. length readers.items ≡ length files.now) }
     ensures fresh { IfOk result (λ readers. All (λ reader. reader.failures ≡ 0) readers.items) }
-    ensures files { IfOk result (λ readers. readers.items
-        ≡ map (λ file. record { inner = file; failures = 0 }) files.now) }
+    ensures files { IfOk result (λ readers. readers.items ≡ map (λ file. whole_of file.now) files.now) }
 {
-    files.iter().map(|file| IoReader::new(*file)).collect(alloc)
+    files
+        .iter()
+        .map(|file| MemoryReader::new(*file, ReadLimits::none()))
+        .collect(alloc)
 }

@@ -3,9 +3,9 @@ use Rattle.std.proofs.Common.{◌≡◌, ◌∙◌, sym, ap, refl, ℕ, suc, ari
 use Rattle.std.specs.Prelude.{◌||◌, slice_get}
 use Rattle.std.specs.List.{zip}
 use Rattle.rs_choice.specs.Plan.{Peer, Plan}
-use Rattle.rs_floor.specs.FloorContent.{id_of}
-use Rattle.rs_floor.specs.Served.{ServedContent, IsEndOf, IsServedBy}
-use Rattle.rs_floor.specs.declared.ended.PeerEnd.{PeerEnd}
+use Rattle.rs_serve.specs.Identity.{id_of}
+use Rattle.rs_serve.specs.Served.{ServedContent, IsEndOf, IsServedBy}
+use Rattle.rs_serve.specs.declared.ended.PeerEnd.{PeerEnd}
 use Rattle.rs_mrt.specs.Reader.{ReadEnd}
 use Rattle.rs_mrt.specs.Record.{records_of, end_of}
 use Rattle.rs_mrt.specs.Source.{source_end}

@@ -4,8 +4,8 @@ use Rattle.std.specs.Result.{IsErrAnd}
 use Rattle.std.specs.List.{zip}
 use Rattle.std.proofs.lemmas.List.{length-map}
 use Rattle.rs_choice.specs.Plan.{Plan}
-use Rattle.rs_floor.specs.FloorContent.{id_of}
-use Rattle.rs_floor.specs.declared.ended.PeerEnd.{PeerEnd}
+use Rattle.rs_serve.specs.Identity.{id_of}
+use Rattle.rs_serve.specs.declared.ended.PeerEnd.{PeerEnd}
 use Rattle.rs_keep.specs.Kept.{IsStop}
 use Rattle.rs_mrt.specs.Reader.{ReadEnd}
 use Rattle.rs_outlet.specs.Outlet.{KeptDump}

@@ -2,9 +2,8 @@
 -- chosen (RFC 4271, section 9.1).
 use Rattle.std.specs.Prelude.{ℕ, List, map}
 use Rattle.rs_choice.specs.Plan.{Plan}
-use Rattle.rs_floor.specs.FloorContent.{id_of}
-use Rattle.rs_floor.specs.Laws.{tables_of}
-use Rattle.rs_floor.specs.Served.{changes_by_peer}
+use Rattle.rs_serve.specs.Identity.{id_of}
+use Rattle.rs_serve.specs.Served.{changes_by_peer, tables_of}
 use Rattle.rs_mrt.specs.Reader.{ReadEnd}
 use Rattle.rs_session.specs.Given.{OverGivenFiles, MayFailAt}
 use Rattle.rs_table.specs.Content.{TablesContent}

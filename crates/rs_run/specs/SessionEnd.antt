@@ -2,8 +2,8 @@
 use Rattle.std.specs.Prelude.{ℕ, List, [], ◌∷◌, length, map}
 use Rattle.std.specs.List.{zip}
 use Rattle.rs_choice.specs.Plan.{Plan}
-use Rattle.rs_floor.specs.FloorContent.{id_of}
-use Rattle.rs_floor.specs.declared.ended.PeerEnd.{PeerEnd}
+use Rattle.rs_serve.specs.Identity.{id_of}
+use Rattle.rs_serve.specs.declared.ended.PeerEnd.{PeerEnd}
 use Rattle.rs_session.specs.Change.{Change, ChangeBody, Announced, Withdrawn, Lost, Closed}
 use Rattle.rs_session.specs.FileChanges.{changes_in_by, passed_in_by}
 use Rattle.rs_session.specs.declared.peer.PeerId.{PeerId}

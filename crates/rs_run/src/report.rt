@@ -4,7 +4,7 @@ ghost use Rattle.std.specs.Prelude.{◌≡◌, ◌++◌, OnOk, Some, length, str
 ghost use Rattle.rs_run.specs.Report.{peer_line, peer_lines, reason_text};
 
 use rs_choice::Exchange;
-use rs_floor::{PeerEnd, Served};
+use rs_serve::{PeerEnd, Served};
 use rs_session::Reason;
 use std::alloc::AllocError;
 use std::fmt;

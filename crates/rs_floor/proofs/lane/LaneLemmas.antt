@@ -1,8 +1,8 @@
 -- One peer's changes on their way through its ring: for `new`, `send` and `receive` of lane.rt, and LaneStates.
-use Rattle.std.proofs.Common.{◌≡◌, ◌∙◌, sym, ap, refl, ℕ, ◌+◌, ◌-◌, ◌<◌, ◌≤◌, suc, arith, Bool, false, List, [], ◌∷◌, ◌++◌, length, take, Option, Some, append_assoc, length-append}
+use Rattle.std.proofs.Common.{◌≡◌, ◌∙◌, sym, ap, refl, ℕ, ◌+◌, ◌-◌, ◌<◌, ◌≤◌, zero, suc, arith, Bool, false, List, [], ◌∷◌, ◌++◌, length, take, Option, Some, append_assoc, length-append}
 use Rattle.std.specs.Prelude.{slice_get, ◌||◌, nat_lt}
 use Rattle.std.specs.List.{list_any}
-use Rattle.std.proofs.lemmas.Bool.{and_from, and_left, cond-false, cond-true, le-ltb, lt-ltb}
+use Rattle.std.proofs.lemmas.Bool.{and_from, and_left, cond-false, cond-true, le-ltb, lt-ltb, or_from, or_parts}
 use Rattle.std.proofs.lemmas.List.{length-map, map-append, take-append-le}
 use Rattle.std.proofs.Math.Seq.{take-append_seam}
 use Rattle.rs_mrt.specs.declared.fault.SourceFault.{SourceFault}
@@ -14,9 +14,14 @@ use Rattle.rs_floor.specs.Lane.{NoneClosesBefore, sent_changes}
 use Rattle.rs_floor.specs.Schedule.{after_send}
 use Rattle.rs_floor.specs.declared.counts.Counts.{Counts}
 use Rattle.rs_worker.proofs.PlaceLemmas.{get-seam}
-use Rattle.rs_floor.proofs.ListLemmas.{none-take}
 
 -- ---- which changes close
+
+-- where no member passes, none does of a beginning
+none-take : {X : Type 0} (p : X → Bool) (n : ℕ) (xs : List X) → list_any p xs ≡ false → list_any p (take n xs) ≡ false
+none-take p zero xs none = refl
+none-take p (suc n) [] none = refl
+none-take p (suc n) (x ∷ xs) none = let parts = or_parts (p x) (list_any p xs) none in or_from (p x) (list_any p (take n xs)) parts.0 (none-take p n xs parts.1)
 
 -- a word closes where its change does
 pub closes-words : (words : List Word) → list_any (λ word. is_close (change_of word)) words ≡ list_any is_close (sent_changes words)

@@ -5,7 +5,7 @@ use Rattle.std.proofs.Math.ListN.{get_or-map}
 use Rattle.std.proofs.lemmas.Option.{get_or_from_slice_get, slice_get_within}
 use borrow.Author.Count.{below_more}
 use Rattle.rs_choice.specs.Plan.{Peer}
-use Rattle.rs_floor.specs.FloorContent.{id_of}
+use Rattle.rs_serve.specs.Identity.{id_of}
 use Rattle.rs_floor.specs.Lane.{LaneContent, fresh_lane}
 use Rattle.rs_worker.proofs.PlaceLemmas.{get-front, get-seam}
 

@@ -10,7 +10,8 @@ use Rattle.rs_choice.specs.Plan.{Peer, Plan}
 use Rattle.rs_session.specs.Change.{Change}
 use Rattle.rs_session.specs.FileChanges.{changes_in}
 use Rattle.rs_table.specs.Content.{RibContent, TablesContent, rib_of, rib_left, nothing_held}
-use Rattle.rs_floor.specs.FloorContent.{IsPeerReplayed, IsReplayed, id_of, recorded_by}
+use Rattle.rs_floor.specs.FloorContent.{IsPeerReplayed, IsReplayed, recorded_by}
+use Rattle.rs_serve.specs.Identity.{id_of}
 use Rattle.rs_floor.specs.Lane.{LaneContent, fresh_lane, lane_through, received_of}
 use Rattle.rs_floor.specs.Laws.{DrainedSchedulesAgree}
 use Rattle.rs_floor.specs.Schedule.{at_start, after_turns}
@@ -19,7 +20,7 @@ use Rattle.rs_floor.specs.declared.counts.Counts.{Counts}
 use Rattle.rs_floor.specs.declared.turn.Turn.{Turn}
 use Rattle.rs_table.proofs.RibLemmas.{rib_left-nothing}
 use Rattle.rs_worker.proofs.PlaceLemmas.{map-get, some-at}
-use Rattle.rs_floor.proofs.ListLemmas.{same-places, zip-counted}
+use Rattle.rs_serve.proofs.ListLemmas.{same-places, zip-counted}
 
 -- the peer and the file whose changes stand at a place
 pub record IsRecordedAt (peers : List Peer) (files : List (List ℕ)) (at : ℕ) (changes : List Change) : Type 0 where

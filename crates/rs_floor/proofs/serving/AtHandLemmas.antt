@@ -1,63 +1,68 @@
 -- Readers of files that are at hand: for `serve` of serving.rt.
-use Rattle.std.proofs.Common.{◌≡◌, ◌∙◌, sym, ap, subst, ℕ, ◌<◌, arith, inl, inr, List, ◌++◌, length, map, drop, append_assoc, Some, Result, Ok, Err}
+use Rattle.std.proofs.Common.{◌≡◌, ◌∙◌, sym, ap, subst, ℕ, ◌<◌, ◌^◌, ◌⊎◌, arith, inl, inr, Bor, List, [], ◌++◌, All, length, map, length-append, Some, Result, Ok, Err}
 use Rattle.std.specs.Prelude.{slice_get}
 use Rattle.std.specs.List.{zip}
-use Rattle.std.proofs.lemmas.List.{length-map, take-append-drop}
+use Rattle.std.proofs.lemmas.List.{length-map}
 use Rattle.std.proofs.lemmas.Option.{slice_get_within}
 use Rattle.rs_choice.specs.Plan.{Peer, Plan}
-use Rattle.rs_mrt.specs.Reader.{ReadEnd, FileEnds, ReadFails, MayBeLeft}
+use Rattle.rs_mrt.specs.MemoryReading.{MemoryReading, Comes}
+use Rattle.rs_mrt.specs.Reader.{ReadEnd, FileEnds, ReadFails}
+use Rattle.rs_mrt.specs.RecordReading.{read_limit}
 use Rattle.rs_session.specs.Change.{Change}
 use Rattle.rs_session.specs.FileChanges.{changes_in_by, passed_in_by}
-use Rattle.rs_session.specs.Given.{IsGiven, IsGivenToClose}
+use Rattle.rs_session.specs.Given.{IsGiven, MayFail}
 use Rattle.rs_session.specs.declared.peer.PeerId.{PeerId}
 use Rattle.rs_update.specs.declared.errors.Errors.{Errors}
-use Rattle.rs_floor.specs.FloorContent.{id_of}
-use Rattle.rs_floor.specs.Laws.{tables_of}
-use Rattle.rs_floor.specs.ServeAnswer.{ServeAnswer, ServeFilesAnswer}
-use Rattle.rs_floor.specs.Served.{ServedContent, IsEndOf, IsServed, IsServedBy, changes_by_peer}
-use Rattle.rs_floor.specs.declared.ended.PeerEnd.{PeerEnd}
-use Rattle.rs_floor.specs.declared.fault.FloorRefused.{FloorRefused}
-use Rattle.rs_floor.specs.declared.fault.FloorRefused.TheVariants.{Memory, Unsettled, Capacity, Read, Shards}
-use Rattle.rs_worker.proofs.PlaceLemmas.{get-map, some-at}
+use Rattle.rs_serve.specs.Identity.{id_of}
+use Rattle.rs_serve.specs.Served.{tables_of}
+use Rattle.rs_floor.specs.ServeFiles.{ServeFilesAnswer, whole_of}
+use Rattle.rs_serve.specs.ServeAnswer.{ServeAnswer}
+use Rattle.rs_serve.specs.Served.{ServedContent, IsEndOf, IsServed, IsServedBy, changes_by_peer}
+use Rattle.rs_serve.specs.declared.ended.PeerEnd.{PeerEnd}
+use Rattle.rs_serve.specs.declared.fault.FloorRefused.{FloorRefused}
+use Rattle.rs_serve.specs.declared.fault.FloorRefused.TheVariants.{Memory, Unsettled, Capacity, Read, Shards}
+use Rattle.rs_worker.proofs.PlaceLemmas.{all-at, get-map, map-get, some-at}
 use Rattle.rs_floor.proofs.serving.FileLemmas.{front-says}
-use Rattle.rs_floor.proofs.ListLemmas.{same-places, zip-at, zip-counted}
+use Rattle.rs_serve.proofs.ListLemmas.{same-places, zip-at, zip-counted}
 
--- a reader gives the octets that it has at hand, or a beginning of them before a failed read
-abbrev pub at_hand : {R : Type 0} → (R → List ℕ) → R → List ℕ → ReadEnd → Type 0
-at_hand f reader octets end = MayBeLeft (Some (f reader)) octets end
+-- a reader gives just the octets that it has at hand, and no read fails
+pub record IsAtHand {R : Type 0} (gives : R → List ℕ → ReadEnd → Type 0) (f : R → List ℕ) (reader : R) : Type 0 where
+  pub only : (octets : List ℕ) (end : ReadEnd) → gives reader octets end → (octets ≡ f reader) × (end ≡ FileEnds)
+  pub fits : length (f reader) < read_limit
 
 -- two files say the same of a peer
 record SaysSame (errors : Errors) (peer : PeerId) (file whole : List ℕ) : Type 0 where
   changes : changes_in_by errors peer file ≡ changes_in_by errors peer whole
   passed : passed_in_by errors peer file ≡ passed_in_by errors peer whole
 
-given-close : {R : Type 0} (f : R → List ℕ) (errors : Errors) (peer : PeerId) (reader : R) (file : List ℕ) → IsGivenToClose (at_hand f) errors peer reader file → SaysSame errors peer file (f reader)
-given-close f errors peer reader file c = by c.end c.given
-  where
-    front : (rest : List ℕ) → file ++ rest ≡ f reader → SaysSame errors peer file (f reader)
-    front rest e =
-        let s = front-says errors peer file rest c.closes in
-        record { changes = sym s.0 ∙ ap (changes_in_by errors peer) e; passed = sym s.1 ∙ ap (passed_in_by errors peer) e }
-
-    by : (end : ReadEnd) → MayBeLeft (Some (f reader)) (file ++ c.later) end → SaysSame errors peer file (f reader)
-    by FileEnds e = front c.later e
-    by ReadFails g =
-        front (c.later ++ drop g.0 (f reader))
-        (sym (append_assoc file c.later (drop g.0 (f reader))) ∙ ap (λ (xs : List ℕ). xs ++ drop g.0 (f reader)) g.1 ∙ take-append-drop g.0 (f reader))
-
 -- what is given of a file at hand says what the file says
-given-whole : {R : Type 0} (f : R → List ℕ) (errors : Errors) (peer : PeerId) (reader : R) (file : List ℕ) → IsGiven (at_hand f) errors peer reader file → SaysSame errors peer file (f reader)
-given-whole f errors peer reader file (inl whole) =
-    let e : file ≡ f reader = whole.given in
+given-whole : {R : Type 0} (gives : R → List ℕ → ReadEnd → Type 0) (f : R → List ℕ) (errors : Errors) (peer : PeerId) (reader : R) (file : List ℕ) → IsAtHand gives f reader → IsGiven gives errors peer reader file → SaysSame errors peer file (f reader)
+given-whole gives f errors peer reader file hand (inl whole) =
+    let e : file ≡ f reader = (hand.only file FileEnds whole.given).0 in
     record { changes = ap (changes_in_by errors peer) e; passed = ap (passed_in_by errors peer) e }
-given-whole f errors peer reader file (inr close) = given-close f errors peer reader file close
+given-whole gives f errors peer reader file hand (inr close) =
+    let e : file ++ close.later ≡ f reader = (hand.only (file ++ close.later) close.end close.given).0 in
+    let s = front-says errors peer file close.later close.closes in
+    record { changes = sym s.0 ∙ ap (changes_in_by errors peer) e; passed = sym s.1 ∙ ap (passed_in_by errors peer) e }
 
-module _ {R : Type 0} (f : R → List ℕ) (errors : Errors) (plan : Plan) (readers : List R) (served : ServedContent) (as_many : length readers ≡ length plan.peers) (s : IsServedBy (at_hand f) errors plan readers served) where
+-- no read of it fails
+none-fails : {R : Type 0} (gives : R → List ℕ → ReadEnd → Type 0) (f : R → List ℕ) (errors : Errors) (peer : PeerId) (reader : R) → IsAtHand gives f reader → MayFail gives errors peer reader → ⊥
+none-fails gives f errors peer reader hand (came, fails) = by fails.fails
+  where
+    given : (came ++ fails.later ≡ f reader) × (fails.end ≡ FileEnds)
+    given = hand.only (came ++ fails.later) fails.end fails.given
+
+    by : ((fails.later ≡ []) × (fails.end ≡ ReadFails)) ⊎ (length came ≡ read_limit) → ⊥
+    by (inl read) = let both : ReadFails ≡ FileEnds = sym read.1 ∙ given.1 in cc
+    by (inr full) = omega (arith, full, hand.fits, ap length given.0, length-append came fails.later)
+
+module _ {R : Type 0} (gives : R → List ℕ → ReadEnd → Type 0) (f : R → List ℕ) (errors : Errors) (plan : Plan) (readers : List R) (hand : (place : ℕ) (reader : R) → slice_get readers place ≡ Some reader → IsAtHand gives f reader)
+    (served : ServedContent) (as_many : length readers ≡ length plan.peers) (s : IsServedBy gives errors plan readers served) where
   files-counted : length s.0 ≡ length plan.peers
   files-counted = s.1.as_many ∙ as_many
 
   same : (place : ℕ) (peer : Peer) (reader : R) (file : List ℕ) → slice_get plan.peers place ≡ Some peer → slice_get readers place ≡ Some reader → slice_get s.0 place ≡ Some file → SaysSame errors (id_of peer) file (f reader)
-  same place peer reader file ep er ef = given-whole f errors (id_of peer) reader file (s.1.each place (id_of peer) reader file (get-map id_of plan.peers place peer ep) er ef)
+  same place peer reader file ep er ef = given-whole gives f errors (id_of peer) reader file (hand place reader er) (s.1.each place (id_of peer) reader file (get-map id_of plan.peers place peer ep) er ef)
 
   of-zip : (files : List (List ℕ)) → length files ≡ length plan.peers → length (changes_by_peer errors plan files) ≡ length plan.peers
   of-zip files counts = length-map (zip plan.peers files) (λ (peer, file). changes_in_by errors (id_of peer) file) ∙ zip-counted plan.peers files counts
@@ -101,12 +106,28 @@ module _ {R : Type 0} (f : R → List ℕ) (errors : Errors) (plan : Plan) (read
   served-at-hand = record { tables_are = s.2.tables_are ∙ ap (tables_of plan) same-changes; counted = s.2.counted; ends_are = ends }
 
 -- what a run answers over readers of files at hand is what it answers over the files
-pub answer-at-hand : {R : Type 0} (f : R → List ℕ) (errors : Errors) (plan : Plan) (readers : List R) (files : List (List ℕ)) (capacity : ℕ) → length readers ≡ length plan.peers → map f readers ≡ files
-    → (result : Result ServedContent FloorRefused) → ServeAnswer (at_hand f) errors plan readers capacity 1 result → ServeFilesAnswer errors plan files capacity result
-answer-at-hand f errors plan readers files capacity as_many same (Ok served) answer =
-    (answer.0.0, subst (λ (all : List (List ℕ)). IsServed errors plan all served) same (served-at-hand f errors plan readers served as_many answer.1))
-answer-at-hand f errors plan readers files capacity as_many same (Err Capacity) answer = answer
-answer-at-hand f errors plan readers files capacity as_many same (Err Shards) answer = absurd cc
-answer-at-hand f errors plan readers files capacity as_many same (Err Memory) answer = answer.0
-answer-at-hand f errors plan readers files capacity as_many same (Err (Read peer)) answer = (answer.0.0, answer.1.0)
-answer-at-hand f errors plan readers files capacity as_many same (Err (Unsettled peer)) answer = (answer.0.0, answer.1)
+pub answer-at-hand : {R : Type 0} (gives : R → List ℕ → ReadEnd → Type 0) (f : R → List ℕ) (errors : Errors) (plan : Plan) (readers : List R) (files : List (List ℕ)) (capacity : ℕ)
+    → ((place : ℕ) (reader : R) → slice_get readers place ≡ Some reader → IsAtHand gives f reader) → length readers ≡ length plan.peers → map f readers ≡ files
+    → (result : Result ServedContent FloorRefused) → ServeAnswer gives errors plan readers capacity 1 result → ServeFilesAnswer errors plan files capacity result
+answer-at-hand gives f errors plan readers files capacity hand as_many same (Ok served) answer =
+    (answer.0.0, subst (λ (all : List (List ℕ)). IsServed errors plan all served) same (served-at-hand gives f errors plan readers hand served as_many answer.1))
+answer-at-hand gives f errors plan readers files capacity hand as_many same (Err Capacity) answer = answer
+answer-at-hand gives f errors plan readers files capacity hand as_many same (Err Shards) answer = absurd cc
+answer-at-hand gives f errors plan readers files capacity hand as_many same (Err Memory) answer = answer.0
+answer-at-hand gives f errors plan readers files capacity hand as_many same (Err (Read peer)) answer =
+    let failed = answer.1.1 in
+    none-fails gives f errors failed.peer failed.reader (hand peer failed.reader failed.reader_is) failed.fails
+answer-at-hand gives f errors plan readers files capacity hand as_many same (Err (Unsettled peer)) answer = (answer.0.0, answer.1)
+
+-- ---- a whole file
+
+whole-is : (file : List ℕ) → length file < read_limit → IsAtHand Comes (λ (r : MemoryReading). r.left) (whole_of file)
+whole-is file fits = record { only = λ octets end given. given; fits = fits }
+
+-- the readers of whole files have these at hand
+pub wholes-at-hand : (files : List (Bor (List ℕ))) (readers : List MemoryReading) → All (λ file. length file.now < 2 ^ 50) files → readers ≡ map (λ file. whole_of file.now) files
+    → (place : ℕ) (reader : MemoryReading) → slice_get readers place ≡ Some reader → IsAtHand Comes (λ (r : MemoryReading). r.left) reader
+wholes-at-hand files readers fit are place reader at =
+    let made = map-get (λ (file : Bor (List ℕ)). whole_of file.now) files place reader (sym (ap (λ (all : List MemoryReading). slice_get all place) are) ∙ at) in
+    let fits : length made.0.now < 2 ^ 50 = all-at (λ (file : Bor (List ℕ)). length file.now < 2 ^ 50) files fit place made.0 made.1.0 in
+    subst (IsAtHand Comes (λ (r : MemoryReading). r.left)) made.1.1 (whole-is made.0.now fits)

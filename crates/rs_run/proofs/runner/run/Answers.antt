@@ -1,7 +1,7 @@
 -- What was read is of files that the readers may give, and so are the dumps that are kept.
 use Rattle.std.proofs.Common.{List, length, sym, ap, ◌∙◌}
 use Rattle.rs_choice.specs.Plan.{Plan}
-use Rattle.rs_floor.specs.declared.ended.PeerEnd.{PeerEnd}
+use Rattle.rs_serve.specs.declared.ended.PeerEnd.{PeerEnd}
 use Rattle.rs_run.proofs.RunLemmas.{keep-stop-answers, length-ends}
 use Rattle.rs_run.proofs.runner.run.Goals as goal
 

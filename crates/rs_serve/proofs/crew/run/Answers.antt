@@ -1,0 +1,64 @@
+-- All threads were started, or those that were are drained.
+use Rattle.std.proofs.Common.{◌≡◌, refl, length, arith, rules}
+use Rattle.rs_ring.specs.Ends.{Receiving, Sending}
+use Rattle.rs_router.specs.declared.routed.Routed.{Routed}
+use Rattle.rs_session.specs.declared.word.Word.{Word}
+use Rattle.rs_shard.specs.Crew as of_shards
+use Rattle.rs_shard.specs.declared.crew.ShardJob.{ShardJob}
+use Rattle.rs_worker.specs.Crew.{charge_of, charged}
+use Rattle.rs_serve.proofs.serving.RunLemmas.{all-charged, prefix-shorter, rings-of}
+use Rattle.rs_worker.proofs.PlaceLemmas.{same-counted}
+use Rattle.rs_serve.proofs.crew.run.Goals as goal
+
+pub give_up-requires-clause-shards : goal.give_up-requires-clause-shards
+give_up-requires-clause-shards g c =
+    omega (arith, prefix-shorter (λ handle. of_shards.charged handle.promise) of_shards.charge_of c.start_shards.new.handles.items c.args.crew.rings.jobs.items c.start_shards.ensures.tied, same-counted (λ (job : ShardJob). job.from.ring) (λ (sender : Sending Routed). sender.ring) c.args.crew.rings.jobs.items c.args.crew.rings.to.items c.requires.shards.rings)
+
+pub give_up-requires-clause-few_shards : goal.give_up-requires-clause-few_shards
+give_up-requires-clause-few_shards g c =
+    omega (arith, prefix-shorter (λ handle. of_shards.charged handle.promise) of_shards.charge_of c.start_shards.new.handles.items c.args.crew.rings.jobs.items c.start_shards.ensures.tied, c.requires.shards.counted.1)
+
+pub give_up-requires-then-not-start_workers-clause-workers : goal.give_up-requires-then-not-start_workers-clause-workers
+give_up-requires-then-not-start_workers-clause-workers g c =
+    omega (arith, prefix-shorter (λ handle. charged handle.promise) (charge_of c.args.errors) c.start_workers.new.handles.items c.args.crew.lines.jobs.items c.start_workers.ensures.tied, same-counted (λ job. job.out.ring) (λ (receiver : Receiving Word). receiver.ring) c.args.crew.lines.jobs.items c.args.crew.lines.from.items c.requires.workers.rings)
+
+pub give_up-requires-then-not-start_workers-clause-shards : goal.give_up-requires-then-not-start_workers-clause-shards
+give_up-requires-then-not-start_workers-clause-shards g c =
+    omega (arith, prefix-shorter (λ handle. of_shards.charged handle.promise) of_shards.charge_of c.start_shards.new.handles.items c.args.crew.rings.jobs.items c.start_shards.ensures.tied, same-counted (λ (job : ShardJob). job.from.ring) (λ (sender : Sending Routed). sender.ring) c.args.crew.rings.jobs.items c.args.crew.rings.to.items c.requires.shards.rings)
+
+pub give_up-requires-then-not-start_workers-clause-few_peers : goal.give_up-requires-then-not-start_workers-clause-few_peers
+give_up-requires-then-not-start_workers-clause-few_peers g c =
+    omega (arith, prefix-shorter (λ handle. charged handle.promise) (charge_of c.args.errors) c.start_workers.new.handles.items c.args.crew.lines.jobs.items c.start_workers.ensures.tied, c.requires.few)
+
+pub give_up-requires-then-not-start_workers-clause-few_shards : goal.give_up-requires-then-not-start_workers-clause-few_shards
+give_up-requires-then-not-start_workers-clause-few_shards g c =
+    omega (arith, prefix-shorter (λ handle. of_shards.charged handle.promise) of_shards.charge_of c.start_shards.new.handles.items c.args.crew.rings.jobs.items c.start_shards.ensures.tied, c.requires.shards.counted.1)
+
+pub join_all-requires-clause-shards : goal.join_all-requires-clause-shards
+join_all-requires-clause-shards g c =
+    rw (← same-counted (λ (job : ShardJob). job.from.ring) (λ (sender : Sending Routed). sender.ring) c.args.crew.rings.jobs.items c.args.crew.rings.to.items c.requires.shards.rings) c.requires.shards.counted
+
+pub join_all-requires-clause-peers : goal.join_all-requires-clause-peers
+join_all-requires-clause-peers g c =
+    omega (arith, same-counted (λ job. job.out.ring) (λ (receiver : Receiving Word). receiver.ring) c.args.crew.lines.jobs.items c.args.crew.lines.from.items c.requires.workers.rings, c.requires.few)
+
+pub join_all-requires-clause-worker_rings : goal.join_all-requires-clause-worker_rings
+join_all-requires-clause-worker_rings g c =
+    let counts : length c.start_workers.new.handles.items ≡ length c.args.crew.lines.jobs.items = search rules in
+    rings-of (λ handle. charged handle.promise) (charge_of c.args.errors) (λ charge. charge.ring) (λ (receiver : Receiving Word). receiver.ring) c.start_workers.new.handles.items c.args.crew.lines.jobs.items c.args.crew.lines.from.items c.args.crew.lines.from.items
+    (all-charged (λ handle. charged handle.promise) (charge_of c.args.errors) c.start_workers.new.handles.items c.args.crew.lines.jobs.items c.start_workers.ensures.tied counts) c.requires.workers.rings refl
+
+pub join_all-requires-clause-shard_rings : goal.join_all-requires-clause-shard_rings
+join_all-requires-clause-shard_rings g c =
+    let counts : length c.start_shards.new.handles.items ≡ length c.args.crew.rings.jobs.items = search rules in
+    rings-of (λ handle. of_shards.charged handle.promise) of_shards.charge_of (λ (charge : of_shards.Charge). charge.ring) (λ (sender : Sending Routed). sender.ring) c.start_shards.new.handles.items c.args.crew.rings.jobs.items c.args.crew.rings.to.items c.args.crew.rings.to.items
+    (all-charged (λ handle. of_shards.charged handle.promise) of_shards.charge_of c.start_shards.new.handles.items c.args.crew.rings.jobs.items c.start_shards.ensures.tied counts) c.requires.shards.rings refl
+
+pub returns : goal.returns
+returns g c =
+    let counts : length c.start_workers.new.handles.items ≡ length c.args.crew.lines.jobs.items = search rules in
+    let shards_count : length c.start_shards.new.handles.items ≡ length c.args.crew.rings.jobs.items = search rules in
+    rw (
+      ← all-charged (λ handle. charged handle.promise) (charge_of c.args.errors) c.start_workers.new.handles.items c.args.crew.lines.jobs.items c.start_workers.ensures.tied counts,
+      ← all-charged (λ handle. of_shards.charged handle.promise) of_shards.charge_of c.start_shards.new.handles.items c.args.crew.rings.jobs.items c.start_shards.ensures.tied shards_count,
+    ) c.join_all.ensures

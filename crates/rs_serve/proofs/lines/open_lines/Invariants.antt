@@ -1,0 +1,12 @@
+-- The rings of the readers that were taken are open.
+use Rattle.std.proofs.Common.{◌≡◌, length}
+use Rattle.std.specs.Vec.Iter.{into_iter_items, into_iter_len}
+use Rattle.rs_serve.proofs.serving.OpenLemmas.{Opening}
+use Rattle.rs_serve.proofs.lines.open_lines.Given as goal
+
+abbrev pub invariant-loop-reader : goal.invariant-loop-reader
+invariant-loop-reader g l = record {
+  opening : Opening g.R.Read.gives l.plan.peers (into_iter_items l.initial.reader-iterator) (into_iter_items l.reader-iterator) l.jobs.items l.from.items;
+  counted : l.number ≡ length l.jobs.items;
+  left : into_iter_len l.reader-iterator ≡ length (into_iter_items l.reader-iterator);
+}

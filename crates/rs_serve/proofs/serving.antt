@@ -1,0 +1,6 @@
+-- Runs on threads: their rings, their start and join, and what they serve.
+pub mod OpenLemmas
+pub mod ServedLemmas
+pub mod AllServedLemmas
+pub mod RunLemmas
+pub mod SettleLemmas

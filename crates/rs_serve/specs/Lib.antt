@@ -1,0 +1,16 @@
+-- Before the threads:
+pub mod Identity  -- who a peer is
+pub mod Lines  -- rings that are made
+-- What a run comes to:
+pub mod Outcome  -- how it ended
+pub mod Run  -- what it leaves
+pub mod Served  -- what its tables and sessions are
+pub mod ServeAnswer  -- what a run answers, by its result
+-- What the contracts name of the crates below:
+pub use Rattle.rs_table.specs.Content
+pub use Rattle.rs_table.specs.Left
+pub use Rattle.rs_table.specs.Table
+pub use Rattle.rs_ring.specs.Items
+pub use Rattle.rs_session.specs.Change
+pub use Rattle.rs_session.specs.FileChanges
+pub use Rattle.rs_choice.specs.Plan

@@ -1,0 +1,67 @@
+-- Rings before a run on threads.
+use Rattle.std.specs.Prelude.{◌≡◌, ◌≤◌, ◌^◌, ℕ, [], List, All, map, length}
+use Rattle.rs_choice.specs.Plan.{Peer, Plan}
+use Rattle.rs_mrt.specs.Reader.{ReadEnd}
+use Rattle.rs_mrt.specs.RecordReading.{RecordReading, unread, room_left}
+use Rattle.rs_ring.specs.Ends.{Receiving, Sending}
+use Rattle.rs_router.specs.Cut.{IsShardCount}
+use Rattle.rs_router.specs.declared.routed.Routed.{Routed}
+use Rattle.rs_session.specs.Laws.{GivesFileOrFails}
+use Rattle.rs_session.specs.declared.word.Word.{Word}
+use Rattle.rs_shard.specs.Crew.{IsReady}
+use Rattle.rs_shard.specs.Laws.{IsOfPlan}
+use Rattle.rs_shard.specs.declared.crew.ShardJob.{ShardJob}
+use Rattle.rs_worker.specs.declared.crew.Job.{Job}
+use Rattle.rs_serve.specs.Identity.{id_of}
+
+-- ---- of the peers
+
+-- a worker can do its job: nothing was sent through its ring, and its source has no more octets than a session reads
+abbrev pub IsReadyJob : {R : Type 0} → Job (RecordReading R) → Type 0
+IsReadyJob job = (job.out.sent ≡ []) × (room_left job.source ≤ 2 ^ 50)
+
+-- a worker's job is to read a reader for a peer, and to send through a ring of which the receiving end is here
+pub record IsLine {R : Type 0} (gives : R → List ℕ → ReadEnd → Type 0) (peer : Peer) (reader : R)
+    (job : Job (RecordReading R)) (receiver : Receiving Word) : Type 0 where
+  pub source : job.source ≡ unread reader
+  pub says : GivesFileOrFails gives reader
+  pub id : job.id ≡ id_of peer
+  pub ring : job.out.ring ≡ receiver.ring
+  pub ready : IsReadyJob job
+  pub unreceived : receiver.received ≡ []
+
+-- all workers can do their jobs: each ring has its receiving end here, through which nothing was received
+pub record CanWork {R : Type 0} (jobs : List (Job (RecordReading R))) (receivers : List (Receiving Word)) : Type 0 where
+  pub rings : map (λ job. job.out.ring) jobs ≡ map (λ receiver. receiver.ring) receivers
+  pub ready : All IsReadyJob jobs
+  pub unreceived : All (λ receiver. receiver.received ≡ []) receivers
+
+-- and each job is the one of a peer
+pub record AreLines {R : Type 0} (gives : R → List ℕ → ReadEnd → Type 0) (plan : Plan) (readers : List R)
+    (jobs : List (Job (RecordReading R))) (receivers : List (Receiving Word)) : Type 0 where
+  pub sources : map (λ job. job.source) jobs ≡ map unread readers
+  pub says : All (GivesFileOrFails gives) readers
+  pub peers : map (λ job. job.id) jobs ≡ map id_of plan.peers
+  pub can : CanWork jobs receivers
+
+-- ---- of the shards
+
+-- a shard's job is to receive through a ring of which the sending end is here, into tables of the plan of
+-- which no peer has a route yet
+pub record IsRing (plan : Plan) (job : ShardJob) (sender : Sending Routed) : Type 0 where
+  pub tables : IsOfPlan plan job.tables
+  pub ring : job.from.ring ≡ sender.ring
+  pub unsent : sender.sent ≡ []
+  pub ready : IsReady job
+
+-- all shards can do their jobs: each ring has its sending end here, through which nothing was sent
+pub record CanShare (jobs : List ShardJob) (senders : List (Sending Routed)) : Type 0 where
+  pub counted : IsShardCount (length jobs)
+  pub rings : map (λ job. job.from.ring) jobs ≡ map (λ sender. sender.ring) senders
+  pub unsent : All (λ sender. sender.sent ≡ []) senders
+  pub ready : All IsReady jobs
+
+-- and each begins with tables of the plan
+pub record AreRings (plan : Plan) (jobs : List ShardJob) (senders : List (Sending Routed)) : Type 0 where
+  pub tables : All (λ job. IsOfPlan plan job.tables) jobs
+  pub can : CanShare jobs senders

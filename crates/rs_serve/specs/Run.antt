@@ -1,0 +1,83 @@
+-- What a run on threads leaves once all of them were joined.
+use Rattle.std.specs.Prelude.{◌≡◌, ◌<◌, ⊤, ℕ, Bool, true, false, List, All, AllPairs, map, length}
+use Rattle.rs_mrt.specs.Reader.{ReadEnd}
+use Rattle.rs_mrt.specs.RecordReading.{RecordReading, MayCome}
+use Rattle.rs_ring.specs.Ends.{Receiving}
+use Rattle.rs_router.specs.Routing.{AreClosed, AreCuts, received_lists}
+use Rattle.rs_router.specs.declared.routed.Routed.{Routed}
+use Rattle.rs_session.specs.Change.{is_read}
+use Rattle.rs_session.specs.declared.word.Word.{Word}
+use Rattle.rs_shard.specs.Crew as shards
+use Rattle.rs_shard.specs.Crew.{AllHold}
+use Rattle.rs_table.specs.Content.{TablesContent}
+use Rattle.rs_table.specs.Merge.{AreParts, IsMerged}
+use Rattle.rs_worker.specs.Crew.{AllJoined, Charge}
+use Rattle.rs_worker.specs.Worked.{is_memory}
+use Rattle.rs_worker.specs.declared.crew.Joined.{Joined}
+use Rattle.rs_serve.specs.Outcome.{IsLeastPlace}
+use Rattle.rs_serve.specs.Served.{ServedContent}
+use Rattle.rs_serve.specs.declared.ended.PeerEnd.{PeerEnd}
+use Rattle.rs_serve.specs.declared.fault.FloorRefused.{FloorRefused}
+use Rattle.rs_serve.specs.declared.fault.FloorRefused.TheVariants.{Memory, Unsettled, Capacity, Read, Shards}
+
+-- What all receivers and shards took: each peer's changes up to its close, those of a settled worker being
+-- all that it sent; each shard its cut of them, which its tables hold, unless a shard was refused memory or
+-- left an item waiting.
+pub record HasRun {R : Type 0} (gives : R → List ℕ → ReadEnd → Type 0) (workers : List (Charge (RecordReading R)))
+    (of_shards : List shards.Charge)
+    (ends : List Joined) (parts : List TablesContent) (whole : Bool) : Type 0 where
+  pub receivers : List (Receiving Word)
+  pub sent : List (List Routed)
+  pub closed : AreClosed (received_lists receivers)
+  pub cuts : AreCuts (received_lists receivers) sent
+  pub counted : length receivers ≡ length workers
+  pub shared : length sent ≡ length of_shards
+  pub joined : length ends ≡ length workers
+  pub known : AllJoined (MayCome gives) (λ reading. reading.shown) workers receivers ends
+  pub held : whole ≡ true → AllHold of_shards sent parts
+
+-- the parts can be made one, over a plan of so many peers
+pub record CanMerge (peers : ℕ) (parts : List TablesContent) : Type 0 where
+  pub some : 0 < length parts
+  pub parts_are : AllPairs AreParts parts
+  pub counted : All (λ part. length part.plan.peers ≡ peers) parts
+
+-- a peer's worker settled, and was neither refused memory nor did a read fail
+abbrev pub IsWell : Joined → Type 0
+IsWell end = (end.settled ≡ true) × (is_memory end.reason ≡ false) × (is_read end.reason ≡ false)
+
+-- how a peer's session ended, of what is known of its worker
+abbrev pub end_of : Joined → PeerEnd
+end_of end = record { changes = end.changes; passed = end.passed; reason = end.reason }
+
+-- all is well, and the parts are made one
+pub record IsAnswer (ends : List Joined) (parts : List TablesContent) (whole : Bool)
+    (served : ServedContent) : Type 0 where
+  pub whole_is : whole ≡ true
+  pub well : All IsWell ends
+  pub ends_are : served.ends ≡ map end_of ends
+  pub merged : IsMerged parts served.tables
+  pub one_for_each : length served.tables.ribs ≡ length served.tables.plan.peers
+
+-- a read of this peer's file failed and none of the peers before it; no worker was refused memory, and the
+-- tables of all shards are there
+pub record IsFirstRead (ends : List Joined) (whole : Bool) (peer : ℕ) : Type 0 where
+  pub whole_is : whole ≡ true
+  pub remember : All (λ end. is_memory end.reason ≡ false) ends
+  pub least : IsLeastPlace true false (map (λ end. is_read end.reason) ends) peer
+
+-- this peer's worker isn't settled and those of the peers before it are; no worker was refused memory, the
+-- tables of all shards are there, and no read failed
+pub record IsFirstUnsettled (ends : List Joined) (whole : Bool) (peer : ℕ) : Type 0 where
+  pub whole_is : whole ≡ true
+  pub remember : All (λ end. is_memory end.reason ≡ false) ends
+  pub read : All (λ end. is_read end.reason ≡ false) ends
+  pub least : IsLeastPlace false true (map (λ end. end.settled) ends) peer
+
+-- why all isn't well
+abbrev pub IsRefusal : List Joined → Bool → FloorRefused → Type 0
+IsRefusal ends whole Memory = ⊤
+IsRefusal ends whole (Read peer) = IsFirstRead ends whole peer
+IsRefusal ends whole (Unsettled peer) = IsFirstUnsettled ends whole peer
+IsRefusal ends whole Capacity = ⊥
+IsRefusal ends whole Shards = ⊥

@@ -1,0 +1,167 @@
+//! A run on threads: one for each peer's recorded session, and one for each shard of the tables.
+
+ghost use Rattle.std.specs.List.{list_any};
+ghost use Rattle.std.specs.Prelude.{◌≡◌, ◌<◌, ◌||◌, not, All, IfErr, IfOk, IfSome, IsTrue, length, map};
+ghost use Rattle.rs_session.specs.Change.{is_read};
+ghost use Rattle.rs_shard.specs.Crew as of_shards;
+ghost use Rattle.rs_worker.specs.Crew.{charge_of};
+ghost use Rattle.rs_worker.specs.Worked as spec;
+ghost use Rattle.rs_serve.specs.Run.{CanMerge, HasRun, IsAnswer, IsRefusal, end_of};
+ghost use Rattle.rs_router.specs.Cut.{IsShardCount};
+ghost use Rattle.rs_serve.specs.ServeAnswer.{ServeAnswer};
+ghost use Rattle.rs_serve.specs.Served.{is_shard_count};
+
+use crate::capacity::has_room;
+use crate::crew::{Crew, Ran, Ready, run_ready};
+use crate::ended::PeerEnd;
+use crate::fault::FloorRefused;
+use crate::outcome::verdict;
+use crate::served::Served;
+use rs_choice::Exchange;
+use rs_mrt::Read;
+use rs_router::MAX_SHARDS;
+use rs_session::{Reason, a_failed_read_closes_last, a_session_closes_once};
+use rs_shard::{run_shards_are_whole, shards_merge};
+use rs_table::Tables;
+use rs_update::Errors;
+use rs_worker::{Gate, Joined};
+use std::alloc::{AllocError, Global};
+use std::sync::{Arc, Wait};
+use std::thread;
+use std::thread::Threads;
+
+/// Runs the recorded sessions of all peers at once: a thread for each peer reads its file and sends the
+/// changes through a ring of this capacity, the calling thread routes them to the shards, and a thread for
+/// each shard holds the tables of its prefixes. `readers` has the reader of each peer's file, in the order of
+/// the peers. Faults in messages are handled by one of the standards.
+///
+/// Fails with `Capacity` where the capacity isn't from 1 to 65,536, then with `Shards` where the number of
+/// shards isn't from 1 to 16, then with `Memory` where memory or a thread is refused, then with `Read` of the
+/// least peer of which a read failed, then with `Unsettled` of the least peer of which not all that was sent
+/// is known to have been received. All threads are joined before any answer.
+pub fn serve_by<T: Threads + Wait + Sync, R: Read + Send + Drop, G: Gate>(
+    rt: &T,
+    alloc: Global,
+    plan: &Arc<Exchange>,
+    readers: Vec<R>,
+    capacity: usize,
+    shards: usize,
+    errors: Errors,
+    gate: &G,
+) -> Result<Served, FloorRefused>
+    requires as_many { length readers.items ≡ length plan.now.value.peers }
+    requires failures { All (λ reader. R.failures reader < u64.MAX) readers.items }
+    ensures answer { ServeAnswer R.gives errors plan.now.value readers.items capacity shards result }
+{
+    if !has_room(capacity) {
+        return Err(FloorRefused::Capacity);
+    }
+    if !has_place(shards) {
+        return Err(FloorRefused::Shards);
+    }
+    a_failed_read_closes_last();
+    a_session_closes_once();
+    run_shards_are_whole();
+    shards_merge();
+    let crew = Crew::new(alloc, plan, readers, capacity, shards)?;
+    let ready = Ready { crew };
+    let ran = thread::scope(
+        thread::scope_env(),
+        rt,
+        |scope| -> Option<Ran>
+            ensures { IfSome result (λ ran. HasRun R.gives (map (charge_of errors) ready.crew.lines.jobs.items)
+                (map of_shards.charge_of ready.crew.rings.jobs.items) ran.ends.items ran.parts.items ran.whole) }
+        { run_ready(scope, rt, alloc, ready, errors, gate) },
+    );
+    match ran {
+        Some(ran) => settle(alloc, ran),
+        None => Err(FloorRefused::Memory),
+    }
+}
+
+// Whether there may be so many shards.
+fn has_place(shards: usize) -> bool
+    ensures value { result ≡ is_shard_count shards }
+    ensures count { IsTrue result → IsShardCount shards }
+{
+    (1..=MAX_SHARDS).contains(&shards)
+}
+
+// The answer to a run of which all threads were joined.
+fn settle(alloc: Global, ran: Ran) -> Result<Served, FloorRefused>
+    requires { IsTrue ran.whole → CanMerge (length ran.ends.items) ran.parts.items }
+    ensures served { IfOk result (IsAnswer ran.ends.items ran.parts.items ran.whole) }
+    ensures refused { IfErr result (IsRefusal ran.ends.items ran.whole) }
+{
+    let Ran { ends, parts, whole } = ran;
+    let memory = is_refused_memory(&ends, whole);
+    let failed = failed_reads(alloc, &ends)?;
+    let settled = settled_peers(alloc, &ends)?;
+    verdict(memory, &failed, &settled)?;
+    let ends = peer_ends(alloc, &ends)?;
+    let tables = Tables::merge(parts)?;
+    let _peers = tables.count();
+    Ok(Served::new(tables, ends))
+}
+
+// Whether a worker was refused memory, or the tables of a shard are missing.
+fn is_refused_memory(ends: &[Joined], whole: bool) -> bool
+    ensures { result ≡ (list_any (λ end. spec.is_memory end.reason) ends.now || not whole) }
+{
+    is_any_refused(ends) || !whole
+}
+
+// Whether a worker was refused memory.
+fn is_any_refused(ends: &[Joined]) -> bool
+    ensures { result ≡ list_any (λ end. spec.is_memory end.reason) ends.now }
+{
+    ends.iter().any(|end| is_memory(end.reason))
+}
+
+// Of each peer whether a read failed.
+fn failed_reads(alloc: Global, ends: &[Joined]) -> Result<Vec<bool>, AllocError>
+    ensures { IfOk result (λ failed. failed.items ≡ map (λ end. is_read end.reason) ends.now) }
+{
+    ends.iter()
+        .map(|end| is_failed_read(end.reason))
+        .collect(alloc)
+}
+
+// Of each peer whether all that was sent is known to have been received.
+fn settled_peers(alloc: Global, ends: &[Joined]) -> Result<Vec<bool>, AllocError>
+    ensures { IfOk result (λ settled. settled.items ≡ map (λ end. end.settled) ends.now) }
+{
+    ends.iter().map(|end| end.settled).collect(alloc)
+}
+
+// How the session of each peer ended.
+fn peer_ends(alloc: Global, ends: &[Joined]) -> Result<Vec<PeerEnd>, AllocError>
+    ensures { IfOk result (λ all. all.items ≡ map end_of ends.now) }
+{
+    ends.iter().map(peer_end).collect(alloc)
+}
+
+// How the session of a peer ended.
+fn peer_end(end: &Joined) -> PeerEnd
+    ensures { result ≡ end_of end.now }
+{
+    PeerEnd {
+        changes: end.changes,
+        passed: end.passed,
+        reason: end.reason,
+    }
+}
+
+// Whether a session ended for want of memory.
+fn is_memory(reason: Reason) -> bool
+    ensures { result ≡ spec.is_memory reason }
+{
+    matches!(reason, Reason::Memory)
+}
+
+// Whether a session ended with a failed read.
+fn is_failed_read(reason: Reason) -> bool
+    ensures { result ≡ is_read reason }
+{
+    matches!(reason, Reason::Read)
+}
