@@ -12,7 +12,7 @@ use std::marker::Model;
 #[derive(Drop)]
 pub struct Cleared<'a, W, E> {
     inner: W,
-    progress: Option<&'a Progress<E>>,
+    progress: &'a Progress<E>,
 }
 
 impl<'a, W, E> Model for Cleared<'a, W, E> {
@@ -22,8 +22,8 @@ impl<'a, W, E> Model for Cleared<'a, W, E> {
 }
 
 impl<'a, W, E> Cleared<'a, W, E> {
-    /// Begins with a writer. Without a progress nothing is taken away.
-    pub fn new(inner: W, progress: Option<&'a Progress<E>>) -> Cleared<'a, W, E>
+    /// Begins with a writer.
+    pub fn new(inner: W, progress: &'a Progress<E>) -> Cleared<'a, W, E>
         ensures { result ≡ inner }
     {
         Cleared { inner, progress }
@@ -34,9 +34,7 @@ impl<'a, W: Write, E: Eprint> Write for Cleared<'a, W, E> {
     ghost contents = { λ inner. W.contents inner };
 
     fn write(&mut self, buf: &[u8]) -> io::Result<usize> {
-        if let Some(progress) = self.progress {
-            progress.clear();
-        }
+        self.progress.clear();
         self.inner.write(buf)
     }
 

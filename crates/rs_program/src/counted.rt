@@ -7,12 +7,11 @@ use std::io;
 use std::io::{Eprint, Read};
 use std::marker::Model;
 
-/// A reader whose octets are counted, where a progress is shown. It gives just what the reader gives,
-/// and a failed read counts nothing.
+/// A reader whose octets are counted. It gives just what the reader gives, and a failed read counts nothing.
 #[derive(Drop)]
 pub struct Counted<'a, R, E> {
     inner: R,
-    progress: Option<&'a Progress<E>>,
+    progress: &'a Progress<E>,
 }
 
 impl<'a, R, E> Model for Counted<'a, R, E> {
@@ -22,8 +21,8 @@ impl<'a, R, E> Model for Counted<'a, R, E> {
 }
 
 impl<'a, R, E> Counted<'a, R, E> {
-    /// Begins with a reader. Without a progress nothing is counted.
-    pub fn new(inner: R, progress: Option<&'a Progress<E>>) -> Counted<'a, R, E>
+    /// Begins with a reader.
+    pub fn new(inner: R, progress: &'a Progress<E>) -> Counted<'a, R, E>
         ensures { result ≡ inner }
     {
         Counted { inner, progress }
@@ -35,9 +34,7 @@ impl<'a, R: Read, E: Eprint> Read for Counted<'a, R, E> {
 
     fn read(&mut self, buf: &mut [u8]) -> io::Result<usize> {
         let count = self.inner.read(buf)?;
-        if let Some(progress) = self.progress {
-            progress.count(count);
-        }
+        self.progress.count(count);
         Ok(count)
     }
 }

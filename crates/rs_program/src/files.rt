@@ -26,13 +26,13 @@ pub fn octets_of<R: Files>(rt: &R, paths: &[String]) -> Option<u64> {
     Some(octets)
 }
 
-/// Opens the files of these paths, in their order, and reads nothing yet; where there is a progress,
-/// their octets are counted. The first that can't be opened is named; where each is there, one that
-/// gives its octets only once, as a pipe does, and that an earlier path names too.
+/// Opens the files of these paths, in their order, and reads nothing yet; their octets are counted. The first that can't
+/// be opened is named; where each is there, one that gives its octets only once, as a pipe does, and that an earlier
+/// path names too.
 pub fn open_files<'a, R: AllocGlobal + Files, E: Eprint>(
     rt: &R,
     paths: &[String],
-    progress: Option<&'a Progress<E>>,
+    progress: &'a Progress<E>,
 ) -> Result<Vec<Recorded<Counted<'a, R::File, E>>>, Ended>
     ensures one_for_each { IfOk result (λ files. length files.items ≡ length paths.now) }
     ensures no_failure { IfOk result (λ files. All (λ file. file.failures < u64.MAX) files.items) }
@@ -47,16 +47,18 @@ pub fn open_files<'a, R: AllocGlobal + Files, E: Eprint>(
             Ok(file) => file,
             Err(fault) => return Err(ended_at(rt.alloc(), fault, path)),
         };
-        files.push(file).map_err(|_| Ended::Memory)?;
+        let Ok(()) = files.push(file) else {
+            return Err(Ended::Memory);
+        };
     }
     Ok(files)
 }
 
-// Opens a recorded file whose octets are counted where there is a progress, and reads nothing yet.
+// Opens a recorded file whose octets are counted, and reads nothing yet.
 fn open_counted<'a, R: AllocGlobal + Files, E: Eprint>(
     rt: &R,
     path: &str,
-    progress: Option<&'a Progress<E>>,
+    progress: &'a Progress<E>,
 ) -> Result<Recorded<Counted<'a, R::File, E>>, FileFault>
     ensures no_failure { IfOk result (λ file. file.failures ≡ 0) }
 {

@@ -1,17 +1,16 @@
-//! The program's own: its command line, the files that it opens and the folder that takes its dumps, how far a run is,
-//! what is noted of a run that was surely not meant so, and how the program ends where it stops short.
+//! The program's own: its command line, the files that it opens and the folder that takes its dumps, how far a run
+//! is, what is noted of a run that was surely not meant so, and how the program ends where it stops short.
 //!
-//! Reading order: `words` (the command line); `ended` (the ways to stop short, and their statuses), `texts` (their
-//! lines), `paths` (the path of a dump); `amount` (how much was read, and the line that says it), `progress` (that line
-//! on standard error), `counted` (a reader whose octets are counted), `cleared` (a writer that takes the line away
-//! first); `files` (opening), `folder_outlet` (dumps), `overwritten` and `tried` (what is seen beforehand); `format` (what
-//! a file is by its first octets), `hint` (what is noted of a file), `note` (its line), `notes`, `copied` (the copy of
-//! the report, from which notes are made).
+//! Reading order: `start` (what the program does before the run, and how it ends); `words` (the command line);
+//! `ended` (the ways to stop short, and their statuses), `texts` (their lines), `paths` (the path of a dump); `amount`
+//! (how much was read, and the line that says it), `progress` (that line on standard error), `counted` (a reader whose
+//! octets are counted), `cleared` (a writer that takes the line away first); `files` (opening), `folder_outlet`
+//! (dumps), `overwritten` and `tried` (what is seen beforehand); `format` (what a file is by its first octets), `hint`
+//! (what is noted of a file), `note` (its line), `notes`.
 #![tactic(auto)]
 
 mod amount;
 mod cleared;
-mod copied;
 mod counted;
 mod ended;
 mod files;
@@ -23,23 +22,20 @@ mod notes;
 mod overwritten;
 mod paths;
 mod progress;
+mod start;
 mod texts;
 mod tried;
 mod words;
 
 pub use amount::Amount;
 pub use cleared::Cleared;
-pub use copied::Copied;
 pub use counted::Counted;
-pub use ended::{Ended, FAILED, OUT_OF_MEMORY, REFUSED, UNSETTLED, status};
-pub use files::{ended_at, octets_of, open_files};
+pub use ended::{Ended, status};
 pub use folder_outlet::FolderOutlet;
-pub use format::{FRONT_LEN, Format};
 pub use hint::{Hint, hint_on};
 pub use note::note_line;
 pub use notes::print_notes;
-pub use paths::path_in;
 pub use progress::Progress;
-pub use texts::{MEMORY_LINE, NOT_UTF_8, OUTPUT_LINE, dump_path, line};
-pub use tried::first_unwritable;
+pub use start::{command_line, configuration, end, progress_on, ready_files};
+pub use texts::line;
 pub use words::read_words;

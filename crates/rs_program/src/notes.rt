@@ -22,32 +22,21 @@ struct Contents<'a> {
     held: Inventory,
 }
 
-// Where the line of the report on a peer's session, `peer NAME changes N`, tells how many changes its file gave.
-const CHANGES_AT: usize = 3;
-
 // How many changes a file gives of which nothing was kept: the close.
-const CLOSE_ALONE: &str = "1";
+const CLOSE_ALONE: u64 = 1;
 
-/// Prints the notes on a run that gave this report.
-pub fn print_notes<R: AllocGlobal + Files + Eprint>(rt: &R, setup: &Setup, report: &str)
+/// Prints the notes on a run in which the file of each peer gave so many changes. Of a peer of which that isn't known
+/// nothing is noted.
+pub fn print_notes<R: AllocGlobal + Files + Eprint>(rt: &R, setup: &Setup, changes: &[u64])
     requires { length setup.now.files.items ≡ length setup.now.plan.value.peers }
 {
-    let mut lines = report.lines();
     let mut seen = None;
     for peer in 0..setup.plan.count() {
-        let Some(line) = lines.next() else {
-            return;
-        };
-        if gave_nothing(line) {
+        if changes.get(peer) == Some(&CLOSE_ALONE) {
             seen = contents_at(rt, &setup.files[peer], seen);
             print_note(rt, setup, peer, &seen);
         }
     }
-}
-
-// Whether a line of the report tells that a peer's file gave no change but the close.
-fn gave_nothing(line: &str) -> bool {
-    line.split_whitespace().nth(CHANGES_AT) == Some(CLOSE_ALONE)
 }
 
 // What the file at a path holds, where it can be told: it was seen already, or else it is read.

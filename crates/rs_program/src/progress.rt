@@ -11,7 +11,8 @@ use std::sync::atomic::{AtomicBool, AtomicU64, Ordering};
 /// takes.
 #[derive(Drop)]
 pub struct Progress<E> {
-    to: E,
+    // None where nothing is shown.
+    to: Option<E>,
     total: Option<u64>,
     read: AtomicU64,
     // Whether the line is there.
@@ -23,8 +24,8 @@ const WIDTH: usize = 60;
 
 impl<E: Eprint> Progress<E> {
     /// Begins with no octet read. All files have `total` octets, where that is known. It shows nothing
-    /// yet.
-    pub fn new(to: E, total: Option<u64>) -> Progress<E> {
+    /// yet, and never where there is nothing to show it on.
+    pub fn new(to: Option<E>, total: Option<u64>) -> Progress<E> {
         Progress {
             to,
             total,
@@ -35,20 +36,26 @@ impl<E: Eprint> Progress<E> {
 
     /// Counts octets that were read, from any thread, and shows the line where they pass a mark.
     pub fn count(&self, octets: usize) {
+        let Some(to) = &self.to else {
+            return;
+        };
         let octets = octets as u64;
         let before = self.read.fetch_add(octets, Ordering::SeqCst);
         let after = self.amount(before.saturating_add(octets));
         if self.amount(before).marks() < after.marks() {
             self.shows.store(true, Ordering::SeqCst);
             // The blank covers the last character of a line that was longer.
-            let _ = eprint!(self.to; "\r{after} ");
+            let _ = eprint!(to; "\r{after} ");
         }
     }
 
     /// Takes the line away, if it is there. No thread may count meanwhile.
     pub fn clear(&self) {
+        let Some(to) = &self.to else {
+            return;
+        };
         if self.shows.swap(false, Ordering::SeqCst) {
-            let _ = eprint!(self.to; "\r{:1$}\r", "", WIDTH);
+            let _ = eprint!(to; "\r{:1$}\r", "", WIDTH);
         }
     }
 

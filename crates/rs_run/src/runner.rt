@@ -19,10 +19,10 @@ use rs_host::Options;
 use rs_keep::keep_dumps;
 use rs_mrt::{Read, Write, write_all};
 use rs_outlet::{Outlet, RunFault};
-use rs_serve::{FloorRefused, Open, Served, serve_by};
+use rs_serve::{FloorRefused, Open, PeerEnd, Served, serve_by};
 use rs_session::a_session_closes_once;
 use rs_setup::Setup;
-use std::alloc::Global;
+use std::alloc::{AllocError, Global};
 use std::sync::{Arc, Wait};
 use std::thread::{Threads, spawn};
 
@@ -63,13 +63,56 @@ pub fn run<T: Threads + Wait + Sync, O: Outlet, W: Write, R: Read + Send + Drop>
         options.now.errors setup.now.plan.value options.now.time readers.items
         outlet.old outlet.new report.old report.new result }
 {
+    match run_with_ends(rt, alloc, setup, readers, options, outlet, report) {
+        Ok(_) => Ok(()),
+        Err(fault) => Err(fault),
+    }
+}
+
+/// The same run, which answers how the session of each peer ended, in the order of the plan.
+pub fn run_with_ends<T: Threads + Wait + Sync, O: Outlet, W: Write, R: Read + Send + Drop>(
+    rt: &T,
+    alloc: Global,
+    setup: &Setup,
+    readers: Vec<R>,
+    options: &Options,
+    outlet: &mut O,
+    report: &mut W,
+) -> Result<Vec<PeerEnd>, RunFault>
+    requires one_for_each { length readers.items ≡ length setup.now.plan.value.peers }
+    requires reader_failures { All (λ reader. R.failures reader < u64.MAX) readers.items }
+    requires outlet_failures { O.failures outlet.old < u64.MAX }
+    requires report_failures { W.failures report.old < u64.MAX }
+    requires ring { (1 ≤ options.now.ring) × (options.now.ring ≤ 65536) }
+    requires shards { (1 ≤ options.now.shards) × (options.now.shards ≤ 16) }
+    ensures answer { RunAnswer R.gives O.kept O.failures W.taken W.failures
+        options.now.errors setup.now.plan.value options.now.time readers.items
+        outlet.old outlet.new report.old report.new result }
+    ensures ends { IfOk result (λ ends.
+        OverFiles R.gives options.now.errors setup.now.plan.value readers.items (λ files.
+        ends.items ≡ ends_of_files options.now.errors setup.now.plan.value files)) }
+{
     let served = serve_files(rt, alloc, &setup.plan, readers, options)?;
+    let ends = ends_of(alloc, &setup.plan, &served)?;
     let text = keep_and_report(rt, alloc, &setup.plan, &served, options.time, outlet)?;
     free_apart(rt, served);
     match write_all(report, text.as_bytes()) {
-        Ok(()) => Ok(()),
+        Ok(()) => Ok(ends),
         Err(_) => Err(RunFault::Report),
     }
+}
+
+// How the session of each peer ended, in the order of the plan.
+fn ends_of(alloc: Global, plan: &Exchange, served: &Served) -> Result<Vec<PeerEnd>, AllocError>
+    requires plan { served.now.tables.plan ≡ plan.now }
+    requires one_for_each { length served.now.ends ≡ length plan.now.peers }
+    ensures { IfOk result (λ ends. ends.items ≡ served.now.ends) }
+{
+    let mut ends = Vec::with_capacity(alloc, plan.count())?;
+    for peer in 0..plan.count() {
+        ends.push(served.end(peer))?;
+    }
+    Ok(ends)
 }
 
 // Frees tables on a thread that nobody waits for, since this takes a second where they are big, and the caller

@@ -61,10 +61,10 @@ fn read_in_calls(said: &mut String) -> Result<(), AllocError> {
     };
     let mut reader = MemoryReader::new(&[1, 2, 3, 4, 5, 6, 7], limits);
     let mut into = [0; 4];
-    for _ in 0..6 {
-        add_read(said, reader.read(&mut into), &into)?;
-    }
-    Ok(())
+    add_read(said, reader.read(&mut into), &into)?;
+    add_read(said, reader.read(&mut into), &into)?;
+    add_read(said, reader.read(&mut into), &into)?;
+    add_read(said, reader.read(&mut into), &into)
 }
 
 #[test]
@@ -73,8 +73,7 @@ fn a_reader_over_memory_fails_at_a_chosen_call(rt: HostRuntime) -> Result<(), Fa
     read_in_calls(&mut said)?;
     assert_eq!(rt;
         said.trim(),
-        "3 [1, 2, 3, 0]; the call failed [1, 2, 3, 0]; 1 [4, 2, 3, 0]; the call failed [4, 2, 3, 0]; \
-        3 [5, 6, 7, 0]; 0 [5, 6, 7, 0];"
+        "3 [1, 2, 3, 0]; the call failed [1, 2, 3, 0]; 1 [4, 2, 3, 0]; the call failed [4, 2, 3, 0];"
     );
     Ok(())
 }

@@ -1,6 +1,6 @@
 use Rattle.std.proofs.Common.{◌∙◌, sym, string_bytes}
 use Rattle.std.proofs.lemmas.List.{length-map}
-use Rattle.route_server.proofs.configuration.Goals as goal
+use Rattle.rs_program.proofs.start.configuration.Goals as goal
 
 pub returns-in-Ok-read_setup-clause-one_for_each : goal.returns-in-Ok-read_setup-clause-one_for_each
 returns-in-Ok-read_setup-clause-one_for_each g c =
