@@ -6,21 +6,39 @@
 //! Supported standards: RFC 4271, RFC 6793, RFC 1997, RFC 7606, RFC 7947, RFC 6396.
 #![tactic(auto)]
 
-use rs_serve::PeerEnd;
+ghost use Rattle.std.specs.Prelude.{◌≡◌, ◌<◌, ◌≤◌, All, Some, IfErr, length};
+ghost use Rattle.rs_program.specs.Texts.{CanTell};
+
 use rs_host::Options;
-use rs_mrt::{Read, Write};
-use rs_outlet::{Outlet, RunFault};
-use rs_program::{Runner, run_program};
+use rs_mrt::{IoWriter, Read};
+use rs_program::{
+    Cleared, Ended, FolderOutlet, Progress, command_line, configuration, end, print_notes,
+    progress_on, ready_files,
+};
 use rs_run::run_with_ends;
+use rs_serve::PeerEnd;
 use rs_setup::Setup;
 use std::alloc::{AllocError, Global};
+use std::fs::Files;
+use std::io;
 use std::io::{IsTerminal, Stderr};
 use std::process::ExitCode;
 use std::sync::Wait;
 use std::thread::Threads;
 
 fn main(rt: HostRuntime) -> ExitCode {
-    run_program(&rt, &OnThreads { rt: &rt }, terminal(rt.stderr()))
+    let options = match command_line(&rt) {
+        Ok(options) => options,
+        Err(fault) => return end(&rt, &Ended::Words(fault), None, None),
+    };
+    let setup = match configuration(&rt, &options) {
+        Ok(setup) => setup,
+        Err(ended) => return end(&rt, &ended, None, None),
+    };
+    match serve(&rt, &setup, &options, terminal(rt.stderr())) {
+        Ok(()) => ExitCode::SUCCESS,
+        Err(ended) => end(&rt, &ended, Some(&setup), Some(&options)),
+    }
 }
 
 // Standard error, where it is a terminal.
@@ -32,26 +50,56 @@ fn terminal(stderr: Stderr) -> Option<Stderr> {
     }
 }
 
-// Runs on threads of the machine.
-struct OnThreads<'a, T> {
-    rt: &'a T,
+// Runs over the peers' files, and then prints notes on peers of whose files nothing was kept. On a terminal it is shown
+// how much was read, until something else is written.
+fn serve<R: AllocGlobal + Files + Print + Eprint + Threads + Wait + Sync>(
+    rt: &R,
+    setup: &Setup,
+    options: &Options,
+    terminal: Option<Stderr>,
+) -> Result<(), Ended>
+where
+    R::File: Send,
+    requires files { length setup.now.files.items ≡ length setup.now.plan.value.peers }
+    requires ring { (1 ≤ options.now.ring) × (options.now.ring ≤ 65536) }
+    requires shards { (1 ≤ options.now.shards) × (options.now.shards ≤ 16) }
+    ensures { IfErr result (λ ended. CanTell ended (Some setup.entry) (Some options.entry)) }
+{
+    let progress = progress_on(rt, terminal, &setup.files);
+    let files = ready_files(rt, setup, options, &progress)?;
+    let ends = run_over(rt, setup, options, files, &progress)?;
+    if let Ok(changes) = changes_of(rt.alloc(), &ends) {
+        print_notes(rt, setup, &changes);
+    }
+    Ok(())
 }
 
-impl<'a, T: AllocGlobal + Threads + Wait + Sync> Runner for OnThreads<'a, T> {
-    fn run<O: Outlet, W: Write, R: Read + Send + Drop>(
-        &self,
-        setup: &Setup,
-        readers: Vec<R>,
-        options: &Options,
-        outlet: &mut O,
-        report: &mut W,
-    ) -> Result<Vec<u64>, RunFault> {
-        let alloc = self.rt.alloc();
-        let ends = run_with_ends(self.rt, alloc, setup, readers, options, outlet, report)?;
-        match changes_of(alloc, &ends) {
-            Ok(changes) => Ok(changes),
-            Err(_) => Ok(Vec::new(alloc)),
-        }
+// Runs over opened files: dumps go to the folder of the options, the report to standard output. Answers how the session
+// of each peer ended.
+fn run_over<R: AllocGlobal + Files + Print + Threads + Wait + Sync, F: Read + Send + Drop>(
+    rt: &R,
+    setup: &Setup,
+    options: &Options,
+    files: Vec<F>,
+    progress: &Progress<Stderr>,
+) -> Result<Vec<PeerEnd>, Ended>
+where
+    R::File: Send,
+    requires one_for_each { length files.items ≡ length setup.now.plan.value.peers }
+    requires files { length setup.now.files.items ≡ length setup.now.plan.value.peers }
+    requires no_failure { All (λ file. F.failures file < u64.MAX) files.items }
+    requires ring { (1 ≤ options.now.ring) × (options.now.ring ≤ 65536) }
+    requires shards { (1 ≤ options.now.shards) × (options.now.shards ≤ 16) }
+    ensures { IfErr result (λ ended. CanTell ended (Some setup.entry) (Some options.entry)) }
+{
+    let alloc = rt.alloc();
+    let mut outlet = FolderOutlet::new(rt, alloc, &options.out);
+    let mut report = IoWriter::new(Cleared::new(io::writer(rt), progress));
+    let ran = run_with_ends(rt, alloc, setup, files, options, &mut outlet, &mut report);
+    progress.clear();
+    match ran {
+        Ok(ends) => Ok(ends),
+        Err(fault) => Err(Ended::Run(fault)),
     }
 }
 

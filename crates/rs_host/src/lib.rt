@@ -1,10 +1,10 @@
 //! What both programs need of the machine and of a command line: files, texts on one line, why a configuration is
 //! refused, what the command line of a run asks for, and which standard a word of one names.
 //!
-//! Reading order: `fault` (why a file can't be read), `whole` (a file that is read whole), `recorded` (a recorded file,
-//! which is read in pieces), `file_identity` (which file a path names), `read_once` (what is seen before any is opened);
-//! `escaped` (texts whose control characters are escaped), `refusal` (why a configuration is refused); `options` (what
-//! the command line of a run asks for), `standard` (the standards for faults by their names).
+//! Reading order: `fault` (why a file can't be read), `whole` (a file that is read whole), `recorded` (a recorded
+//! file, which is read in pieces), `file_identity` (which file a path names), `read_once` (what is seen before any is
+//! opened); `escaped` (texts whose control characters are escaped), `refusal` (why a configuration is refused);
+//! `options` (what the command line of a run asks for), `standard` (the standards for faults by their names).
 #![tactic(auto)]
 
 mod escaped;

@@ -32,15 +32,18 @@ ComesBefore (Some calls) coming ending octets FileEnds = (octets ≡ coming) × 
 ComesBefore (Some calls) coming ending octets ReadFails = (n : ℕ) × (octets ≡ take n coming)
 
 abbrev pub Comes : MemoryReading → List ℕ → ReadEnd → Type 0
-Comes reader = ComesBefore reader.calls (coming reader.left reader.before_failure) (ending reader.left reader.before_failure)
+Comes reader =
+    ComesBefore reader.calls (coming reader.left reader.before_failure) (ending reader.left reader.before_failure)
 
 -- something always may come
-comes_before : (calls : Option ℕ) (coming : List ℕ) (ending : ReadEnd) → SomethingIsGiven (ComesBefore calls coming ending)
+comes_before : (calls : Option ℕ) (coming : List ℕ) (ending : ReadEnd)
+    → SomethingIsGiven (ComesBefore calls coming ending)
 comes_before None coming ending = (coming, ending, (refl, refl))
 comes_before (Some calls) coming ending = ([], ReadFails, (0, refl))
 
 pub something_comes : (reader : MemoryReading) → SomethingIsGiven (Comes reader)
-something_comes reader = comes_before reader.calls (coming reader.left reader.before_failure) (ending reader.left reader.before_failure)
+something_comes reader =
+    comes_before reader.calls (coming reader.left reader.before_failure) (ending reader.left reader.before_failure)
 
 -- how many octets a call gives, where there is room for so many: none where the call fails
 abbrev pub amount_within : Option ℕ → ℕ → Option ℕ

@@ -5,7 +5,8 @@ ghost use Rattle.std.specs.Prelude.{◌≡◌, ◌+◌, ◌<◌, ◌≤◌, leng
 ghost use Rattle.std.specs.Prelude.{MatchResult};
 ghost use Rattle.rs_mrt.specs.Reader.{ReadGives, failed_reads};
 ghost use Rattle.rs_mrt.specs.Memory.{fewer};
-ghost use Rattle.rs_mrt.specs.MemoryReading.{Comes, after_read, amount_at, amount_given, once_failed, something_comes, sooner};
+ghost use Rattle.rs_mrt.specs.MemoryReading.{Comes, after_read, amount_at, amount_given, once_failed, something_comes};
+ghost use Rattle.rs_mrt.specs.MemoryReading.{sooner};
 
 use crate::memory::fewer;
 use crate::reader::Read;
@@ -93,7 +94,8 @@ impl<'a> Read for MemoryReader<'a> {
         ensures failures { self.new.failures ≡ self.old.failures + failed_reads result }
         // It gives just this many, and just these.
         ensures amount { MatchResult result
-            (λ n. amount_given self.old (length into.new) ≡ Some n) (λ _. amount_given self.old (length into.new) ≡ None) }
+            (λ n. amount_given self.old (length into.new) ≡ Some n)
+            (λ _. amount_given self.old (length into.new) ≡ None) }
         ensures octets { IfOk result (λ n. take n into.new ≡ take n self.old.left) }
         ensures left { self.new ≡ after_read self.old result }
     {

@@ -1,12 +1,12 @@
-//! The program's own: its command line, the files that it opens and the folder that takes its dumps, how far a run is,
-//! what is noted of a run that was surely not meant so, and how the program ends where it stops short.
+//! The program's own: its command line, the files that it opens and the folder that takes its dumps, how far a run
+//! is, what is noted of a run that was surely not meant so, and how the program ends where it stops short.
 //!
-//! Reading order: `start` (the program from its command line to its status), `runner` (what runs over the files);
-//! `words` (the command line); `ended` (the ways to stop short, and their statuses), `texts` (their lines), `paths` (the
-//! path of a dump); `amount` (how much was read, and the line that says it), `progress` (that line on standard error),
-//! `counted` (a reader whose octets are counted), `cleared` (a writer that takes the line away first); `files`
-//! (opening), `folder_outlet` (dumps), `overwritten` and `tried` (what is seen beforehand); `format` (what a file is by
-//! its first octets), `hint` (what is noted of a file), `note` (its line), `notes`.
+//! Reading order: `start` (what the program does before the run, and how it ends); `words` (the command line);
+//! `ended` (the ways to stop short, and their statuses), `texts` (their lines), `paths` (the path of a dump); `amount`
+//! (how much was read, and the line that says it), `progress` (that line on standard error), `counted` (a reader whose
+//! octets are counted), `cleared` (a writer that takes the line away first); `files` (opening), `folder_outlet`
+//! (dumps), `overwritten` and `tried` (what is seen beforehand); `format` (what a file is by its first octets), `hint`
+//! (what is noted of a file), `note` (its line), `notes`.
 #![tactic(auto)]
 
 mod amount;
@@ -22,7 +22,6 @@ mod notes;
 mod overwritten;
 mod paths;
 mod progress;
-mod runner;
 mod start;
 mod texts;
 mod tried;
@@ -35,8 +34,8 @@ pub use ended::{Ended, status};
 pub use folder_outlet::FolderOutlet;
 pub use hint::{Hint, hint_on};
 pub use note::note_line;
+pub use notes::print_notes;
 pub use progress::Progress;
-pub use runner::Runner;
-pub use start::run_program;
+pub use start::{command_line, configuration, end, progress_on, ready_files};
 pub use texts::line;
 pub use words::read_words;

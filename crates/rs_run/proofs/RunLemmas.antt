@@ -1,5 +1,5 @@
 -- A run over files that the readers may give.
-use Rattle.std.proofs.Common.{◌≡◌, ℕ, List, Option, length, refl, sym, subst, ◌∙◌, Result, Ok, Err, inl, inr}
+use Rattle.std.proofs.Common.{◌≡◌, ℕ, List, Option, length, refl, sym, subst, ◌∙◌, Result, Ok, Err, inr}
 use Rattle.std.specs.Result.{IsErrAnd}
 use Rattle.std.specs.List.{zip}
 use Rattle.std.proofs.lemmas.List.{length-map}

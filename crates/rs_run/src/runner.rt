@@ -90,11 +90,13 @@ pub fn run_with_ends<T: Threads + Wait + Sync, O: Outlet, W: Write, R: Read + Se
     ensures answer { RunAnswer R.gives O.kept O.failures W.taken W.failures
         options.now.errors setup.now.plan.value options.now.time readers.items
         outlet.old outlet.new report.old report.new result }
-    ensures ends { IfOk result (λ ends. OverFiles R.gives options.now.errors setup.now.plan.value readers.items (λ files.
+    ensures ends { IfOk result (λ ends.
+        OverFiles R.gives options.now.errors setup.now.plan.value readers.items (λ files.
         ends.items ≡ ends_of_files options.now.errors setup.now.plan.value files)) }
+    ensures back { AreAsMany (O.started outlet.old) (O.started outlet.new) }
 {
     let served = serve_files(rt, alloc, &setup.plan, readers, options)?;
-    let ends = ends_of(alloc, &served, setup.plan.count())?;
+    let ends = ends_of(alloc, &setup.plan, &served)?;
     let text = keep_and_report(rt, alloc, &setup.plan, &served, options.time, outlet)?;
     free_apart(rt, served);
     match write_all(report, text.as_bytes()) {
@@ -103,14 +105,14 @@ pub fn run_with_ends<T: Threads + Wait + Sync, O: Outlet, W: Write, R: Read + Se
     }
 }
 
-// How the session of each of so many peers ended, in the order of the plan.
-fn ends_of(alloc: Global, served: &Served, peers: usize) -> Result<Vec<PeerEnd>, AllocError>
-    requires all { length served.now.tables.plan.peers ≡ peers }
-    requires one_for_each { length served.now.ends ≡ peers }
+// How the session of each peer ended, in the order of the plan.
+fn ends_of(alloc: Global, plan: &Exchange, served: &Served) -> Result<Vec<PeerEnd>, AllocError>
+    requires plan { served.now.tables.plan ≡ plan.now }
+    requires one_for_each { length served.now.ends ≡ length plan.now.peers }
     ensures { IfOk result (λ ends. ends.items ≡ served.now.ends) }
 {
-    let mut ends = Vec::with_capacity(alloc, peers)?;
-    for peer in 0..peers {
+    let mut ends = Vec::with_capacity(alloc, plan.count())?;
+    for peer in 0..plan.count() {
         ends.push(served.end(peer))?;
     }
     Ok(ends)

@@ -4,12 +4,15 @@
 ghost use Rattle.std.specs.Prelude.{◌≡◌, ◌<◌, ◌≤◌, length};
 
 use rs_host::Options;
-use rs_mrt::{Limits, MemoryReader, MemoryWriter, ReadLimits};
+use rs_mrt::{IoWriter, Limits, MemoryReader, MemoryWriter, ReadLimits, Write};
 use rs_outlet::{Kept, MemoryOutlet, Outlet, OutletLimits, RunFault};
+use rs_program::{Cleared, Progress};
 use rs_run::run;
 use rs_setup::{Setup, read_setup};
 use rs_update::Errors;
 use spelled_in_hex::octets;
+use std::alloc::Global;
+use std::io::Stderr;
 use std::process::Abort;
 use std::sync::Wait;
 use std::test::Fail;
@@ -130,6 +133,27 @@ fn run_over<T: AllocGlobal + Abort + Threads + Wait + Sync, O: Outlet>(
     requires shards { (1 ≤ options.now.shards) × (options.now.shards ≤ 16) }
     requires failures { O.failures outlet.old < u64.MAX }
 {
+    let mut report = MemoryWriter::new(rt.alloc(), manner.report);
+    let answer = run_to(rt, setup, options, file, manner, outlet, &mut report)?;
+    Ok((answer, report.into_octets()))
+}
+
+// The same, where the report goes to any writer.
+fn run_to<T: AllocGlobal + Abort + Threads + Wait + Sync, O: Outlet, W: Write>(
+    rt: &T,
+    setup: &Setup,
+    options: &Options,
+    file: &[u8],
+    manner: &Manner,
+    outlet: &mut O,
+    report: &mut W,
+) -> Result<Result<(), RunFault>, Fail>
+    requires peers { length setup.now.plan.value.peers ≡ CLIENTS }
+    requires ring { (1 ≤ options.now.ring) × (options.now.ring ≤ 65536) }
+    requires shards { (1 ≤ options.now.shards) × (options.now.shards ≤ 16) }
+    requires outlet_failures { O.failures outlet.old < u64.MAX }
+    requires report_failures { W.failures report.old < u64.MAX }
+{
     let alloc = rt.alloc();
     let [first, second, third, fourth] = manner.files;
     let readers = [
@@ -139,9 +163,22 @@ fn run_over<T: AllocGlobal + Abort + Threads + Wait + Sync, O: Outlet>(
         MemoryReader::new(&[], fourth),
     ];
     let readers = Vec::from_array(alloc, readers)?;
-    let mut report = MemoryWriter::new(alloc, manner.report);
-    let answer = run(rt, alloc, setup, readers, options, outlet, &mut report);
-    Ok((answer, report.into_octets()))
+    Ok(run(rt, alloc, setup, readers, options, outlet, report))
+}
+
+// The options of a run in a manner.
+fn options_in(alloc: Global, manner: &Manner) -> Options
+    ensures ring { result.ring ≡ manner.now.ring }
+    ensures shards { result.shards ≡ manner.now.shards }
+{
+    Options {
+        config: String::new(alloc),
+        out: String::new(alloc),
+        time: 0,
+        ring: manner.ring,
+        shards: manner.shards,
+        errors: Errors::Rfc4271,
+    }
 }
 
 // Runs over that file in a manner.
@@ -154,14 +191,7 @@ fn run_in(
     assert!(rt; 1 <= manner.shards && manner.shards <= 16);
     let setup = read_setup(alloc, EXCHANGE.as_bytes())?;
     assert!(rt; setup.plan.count() == CLIENTS);
-    let options = Options {
-        config: String::new(alloc),
-        out: String::new(alloc),
-        time: 0,
-        ring: manner.ring,
-        shards: manner.shards,
-        errors: Errors::Rfc4271,
-    };
+    let options = options_in(alloc, manner);
     let file = octets(alloc, &[COLLECTED])?;
     let mut outlet = MemoryOutlet::new(alloc, manner.outlet);
     let (answer, report) = run_over(rt, &setup, &options, &file, manner, &mut outlet)?;
@@ -232,6 +262,34 @@ fn a_run_is_the_same_whatever_its_rings_and_shards(rt: HostRuntime) -> Result<()
             check_run(&rt, manner, WHOLE, (ring, shards))?;
         }
     }
+    Ok(())
+}
+
+// The writers of the program stand between the run and what takes its report, here memory.
+#[test]
+fn a_report_passes_the_writers_of_the_program(rt: HostRuntime) -> Result<(), Fail> {
+    let alloc = rt.alloc();
+    let manner = Manner::plain();
+    assert!(rt; 1 <= manner.ring && manner.ring <= 65_536);
+    assert!(rt; 1 <= manner.shards && manner.shards <= 16);
+    let setup = read_setup(alloc, EXCHANGE.as_bytes())?;
+    assert!(rt; setup.plan.count() == CLIENTS);
+    let options = options_in(alloc, &manner);
+    let file = octets(alloc, &[COLLECTED])?;
+    let mut outlet = MemoryOutlet::new(alloc, OutletLimits::none());
+    let progress: Progress<Stderr> = Progress::new(None, None);
+    let mut out = Vec::new(alloc);
+    let mut report = IoWriter::new(Cleared::new(&mut out, &progress));
+    let answer = run_to(
+        &rt,
+        &setup,
+        &options,
+        &file,
+        &manner,
+        &mut outlet,
+        &mut report,
+    )?;
+    assert_eq!(rt; (answer, out.as_slice()), (Ok(()), REPORT.as_bytes()));
     Ok(())
 }
 
