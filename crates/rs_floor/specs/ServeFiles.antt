@@ -11,7 +11,7 @@ use Rattle.rs_update.specs.declared.errors.Errors.{Errors}
 
 -- a reader of a whole file, of which no read fails
 abbrev pub whole_of : List ℕ → MemoryReading
-whole_of file = record { left = file; before_failure = None; most = 18446744073709551615; failures = 0 }
+whole_of file = record { left = file; calls = None; before_failure = None; most = 18446744073709551615; failures = 0 }
 
 -- what a run with one shard answers over files: there is a number of shards, and no read fails
 abbrev pub ServeFilesAnswer : Errors → Plan → List (List ℕ) → ℕ → Result ServedContent FloorRefused → Type 0
