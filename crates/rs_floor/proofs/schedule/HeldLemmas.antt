@@ -18,6 +18,11 @@ pub ok-anyway : {A E : Type 0} (result : Result A E) (Q : Type 0) → Q → OnOk
 ok-anyway (Ok value) Q q = q
 ok-anyway (Err fault) Q q = tt
 
+-- what follows from two facts of a success holds of it
+pub ok-both : {A E : Type 0} (result : Result A E) (P Q R : Type 0) → OnOk result P → OnOk result Q → (P → Q → R) → OnOk result R
+ok-both (Ok value) P Q R p q h = h p q
+ok-both (Err fault) P Q R p q h = tt
+
 -- a change was received from one lane, and the tables took it
 pub held-after : (lanes : List LaneContent) (before after : TablesContent) (at : ℕ) (lane new : LaneContent) (change : Change) → HoldReceived before lanes → slice_get lanes at ≡ Some lane
     → new ≡ record lane { counts = after_receive lane.counts } → new.counts.received ≡ lane.counts.received + 1 → slice_get lane.recorded lane.counts.received ≡ Some change → list_any is_close (received_of lane) ≡ false
