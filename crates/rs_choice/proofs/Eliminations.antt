@@ -11,7 +11,8 @@ use Rattle.rs_choice.specs.declared.step.Step.{Step}
 use Rattle.rs_choice.specs.declared.step.Step.TheVariants as steps
 use Rattle.rs_update.specs.Spelling.{origin_code}
 use Rattle.rs_choice.specs.Decision.{beats, decision_steps, unbeaten, remaining, first_member, choice}
-use Rattle.rs_choice.specs.Comparison.{FirstOrSecond, IsPreferred, IsAsPreferred, IsShorter, IsPreferredOrShorter, IsAsLong, HasLowerOrigin, IsAhead, IsLevel, HasLowerMed, IsAheadByMed, HasLowerId, HasSameId, HasLowerAddress, Precedes}
+use Rattle.rs_choice.specs.Comparison.{FirstOrSecond, IsPreferred, IsAsPreferred, IsShorter, IsPreferredOrShorter, IsAsLong, HasLowerOrigin}
+use Rattle.rs_choice.specs.Comparison.{IsAhead, IsLevel, HasLowerMed, IsAheadByMed, HasLowerId, HasSameId, HasLowerAddress, Precedes}
 use Rattle.rs_choice.proofs.Members.{Mem, mem-filter, mem_of-filter, list_any-none, none-list_any}
 
 -- x is in a set, and no member of the set beats it
@@ -28,7 +29,8 @@ pub same_then : {M : Type 0} (In Middle Other : M → Type 0) → Same In Middle
 same_then In Middle Other a b = record { to = λ x h. b.to x (a.to x h); from = λ x h. a.from x (b.from x h) }
 
 -- eliminations by one relation leave the same of the same sets
-pub same_unbeaten : {M : Type 0} (Beats : M → M → Type 0) (In Other : M → Type 0) → Same In Other → Same (Unbeaten Beats In) (Unbeaten Beats Other)
+pub same_unbeaten : {M : Type 0} (Beats : M → M → Type 0) (In Other : M → Type 0) → Same In Other
+    → Same (Unbeaten Beats In) (Unbeaten Beats Other)
 same_unbeaten Beats In Other same = record {
   to = λ x left. record { member = same.to x left.member; best = λ w h. left.best w (same.from w h) };
   from = λ x left. record { member = same.from x left.member; best = λ w h. left.best w (same.to w h) };
@@ -76,7 +78,8 @@ beats_tells steps.Preference one other = Decides-ltb other.preference one.prefer
 beats_tells steps.PathLength one other = Decides-ltb one.path_length other.path_length
 beats_tells steps.Origin one other = Decides-ltb (origin_code one.origin) (origin_code other.origin)
 beats_tells steps.Med one other =
-    Decides-and (one.neighbour == other.neighbour) (nat_lt one.med other.med) (Decides-eqb one.neighbour other.neighbour) (Decides-ltb one.med other.med)
+    Decides-and (one.neighbour == other.neighbour) (nat_lt one.med other.med) (Decides-eqb one.neighbour other.neighbour)
+    (Decides-ltb one.med other.med)
 beats_tells steps.Identifier one other = Decides-ltb one.id other.id
 beats_tells steps.Address one other = Decides-ltb one.address other.address
 
@@ -103,7 +106,8 @@ module _ {M : Type 0} (standing : M → Standing) where
       let none = not-true (list_any (λ other. beats step (standing other) (standing x)) set) kept.1 in
       (kept.0, λ w k. list_any-none (λ other. beats step (standing other) (standing x)) set w none k)
 
-  pub means_unbeaten : (step : Step) (set : List M) (x : M) → Mem set x → list_any (λ other. beats step (standing other) (standing x)) set ≡ false →
+  pub means_unbeaten : (step : Step) (set : List M) (x : M) → Mem set x
+      → list_any (λ other. beats step (standing other) (standing x)) set ≡ false →
       Mem (unbeaten standing step set) x
   unfolding unbeaten
   means_unbeaten step set x h none =
@@ -113,10 +117,15 @@ module _ {M : Type 0} (standing : M → Standing) where
   same_step step set = record {
     to = λ x h.
         let left = unbeaten_means step set x h in
-        record { member = left.0; best = λ w k. not_from_Decides (beats step (standing w) (standing x)) (beats_tells step (standing w) (standing x)) (left.1 w k) };
+        record {
+          member = left.0;
+          best = λ w k. not_from_Decides (beats step (standing w) (standing x))
+              (beats_tells step (standing w) (standing x)) (left.1 w k);
+        };
     from = λ x left.
         means_unbeaten step set x left.member (none-list_any (λ other. beats step (standing other) (standing x)) set
-        (λ w k. is_false (beats step (standing w) (standing x)) (λ beaten. left.best w k ((beats_tells step (standing w) (standing x)).0 beaten))));
+        (λ w k. is_false (beats step (standing w) (standing x))
+        (λ beaten. left.best w k ((beats_tells step (standing w) (standing x)).0 beaten))));
   }
 
   -- a step after others leaves what both leave
@@ -153,7 +162,8 @@ module _ {M : Type 0} (standing : M → Standing) where
     s6 = unbeaten standing steps.Address s5
 
     same2 : Same (Mem s2) (Unbeaten (By standing IsPreferredOrShorter) (Mem set))
-    same2 = step_after IsPreferred IsAsPreferred steps.PathLength set s1 (same_step steps.Preference set) (λ w x a b. omega arith) (λ u w x e h. omega arith)
+    same2 = step_after IsPreferred IsAsPreferred steps.PathLength set s1 (same_step steps.Preference set) (λ w x a b. omega arith)
+        (λ u w x e h. omega arith)
 
     pub same3 : Same (Mem s3) (Unbeaten (By standing IsAhead) (Mem set))
     same3 = step_after IsPreferredOrShorter IsAsLong steps.Origin set s2 same2 (λ w x a b. grind arith) (λ u w x e h. grind arith)
@@ -164,11 +174,13 @@ module _ {M : Type 0} (standing : M → Standing) where
     same6 : Same (Mem s6) (Left standing (Mem set))
     same6 =
         same_then (Mem s6) (Unbeaten (By standing Precedes) (Mem s4)) (Left standing (Mem set))
-        (step_after HasLowerId HasSameId steps.Address s4 s5 (same_step steps.Identifier s4) (λ w x a b. omega arith) (λ u w x e h. omega arith))
+        (step_after HasLowerId HasSameId steps.Address s4 s5 (same_step steps.Identifier s4) (λ w x a b. omega arith)
+        (λ u w x e h. omega arith))
         (same_unbeaten (By standing Precedes) (Mem s4) (LeftByMed standing (Mem set)) same4)
 
 -- later steps only remove
-pub remaining_among : {M : Type 0} (standing : M → Standing) (steps : List Step) (set : List M) (x : M) → Mem (remaining standing steps set) x → Mem set x
+pub remaining_among : {M : Type 0} (standing : M → Standing) (steps : List Step) (set : List M) (x : M)
+    → Mem (remaining standing steps set) x → Mem set x
 unfolding remaining
 remaining_among standing [] set x h = h
 remaining_among standing (step ∷ later) set x h =
@@ -182,7 +194,8 @@ remaining-append standing [] after set = refl
 remaining-append standing (step ∷ before) after set = remaining-append standing before after (unbeaten standing step set)
 
 -- what all six steps leave
-pub same_remaining : {M : Type 0} (standing : M → Standing) (set : List M) → Same (Mem (remaining standing decision_steps set)) (Left standing (Mem set))
+pub same_remaining : {M : Type 0} (standing : M → Standing) (set : List M)
+    → Same (Mem (remaining standing decision_steps set)) (Left standing (Mem set))
 unfolding remaining
 same_remaining standing set = same6 standing set
 
@@ -197,7 +210,8 @@ unfolding choice
 choice_left standing set chosen e = first-mem (remaining standing decision_steps set) chosen e
 
 -- two members that all steps leave are from one address
-pub one_address : {M : Type 0} (standing : M → Standing) (set : List M) (one other : M) → Left standing (Mem set) one → Left standing (Mem set) other →
+pub one_address : {M : Type 0} (standing : M → Standing) (set : List M) (one other : M) → Left standing (Mem set) one
+    → Left standing (Mem set) other →
     (standing one).address ≡ (standing other).address
 one_address standing set one other left_one left_other =
     neither_first (standing one) (standing other) (left_other.best one left_one.member) (left_one.best other left_other.member)

@@ -40,7 +40,17 @@ plan = record { local = server; peers = a ∷ b ∷ c ∷ d ∷ [] }
 
 abbrev route : List ℕ → ℕ → PathAttributes
 route path next_hop =
-    record { origin = Igp; path = AsSequence path ∷ []; next_hop = next_hop; med = None; atomic = false; aggregator = None; communities = None; others = [] }
+    record {
+      origin = Igp;
+      path = AsSequence path ∷ [];
+      next_hop = next_hop;
+      med = None;
+      atomic = false;
+      aggregator = None;
+      communities =
+          None;
+      others = [];
+    }
 
 abbrev with_communities : List ℕ → PathAttributes
 with_communities values = record (route (64501 ∷ []) 0xC000020B) { communities = Some (record { partial = false; values = values }) }
@@ -52,7 +62,8 @@ eligible = refl
 own_as_in_path : is_eligible plan 0 (route (64501 ∷ 64500 ∷ []) 0xC000020B) ≡ false
 own_as_in_path = refl
 
-own_as_in_a_set : is_eligible plan 0 (record (route (64501 ∷ []) 0xC000020B) { path = AsSequence (64501 ∷ []) ∷ AsSet (65010 ∷ 64500 ∷ []) ∷ [] }) ≡ false
+own_as_in_a_set : is_eligible plan 0 (record (route (64501 ∷ []) 0xC000020B)
+    { path = AsSequence (64501 ∷ []) ∷ AsSet (65010 ∷ 64500 ∷ []) ∷ [] }) ≡ false
 own_as_in_a_set = refl
 
 server_as_next_hop : is_eligible plan 0 (route (64501 ∷ []) 0xC0000201) ≡ false
@@ -67,10 +78,12 @@ next_hop_elsewhere_without_subnet = refl
 next_hop_of_another_in_subnet : is_eligible plan 0 (route (64501 ∷ []) 0xC0000214) ≡ true
 next_hop_of_another_in_subnet = refl
 
-next_hop_of_a_sender_outside : is_eligible (record { local = server; peers = peer_named (codes "a") 64501 0xC6336401 ∷ [] }) 0 (route (64501 ∷ []) 0xC6336401) ≡ true
+next_hop_of_a_sender_outside : is_eligible (record { local = server; peers = peer_named (codes "a") 64501 0xC6336401 ∷ [] }) 0
+    (route (64501 ∷ []) 0xC6336401) ≡ true
 next_hop_of_a_sender_outside = refl
 
-next_hop_of_server_and_sender : is_eligible (record { local = server; peers = peer_named (codes "a") 64501 0xC0000201 ∷ [] }) 0 (route (64501 ∷ []) 0xC0000201) ≡ false
+next_hop_of_server_and_sender : is_eligible (record { local = server; peers = peer_named (codes "a") 64501 0xC0000201 ∷ [] }) 0
+    (route (64501 ∷ []) 0xC0000201) ≡ false
 next_hop_of_server_and_sender = refl
 
 unknown_sender : is_eligible plan 4 (route (64501 ∷ []) 0xC000020B) ≡ false
@@ -135,7 +148,8 @@ not_refused_to_another = refl
 abbrev med_plan : Plan
 med_plan = record {
   local = server;
-  peers = record (peer_named (codes "a") 64501 0xC000020B) { id = 1 } ∷ record (peer_named (codes "b") 64501 0xC000020C) { id = 9 } ∷ record (peer_named (codes "c") 64502 0xC000020D) { id = 5 } ∷ [];
+  peers = record (peer_named (codes "a") 64501 0xC000020B) { id = 1 } ∷ record (peer_named (codes "b") 64501 0xC000020C) { id = 9 }
+      ∷ record (peer_named (codes "c") 64502 0xC000020D) { id = 5 } ∷ [];
 }
 
 abbrev from_a : SentRoute
@@ -212,7 +226,8 @@ one_at_b = refl
 abbrev tie_plan : Plan
 tie_plan = record {
   local = server;
-  peers = record (peer_named (codes "a") 64501 0xC000020B) { id = 0xC0000209 } ∷ record (peer_named (codes "b") 64501 0xC000020C) { id = 0xC0000209 } ∷ c ∷ [];
+  peers = record (peer_named (codes "a") 64501 0xC000020B) { id = 0xC0000209 }
+      ∷ record (peer_named (codes "b") 64501 0xC000020C) { id = 0xC0000209 } ∷ c ∷ [];
 }
 
 abbrev tie_of : ℕ → SentRoute
@@ -241,7 +256,12 @@ no_candidate = refl
 
 -- an AS_SET counts 1
 abbrev with_set : SentRoute
-with_set = record { peer = 0; time = 0; attributes = record (route (64501 ∷ []) 0xC000020B) { path = AsSet (65010 ∷ 65011 ∷ 65012 ∷ []) ∷ AsSequence (65013 ∷ 65014 ∷ []) ∷ [] } }
+with_set = record {
+  peer = 0;
+  time = 0;
+  attributes = record (route (64501 ∷ []) 0xC000020B)
+      { path = AsSet (65010 ∷ 65011 ∷ 65012 ∷ []) ∷ AsSequence (65013 ∷ 65014 ∷ []) ∷ [] };
+}
 
 abbrev of_two : SentRoute
 of_two = record { peer = 1; time = 0; attributes = route (64502 ∷ 65010 ∷ []) 0xC000020C }
@@ -289,7 +309,8 @@ preferring = record { local = server; peers = a ∷ record b { preference = 200 
 abbrev of_origin : SentRoute
 of_origin = record { peer = 0; time = 0; attributes = record (route (64501 ∷ 65010 ∷ []) 0xC000020B) { origin = Egp } }
 
-preferred : choice (standing_of preferring) (record { peer = 0; time = 0; attributes = route (64501 ∷ []) 0xC000020B } ∷ of_four ∷ []) ≡ Some of_four
+preferred : choice (standing_of preferring) (record { peer = 0; time = 0; attributes = route (64501 ∷ []) 0xC000020B } ∷ of_four ∷ [])
+    ≡ Some of_four
 unfolding choice remaining unbeaten
 preferred = refl
 
@@ -304,7 +325,8 @@ origins = refl
 lawful : plan_fault server (a ∷ b ∷ c ∷ d ∷ []) ≡ None
 lawful = refl
 
-lawful_refusals : plan_fault server (record a { refuse_from = codes "a" ∷ codes "b" ∷ codes "b" ∷ [] } ∷ record b { id = 0xC000020B } ∷ []) ≡ None
+lawful_refusals : plan_fault server (record a { refuse_from = codes "a" ∷ codes "b" ∷ codes "b" ∷ [] } ∷ record b { id = 0xC000020B } ∷ [])
+    ≡ None
 lawful_refusals = refl
 
 no_peer : plan_fault server [] ≡ Some NoPeer

@@ -1,5 +1,7 @@
--- Members of a list, of what is made of it, and of what a test finds in it: for the lemmas of choices, clients and plans, and those of rs_explain.
-use Rattle.std.proofs.Common.{◌≡◌, ◌∙◌, sym, ap, subst, refl, arith, ℕ, ◌<◌, suc, zero, Bool, true, false, ◌⊎◌, inl, inr, List, [], ◌∷◌, ◌++◌, length, map, get_or, Some}
+-- Members of a list, of what is made of it, and of what a test finds in it: for the lemmas of choices, clients and plans, and those of
+-- rs_explain.
+use Rattle.std.proofs.Common.{◌≡◌, ◌∙◌, sym, ap, subst, refl, arith, ℕ, ◌<◌, suc, zero, Bool, true, false, ◌⊎◌, inl, inr, List, [], ◌∷◌}
+use Rattle.std.proofs.Common.{◌++◌, length, map, get_or, Some}
 use Rattle.std.specs.Prelude.{filter, slice_get}
 use Rattle.std.specs.List.{list_any, All, Contains}
 use Rattle.std.proofs.lemmas.Bool.{cond_both, or_cases, or_parts}
@@ -59,7 +61,8 @@ mem-append_right [] ys x h = h
 mem-append_right (y ∷ xs) ys x h = inr (mem-append_right xs ys x h)
 
 -- members of two lists, where those of the second are of a third
-pub mem_widen : {M : Type 0} (first some others : List M) (x : M) → (Mem some x → Mem others x) → Mem (first ++ some) x → Mem (first ++ others) x
+pub mem_widen : {M : Type 0} (first some others : List M) (x : M) → (Mem some x → Mem others x) → Mem (first ++ some) x
+    → Mem (first ++ others) x
 mem_widen [] some others x wider h = wider h
 mem_widen (y ∷ ys) some others x wider (inl same) = inl same
 mem_widen (y ∷ ys) some others x wider (inr h) = inr (mem_widen ys some others x wider h)

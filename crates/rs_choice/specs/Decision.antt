@@ -48,8 +48,8 @@ abbrev pub first_member : {M : Type 0} → List M → Option M
 first_member [] = None
 first_member (first ∷ later) = Some first
 
--- the choice among the members of a set: the member that all steps leave; none of an empty set. One member is left: each
--- step leaves at least one of a set that isn't empty, and the last step leaves those of the lowest address. No two
+-- the choice among the members of a set: the member that all steps leave; none of an empty set. One member is left:
+-- each step leaves at least one of a set that isn't empty, and the last step leaves those of the lowest address. No two
 -- peers of a plan have the same address, and a peer has one route on a prefix.
 unfoldable pub choice : {M : Type 0} → (M → Standing) → List M → Option M
 choice standing set = first_member (remaining standing decision_steps set)

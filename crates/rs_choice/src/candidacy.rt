@@ -1,7 +1,8 @@
 //! What decisions ask of a route before they look at the others, in one octet.
 
 ghost use Rattle.std.specs.Prelude.{◌≡◌};
-ghost use Rattle.rs_choice.specs.Candidacy.{origin_of_candidacy, is_candidate, is_open_candidate, is_plain_candidate, CandidacyOf};
+ghost use Rattle.rs_choice.specs.Candidacy.{origin_of_candidacy, is_candidate, is_open_candidate, is_plain_candidate};
+ghost use Rattle.rs_choice.specs.Candidacy.{CandidacyOf};
 
 use rs_update::Origin;
 

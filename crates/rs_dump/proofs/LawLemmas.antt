@@ -1,5 +1,6 @@
 -- Proofs of the laws.
-use Rattle.std.proofs.Common.{◌≡◌, ℕ, zero, suc, ◌+◌, ◌-◌, ◌*◌, ◌/◌, ◌^◌, ◌<◌, ◌≤◌, ◌∙◌, List, [], ◌∷◌, ◌++◌, length, take, map, refl, ap, sym, arith, lit<, length-append, length-take-le}
+use Rattle.std.proofs.Common.{◌≡◌, ℕ, zero, suc, ◌+◌, ◌-◌, ◌*◌, ◌/◌, ◌^◌, ◌<◌, ◌≤◌, ◌∙◌, List, [], ◌∷◌, ◌++◌, length, take, map, refl, ap}
+use Rattle.std.proofs.Common.{sym, arith, lit<, length-append, length-take-le}
 use Rattle.std.specs.List.{flat_map, enumerate_from, AllByRecursion}
 use Rattle.std.proofs.Math.Nat.{div-div-eq-div-mul}
 use Rattle.std.proofs.lemmas.List.{append-nil}
@@ -16,7 +17,8 @@ use Rattle.rs_dump.proofs.PeerLemmas.{length_peer_index}
 -- ---- prefixes
 
 -- the first octets of an address are the address without the others
-first_octets : (count address : ℕ) → count ≤ 4 → address < 2 ^ 32 → big_number count (take count (big_bytes 4 address)) ≡ address / 2 ^ (8 * (4 - count))
+first_octets : (count address : ℕ) → count ≤ 4 → address < 2 ^ 32
+    → big_number count (take count (big_bytes 4 address)) ≡ address / 2 ^ (8 * (4 - count))
 first_octets zero address few fits = omega arith
 first_octets (suc zero) address few fits = omega arith
 first_octets (suc (suc zero)) address few fits = omega arith
@@ -48,10 +50,17 @@ row_fits time place row fits fit =
       time = fits;
       kind = lit< tt;
       subtype = lit< tt;
-      body = omega (arith, length-take-le count (big_bytes 4 row.prefix.address) few, length-append address (big_bytes 2 1), length-append (address ++ big_bytes 2 1) (rib_entry row), fit.attributes);
+      body = omega (
+        arith,
+        length-take-le count (big_bytes 4 row.prefix.address) few,
+        length-append address (big_bytes 2 1),
+        length-append (address ++ big_bytes 2 1) (rib_entry row),
+        fit.attributes,
+      );
     }
 
-rows_fit : (time from : ℕ) (rows : List TableRow) → time < 2 ^ 32 → AllByRecursion Fits rows → AllByRecursion IsRecord (map (row_record time) (enumerate_from from rows))
+rows_fit : (time from : ℕ) (rows : List TableRow) → time < 2 ^ 32 → AllByRecursion Fits rows
+    → AllByRecursion IsRecord (map (row_record time) (enumerate_from from rows))
 rows_fit time from [] fits each = tt
 rows_fit time from (row ∷ rows) fits each = (row_fits time from row fits each.0, rows_fit time (from + 1) rows fits each.1)
 

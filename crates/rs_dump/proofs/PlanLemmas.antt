@@ -1,5 +1,6 @@
 -- What a plan without a fault says of a peer's name.
-use Rattle.std.proofs.Common.{◌≡◌, ℕ, zero, suc, ◌+◌, ◌≤◌, Bool, true, false, not, ◌&&◌, ◌==◌, nat_le, List, [], ◌∷◌, ◌++◌, length, take, slice_get, None, Some, refl, arith}
+use Rattle.std.proofs.Common.{◌≡◌, ℕ, zero, suc, ◌+◌, ◌≤◌, Bool, true, false, not, ◌&&◌, ◌==◌, nat_le, List, [], ◌∷◌, ◌++◌, length, take}
+use Rattle.std.proofs.Common.{slice_get, None, Some, refl, arith}
 use Rattle.std.specs.List.{flat_map, enumerate_from, list_all}
 use Rattle.std.proofs.lemmas.Grind.{common_steps}
 use Rattle.rs_choice.specs.declared.fault.PlanFault.{PlanFault}
@@ -22,7 +23,8 @@ first_fault-behind ((true, fault) ∷ front) behind none = cc
 first_fault-behind ((false, fault) ∷ front) behind none = first_fault-behind front behind none
 
 -- no test of one of the numbered peers is true
-first_fault-member : (tests : ℕ × Peer → List Test) (from place : ℕ) (peers : List Peer) (peer : Peer) → slice_get peers place ≡ Some peer → first_fault (flat_map tests (enumerate_from from peers)) ≡ None → first_fault (tests (from + place, peer)) ≡ None
+first_fault-member : (tests : ℕ × Peer → List Test) (from place : ℕ) (peers : List Peer) (peer : Peer) → slice_get peers place ≡ Some peer
+    → first_fault (flat_map tests (enumerate_from from peers)) ≡ None → first_fault (tests (from + place, peer)) ≡ None
 first_fault-member tests from place [] peer at none = cc
 first_fault-member tests from zero (first ∷ peers) peer at none =
     let own = first_fault-front (tests (from, first)) (flat_map tests (enumerate_from (from + 1) peers)) none in
@@ -35,7 +37,8 @@ first_fault-member tests from (suc place) (first ∷ peers) peer at none =
     rw number (first_fault-member tests (from + 1) place peers peer at behind)
 
 -- of three tests of a name that are all passed, the second is
-passes_second : (one two three : Bool) (fault : PlanFault) (later : List Test) → first_fault ((not (one && (two && three)), fault) ∷ later) ≡ None → two ≡ true
+passes_second : (one two three : Bool) (fault : PlanFault) (later : List Test)
+    → first_fault ((not (one && (two && three)), fault) ∷ later) ≡ None → two ≡ true
 passes_second true true three fault later none = refl
 passes_second true false three fault later none = cc
 passes_second false two three fault later none = cc
@@ -44,7 +47,8 @@ fits_from_test : (n m : ℕ) → nat_le n m ≡ true → n ≤ m
 fits_from_test n m passes = grind (arith, common_steps)
 
 -- the tests of a peer by itself bound its name
-fits_from_tests : (earlier : List Peer) (number : ℕ) (peer : Peer) → first_fault (peer_tests earlier number peer) ≡ None → length peer.name ≤ MAX_NAME_LEN
+fits_from_tests : (earlier : List Peer) (number : ℕ) (peer : Peer) → first_fault (peer_tests earlier number peer) ≡ None
+    → length peer.name ≤ MAX_NAME_LEN
 fits_from_tests earlier number peer none =
     let later : List Test =
     (has_name earlier peer.name, RepeatedName number)
@@ -55,7 +59,8 @@ fits_from_tests earlier number peer none =
     fits_from_test (length peer.name) MAX_NAME_LEN passes
 
 -- a peer's name has at most 64 octets
-pub name_fits : (local : Local) (peers : List Peer) (place : ℕ) (peer : Peer) → plan_fault local peers ≡ None → slice_get peers place ≡ Some peer → length peer.name ≤ MAX_NAME_LEN
+pub name_fits : (local : Local) (peers : List Peer) (place : ℕ) (peer : Peer) → plan_fault local peers ≡ None
+    → slice_get peers place ≡ Some peer → length peer.name ≤ MAX_NAME_LEN
 name_fits local peers place peer faultless at =
     let tests : ℕ × Peer → List Test = λ (number, peer). peer_tests (take number peers) number peer in
     let names : ℕ × Peer → List Test = λ (number, peer). name_tests peers number peer in

@@ -1,5 +1,6 @@
 -- A turn of a dump: rows are taken from the front of those to come, and their records follow what waits.
-use Rattle.std.proofs.Common.{◌≡◌, ℕ, ◌+◌, ◌≤◌, ◌∙◌, List, [], ◌∷◌, ◌++◌, All, Option, length, map, ap, sym, subst, append_assoc, arith, length-append}
+use Rattle.std.proofs.Common.{◌≡◌, ℕ, ◌+◌, ◌≤◌, ◌∙◌, List, [], ◌∷◌, ◌++◌, All, Option, length, map, ap, sym, subst, append_assoc, arith}
+use Rattle.std.proofs.Common.{length-append}
 use Rattle.std.specs.Io.KnownBytes.{Appends}
 use Rattle.std.proofs.lemmas.List.{append-nil, length-map, take-append-le}
 use Rattle.rs_mrt.specs.Stream.{AppendsBeginning}
@@ -10,7 +11,8 @@ use Rattle.rs_dump.specs.Dump.{spelled_rows}
 use Rattle.rs_dump.proofs.DumpLemmas.{All-behind, spelled-append}
 
 -- a beginning of the front is a beginning of the whole
-pub AppendsBeginning-front : (old now : Option (List ℕ)) (front rest all : List ℕ) → AppendsBeginning old now front → front ++ rest ≡ all → AppendsBeginning old now all
+pub AppendsBeginning-front : (old now : Option (List ℕ)) (front rest all : List ℕ) → AppendsBeginning old now front → front ++ rest ≡ all
+    → AppendsBeginning old now all
 AppendsBeginning-front old now front rest all part is =
     let P : List ℕ → Type 0 = λ octets. AppendsBeginning old now octets in
     let Q : List ℕ → Type 0 = λ octets. Appends old now octets in
@@ -18,7 +20,8 @@ AppendsBeginning-front old now front rest all part is =
     subst P is (part.0, within, subst Q (sym (take-append-le part.0 front rest part.1)) part.2)
 
 -- where no row is left, what waits is all
-pub nothing-left : (time spelled : ℕ) (rows : List TableRow) (waiting : List ℕ) → length rows ≡ 0 → waiting ++ spelled_rows time spelled rows ≡ waiting
+pub nothing-left : (time spelled : ℕ) (rows : List TableRow) (waiting : List ℕ) → length rows ≡ 0
+    → waiting ++ spelled_rows time spelled rows ≡ waiting
 nothing-left time spelled [] waiting none = append-nil waiting
 nothing-left time spelled (row ∷ rows) waiting none = absurd (omega (arith, none))
 
@@ -36,7 +39,8 @@ module _ (time spelled : ℕ) (rows later : List TableRow) (turn : List Row) (ta
       All-behind P (map row_of turn) later (subst Q taken all)
 
   -- the records of the turn, and those behind it, follow what waits
-  pub turn-then-rest : (waiting : List ℕ) → (waiting ++ spelled_rows time spelled (map row_of turn)) ++ spelled_rows time (spelled + length turn) later ≡ waiting ++ spelled_rows time spelled rows
+  pub turn-then-rest : (waiting : List ℕ) → (waiting ++ spelled_rows time spelled (map row_of turn))
+      ++ spelled_rows time (spelled + length turn) later ≡ waiting ++ spelled_rows time spelled rows
   turn-then-rest waiting =
       let behind = λ (count : ℕ). spelled_rows time (spelled + count) later in
       append_assoc waiting (spelled_rows time spelled (map row_of turn)) (behind (length turn))

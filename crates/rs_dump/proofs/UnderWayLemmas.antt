@@ -1,5 +1,6 @@
 -- A dump that is being written, step by step.
-use Rattle.std.proofs.Common.{◌≡◌, ℕ, ◌≤◌, ◌+◌, ◌∙◌, List, ◌++◌, length, take, Option, None, Some, Result, Ok, Err, OnErr, refl, ap, sym, subst, append_assoc, arith, length-append}
+use Rattle.std.proofs.Common.{◌≡◌, ℕ, ◌≤◌, ◌+◌, ◌∙◌, List, ◌++◌, length, take, Option, None, Some, Result, Ok, Err, OnErr, refl, ap, sym}
+use Rattle.std.proofs.Common.{subst, append_assoc, arith, length-append}
 use Rattle.std.specs.Io.KnownBytes.{Appends}
 use Rattle.std.proofs.lemmas.List.{take-append-le}
 use Rattle.std.proofs.Math.Seq.{take-append-add}
@@ -17,7 +18,8 @@ OnErr-then (Ok x) follows held = tt
 OnErr-then (Err e) follows held = follows held
 
 -- octets that are known grow twice
-Appends-append : (old mid new : Option (List ℕ)) (first second : List ℕ) → Appends old mid first → Appends mid new second → Appends old new (first ++ second)
+Appends-append : (old mid new : Option (List ℕ)) (first second : List ℕ) → Appends old mid first → Appends mid new second
+    → Appends old new (first ++ second)
 Appends-append None mid new first second before after = tt
 Appends-append (Some xs) None new first second before after = absurd before
 Appends-append (Some xs) (Some ys) None first second before after = absurd after
@@ -25,7 +27,8 @@ Appends-append (Some xs) (Some ys) (Some zs) first second before after =
     after ∙ ap (λ octets. octets ++ second) before ∙ append_assoc xs first second
 
 -- more waits
-pub IsUnderWay-more : (old now : Option (List ℕ)) (waiting more whole : List ℕ) → IsUnderWay old now waiting whole → IsUnderWay old now (waiting ++ more) (whole ++ more)
+pub IsUnderWay-more : (old now : Option (List ℕ)) (waiting more whole : List ℕ) → IsUnderWay old now waiting whole
+    → IsUnderWay old now (waiting ++ more) (whole ++ more)
 IsUnderWay-more old now waiting more whole before =
     record {
       sent = before.sent;
@@ -34,7 +37,8 @@ IsUnderWay-more old now waiting more whole before =
     }
 
 -- a part of what waited is sent
-pub IsUnderWay-then : (old mid now : Option (List ℕ)) (waiting later whole : List ℕ) → IsUnderWay old mid waiting whole → IsUnderWay mid now later waiting → IsUnderWay old now later whole
+pub IsUnderWay-then : (old mid now : Option (List ℕ)) (waiting later whole : List ℕ) → IsUnderWay old mid waiting whole
+    → IsUnderWay mid now later waiting → IsUnderWay old now later whole
 IsUnderWay-then old mid now waiting later whole before after =
     record {
       sent = before.sent ++ after.sent;
@@ -43,17 +47,20 @@ IsUnderWay-then old mid now waiting later whole before after =
     }
 
 -- all that waited is sent
-pub Appends-whole : (old mid now : Option (List ℕ)) (waiting whole : List ℕ) → IsUnderWay old mid waiting whole → Appends mid now waiting → Appends old now whole
+pub Appends-whole : (old mid now : Option (List ℕ)) (waiting whole : List ℕ) → IsUnderWay old mid waiting whole → Appends mid now waiting
+    → Appends old now whole
 Appends-whole old mid now waiting whole before after =
     let P : List ℕ → Type 0 = λ octets. Appends old now octets in
     subst P before.follows (Appends-append old mid now before.sent waiting before.taken after)
 
-take-part : (sent waiting rest : List ℕ) (n : ℕ) → n ≤ length waiting → take (length sent + n) (sent ++ waiting ++ rest) ≡ sent ++ take n waiting
+take-part : (sent waiting rest : List ℕ) (n : ℕ) → n ≤ length waiting
+    → take (length sent + n) (sent ++ waiting ++ rest) ≡ sent ++ take n waiting
 take-part sent waiting rest n bound =
     rw (append_assoc sent waiting rest, take-append-add sent (waiting ++ rest) n, take-append-le n waiting rest) refl
 
 -- a beginning of what waited is sent, and the whole is the beginning of something
-pub AppendsBeginning-part : (old mid now : Option (List ℕ)) (waiting whole rest all : List ℕ) → IsUnderWay old mid waiting whole → AppendsBeginning mid now waiting → all ≡ whole ++ rest → AppendsBeginning old now all
+pub AppendsBeginning-part : (old mid now : Option (List ℕ)) (waiting whole rest all : List ℕ) → IsUnderWay old mid waiting whole
+    → AppendsBeginning mid now waiting → all ≡ whole ++ rest → AppendsBeginning old now all
 AppendsBeginning-part old mid now waiting whole rest all before part is =
     let count = length before.sent + part.0 in
     let same : all ≡ before.sent ++ waiting ++ rest = is ∙ ap (λ octets. octets ++ rest) (sym before.follows) in
@@ -67,6 +74,7 @@ AppendsBeginning-part old mid now waiting whole rest all before part is =
     (count, both.0, both.1)
 
 -- more is added to what waited
-pub IsUnderWay-also : (old mid now : Option (List ℕ)) (waiting later whole more : List ℕ) → IsUnderWay old mid waiting whole → IsUnderWay mid now later (waiting ++ more) → IsUnderWay old now later (whole ++ more)
+pub IsUnderWay-also : (old mid now : Option (List ℕ)) (waiting later whole more : List ℕ) → IsUnderWay old mid waiting whole
+    → IsUnderWay mid now later (waiting ++ more) → IsUnderWay old now later (whole ++ more)
 IsUnderWay-also old mid now waiting later whole more before after =
     IsUnderWay-then old mid now (waiting ++ more) later (whole ++ more) (IsUnderWay-more old mid waiting more whole before) after

@@ -26,7 +26,8 @@ use Rattle.rs_explain.specs.Reasons.{first_answer, failed_condition, refusal_of}
 use Rattle.rs_explain.specs.Explanations.{answer_of, reason_of, IsDecided, IsExplanation}
 use Rattle.rs_choice.proofs.Members.{some_at}
 
-by_conditions : {C : Type 0} (h n o : Bool) (a b c : C) → (not h && (not n && o)) ≡ is_none (first_answer ((h, a) ∷ (n, b) ∷ (not o, c) ∷ []))
+by_conditions : {C : Type 0} (h n o : Bool) (a b c : C) → (not h && (not n && o))
+    ≡ is_none (first_answer ((h, a) ∷ (n, b) ∷ (not o, c) ∷ []))
 by_conditions true n o a b c = refl
 by_conditions false true o a b c = refl
 by_conditions false false true a b c = refl
@@ -50,23 +51,28 @@ by_rules false false false true x y z = refl
 by_rules false false false false x y z = refl
 
 -- a route of another peer is permitted where no rule refuses it
-pub permitted_unless : (plan : Plan) (client number : ℕ) (attributes : PathAttributes) → client < length plan.peers → number < length plan.peers →
+pub permitted_unless : (plan : Plan) (client number : ℕ) (attributes : PathAttributes) → client < length plan.peers
+    → number < length plan.peers →
     (client == number) ≡ false → is_permitted plan client number attributes ≡ is_none (refusal_of plan client number attributes)
 permitted_unless plan client number attributes client_known known differ =
     let receiver = some_at plan.peers client client_known in
     let sender = some_at plan.peers number known in
     rw (receiver.1, sender.1, differ) (by_rules (refuses receiver.0 sender.0) (has_community_in attributes.communities 0 receiver.0.asn)
-    (has_community_in attributes.communities plan.local.asn receiver.0.asn) (has_community_in attributes.communities 0 plan.local.asn) _ _ _)
+    (has_community_in attributes.communities plan.local.asn receiver.0.asn) (has_community_in attributes.communities 0 plan.local.asn)
+    _ _ _)
 
-agree_left : (explanation : Explanation) (decided : Type 0) (otherwise : Why) (f : Option Condition) (r : Option Refusal) (eligible permitted : Bool) →
+agree_left : (explanation : Explanation) (decided : Type 0) (otherwise : Why) (f : Option Condition) (r : Option Refusal)
+    (eligible permitted : Bool) →
     eligible ≡ is_none f → permitted ≡ is_none r → (decided → answer_of explanation ≡ otherwise) →
-    MatchOption (option_or (option_map (λ condition. Ineligible condition) f) (option_map (λ refusal. Refused refusal) r)) decided (λ reason. explanation ≡ reason) →
+    MatchOption (option_or (option_map (λ condition. Ineligible condition) f) (option_map (λ refusal. Refused refusal) r)) decided
+    (λ reason. explanation ≡ reason) →
     answer_of explanation ≡ cond (not eligible) answers.Ineligible (cond (not permitted) answers.Refused otherwise)
 agree_left explanation decided otherwise (Some condition) r eligible permitted e p says h = rw e (ap answer_of h)
 agree_left explanation decided otherwise None (Some refusal) eligible permitted e p says h = rw (e, p) (ap answer_of h)
 agree_left explanation decided otherwise None None eligible permitted e p says h = rw (e, p) (says h)
 
-agree_decided : (tables : TablesContent) (client peer : ℕ) (prefix : IpPrefix) (explanation : Explanation) → IsDecided tables client peer prefix explanation →
+agree_decided : (tables : TablesContent) (client peer : ℕ) (prefix : IpPrefix) (explanation : Explanation)
+    → IsDecided tables client peer prefix explanation →
     answer_of explanation ≡ cond (is_from peer (best_of tables client prefix)) answers.Best answers.Lost
 agree_decided tables client peer prefix Own h = absurd h
 agree_decided tables client peer prefix Absent h = absurd h
@@ -75,16 +81,20 @@ agree_decided tables client peer prefix (Refused refusal) h = absurd h
 agree_decided tables client peer prefix (Best beaten) h = rw h.0 refl
 agree_decided tables client peer prefix (Lost removal) h = let gets = h.gets in let another = h.another in rw (gets, another) refl
 
-module _ (tables : TablesContent) (client peer : ℕ) (prefix : IpPrefix) (explanation : Explanation) (client_known : client < length tables.plan.peers) (known : peer < length tables.plan.peers) where
+module _ (tables : TablesContent) (client peer : ℕ) (prefix : IpPrefix) (explanation : Explanation)
+    (client_known : client < length tables.plan.peers) (known : peer < length tables.plan.peers) where
   agree_other : (left : Option RouteLeft) → (client == peer) ≡ false →
-      MatchOption (reason_of tables.plan client peer (option_map (sent_by peer) left)) (IsDecided tables client peer prefix explanation) (λ reason. explanation ≡ reason) →
+      MatchOption (reason_of tables.plan client peer (option_map (sent_by peer) left)) (IsDecided tables client peer prefix explanation)
+      (λ reason. explanation ≡ reason) →
       answer_of explanation ≡ why_left tables client peer prefix left
   agree_other None differ h = ap answer_of h
   agree_other (Some route) differ h =
-      agree_left explanation (IsDecided tables client peer prefix explanation) (cond (is_from peer (best_of tables client prefix)) answers.Best answers.Lost)
+      agree_left explanation (IsDecided tables client peer prefix explanation)
+      (cond (is_from peer (best_of tables client prefix)) answers.Best answers.Lost)
       (failed_condition tables.plan peer route.attributes) (refusal_of tables.plan client peer route.attributes)
       (is_eligible tables.plan peer route.attributes) (is_permitted tables.plan client peer route.attributes)
-      (eligible_unless tables.plan peer route.attributes known) (permitted_unless tables.plan client peer route.attributes client_known known differ)
+      (eligible_unless tables.plan peer route.attributes known)
+      (permitted_unless tables.plan client peer route.attributes client_known known differ)
       (agree_decided tables client peer prefix explanation) h
 
   pub agrees : IsExplanation tables client peer prefix explanation → answer_of explanation ≡ why_of tables client peer prefix
@@ -95,12 +105,14 @@ module _ (tables : TablesContent) (client peer : ℕ) (prefix : IpPrefix) (expla
       ]
 
 -- no reason keeps a route from being a candidate where it fails no condition and no rule refuses it
-pub no_reason : (plan : Plan) (client peer : ℕ) (left : Option RouteLeft) (route : SentRoute) → Some route ≡ option_map (sent_by peer) left →
+pub no_reason : (plan : Plan) (client peer : ℕ) (left : Option RouteLeft) (route : SentRoute) → Some route ≡ option_map (sent_by peer) left
+    →
     failed_condition plan peer route.attributes ≡ None → refusal_of plan client peer route.attributes ≡ None →
     reason_of plan client peer (option_map (sent_by peer) left) ≡ None
 no_reason plan client peer left route is fails refuses = rw (← is, fails, refuses) refl
 
-pub explained : (tables : TablesContent) (client peer one : ℕ) (prefix : IpPrefix) (explanation : Explanation) → (client == peer) ≡ false → one ≡ peer →
+pub explained : (tables : TablesContent) (client peer one : ℕ) (prefix : IpPrefix) (explanation : Explanation) → (client == peer) ≡ false
+    → one ≡ peer →
     reason_of tables.plan client peer (option_map (sent_by peer) (get (rib_of tables peer).routes prefix)) ≡ None →
     IsDecided tables client one prefix explanation → IsExplanation tables client peer prefix explanation
 explained tables client peer one prefix explanation differ same none decided = rw (differ, none) (rw same at decided)

@@ -22,13 +22,15 @@ pub best_contender : (tables : TablesContent) (client : ℕ) (prefix : IpPrefix)
     choice standing_in (contenders_of tables client prefix) ≡ option_map (contender_of tables.plan) (best_of tables client prefix)
 best_contender tables client prefix = choice-map (contender_of tables.plan) standing_in (candidates_of tables client prefix)
 
-pub best_address : (tables : TablesContent) (client : ℕ) (prefix : IpPrefix) (best : SentRoute) → All (HasOwnAddress tables.plan) (contenders_of tables client prefix) →
+pub best_address : (tables : TablesContent) (client : ℕ) (prefix : IpPrefix) (best : SentRoute)
+    → All (HasOwnAddress tables.plan) (contenders_of tables client prefix) →
     best_of tables client prefix ≡ Some best → HasOwnAddress tables.plan (contender_of tables.plan best)
 best_address tables client prefix best all is =
     choice-All (HasOwnAddress tables.plan) standing_in (contenders_of tables client prefix) (contender_of tables.plan best) all
     (best_contender tables client prefix ∙ ap (option_map (contender_of tables.plan)) is)
 
-pub best_peer : (tables : TablesContent) (client : ℕ) (prefix : IpPrefix) (best : SentRoute) → All (HasOwnAddress tables.plan) (contenders_of tables client prefix) →
+pub best_peer : (tables : TablesContent) (client : ℕ) (prefix : IpPrefix) (best : SentRoute)
+    → All (HasOwnAddress tables.plan) (contenders_of tables client prefix) →
     best_of tables client prefix ≡ Some best → best.peer < length tables.plan.peers
 best_peer tables client prefix best all is =
     let own = best_address tables client prefix best all is in
@@ -45,7 +47,8 @@ some_best law tables client prefix one there none =
 
 -- whom all steps leave have one address
 same_address : (set : List Contender) (one other : Contender) →
-    Mem (remaining standing_in decision_steps set) one → Mem (remaining standing_in decision_steps set) other → one.standing.address ≡ other.standing.address
+    Mem (remaining standing_in decision_steps set) one → Mem (remaining standing_in decision_steps set) other
+    → one.standing.address ≡ other.standing.address
 same_address set one other is_one is_other =
     let same = same_remaining standing_in set in
     one_address standing_in set one other (same.to one is_one) (same.to other is_other)
@@ -53,13 +56,17 @@ same_address set one other is_one is_other =
 -- whom all steps leave is the one that the client gets
 pub left_is_best : PeersHaveOwnAddresses → (tables : TablesContent) (client : ℕ) (prefix : IpPrefix) (best : SentRoute) (one : Contender) →
     plan_fault tables.plan.local tables.plan.peers ≡ None → All (HasOwnAddress tables.plan) (contenders_of tables client prefix) →
-    best_of tables client prefix ≡ Some best → Contains (remaining standing_in decision_steps (contenders_of tables client prefix)) one → best.peer ≡ one.peer
+    best_of tables client prefix ≡ Some best → Contains (remaining standing_in decision_steps (contenders_of tables client prefix)) one
+    → best.peer ≡ one.peer
 left_is_best law tables client prefix best one faultless all is left =
     let set = contenders_of tables client prefix in
     let is_left : Mem (remaining standing_in decision_steps set) one = contains-mem (remaining standing_in decision_steps set) one left in
     let best_left : Mem (remaining standing_in decision_steps set) (contender_of tables.plan best) =
-    choice_left standing_in set (contender_of tables.plan best) (best_contender tables client prefix ∙ ap (option_map (contender_of tables.plan)) is) in
+    choice_left standing_in set (contender_of tables.plan best)
+    (best_contender tables client prefix ∙ ap (option_map (contender_of tables.plan)) is) in
     let own_best = best_address tables client prefix best all is in
-    let own_one : HasOwnAddress tables.plan one = All-contains (HasOwnAddress tables.plan) set one all (mem-contains set one (remaining_among standing_in decision_steps set one is_left)) in
+    let own_one : HasOwnAddress tables.plan one =
+    All-contains (HasOwnAddress tables.plan) set one all
+    (mem-contains set one (remaining_among standing_in decision_steps set one is_left)) in
     law tables.plan.local tables.plan.peers faultless best.peer one.peer own_best.0 own_one.0 own_best.1 own_one.1
     (sym own_best.2 ∙ same_address set (contender_of tables.plan best) one best_left is_left ∙ own_one.2)

@@ -1,5 +1,6 @@
 -- The candidates of a client for a prefix, peer after peer.
-use Rattle.std.proofs.Common.{◌≡◌, ◌∙◌, sym, ap, subst, refl, ℕ, ◌<◌, ◌+◌, true, false, inl, inr, List, [], ◌∷◌, ◌++◌, length, map, drop, drop-cons, add-one, append_assoc, below_more}
+use Rattle.std.proofs.Common.{◌≡◌, ◌∙◌, sym, ap, subst, refl, ℕ, ◌<◌, ◌+◌, true, false, inl, inr, List, [], ◌∷◌, ◌++◌, length, map, drop}
+use Rattle.std.proofs.Common.{drop-cons, add-one, append_assoc, below_more}
 use Rattle.std.proofs.lemmas.Bool.{and_right, cases_Bool}
 use Rattle.std.proofs.lemmas.Option.{none-some, same_Some}
 use Rattle.std.proofs.lemmas.List.Elements.{Contains-append_left, Contains-push}
@@ -46,12 +47,15 @@ one_more plan client first (Some route) later = elim (cases_Bool (is_eligible pl
 -- the peer at a number comes first of the rest
 pub contenders_in-more : (tables : TablesContent) (client : ℕ) (prefix : IpPrefix) (peer : ℕ) → peer < length tables.ribs →
     contenders_in tables.plan client prefix peer (drop peer tables.ribs)
-    ≡ cons_option (contender_from tables client prefix peer) (contenders_in tables.plan client prefix (peer + 1) (drop (peer + 1) tables.ribs))
+    ≡ cons_option (contender_from tables client prefix peer)
+    (contenders_in tables.plan client prefix (peer + 1) (drop (peer + 1) tables.ribs))
 contenders_in-more tables client prefix peer within =
-    let rest : drop peer tables.ribs ≡ rib_of tables peer ∷ drop (peer + 1) tables.ribs = rw (add-one, drop-cons tables.ribs peer nothing_held) refl in
+    let rest : drop peer tables.ribs ≡ rib_of tables peer ∷ drop (peer + 1) tables.ribs =
+    rw (add-one, drop-cons tables.ribs peer nothing_held) refl in
     ap (contenders_in tables.plan client prefix peer) rest
     ∙ one_more tables.plan client peer (get (rib_of tables peer).routes prefix)
-    (filter_map (λ (peer, rib). option_map (sent_by peer) (get rib.routes prefix)) (enumerate_from (peer + 1) (drop (peer + 1) tables.ribs)))
+    (filter_map (λ (peer, rib). option_map (sent_by peer) (get rib.routes prefix))
+    (enumerate_from (peer + 1) (drop (peer + 1) tables.ribs)))
 
 -- the route that a peer has left is the peer's
 pub route_peer : (peer : ℕ) (left : Option RouteLeft) (route : SentRoute) → Some route ≡ option_map (sent_by peer) left → route.peer ≡ peer
@@ -59,13 +63,15 @@ route_peer peer None route is = absurd (cc)
 route_peer peer (Some left) route is = let same : route ≡ sent_by peer left = cc in ap (λ (route : SentRoute). route.peer) same
 
 -- one that policy refuses is no candidate
-pub none_refused : (plan : Plan) (client peer : ℕ) (left : Option RouteLeft) (route : SentRoute) → Some route ≡ option_map (sent_by peer) left →
+pub none_refused : (plan : Plan) (client peer : ℕ) (left : Option RouteLeft) (route : SentRoute)
+    → Some route ≡ option_map (sent_by peer) left →
     is_permitted plan client peer route.attributes ≡ false → None ≡ contender_if plan client (option_map (sent_by peer) left)
 none_refused plan client peer left route is refuses =
     rw (← is, route_peer peer left route is, refuses, and_right (is_eligible plan peer route.attributes) false refl) refl
 
 -- and one that is eligible and permitted is
-pub some_permitted : (plan : Plan) (client peer : ℕ) (left : Option RouteLeft) (route : SentRoute) → Some route ≡ option_map (sent_by peer) left →
+pub some_permitted : (plan : Plan) (client peer : ℕ) (left : Option RouteLeft) (route : SentRoute)
+    → Some route ≡ option_map (sent_by peer) left →
     is_eligible plan peer route.attributes ≡ true → is_permitted plan client peer route.attributes ≡ true →
     (route.peer ≡ peer) × (contender_if plan client (option_map (sent_by peer) left) ≡ Some (contender_of plan route))
 some_permitted plan client peer left route is eligible permitted =
@@ -73,21 +79,26 @@ some_permitted plan client peer left route is eligible permitted =
     (own, rw (← is, own, eligible, permitted) refl)
 
 -- one that is made of a peer's route is found from that peer
-pub made_from : (tables : TablesContent) (client : ℕ) (prefix : IpPrefix) (peer : ℕ) (one made : Contender) → one ≡ made → made.peer ≡ peer →
+pub made_from : (tables : TablesContent) (client : ℕ) (prefix : IpPrefix) (peer : ℕ) (one made : Contender) → one ≡ made → made.peer ≡ peer
+    →
     contender_from tables client prefix peer ≡ Some made → contender_from tables client prefix one.peer ≡ Some one
 made_from tables client prefix peer one made same own found =
-    ap (contender_from tables client prefix) (ap (λ (one : Contender). one.peer) same ∙ own) ∙ found ∙ ap (λ (one : Contender). Some one) (sym same)
+    ap (contender_from tables client prefix) (ap (λ (one : Contender). one.peer) same ∙ own) ∙ found
+    ∙ ap (λ (one : Contender). Some one) (sym same)
 
 -- ---- one peer more
 
-pub next_listed : (items all rest total : List Contender) (one : Contender) → items ++ all ≡ total → all ≡ one ∷ rest → (items ++ one ∷ []) ++ rest ≡ total
-next_listed items all rest total one listed e = append_assoc items (one ∷ []) rest ∙ ap (λ (later : List Contender). items ++ later) (sym e) ∙ listed
+pub next_listed : (items all rest total : List Contender) (one : Contender) → items ++ all ≡ total → all ≡ one ∷ rest
+    → (items ++ one ∷ []) ++ rest ≡ total
+next_listed items all rest total one listed e =
+    append_assoc items (one ∷ []) rest ∙ ap (λ (later : List Contender). items ++ later) (sym e) ∙ listed
 
 module _ (tables : TablesContent) (client : ℕ) (prefix : IpPrefix) where
   abbrev pub HasBelow : ℕ → List Contender → Type 0
   HasBelow i items = (peer : ℕ) → peer < i → (one : Contender) → contender_from tables client prefix peer ≡ Some one → Contains items one
 
-  pub next_has : (items : List Contender) (i : ℕ) (one : Contender) → contender_from tables client prefix i ≡ Some one → HasBelow i items → HasBelow (i + 1) (items ++ one ∷ [])
+  pub next_has : (items : List Contender) (i : ℕ) (one : Contender) → contender_from tables client prefix i ≡ Some one → HasBelow i items
+      → HasBelow (i + 1) (items ++ one ∷ [])
   next_has items i one found has =
       below_more (λ peer. (x : Contender) → contender_from tables client prefix peer ≡ Some x → Contains (items ++ one ∷ []) x) i
       (λ peer below x is. Contains-append_left items (one ∷ []) x (has peer below x is))
@@ -95,4 +106,5 @@ module _ (tables : TablesContent) (client : ℕ) (prefix : IpPrefix) where
 
   pub same_has : (items : List Contender) (i : ℕ) → contender_from tables client prefix i ≡ None → HasBelow i items → HasBelow (i + 1) items
   same_has items i none has =
-      below_more (λ peer. (x : Contender) → contender_from tables client prefix peer ≡ Some x → Contains items x) i has (λ x is. absurd (none-some x (sym none ∙ is)))
+      below_more (λ peer. (x : Contender) → contender_from tables client prefix peer ≡ Some x → Contains items x) i has
+      (λ x is. absurd (none-some x (sym none ∙ is)))

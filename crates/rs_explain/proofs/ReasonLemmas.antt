@@ -12,4 +12,5 @@ pub refusal_of-known : (plan : Plan) (client number : ℕ) (attributes : PathAtt
     ruling by_name plan.local.asn one.asn attributes.communities ≡ refusal_of plan client number attributes
 refusal_of-known plan client number attributes one by_name at_one known says =
     let other = some_at plan.peers number known in
-    rw (at_one, other.1) (ap (λ (named : Bool). ruling named plan.local.asn one.asn attributes.communities) (says one other.0 at_one other.1))
+    rw (at_one, other.1) (ap (λ (named : Bool). ruling named plan.local.asn one.asn attributes.communities)
+    (says one other.0 at_one other.1))

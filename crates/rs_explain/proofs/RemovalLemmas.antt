@@ -1,5 +1,6 @@
 -- Steps that leave a candidate, and the step that removes it.
-use Rattle.std.proofs.Common.{◌≡◌, ◌∙◌, sym, ap, refl, ℕ, ◌<◌, ◌+◌, Bool, false, List, [], ◌∷◌, ◌++◌, length, get_or, take, drop, take-append-drop, append_assoc}
+use Rattle.std.proofs.Common.{◌≡◌, ◌∙◌, sym, ap, refl, ℕ, ◌<◌, ◌+◌, Bool, false, List, [], ◌∷◌, ◌++◌, length, get_or, take, drop}
+use Rattle.std.proofs.Common.{take-append-drop, append_assoc}
 use Rattle.std.specs.Prelude.{None, Some, ◌||◌}
 use Rattle.std.specs.List.{list_any, find, Contains}
 use Rattle.std.proofs.lemmas.Bool.{cond_both, or_from, or_parts}
@@ -40,7 +41,8 @@ pub remaining-more : (steps : List Step) (i : ℕ) (d : Step) (set : List Conten
     unbeaten standing_in (get_or steps i d) (remaining standing_in (take i steps) set) ≡ remaining standing_in (take (i + 1) steps) set
 remaining-more steps i d set within =
     sym (ap (λ (all : List Step). remaining standing_in all set) (take_more steps i d within)
-    ∙ remaining-append standing_in (take i steps) (get_or steps i d ∷ []) set ∙ one_step (get_or steps i d) (remaining standing_in (take i steps) set))
+    ∙ remaining-append standing_in (take i steps) (get_or steps i d ∷ []) set
+    ∙ one_step (get_or steps i d) (remaining standing_in (take i steps) set))
 
 pub remaining-none : (set : List Contender) → set ≡ remaining standing_in [] set
 unfolding remaining

@@ -33,18 +33,23 @@ mem-find p (y ∷ ys) x found = cond_both (p y) (Some y) (find p ys) (λ found. 
     found
 
 loss_reasons : (decided : Type 0) (removal : Removal) (f : Option Condition) (r : Option Refusal) →
-    MatchOption (option_or (option_map (λ condition. Ineligible condition) f) (option_map (λ refusal. Refused refusal) r)) decided (λ reason. Lost removal ≡ reason) → decided
+    MatchOption (option_or (option_map (λ condition. Ineligible condition) f) (option_map (λ refusal. Refused refusal) r)) decided
+    (λ reason. Lost removal ≡ reason) → decided
 loss_reasons decided removal (Some condition) r h = absurd (cc (h))
 loss_reasons decided removal None (Some refusal) h = absurd (cc (h))
 loss_reasons decided removal None None h = h
 
 module _ (tables : TablesContent) (client peer : ℕ) (prefix : IpPrefix) (removal : Removal) where
-  loss_left : (left : Option RouteLeft) → MatchOption (reason_of tables.plan client peer (option_map (sent_by peer) left)) (IsLoss tables client peer prefix removal) (λ reason. Lost removal ≡ reason) →
+  loss_left : (left : Option RouteLeft) → MatchOption (reason_of tables.plan client peer (option_map (sent_by peer) left))
+      (IsLoss tables client peer prefix removal) (λ reason. Lost removal ≡ reason) →
       IsLoss tables client peer prefix removal
   loss_left None h = absurd (cc (h))
-  loss_left (Some route) h = loss_reasons (IsLoss tables client peer prefix removal) removal (failed_condition tables.plan peer route.attributes) (refusal_of tables.plan client peer route.attributes) h
+  loss_left (Some route) h =
+      loss_reasons (IsLoss tables client peer prefix removal) removal (failed_condition tables.plan peer route.attributes)
+      (refusal_of tables.plan client peer route.attributes) h
 
-  loss_if : (own : Bool) → MatchOption (if own then Some Own else reason_of tables.plan client peer (option_map (sent_by peer) (get (rib_of tables peer).routes prefix)))
+  loss_if : (own : Bool) → MatchOption (if own then Some Own
+      else reason_of tables.plan client peer (option_map (sent_by peer) (get (rib_of tables peer).routes prefix)))
       (IsLoss tables client peer prefix removal) (λ reason. Lost removal ≡ reason) → IsLoss tables client peer prefix removal
   loss_if true h = absurd (cc (h))
   loss_if false h = loss_left (get (rib_of tables peer).routes prefix) h
@@ -53,10 +58,12 @@ module _ (tables : TablesContent) (client peer : ℕ) (prefix : IpPrefix) (remov
   loss_of h = loss_if (client == peer) h
 
   rival_among : (before : List Step) (best : SentRoute) → best_of tables client prefix ≡ Some best →
-      Mem (contender_of tables.plan best ∷ remaining standing_in before (contenders_of tables client prefix)) removal.rival → Mem (contenders_of tables client prefix) removal.rival
+      Mem (contender_of tables.plan best ∷ remaining standing_in before (contenders_of tables client prefix)) removal.rival
+      → Mem (contenders_of tables client prefix) removal.rival
   rival_among before best is (inl same) =
       rw (← same) (contains-mem (contenders_of tables client prefix) (contender_of tables.plan best)
-      (choice-Contains standing_in (contenders_of tables client prefix) (contender_of tables.plan best) (best_contender tables client prefix ∙ ap (option_map (contender_of tables.plan)) is)))
+      (choice-Contains standing_in (contenders_of tables client prefix) (contender_of tables.plan best)
+      (best_contender tables client prefix ∙ ap (option_map (contender_of tables.plan)) is)))
   rival_among before best is (inr later) = remaining_among standing_in before (contenders_of tables client prefix) removal.rival later
 
   pub rival_is_candidate : IsExplanation tables client peer prefix (Lost removal) →
@@ -65,7 +72,9 @@ module _ (tables : TablesContent) (client peer : ℕ) (prefix : IpPrefix) (remov
   rival_is_candidate h =
       let loss = loss_of h in
       let steps = loss.steps in
-      let found = mem-find (beaten_by removal.step loss.loser) (contender_of tables.plan loss.best ∷ remaining standing_in steps.before (contenders_of tables client prefix)) removal.rival steps.rival in
+      let found = mem-find (beaten_by removal.step loss.loser)
+      (contender_of tables.plan loss.best ∷ remaining standing_in steps.before (contenders_of tables client prefix))
+      removal.rival steps.rival in
       let among : Mem (contenders_of tables client prefix) removal.rival = rival_among steps.before loss.best loss.gets found.0 in
       let made = mem_of-map (contender_of tables.plan) (candidates_of tables client prefix) removal.rival among in
       let removed = steps.removed in

@@ -9,15 +9,18 @@ use Rattle.rs_explain.specs.declared.last_said.Ending.{Ending}
 use Rattle.rs_explain.specs.LastSaid.{announces, ends, EndRoute, IsAnnouncedLast, IsEnding, KeepRoute}
 
 -- no member of two lists passes a test
-pub none-append : {M : Type 0} (p : M → Bool) (xs ys : List M) → list_any p xs ≡ false → list_any p ys ≡ false → list_any p (xs ++ ys) ≡ false
+pub none-append : {M : Type 0} (p : M → Bool) (xs ys : List M) → list_any p xs ≡ false → list_any p ys ≡ false
+    → list_any p (xs ++ ys) ≡ false
 none-append p xs ys none later = list_any-append p xs ys ∙ or_from (list_any p xs) (list_any p ys) none later
 
 pub none-one : {M : Type 0} (p : M → Bool) (x : M) → p x ≡ false → list_any p (x ∷ []) ≡ false
 none-one p x none = rw none refl
 
 module _ (prefix : IpPrefix) (change : Change) where
-  pub announced_now : (changes : List Change) → announces prefix change ≡ true → IsAnnouncedLast prefix (changes ++ change ∷ []) change.time (KeepRoute prefix)
-  announced_now changes is = record { earlier = changes; announcement = change; later = []; splits = refl; announced = is; at = refl; last = refl; after = refl }
+  pub announced_now : (changes : List Change) → announces prefix change ≡ true
+      → IsAnnouncedLast prefix (changes ++ change ∷ []) change.time (KeepRoute prefix)
+  announced_now changes is =
+      record { earlier = changes; announcement = change; later = []; splits = refl; announced = is; at = refl; last = refl; after = refl }
 
   -- the last announcement stays the last
   pub announced_before : (changes : List Change) (time : ℕ) (Then Next : List Change → Type 0) → announces prefix change ≡ false →
@@ -27,7 +30,8 @@ module _ (prefix : IpPrefix) (change : Change) where
     earlier = said.earlier;
     announcement = said.announcement;
     later = said.later ++ change ∷ [];
-    splits = ap (λ (all : List Change). all ++ change ∷ []) said.splits ∙ append_assoc said.earlier (said.announcement ∷ said.later) (change ∷ []);
+    splits = ap (λ (all : List Change). all ++ change ∷ []) said.splits
+        ∙ append_assoc said.earlier (said.announcement ∷ said.later) (change ∷ []);
     announced = said.announced;
     at = said.at;
     last = none-append (announces prefix) said.later (change ∷ []) said.last (none-one (announces prefix) change other);
@@ -37,7 +41,8 @@ module _ (prefix : IpPrefix) (change : Change) where
   pub kept : ends prefix change ≡ false → (later : List Change) → KeepRoute prefix later → KeepRoute prefix (later ++ change ∷ [])
   kept none later keeps = none-append (ends prefix) later (change ∷ []) keeps (none-one (ends prefix) change none)
 
-  pub ended_now : (ending : Ending) → IsEnding prefix change ending → (later : List Change) → KeepRoute prefix later → EndRoute prefix ending (later ++ change ∷ [])
+  pub ended_now : (ending : Ending) → IsEnding prefix change ending → (later : List Change) → KeepRoute prefix later
+      → EndRoute prefix ending (later ++ change ∷ [])
   ended_now ending is later keeps = record { before = later; change = change; after = []; splits = refl; first = keeps; ends = is }
 
   pub ended_before : (ending : Ending) (later : List Change) → EndRoute prefix ending later → EndRoute prefix ending (later ++ change ∷ [])

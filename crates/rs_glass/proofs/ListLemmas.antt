@@ -1,5 +1,6 @@
 -- Lists that grow by one at a time, place by place.
-use Rattle.std.proofs.Common.{◌≡◌, ℕ, zero, suc, ◌<◌, ◌+◌, List, [], ◌∷◌, ◌++◌, Some, length, refl, sym, ap, subst, ◌∙◌, arith, inl, inr, get_or, append_assoc}
+use Rattle.std.proofs.Common.{◌≡◌, ℕ, zero, suc, ◌<◌, ◌+◌, List, [], ◌∷◌, ◌++◌, Some, length, refl, sym, ap, subst, ◌∙◌, arith, inl, inr}
+use Rattle.std.proofs.Common.{get_or, append_assoc}
 use Rattle.std.proofs.lemmas.List.{append-nil}
 use Rattle.std.proofs.lemmas.Option.{slice_get_within}
 use Rattle.std.specs.Prelude.{◌⊎◌, slice_get}
@@ -19,7 +20,8 @@ use Rattle.rs_glass.specs.declared.question.Question.{Question}
 use Rattle.rs_glass.specs.declared.said.Said.{Said}
 
 -- what stands at a place of a list with one more: what stood there, or the last one
-pub at-pushed : {X : Type 0} (xs : List X) (x y : X) (n : ℕ) → slice_get (xs ++ x ∷ []) n ≡ Some y → (slice_get xs n ≡ Some y) ⊎ ((n ≡ length xs) × (x ≡ y))
+pub at-pushed : {X : Type 0} (xs : List X) (x y : X) (n : ℕ) → slice_get (xs ++ x ∷ []) n ≡ Some y → (slice_get xs n ≡ Some y)
+    ⊎ ((n ≡ length xs) × (x ≡ y))
 at-pushed [] x y zero e = inr (refl, cc)
 at-pushed [] x y (suc n) e = absurd cc
 at-pushed (z ∷ zs) x y zero e = inl e
@@ -29,15 +31,18 @@ at-pushed (z ∷ zs) x y (suc n) e = elim (at-pushed zs x y n e) [
 ]
 
 -- a place and what stands there, of a list whose places are numbered
-pub at-enumerated_from : {X : Type 0} (from : ℕ) (xs : List X) (place : ℕ) (p : ℕ × X) → place < length (enumerate_from from xs) → p ≡ get_or (enumerate_from from xs) place p → (p.0 ≡ from + place) × (slice_get xs place ≡ Some p.1)
+pub at-enumerated_from : {X : Type 0} (from : ℕ) (xs : List X) (place : ℕ) (p : ℕ × X) → place < length (enumerate_from from xs)
+    → p ≡ get_or (enumerate_from from xs) place p → (p.0 ≡ from + place) × (slice_get xs place ≡ Some p.1)
 at-enumerated_from from [] place p below here = absurd (omega (arith, below))
-at-enumerated_from {X} from (a ∷ xs) zero p below here = (omega (arith, ap (λ (q : ℕ × X). q.0) here), sym (ap (λ (q : ℕ × X). Some q.1) here))
+at-enumerated_from {X} from (a ∷ xs) zero p below here =
+    (omega (arith, ap (λ (q : ℕ × X). q.0) here), sym (ap (λ (q : ℕ × X). Some q.1) here))
 at-enumerated_from from (a ∷ xs) (suc place) p below here =
     let rest = at-enumerated_from (from + 1) xs place p (omega (arith, below)) here in
     (omega (arith, rest.0), rest.1)
 
 -- one element more makes what it makes behind all others
-pub each_behind-more : {X Y : Type 0} (make : List X → X → List Y) (before xs : List X) (one : X) → each_behind make before (xs ++ one ∷ []) ≡ each_behind make before xs ++ make (before ++ xs) one
+pub each_behind-more : {X Y : Type 0} (make : List X → X → List Y) (before xs : List X) (one : X)
+    → each_behind make before (xs ++ one ∷ []) ≡ each_behind make before xs ++ make (before ++ xs) one
 each_behind-more make before [] one =
     append-nil (make before one) ∙ sym (ap (λ all. make all one) (append-nil before))
 each_behind-more make before (x ∷ xs) one =
@@ -47,7 +52,9 @@ each_behind-more make before (x ∷ xs) one =
 
 module _ {R : Type 0} (gives : R → List ℕ → ReadEnd → Type 0) (question : Question) (plan : Plan) (readers : List R) where
   -- a fault of one reader is a fault among all
-  pub fault-among : (number : ℕ) (spec : Peer) (reader : R) → slice_get plan.peers number ≡ Some spec → slice_get readers number ≡ Some reader → (fault : GlassFault) → IsFaultOf gives question (id_of spec) reader number fault → IsFaultAmong gives question plan readers fault
+  pub fault-among : (number : ℕ) (spec : Peer) (reader : R) → slice_get plan.peers number ≡ Some spec
+      → slice_get readers number ≡ Some reader → (fault : GlassFault) → IsFaultOf gives question (id_of spec) reader number fault
+      → IsFaultAmong gives question plan readers fault
   fault-among number spec reader at_peer at_reader Memory is = tt
   fault-among number spec reader at_peer at_reader (Read faulty) is =
       (spec, ap (slice_get plan.peers) is.0 ∙ at_peer, (reader, ap (slice_get readers) is.0 ∙ at_reader, is.1))
@@ -57,7 +64,8 @@ module _ (tables : TablesContent) (client : ℕ) (prefix : IpPrefix) (all : List
   explained-none answers number below = absurd (omega (arith, below))
 
   -- one peer more was explained
-  pub explained-more : (count : ℕ) (answers : List Answer) (one : Answer) → AreExplained tables client prefix all count answers → length answers ≡ count → IsExplanation tables client count prefix one.explanation → slice_get all count ≡ Some one.said
+  pub explained-more : (count : ℕ) (answers : List Answer) (one : Answer) → AreExplained tables client prefix all count answers
+      → length answers ≡ count → IsExplanation tables client count prefix one.explanation → slice_get all count ≡ Some one.said
       → AreExplained tables client prefix all (count + 1) (answers ++ one ∷ [])
   explained-more count answers one so_far as_many is said number below answer at =
       elim (at-pushed answers one answer number at) [

@@ -38,7 +38,9 @@ use Rattle.rs_glass.proofs.SaidLemmas.{close_in-more}
 module _ (prefix : IpPrefix) (itself : covers prefix prefix ≡ true) where
   -- a prefix that doesn't cover it is another one
   other-prefix : (changed : IpPrefix) → covers changed prefix ≡ false → same_prefix prefix changed ≡ false
-  other-prefix changed beside = false_from_ne_true (same_prefix prefix changed) (λ same. true≢false (sym (subst (λ (one : IpPrefix). covers one prefix ≡ true) (same_prefix-true prefix changed same) itself) ∙ beside))
+  other-prefix changed beside =
+      false_from_ne_true (same_prefix prefix changed) (λ same. true≢false
+      (sym (subst (λ (one : IpPrefix). covers one prefix ≡ true) (same_prefix-true prefix changed same) itself) ∙ beside))
 
   -- a change that doesn't concern it neither announces it nor takes its route away
   beside-announces : (body : ChangeBody) → body_concerns prefix body ≡ false → body_announces prefix body ≡ false
@@ -55,20 +57,26 @@ module _ (prefix : IpPrefix) (itself : covers prefix prefix ≡ true) where
   beside-close_after before (Closed reason) beside = absurd cc
   beside-close_after before body beside = refl
 
-  said_last-over : (given : List Change) (change : Change) → concerns prefix change ≡ false → (one : LastSaid) → IsSaidLast prefix given one → IsSaidLast prefix (given ++ change ∷ []) one
-  said_last-over given change beside last.NeverAnnounced said = none-append (announces prefix) given (change ∷ []) said (none-one (announces prefix) change (beside-announces change.body beside))
+  said_last-over : (given : List Change) (change : Change) → concerns prefix change ≡ false → (one : LastSaid) → IsSaidLast prefix given one
+      → IsSaidLast prefix (given ++ change ∷ []) one
+  said_last-over given change beside last.NeverAnnounced said =
+      none-append (announces prefix) given (change ∷ []) said (none-one (announces prefix) change (beside-announces change.body beside))
   said_last-over given change beside (last.Announced time) said =
-      announced_before prefix change given time (KeepRoute prefix) (KeepRoute prefix) (beside-announces change.body beside) (kept prefix change (beside-ends change.body beside)) said
+      announced_before prefix change given time (KeepRoute prefix) (KeepRoute prefix) (beside-announces change.body beside)
+      (kept prefix change (beside-ends change.body beside)) said
   said_last-over given change beside (last.Ended time ending) said =
-      announced_before prefix change given time (EndRoute prefix ending) (EndRoute prefix ending) (beside-announces change.body beside) (ended_before prefix change ending) said
+      announced_before prefix change given time (EndRoute prefix ending) (EndRoute prefix ending) (beside-announces change.body beside)
+      (ended_before prefix change ending) said
 
-  said-over_one : (given : List Change) (change : Change) (said : Said) → concerns prefix change ≡ false → IsSaid prefix given said → IsSaid prefix (given ++ change ∷ []) said
+  said-over_one : (given : List Change) (change : Change) (said : Said) → concerns prefix change ≡ false → IsSaid prefix given said
+      → IsSaid prefix (given ++ change ∷ []) said
   said-over_one given change said beside is = record {
     last = said_last-over given change beside said.last is.last;
     close = is.close ∙ sym (close_in-more given change ∙ beside-close_after (close_in given) change.body beside);
   }
 
-  said-over : (given over : List Change) (said : Said) → list_any (concerns prefix) over ≡ false → IsSaid prefix given said → IsSaid prefix (given ++ over) said
+  said-over : (given over : List Change) (said : Said) → list_any (concerns prefix) over ≡ false → IsSaid prefix given said
+      → IsSaid prefix (given ++ over) said
   said-over given [] said beside is = subst (λ (all : List Change). IsSaid prefix all said) (sym (append-nil given)) is
   said-over given (change ∷ over) said beside is =
       subst (λ (all : List Change). IsSaid prefix all said) (append_assoc given (change ∷ []) over)
@@ -82,9 +90,12 @@ module _ (prefix : IpPrefix) (itself : covers prefix prefix ≡ true) where
       ap (λ (b : Bool). cond b (change ∷ filter (concerns prefix) over) (filter (concerns prefix) over)) first
       ∙ none-kept over (or_parts (concerns prefix change) (list_any (concerns prefix) over) beside).1
 
-  pub taken-over : (given over : List Change) (routes : Routes) (said : Said) → list_any (concerns prefix) over ≡ false → IsTaken prefix given routes said → IsTaken prefix (given ++ over) routes said
+  pub taken-over : (given over : List Change) (routes : Routes) (said : Said) → list_any (concerns prefix) over ≡ false
+      → IsTaken prefix given routes said → IsTaken prefix (given ++ over) routes said
   taken-over given over routes said beside is = record {
-    left_is = ap left (filter-append (concerns prefix) given over ∙ ap (λ (rest : List Change). filter (concerns prefix) given ++ rest) (none-kept over beside) ∙ append-nil (filter (concerns prefix) given)) ∙ is.left_is;
+    left_is = ap left (filter-append (concerns prefix) given over
+        ∙ ap (λ (rest : List Change). filter (concerns prefix) given ++ rest) (none-kept over beside)
+        ∙ append-nil (filter (concerns prefix) given)) ∙ is.left_is;
     is_said = said-over given over said beside is.is_said;
   }
 
@@ -92,13 +103,16 @@ module _ (prefix : IpPrefix) (itself : covers prefix prefix ≡ true) where
 over-open : (prefix : IpPrefix) (over : List Change) → list_any (concerns prefix) over ≡ false → list_any is_close over ≡ false
 over-open prefix [] beside = refl
 over-open prefix (change ∷ over) beside =
-    open_one change.body (or_parts (concerns prefix change) (list_any (concerns prefix) over) beside).0 (over-open prefix over (or_parts (concerns prefix change) (list_any (concerns prefix) over) beside).1)
+    open_one change.body (or_parts (concerns prefix change) (list_any (concerns prefix) over) beside).0
+    (over-open prefix over (or_parts (concerns prefix change) (list_any (concerns prefix) over) beside).1)
   where
-    open_one : (body : ChangeBody) → body_concerns prefix body ≡ false → list_any is_close over ≡ false → (body_closes body || list_any is_close over) ≡ false
+    open_one : (body : ChangeBody) → body_concerns prefix body ≡ false → list_any is_close over ≡ false
+        → (body_closes body || list_any is_close over) ≡ false
     open_one (Closed reason) b later = absurd cc
     open_one body b later = later
 
-pub open-over : (prefix : IpPrefix) (given over : List Change) → list_any (concerns prefix) over ≡ false → list_any is_close given ≡ false → list_any is_close (given ++ over) ≡ false
+pub open-over : (prefix : IpPrefix) (given over : List Change) → list_any (concerns prefix) over ≡ false → list_any is_close given ≡ false
+    → list_any is_close (given ++ over) ≡ false
 open-over prefix given over beside none = none-append is_close given over none (over-open prefix over beside)
 
 -- ---- what is taken up to a time
@@ -108,42 +122,56 @@ not_longer given rest first e =
     let nothing : [] ≡ first ∷ rest = append_cancel_left given [] (first ∷ rest) (append-nil given ∙ e) in
     absurd cc
 
-takes_if-over : (passed : Bool) (time : Option ℕ) (given over : List Change) → list_any (is_later time) over ≡ false → HasTakenIf passed time given given → HasTakenIf passed time (given ++ over) (given ++ over)
+takes_if-over : (passed : Bool) (time : Option ℕ) (given over : List Change) → list_any (is_later time) over ≡ false
+    → HasTakenIf passed time given given → HasTakenIf passed time (given ++ over) (given ++ over)
 takes_if-over false time given over in_time taken = (refl, none-append (is_later time) given over taken.1 in_time)
 takes_if-over true time given over in_time taken = absurd (not_longer given taken.rest taken.first taken.splits)
 
-pub takes-over : (taken : UntilContent) (until : Option ℕ) (given over : List Change) → taken.time ≡ until → list_any (is_later until) over ≡ false → HasTaken taken given given → HasTaken taken (given ++ over) (given ++ over)
+pub takes-over : (taken : UntilContent) (until : Option ℕ) (given over : List Change) → taken.time ≡ until
+    → list_any (is_later until) over ≡ false → HasTaken taken given given → HasTaken taken (given ++ over) (given ++ over)
 takes-over taken until given over at in_time is =
-    takes_if-over taken.passed taken.time given over (subst (λ (time : Option ℕ). list_any (is_later time) over ≡ false) (sym at) in_time) is
+    takes_if-over taken.passed taken.time given over (subst (λ (time : Option ℕ). list_any (is_later time) over ≡ false) (sym at) in_time)
+    is
 
 -- ---- what was given and passed over
 
 module _ {S : Type 0} (comes : Comes S) (shows : S → Option MrtRecord) (start : Stage S) (until : Option ℕ) where
   -- those that were passed over come behind those that were given, and what is given then behind these
-  before-behind : (given over : List Change) (old new : Stage S) (taken : UntilContent) (word : Word) → IsGiven comes shows start until given old taken → SaysBehind comes shows over old new (Ok (Some word))
-      → (changes : List Change) (passed : ℕ) → May comes shows new changes passed → May comes shows start (((given ++ over) ++ change_of word ∷ []) ++ changes) passed
+  before-behind : (given over : List Change) (old new : Stage S) (taken : UntilContent) (word : Word)
+      → IsGiven comes shows start until given old taken → SaysBehind comes shows over old new (Ok (Some word))
+      → (changes : List Change) (passed : ℕ) → May comes shows new changes passed
+      → May comes shows start (((given ++ over) ++ change_of word ∷ []) ++ changes) passed
   before-behind given over old new taken word is says changes passed may =
       let change = change_of word in
       let same : given ++ ((over ++ change ∷ []) ++ changes) ≡ ((given ++ over) ++ change ∷ []) ++ changes =
       ap (λ (rest : List Change). given ++ rest) (append_assoc over (change ∷ []) changes)
       ∙ sym (append_assoc (given ++ over) (change ∷ []) changes ∙ append_assoc given over (change ∷ changes)) in
-      subst (λ (all : List Change). May comes shows start all passed) same (is.before ((over ++ change ∷ []) ++ changes) passed (says.0 changes passed may))
+      subst (λ (all : List Change). May comes shows start all passed) same
+      (is.before ((over ++ change ∷ []) ++ changes) passed (says.0 changes passed may))
 
-  pub given-more-behind : (prefix : IpPrefix) (given over : List Change) (old new : Stage S) (taken later : UntilContent) (word : Word) → list_any (concerns prefix) over ≡ false → IsGiven comes shows start until given old taken
+  pub given-more-behind : (prefix : IpPrefix) (given over : List Change) (old new : Stage S) (taken later : UntilContent) (word : Word)
+      → list_any (concerns prefix) over ≡ false → IsGiven comes shows start until given old taken
       → SaysBehind comes shows over old new (Ok (Some word)) → Closes old.closed new.closed (Ok (Some word))
-      → HasTaken later ((given ++ over) ++ change_of word ∷ []) ((given ++ over) ++ change_of word ∷ []) → later.time ≡ taken.time → IsGiven comes shows start until ((given ++ over) ++ change_of word ∷ []) new later
+      → HasTaken later ((given ++ over) ++ change_of word ∷ []) ((given ++ over) ++ change_of word ∷ []) → later.time ≡ taken.time
+      → IsGiven comes shows start until ((given ++ over) ++ change_of word ∷ []) new later
   given-more-behind prefix given over old new taken later word beside is says closes takes time = record {
     before = before-behind given over old new taken word is says;
-    closed = closes.1 ∙ sym (any-one_more is_close (given ++ over) (change_of word) (open-over prefix given over beside (sym is.closed ∙ closes.0)));
+    closed = closes.1 ∙ sym (any-one_more is_close (given ++ over) (change_of word)
+        (open-over prefix given over beside (sym is.closed ∙ closes.0)));
     takes = takes;
     time = time ∙ is.time;
   }
 
   -- where the next one is too late, those that were given and those that were passed over are all in time
-  pub given-late-behind : {R : Type 0} (gives : R → List ℕ → ReadEnd → Type 0) (question : Question) (peer : PeerId) (reader : R) (same : question.until ≡ until)
-      (read : (changes : List Change) (passed : ℕ) → May comes shows start changes passed → IsRead gives question.errors peer reader changes passed) (cuts : TakenIsCut)
-      (given over : List Change) (old new : Stage S) (taken later : UntilContent) (word : Word) → IsGiven comes shows start until given old taken → SaysBehind comes shows over old new (Ok (Some word)) → SomethingMayCome comes shows new
-      → HasTaken later ((given ++ over) ++ change_of word ∷ []) (given ++ over) → later.time ≡ taken.time → AreInTime gives question peer reader (given ++ over)
+  pub given-late-behind : {R : Type 0} (gives : R → List ℕ → ReadEnd → Type 0) (question : Question) (peer : PeerId) (reader : R)
+      (same : question.until ≡ until)
+      (read : (changes : List Change) (passed : ℕ) → May comes shows start changes passed
+      → IsRead gives question.errors peer reader changes passed) (cuts : TakenIsCut)
+      (given over : List Change) (old new : Stage S) (taken later : UntilContent) (word : Word)
+      → IsGiven comes shows start until given old taken → SaysBehind comes shows over old new (Ok (Some word))
+      → SomethingMayCome comes shows new
+      → HasTaken later ((given ++ over) ++ change_of word ∷ []) (given ++ over) → later.time ≡ taken.time
+      → AreInTime gives question peer reader (given ++ over)
   given-late-behind gives question peer reader same read cuts given over old new taken later word is says some takes time =
       let change : Change = change_of word in
       let all = given ++ over in
@@ -152,7 +180,8 @@ module _ {S : Type 0} (comes : Comes S) (shows : S → Option MrtRecord) (start 
       let at : later.time ≡ question.until = time ∙ is.time ∙ sym same in
       let late : BeginsLater later.time (change ∷ []) = subst (BeginsLater later.time) (sym rest) cut.longest in
       let whole : May comes shows start (all ++ change ∷ some.0) some.1 =
-      subst (λ (given : List Change). May comes shows start given some.1) (append_assoc all (change ∷ []) some.0) (before-behind given over old new taken word is says some.0 some.1 some.2) in
+      subst (λ (given : List Change). May comes shows start given some.1) (append_assoc all (change ∷ []) some.0)
+      (before-behind given over old new taken word is says some.0 some.1 some.2) in
       record {
         changes = all ++ change ∷ some.0;
         passed = some.1;

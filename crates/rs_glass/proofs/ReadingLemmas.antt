@@ -29,9 +29,12 @@ use Rattle.rs_glass.proofs.GivenLemmas.{IsGiven}
 
 module _ (prefix : IpPrefix) where
   -- one on a prefix that covers it concerns it
-  body_on : (wide : IpPrefix) → covers wide prefix ≡ true → (body : ChangeBody) → option_map_or (same_prefix wide) (body_prefix body) false ≡ true → body_concerns prefix body ≡ true
-  body_on wide covered (Announced changed attributes) on = subst (λ (one : IpPrefix). covers one prefix ≡ true) (same_prefix-true wide changed on) covered
-  body_on wide covered (Withdrawn changed) on = subst (λ (one : IpPrefix). covers one prefix ≡ true) (same_prefix-true wide changed on) covered
+  body_on : (wide : IpPrefix) → covers wide prefix ≡ true → (body : ChangeBody)
+      → option_map_or (same_prefix wide) (body_prefix body) false ≡ true → body_concerns prefix body ≡ true
+  body_on wide covered (Announced changed attributes) on =
+      subst (λ (one : IpPrefix). covers one prefix ≡ true) (same_prefix-true wide changed on) covered
+  body_on wide covered (Withdrawn changed) on =
+      subst (λ (one : IpPrefix). covers one prefix ≡ true) (same_prefix-true wide changed on) covered
   body_on wide covered body on = absurd cc
 
   -- and so does one on no prefix
@@ -41,11 +44,13 @@ module _ (prefix : IpPrefix) where
   body_on_none body none = refl
 
   -- what the changes that concern it leave is what all leave on each prefix that covers it
-  told : (given : List Change) (routes : Routes) (one : Said) → LeftByPart → LeftByLastChanges → left (filter (concerns prefix) given) ≡ routes → IsSaid prefix given one → AreTold prefix given routes one
+  told : (given : List Change) (routes : Routes) (one : Said) → LeftByPart → LeftByLastChanges
+      → left (filter (concerns prefix) given) ≡ routes → IsSaid prefix given one → AreTold prefix given routes one
   told given routes one by_part by_last left_is said = record {
     is_said = said;
     left_on = λ wide covered route.
-        let part = by_part (concerns prefix) wide (λ change. body_on wide covered change.body) (λ change. body_on_none change.body) given route in
+        let part = by_part (concerns prefix) wide (λ change. body_on wide covered change.body) (λ change. body_on_none change.body)
+        given route in
         let last = by_last (filter (concerns prefix) given) wide route in
         let same : get (left (filter (concerns prefix) given)) wide ≡ get routes wide = ap (λ (held : Routes). get held wide) left_is in
         (λ leaves. sym same ∙ last.0 (part.0 leaves), λ found. part.1 (last.1 (same ∙ found)));
@@ -64,28 +69,38 @@ module _ (prefix : IpPrefix) where
   taken-none routes said nothing is_said = record { left_is = left-nothing ∙ sym nothing; is_said = is_said }
 
   -- what is left once a change was taken
-  next_left : (keeps : Bool) (change : Change) (given : List Change) (routes : Routes) → LeftAfterOneMore → list_any is_close given ≡ false → left (filter (concerns prefix) given) ≡ routes
+  next_left : (keeps : Bool) (change : Change) (given : List Change) (routes : Routes) → LeftAfterOneMore → list_any is_close given ≡ false
+      → left (filter (concerns prefix) given) ≡ routes
       → left (filter (concerns prefix) given ++ cond keeps (change ∷ []) []) ≡ cond keeps (after routes change) routes
   next_left true change given routes one_more none left_is =
-      one_more (filter (concerns prefix) given) change (none-part is_close (concerns prefix) given none) ∙ ap (λ (held : Routes). after held change) left_is
+      one_more (filter (concerns prefix) given) change (none-part is_close (concerns prefix) given none)
+      ∙ ap (λ (held : Routes). after held change) left_is
   next_left false change given routes one_more none left_is = ap left (append-nil (filter (concerns prefix) given)) ∙ left_is
 
   -- one change more was given, where none before it was a close
-  pub taken-more : (given : List Change) (change : Change) (before later : Routes) (said next : Said) → LeftAfterOneMore → IsTaken given before said → list_any is_close given ≡ false → IsSaid prefix (given ++ change ∷ []) next
+  pub taken-more : (given : List Change) (change : Change) (before later : Routes) (said next : Said) → LeftAfterOneMore
+      → IsTaken given before said → list_any is_close given ≡ false → IsSaid prefix (given ++ change ∷ []) next
       → later ≡ cond (concerns prefix change) (after before change) before → IsTaken (given ++ change ∷ []) later next
   taken-more given change before later said next one_more is none is_said becomes = record {
-    left_is = ap left (filter-append (concerns prefix) given (change ∷ [])) ∙ next_left (concerns prefix change) change given before one_more none is.left_is ∙ sym becomes;
+    left_is = ap left (filter-append (concerns prefix) given (change ∷ []))
+        ∙ next_left (concerns prefix change) change given before one_more none is.left_is ∙ sym becomes;
     is_said = is_said;
   }
 
   -- what is said in the end
-  pub taken-said : {R : Type 0} (gives : R → List ℕ → ReadEnd → Type 0) (question : Question) (peer : PeerId) (reader : R) → question.prefix ≡ prefix → (given : List Change) (routes : Routes) (said : Said) → IsTaken given routes said
+  pub taken-said : {R : Type 0} (gives : R → List ℕ → ReadEnd → Type 0) (question : Question) (peer : PeerId) (reader : R)
+      → question.prefix ≡ prefix → (given : List Change) (routes : Routes) (said : Said) → IsTaken given routes said
       → AreInTime gives question peer reader given → LeftByPart → LeftByLastChanges → IsSaidBefore gives question peer reader routes said
-  taken-said gives question peer reader same given routes said is in_time by_part by_last =
-      (given, in_time, subst (λ (one : IpPrefix). AreTold one given routes said) (sym same) (told prefix given routes said by_part by_last is.left_is is.is_said))
+  taken-said gives question peer reader same given routes said is in_time by_part by_last = (
+    given,
+    in_time,
+    subst (λ (one : IpPrefix). AreTold one given routes said) (sym same)
+        (told prefix given routes said by_part by_last is.left_is is.is_said),
+  )
 
 -- how far the reading of a session has come
-pub record IsReading {S : Type 0} (comes : Comes S) (shows : S → Option MrtRecord) (start : Stage S) (prefix : IpPrefix) (until : Option ℕ) (stage : Stage S) (routes : Routes) (said : Said) (taken : UntilContent) : Type 0 where
+pub record IsReading {S : Type 0} (comes : Comes S) (shows : S → Option MrtRecord) (start : Stage S) (prefix : IpPrefix) (until : Option ℕ)
+    (stage : Stage S) (routes : Routes) (said : Said) (taken : UntilContent) : Type 0 where
   pub given : List Change
   pub is_given : IsGiven comes shows start until given stage taken
   pub is_taken : IsTaken prefix given routes said

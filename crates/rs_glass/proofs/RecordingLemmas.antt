@@ -27,11 +27,13 @@ module _ {R : Type 0} (plan : Plan) (readers : List R) where
   recorded-none number one at = absurd cc
 
   -- one recording more
-  pub recorded-more : (all : List (Recording R)) (one : Recording R) (count : ℕ) → AreRecordings plan readers all → length all ≡ count → IsRecording plan readers count one → AreRecordings plan readers (all ++ one ∷ [])
+  pub recorded-more : (all : List (Recording R)) (one : Recording R) (count : ℕ) → AreRecordings plan readers all → length all ≡ count
+      → IsRecording plan readers count one → AreRecordings plan readers (all ++ one ∷ [])
   recorded-more all one count so_far as_many is number other at =
       elim (at-pushed all one other number at) [
         | inl earlier ↦ so_far number other earlier
-        | inr last ↦ subst (IsRecording plan readers number) last.1 (subst (λ (n : ℕ). IsRecording plan readers n one) (sym as_many ∙ sym last.0) is)
+        | inr last ↦ subst (IsRecording plan readers number) last.1
+            (subst (λ (n : ℕ). IsRecording plan readers n one) (sym as_many ∙ sym last.0) is)
       ]
 
 module _ (all : List (Result Heard GlassFault)) where
@@ -39,7 +41,8 @@ module _ (all : List (Result Heard GlassFault)) where
   heard-none tables said number below = absurd (omega (arith, below))
 
   -- what was heard of one peer more is held of it
-  pub heard-more : (count : ℕ) (before later : TablesContent) (said : List Said) (heard : Heard) → AreHeard all count before said → length said ≡ count → slice_get all count ≡ Some (Ok heard) → (rib_of later count).routes ≡ heard.routes
+  pub heard-more : (count : ℕ) (before later : TablesContent) (said : List Said) (heard : Heard) → AreHeard all count before said
+      → length said ≡ count → slice_get all count ≡ Some (Ok heard) → (rib_of later count).routes ≡ heard.routes
       → ((other : ℕ) → other ≢ count → rib_of later other ≡ rib_of before other) → AreHeard all (count + 1) later (said ++ heard.said ∷ [])
   heard-more count before later said heard so_far as_many at_heard routes others number below one at =
       elim (at-pushed said heard.said one number at) [
@@ -47,10 +50,22 @@ module _ (all : List (Result Heard GlassFault)) where
             let under : number < count = omega (arith, slice_get_within said number one earlier, as_many) in
             let apart : number ≢ count = λ same. omega (arith, under, same) in
             let is : IsHeard all number before one = so_far number under one earlier in
-            record { heard = is.heard; heard_is = is.heard_is; routes = ap (λ (rib : RibContent). rib.routes) (others number apart) ∙ is.routes; said_is = is.said_is }
+            record {
+              heard = is.heard;
+              heard_is = is.heard_is;
+              routes = ap (λ (rib : RibContent). rib.routes) (others number apart)
+                  ∙ is.routes;
+              said_is = is.said_is;
+            }
         | inr last ↦
             let place : count ≡ number = sym (last.0 ∙ as_many) in
-            record { heard = heard; heard_is = ap (slice_get all) (sym place) ∙ at_heard; routes = ap (λ (n : ℕ). (rib_of later n).routes) (sym place) ∙ routes; said_is = last.1 }
+            record {
+              heard = heard;
+              heard_is = ap (slice_get all) (sym place)
+                  ∙ at_heard;
+              routes = ap (λ (n : ℕ). (rib_of later n).routes) (sym place) ∙ routes;
+              said_is = last.1;
+            }
       ]
 
   -- a fault at one peer
@@ -60,10 +75,13 @@ module _ (all : List (Result Heard GlassFault)) where
 
 module _ {R : Type 0} (gives : R → List ℕ → ReadEnd → Type 0) (question : Question) (plan : Plan) (readers : List R) where
   -- a fault of the reader of a recording is one among all
-  pub fault-recorded : (number : ℕ) (one : Recording R) → IsRecording plan readers number one → (fault : GlassFault) → IsFaultOf gives question one.id one.reader one.peer fault → IsFaultAmong gives question plan readers fault
+  pub fault-recorded : (number : ℕ) (one : Recording R) → IsRecording plan readers number one → (fault : GlassFault)
+      → IsFaultOf gives question one.id one.reader one.peer fault → IsFaultAmong gives question plan readers fault
   fault-recorded number one is fault met =
-      let by_id : IsFaultOf gives question (id_of is.peer) one.reader one.peer fault = subst (λ (id : PeerId). IsFaultOf gives question id one.reader one.peer fault) is.id_is met in
-      let by_place : IsFaultOf gives question (id_of is.peer) one.reader number fault = subst (λ (n : ℕ). IsFaultOf gives question (id_of is.peer) one.reader n fault) is.number_is by_id in
+      let by_id : IsFaultOf gives question (id_of is.peer) one.reader one.peer fault =
+      subst (λ (id : PeerId). IsFaultOf gives question id one.reader one.peer fault) is.id_is met in
+      let by_place : IsFaultOf gives question (id_of is.peer) one.reader number fault =
+      subst (λ (n : ℕ). IsFaultOf gives question (id_of is.peer) one.reader n fault) is.number_is by_id in
       fault-among gives question plan readers number is.peer one.reader is.peer_is is.reader_is fault by_place
 
 -- what was heard of a recording: what its session says, or a fault of its reader
@@ -71,30 +89,38 @@ abbrev pub HeardOf : {R : Type 0} → (R → List ℕ → ReadEnd → Type 0) �
 HeardOf gives question one (Ok heard) = IsSaidOf gives question one.id one.reader heard.routes heard.said
 HeardOf gives question one (Err fault) = IsFaultOf gives question one.id one.reader one.peer fault
 
-pub heard-of : {R : Type 0} (gives : R → List ℕ → ReadEnd → Type 0) (question : Question) (one : Recording R) (r : Result Heard GlassFault) → IfOk r (λ heard. IsSaidOf gives question one.id one.reader heard.routes heard.said)
+pub heard-of : {R : Type 0} (gives : R → List ℕ → ReadEnd → Type 0) (question : Question) (one : Recording R) (r : Result Heard GlassFault)
+    → IfOk r (λ heard. IsSaidOf gives question one.id one.reader heard.routes heard.said)
     → IfErr r (IsFaultOf gives question one.id one.reader one.peer) → HeardOf gives question one r
 heard-of gives question one (Ok heard) says fault = says
 heard-of gives question one (Err met) says fault = fault
 
-module _ {R : Type 0} (gives : R → List ℕ → ReadEnd → Type 0) (question : Question) (plan : Plan) (readers : List R) (jobs : List (Recording R)) (all : List (Result Heard GlassFault)) where
+module _ {R : Type 0} (gives : R → List ℕ → ReadEnd → Type 0) (question : Question) (plan : Plan) (readers : List R)
+    (jobs : List (Recording R)) (all : List (Result Heard GlassFault)) where
   -- each of these was heard of the recording at its place
   abbrev pub AreHeardOf : Type 0
-  AreHeardOf = (number : ℕ) (r : Result Heard GlassFault) → slice_get all number ≡ Some r → (one : Recording R) × (slice_get jobs number ≡ Some one) × HeardOf gives question one r
+  AreHeardOf = (number : ℕ) (r : Result Heard GlassFault) → slice_get all number ≡ Some r → (one : Recording R)
+      × (slice_get jobs number ≡ Some one) × HeardOf gives question one r
 
   module _ (recorded : AreRecordings plan readers jobs) (heard_of : AreHeardOf) where
     -- what is held of all peers is what their recorded sessions say
-    pub all-said : (tables : TablesContent) (said : List Said) → length all ≡ length readers → AreHeard all (length all) tables said → AreSaidOf gives question plan readers (length readers) tables said
+    pub all-said : (tables : TablesContent) (said : List Said) → length all ≡ length readers → AreHeard all (length all) tables said
+        → AreSaidOf gives question plan readers (length readers) tables said
     all-said tables said as_many held number below peer at_peer reader at_reader one at_one =
         let is : IsHeard all number tables one = held number (omega (arith, below, as_many)) one at_one in
         let by_recording = heard_of number (Ok is.heard) is.heard_is in
         let recording : Recording R = by_recording.0 in
         let recorded_as : IsRecording plan readers number recording = recorded number recording by_recording.1 in
         let same_peer : recorded_as.peer ≡ peer = let e : Some recorded_as.peer ≡ Some peer = sym recorded_as.peer_is ∙ at_peer in cc in
-        let same_reader : recording.reader ≡ reader = let e : Some recording.reader ≡ Some reader = sym recorded_as.reader_is ∙ at_reader in cc in
+        let same_reader : recording.reader ≡ reader = let e : Some recording.reader ≡ Some reader = sym recorded_as.reader_is ∙ at_reader in
+        cc in
         let same_id : recording.id ≡ id_of peer = recorded_as.id_is ∙ ap id_of same_peer in
-        let by_id : IsSaidOf gives question (id_of peer) recording.reader is.heard.routes is.heard.said = subst (λ (id : PeerId). IsSaidOf gives question id recording.reader is.heard.routes is.heard.said) same_id by_recording.2 in
-        let by_reader : IsSaidOf gives question (id_of peer) reader is.heard.routes is.heard.said = subst (λ (r : R). IsSaidOf gives question (id_of peer) r is.heard.routes is.heard.said) same_reader by_id in
-        let by_routes : IsSaidOf gives question (id_of peer) reader (rib_of tables number).routes is.heard.said = subst (λ (routes : Routes). IsSaidOf gives question (id_of peer) reader routes is.heard.said) (sym is.routes) by_reader in
+        let by_id : IsSaidOf gives question (id_of peer) recording.reader is.heard.routes is.heard.said =
+        subst (λ (id : PeerId). IsSaidOf gives question id recording.reader is.heard.routes is.heard.said) same_id by_recording.2 in
+        let by_reader : IsSaidOf gives question (id_of peer) reader is.heard.routes is.heard.said =
+        subst (λ (r : R). IsSaidOf gives question (id_of peer) r is.heard.routes is.heard.said) same_reader by_id in
+        let by_routes : IsSaidOf gives question (id_of peer) reader (rib_of tables number).routes is.heard.said =
+        subst (λ (routes : Routes). IsSaidOf gives question (id_of peer) reader routes is.heard.said) (sym is.routes) by_reader in
         subst (IsSaidOf gives question (id_of peer) reader (rib_of tables number).routes) is.said_is by_routes
 
     -- and a fault that was met is one of a reader
@@ -102,4 +128,5 @@ module _ {R : Type 0} (gives : R → List ℕ → ReadEnd → Type 0) (question 
     fault-met Memory met = tt
     fault-met (Read faulty) met =
         let by_recording = heard_of met.0 (Err (Read faulty)) met.1 in
-        fault-recorded gives question plan readers met.0 by_recording.0 (recorded met.0 by_recording.0 by_recording.1) (Read faulty) by_recording.2
+        fault-recorded gives question plan readers met.0 by_recording.0 (recorded met.0 by_recording.0 by_recording.1) (Read faulty)
+        by_recording.2

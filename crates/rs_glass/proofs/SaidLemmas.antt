@@ -10,9 +10,12 @@ use Rattle.rs_glass.specs.Recorded.{body_reason, close_after, close_in}
 -- with one change more
 pub close_in-more : (changes : List Change) (one : Change) → close_in (changes ++ one ∷ []) ≡ close_after (close_in changes) one.body
 close_in-more changes one =
-    ap (λ (all : List Change). option_and_then (λ (change : Change). body_reason change.body) (find is_close all)) (reverse-append changes (one ∷ [])) ∙ by_body one.time one.body
+    ap (λ (all : List Change). option_and_then (λ (change : Change). body_reason change.body) (find is_close all))
+    (reverse-append changes (one ∷ [])) ∙ by_body one.time one.body
   where
-    by_body : (time : ℕ) (body : ChangeBody) → option_and_then (λ (change : Change). body_reason change.body) (cond (body_closes body) (Some (record { time = time; body = body })) (find is_close (reverse changes))) ≡ close_after (close_in changes) body
+    by_body : (time : ℕ) (body : ChangeBody) → option_and_then (λ (change : Change). body_reason change.body)
+        (cond (body_closes body) (Some (record { time = time; body = body })) (find is_close (reverse changes)))
+        ≡ close_after (close_in changes) body
     by_body time (Announced prefix attributes) = refl
     by_body time (Withdrawn prefix) = refl
     by_body time Lost = refl

@@ -1,11 +1,11 @@
 //! The shell of the looking glass: how its command line is read, and how its answers are written.
 //! All of it is our choice, but for JSON (RFC 8259) and TOML 1.0.
 //!
-//! Reading order: `values`, `command` and `words` (how a question is read from a command line, with `clap`); `answering`
-//! (the whole answer); `why_lines` and `why_object` (why a client has each peer's route, or not), `history_lines` and
-//! `history_object` (what happened on a prefix), `recorded_file`, `listing_lines`, `listing_object` and `listing_toml`
-//! (what recorded files hold), each as a text and as JSON; below them `reasons`, `route_text`, `names`, `columns` and
-//! `clock`.
+//! Reading order: `values`, `command` and `words` (how a question is read from a command line, with `clap`);
+//! `answering` (the whole answer); `why_lines` and `why_object` (why a client has each peer's route, or not),
+//! `history_lines` and `history_object` (what happened on a prefix), `recorded_file`, `listing_lines`, `listing_object`
+//! and `listing_toml` (what recorded files hold), each as a text and as JSON; below them `reasons`, `route_text`,
+//! `names`, `columns` and `clock`.
 #![tactic(auto)]
 
 mod answering;

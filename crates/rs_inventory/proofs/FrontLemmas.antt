@@ -1,5 +1,6 @@
 -- A reader whose first octets were taken gives what it might have given before.
-use Rattle.std.proofs.Common.{◌≡◌, ℕ, zero, suc, ◌<◌, ◌||◌, nat_le, Bool, true, false, List, [], ◌∷◌, ◌++◌, length, take, drop, min, Result, Ok, Err, refl, sym, ap, subst, ◌∙◌, arith, append_assoc, take-append-drop, ltb, ltb-false}
+use Rattle.std.proofs.Common.{◌≡◌, ℕ, zero, suc, ◌<◌, ◌||◌, nat_le, Bool, true, false, List, [], ◌∷◌, ◌++◌, length, take, drop, min, Result}
+use Rattle.std.proofs.Common.{Ok, Err, refl, sym, ap, subst, ◌∙◌, arith, append_assoc, take-append-drop, ltb, ltb-false}
 use Rattle.std.specs.Prelude.{OnErr}
 use Rattle.rs_mrt.specs.declared.stream.Failed.{Failed}
 use Rattle.rs_mrt.specs.Reader.{ReadEnd, ReadFails, ReadGives}
@@ -8,7 +9,8 @@ use Rattle.rs_inventory.specs.Front.{GivesUnlessEnded, ReadMayFail, Rewound, Rew
 module _ {R : Type 0} (gives : R → List ℕ → ReadEnd → Type 0) where
   -- the reader is asked once all that was taken was given again
   pub inner-gives : (old new : R) (result : Result ℕ Failed) (piece : List ℕ) → ReadGives (gives old) (gives new) result piece
-      → ReadGives (RewoundGives gives (record { held = []; ended = false; inner = old })) (RewoundGives gives (record { held = []; ended = false; inner = new })) result piece
+      → ReadGives (RewoundGives gives (record { held = []; ended = false; inner = old }))
+      (RewoundGives gives (record { held = []; ended = false; inner = new })) result piece
   inner-gives old new (Err failed) piece read = record { later = []; splits = refl; given = read }
   inner-gives old new (Ok zero) (x ∷ xs) read = record { later = []; splits = refl; given = read }
   inner-gives old new (Ok zero) [] read = λ later end w. record { later = w.later; splits = w.splits; given = read w.later end w.given }
@@ -35,16 +37,21 @@ module _ {R : Type 0} (gives : R → List ℕ → ReadEnd → Type 0) where
   inner-of w held ended = λ i. record { held = held i; ended = ended i; inner = w.inner }
 
   -- the reader is asked where nothing is held
-  pub asks-inner : (old new : Rewound R) (result : Result ℕ Failed) (piece : List ℕ) → old.held ≡ [] → old.ended ≡ false → new.held ≡ [] → new.ended ≡ false
-      → ReadGives (gives old.inner) (gives new.inner) result piece → ReadGives (RewoundGives gives old) (RewoundGives gives new) result piece
+  pub asks-inner : (old new : Rewound R) (result : Result ℕ Failed) (piece : List ℕ) → old.held ≡ [] → old.ended ≡ false → new.held ≡ []
+      → new.ended ≡ false
+      → ReadGives (gives old.inner) (gives new.inner) result piece
+      → ReadGives (RewoundGives gives old) (RewoundGives gives new) result piece
   asks-inner old new result piece held ended held_after ended_after read =
       subst (λ (w : Rewound R). ReadGives (RewoundGives gives w) (RewoundGives gives new) result piece) (sym (inner-of old held ended))
-      (subst (λ (w : Rewound R). ReadGives (RewoundGives gives (record { held = []; ended = false; inner = old.inner })) (RewoundGives gives w) result piece) (sym (inner-of new held_after ended_after))
+      (subst (λ (w : Rewound R). ReadGives (RewoundGives gives (record { held = []; ended = false; inner = old.inner }))
+      (RewoundGives gives w) result piece) (sym (inner-of new held_after ended_after))
       (inner-gives old.inner new.inner result piece read))
 
   -- a failed read while octets are taken is one after these
-  pub front-fails : (front : Taken) (inner : R) → is_done front ≡ false → gives inner [] ReadFails → ReadMayFail (RewoundGives gives) (rewound front inner)
-  front-fails front inner unfinished failed = (front.octets ++ [], record { later = []; splits = refl; given = unless front.ended unfinished })
+  pub front-fails : (front : Taken) (inner : R) → is_done front ≡ false → gives inner [] ReadFails
+      → ReadMayFail (RewoundGives gives) (rewound front inner)
+  front-fails front inner unfinished failed =
+      (front.octets ++ [], record { later = []; splits = refl; given = unless front.ended unfinished })
     where
       unless : (ended : Bool) → (ended || nat_le front_len (length front.octets)) ≡ false → GivesUnlessEnded gives ended inner [] ReadFails
       unless true done = absurd (cc done)

@@ -1,5 +1,6 @@
 -- What records hold with one record more.
-use Rattle.std.proofs.Common.{◌≡◌, ◌≤◌, ◌∙◌, sym, ap, subst, refl, ℕ, ◌+◌, true, cond, List, [], ◌∷◌, ◌++◌, All, length, map, slice_index, Option, Some, None, option_map, min, max, arith, inl, inr, append-nil, length-append, ◌⊎◌}
+use Rattle.std.proofs.Common.{◌≡◌, ◌≤◌, ◌∙◌, sym, ap, subst, refl, ℕ, ◌+◌, true, cond, List, [], ◌∷◌, ◌++◌, All, length, map, slice_index}
+use Rattle.std.proofs.Common.{Option, Some, None, option_map, min, max, arith, inl, inr, append-nil, length-append, ◌⊎◌}
 use Rattle.std.specs.List.{Contains, count_by}
 use Rattle.std.specs.Option.{option_or}
 use Rattle.std.specs.Cmp.{Equal-is}
@@ -11,7 +12,8 @@ use Rattle.std.proofs.lemmas.List.Sums.{sum_by_push}
 use Rattle.rs_inventory.specs.Kind.{is_kind, place_of}
 use Rattle.rs_inventory.specs.Opening.{first_found}
 use Rattle.rs_inventory.specs.Peer.{PeerContent, TellsMore, Told, counted, peer_content}
-use Rattle.rs_inventory.specs.Inventory.{Content, Holds, IsEarliest, IsLatest, TakesNote, WithCounts, earlier_of, first_of, known_of, known_sum, later_of, peer_at, peer_cmp, same_peer, sum_of, told_in, told_of}
+use Rattle.rs_inventory.specs.Inventory.{Content, Holds, IsEarliest, IsLatest, TakesNote, WithCounts, earlier_of, first_of, known_of}
+use Rattle.rs_inventory.specs.Inventory.{known_sum, later_of, peer_at, peer_cmp, same_peer, sum_of, told_in, told_of}
 use Rattle.rs_inventory.specs.declared.finding.Finding.{Finding}
 use Rattle.rs_inventory.specs.declared.finding.News.{News}
 use Rattle.rs_inventory.specs.declared.finding.Note.{Note}
@@ -22,25 +24,36 @@ use Rattle.rs_inventory.proofs.PeerLemmas.{counted-more}
 -- ---- times
 
 -- the best of some times and of one more, where R orders them
-best-push : (R : ℕ → ℕ → Type 0) → ((x : ℕ) → R x x) → ((x y z : ℕ) → R x y → R y z → R x z) → (times : List ℕ) (best time chosen : ℕ) → ((chosen ≡ best) × R best time) ⊎ ((chosen ≡ time) × R time best)
+best-push : (R : ℕ → ℕ → Type 0) → ((x : ℕ) → R x x) → ((x y z : ℕ) → R x y → R y z → R x z) → (times : List ℕ) (best time chosen : ℕ)
+    → ((chosen ≡ best) × R best time) ⊎ ((chosen ≡ time) × R time best)
     → Contains times best × All (R best) times → Contains (times ++ time ∷ []) chosen × All (R chosen) (times ++ time ∷ [])
-best-push R same through times best time chosen (inl before) is = rw before.0 (Contains-append_left times (time ∷ []) best is.0, All-push (R best) times time is.1 before.1)
+best-push R same through times best time chosen (inl before) is =
+    rw before.0 (Contains-append_left times (time ∷ []) best is.0, All-push (R best) times time is.1 before.1)
 best-push R same through times best time chosen (inr after) is =
-    rw after.0 (Contains-push times time, All-push (R time) times time (All-weaker (R best) (R time) (λ x h. through time best x after.1 h) times is.1) (same time))
+    rw after.0 (
+      Contains-push times time,
+      All-push (R time) times time
+          (All-weaker (R best) (R time) (λ x h. through time best x after.1 h) times is.1) (same time),
+    )
 
-earliest-push : (times : List ℕ) (first : Option ℕ) (time : ℕ) → IsEarliest times first → IsEarliest (times ++ time ∷ []) (Some (earlier_of first time))
+earliest-push : (times : List ℕ) (first : Option ℕ) (time : ℕ) → IsEarliest times first
+    → IsEarliest (times ++ time ∷ []) (Some (earlier_of first time))
 earliest-push times None time none = rw none (Contains-push [] time, All-push (λ other. time ≤ other) [] time (All-nil _) (omega arith))
 earliest-push times (Some first) time is =
-    best-push (λ x y. x ≤ y) (λ x. omega arith) (λ x y z h k. omega arith) times first time (min first time) (elim (cases_lt first time) [ inl before ↦ inl (omega arith, omega arith) | inr after ↦ inr (omega arith, after) ]) is
+    best-push (λ x y. x ≤ y) (λ x. omega arith) (λ x y z h k. omega arith) times first time (min first time)
+    (elim (cases_lt first time) [ inl before ↦ inl (omega arith, omega arith) | inr after ↦ inr (omega arith, after) ]) is
 
-latest-push : (times : List ℕ) (last : Option ℕ) (time : ℕ) → IsLatest times last → IsLatest (times ++ time ∷ []) (Some (later_of last time))
+latest-push : (times : List ℕ) (last : Option ℕ) (time : ℕ) → IsLatest times last
+    → IsLatest (times ++ time ∷ []) (Some (later_of last time))
 latest-push times None time none = rw none (Contains-push [] time, All-push (λ other. other ≤ time) [] time (All-nil _) (omega arith))
 latest-push times (Some last) time is =
-    best-push (λ x y. y ≤ x) (λ x. omega arith) (λ x y z h k. omega arith) times last time (max last time) (elim (cases_lt last time) [ inl before ↦ inr (omega arith, omega arith) | inr after ↦ inl (omega arith, after) ]) is
+    best-push (λ x y. y ≤ x) (λ x. omega arith) (λ x y z h k. omega arith) times last time (max last time)
+    (elim (cases_lt last time) [ inl before ↦ inr (omega arith, omega arith) | inr after ↦ inl (omega arith, after) ]) is
 
 -- ---- kinds
 
-kinds-push : (kind : Kind) (findings : List Finding) (one : Finding) (count : ℕ) → count ≡ counted (count_by (λ f. is_kind kind f.kind) findings)
+kinds-push : (kind : Kind) (findings : List Finding) (one : Finding) (count : ℕ)
+    → count ≡ counted (count_by (λ f. is_kind kind f.kind) findings)
     → cond (is_kind kind one.kind) (counted (count + 1)) count ≡ counted (count_by (λ f. is_kind kind f.kind) (findings ++ one ∷ []))
 kinds-push kind findings one count is =
     rw (sum_by_push (λ (f : Finding). cond (is_kind kind f.kind) 1 0) findings one)
@@ -71,12 +84,14 @@ counted-plus None other = refl
 counted-plus (Some n) None = refl
 counted-plus (Some n) (Some m) = ap Some (counted-more n m)
 
-known_sum-push : (known : List (Option ℕ)) (one : Option ℕ) → option_map counted (known_sum (known ++ one ∷ [])) ≡ sum_of (option_map counted (known_sum known)) one
+known_sum-push : (known : List (Option ℕ)) (one : Option ℕ)
+    → option_map counted (known_sum (known ++ one ∷ [])) ≡ sum_of (option_map counted (known_sum known)) one
 known_sum-push known one = ap (option_map counted) (sum-push known one) ∙ counted-plus (known_sum known) one
 
 -- ---- the recorder
 
-first_found-push : {X Y : Type 0} (ask : X → Option Y) (xs : List X) (x : X) → first_found ask (xs ++ x ∷ []) ≡ first_of (first_found ask xs) (ask x)
+first_found-push : {X Y : Type 0} (ask : X → Option Y) (xs : List X) (x : X)
+    → first_found ask (xs ++ x ∷ []) ≡ first_of (first_found ask xs) (ask x)
 first_found-push ask [] x = elim (ask x) as (λ o. option_or o None ≡ o) [ None ↦ refl | Some y ↦ refl ]
 first_found-push ask (y ∷ xs) x =
     elim (ask y) as (λ o. option_or o (first_found ask (xs ++ x ∷ [])) ≡ first_of (option_or o (first_found ask xs)) (ask x)) [
@@ -94,7 +109,8 @@ same_peer-true x y e =
     λ i. record { address = address i; asn = asn i }
 
 -- what is known of one peer becomes what it is with one record more
-pub takes-one : (old new : List (Peer × PeerContent)) (note : Note) (time : ℕ) (was : Option PeerContent) (now : PeerContent) → peer_at old note.peer ≡ was
+pub takes-one : (old new : List (Peer × PeerContent)) (note : Note) (time : ℕ) (was : Option PeerContent) (now : PeerContent)
+    → peer_at old note.peer ≡ was
     → ((peer : Peer) → peer_at new peer ≡ cond (same_peer note.peer peer) (Some now) (peer_at old peer))
     → ((told : List Told) → was ≡ known_of told → Some now ≡ known_of (told ++ (time, note.news) ∷ [])) → TakesNote old time (Some note) new
 takes-one old new note time was now before updates next = λ peer told is.
@@ -108,7 +124,8 @@ takes-one old new note time was now before updates next = λ peer told is.
           rw other (here ∙ is ∙ ap known_of (sym (append-nil told)))
     ]
 
-pub next-new : (time : ℕ) (one : News) (now : PeerContent) → TellsMore (peer_content []) time one now → (told : List Told) → None ≡ known_of told
+pub next-new : (time : ℕ) (one : News) (now : PeerContent) → TellsMore (peer_content []) time one now → (told : List Told)
+    → None ≡ known_of told
     → Some now ≡ known_of (told ++ (time, one) ∷ [])
 next-new time one now tells [] none = ap Some (tells [] refl)
 next-new time one now tells (t ∷ told) none = absurd (cc none)
@@ -116,18 +133,24 @@ next-new time one now tells (t ∷ told) none = absurd (cc none)
 -- ---- all
 
 pub holds-more : (findings : List Finding) (one : Finding) (old mid new : Content) → Holds findings old
-    → mid ≡ record old { peers = mid.peers } → TakesNote old.peers one.time one.note mid.peers → WithCounts one mid new → Holds (findings ++ one ∷ []) new
+    → mid ≡ record old { peers = mid.peers } → TakesNote old.peers one.time one.note mid.peers → WithCounts one mid new
+    → Holds (findings ++ one ∷ []) new
 holds-more findings one old mid new holds same takes counts = record {
   records = counts.records ∙ ap (λ (c : Content). counted (c.records + 1)) same ∙ ap (λ n. counted (n + 1)) holds.records
       ∙ sym (counted-more (length findings) 1) ∙ ap counted (sym (length-append findings (one ∷ [])));
-  kinds = λ kind. counts.kinds kind ∙ kinds-push kind findings one (slice_index mid.kinds (place_of kind)) (ap (λ (c : Content). slice_index c.kinds (place_of kind)) same ∙ holds.kinds kind);
-  first = subst (λ (o : Option ℕ). IsEarliest (map (λ f. f.time) (findings ++ one ∷ [])) o) (sym (counts.first ∙ ap (λ (c : Content). Some (earlier_of c.first one.time)) same))
+  kinds = λ kind. counts.kinds kind ∙ kinds-push kind findings one (slice_index mid.kinds (place_of kind))
+      (ap (λ (c : Content). slice_index c.kinds (place_of kind)) same ∙ holds.kinds kind);
+  first = subst (λ (o : Option ℕ). IsEarliest (map (λ f. f.time) (findings ++ one ∷ [])) o)
+      (sym (counts.first ∙ ap (λ (c : Content). Some (earlier_of c.first one.time)) same))
       (rw (map_push (λ (f : Finding). f.time) findings one) (earliest-push (map (λ f. f.time) findings) old.first one.time holds.first));
-  last = subst (λ (o : Option ℕ). IsLatest (map (λ f. f.time) (findings ++ one ∷ [])) o) (sym (counts.last ∙ ap (λ (c : Content). Some (later_of c.last one.time)) same))
+  last = subst (λ (o : Option ℕ). IsLatest (map (λ f. f.time) (findings ++ one ∷ [])) o)
+      (sym (counts.last ∙ ap (λ (c : Content). Some (later_of c.last one.time)) same))
       (rw (map_push (λ (f : Finding). f.time) findings one) (latest-push (map (λ f. f.time) findings) old.last one.time holds.last));
   octets = counts.octets ∙ ap (λ (c : Content). sum_of c.octets one.octets) same ∙ ap (λ o. sum_of o one.octets) holds.octets
-      ∙ sym (known_sum-push (map (λ f. f.octets) findings) one.octets) ∙ ap (λ l. option_map counted (known_sum l)) (sym (map_push (λ (f : Finding). f.octets) findings one));
-  recorder = counts.recorder ∙ ap (λ (c : Content). first_of c.recorder one.recorder) same ∙ ap (λ o. first_of o one.recorder) holds.recorder
+      ∙ sym (known_sum-push (map (λ f. f.octets) findings) one.octets)
+      ∙ ap (λ l. option_map counted (known_sum l)) (sym (map_push (λ (f : Finding). f.octets) findings one));
+  recorder = counts.recorder ∙ ap (λ (c : Content). first_of c.recorder one.recorder) same
+      ∙ ap (λ o. first_of o one.recorder) holds.recorder
       ∙ sym (first_found-push (λ (f : Finding). f.recorder) findings one);
   peers = λ peer. ap (λ ps. peer_at ps peer) counts.peers ∙ takes peer (told_of peer findings) (holds.peers peer)
       ∙ ap known_of (sym (filter_map-append (λ (f : Finding). told_in peer f.time f.note) findings (one ∷ [])));

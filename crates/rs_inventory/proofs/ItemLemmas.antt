@@ -42,5 +42,6 @@ found_behind ask octets item rest e none =
     items ∙ ap (λ o. option_or o (first_found ask (items_of rest))) none
 
 -- where there is no item, none answers
-pub found_nowhere : {Y : Type 0} (ask : ItemContent → Option Y) (octets : List ℕ) → item_at octets ≡ None → first_found ask (items_of octets) ≡ None
+pub found_nowhere : {Y : Type 0} (ask : ItemContent → Option Y) (octets : List ℕ) → item_at octets ≡ None
+    → first_found ask (items_of octets) ≡ None
 found_nowhere ask octets none = ap (λ (p : List ItemContent × List ℕ). first_found ask p.0) (parts_of-none item_at octets none)

@@ -1,11 +1,14 @@
 -- What the records of a peer say with one record more.
-use Rattle.std.proofs.Common.{◌≡◌, ◌∙◌, sym, ap, refl, ℕ, ◌+◌, Bool, true, false, cond, List, [], ◌∷◌, ◌++◌, Option, Some, None, arith, inl, inr, append-nil, eqb-true, ◌-◌, length, slice_get, sub-one}
+use Rattle.std.proofs.Common.{◌≡◌, ◌∙◌, sym, ap, refl, ℕ, ◌+◌, Bool, true, false, cond, List, [], ◌∷◌, ◌++◌, Option, Some, None, arith, inl}
+use Rattle.std.proofs.Common.{inr, append-nil, eqb-true, ◌-◌, length, slice_get, sub-one}
 use Rattle.std.specs.List.{cons_option, filter_map, last_or, sum_by}
 use Rattle.std.proofs.lemmas.Bool.{cases_Bool}
 use Rattle.std.proofs.lemmas.List.Elements.{filter_map-append}
 use Rattle.std.proofs.lemmas.List.Sums.{sum_by_push}
 use Rattle.rs_inventory.specs.declared.finding.News.{News}
-use Rattle.rs_inventory.specs.Peer.{Told, announced_by, changing, counted, event_at, identifier_in, is_faulty, is_message, is_same, is_state_change, peer_content, with_counts, with_event, with_identifier, with_next, with_session, withdrawn_by}
+use Rattle.rs_inventory.specs.Peer.{Told, announced_by, changing, counted, event_at, identifier_in, is_faulty, is_message, is_same}
+use Rattle.rs_inventory.specs.Peer.{is_state_change, peer_content, with_counts, with_event, with_identifier, with_next, with_session}
+use Rattle.rs_inventory.specs.Peer.{withdrawn_by}
 use Rattle.rs_inventory.specs.Sessions.{Event, Up, Down, sessions_of}
 use Rattle.rs_inventory.proofs.SessionLemmas.{sessions_of-up, sessions_of-down}
 
@@ -13,7 +16,8 @@ use Rattle.rs_inventory.proofs.SessionLemmas.{sessions_of-up, sessions_of-down}
 pub counted-more : (n m : ℕ) → counted (n + m) ≡ counted (counted n + m)
 counted-more n m = omega arith
 
-sum-more : (f : Told → ℕ) (told : List Told) (one : Told) → counted (sum_by f (told ++ one ∷ [])) ≡ counted (counted (sum_by f told) + f one)
+sum-more : (f : Told → ℕ) (told : List Told) (one : Told)
+    → counted (sum_by f (told ++ one ∷ [])) ≡ counted (counted (sum_by f told) + f one)
 sum-more f told one = ap counted (sum_by_push f told one) ∙ counted-more (sum_by f told) (f one)
 
 -- ---- numbers that differ from the one before
@@ -57,11 +61,13 @@ changing-more numbers None = ap (changing None) (append-nil numbers)
 changing-more numbers (Some n) =
     changing-push None numbers n
     ∙ appended (is_same (last_or None numbers) n) (changing None numbers) n
-    ∙ ap (λ (l : Option ℕ). cond (is_same l n) (changing None numbers) (changing None numbers ++ n ∷ [])) (sym (changing-last None numbers) ∙ last-is (changing None numbers))
+    ∙ ap (λ (l : Option ℕ). cond (is_same l n) (changing None numbers) (changing None numbers ++ n ∷ []))
+    (sym (changing-last None numbers) ∙ last-is (changing None numbers))
 
 -- ---- sessions
 
-sessions-more : (events : List Event) (one : Option Event) → sessions_of (events ++ cons_option one []) ≡ with_event one (sessions_of events)
+sessions-more : (events : List Event) (one : Option Event)
+    → sessions_of (events ++ cons_option one []) ≡ with_event one (sessions_of events)
 sessions-more events None = ap sessions_of (append-nil events)
 sessions-more events (Some (Up time)) = sessions_of-up time events
 sessions-more events (Some (Down time)) = sessions_of-down time events
@@ -77,6 +83,9 @@ peer_content-more told time one =
     let faulty = sum-more (λ t. cond (is_faulty t.1) 1 0) told (time, one) in
     let announced = sum-more (λ t. announced_by t.1) told (time, one) in
     let withdrawn = sum-more (λ t. withdrawn_by t.1) told (time, one) in
-    let identifiers = ap (changing None) (filter_map-append (λ t. identifier_in t.1) told ((time, one) ∷ [])) ∙ changing-more (filter_map (λ t. identifier_in t.1) told) (identifier_in one) in
-    let sessions = ap sessions_of (filter_map-append (λ t. event_at t.0 t.1) told ((time, one) ∷ [])) ∙ sessions-more (filter_map (λ t. event_at t.0 t.1) told) (event_at time one) in
+    let identifiers =
+    ap (changing None) (filter_map-append (λ t. identifier_in t.1) told ((time, one) ∷ []))
+    ∙ changing-more (filter_map (λ t. identifier_in t.1) told) (identifier_in one) in
+    let sessions = ap sessions_of (filter_map-append (λ t. event_at t.0 t.1) told ((time, one) ∷ []))
+    ∙ sessions-more (filter_map (λ t. event_at t.0 t.1) told) (event_at time one) in
     rw (messages, state_changes, faulty, announced, withdrawn, identifiers, sessions) refl

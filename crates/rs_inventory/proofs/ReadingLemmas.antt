@@ -1,5 +1,6 @@
 -- What records may come, and what they hold.
-use Rattle.std.proofs.Common.{◌≡◌, ◌≤◌, ◌∙◌, ℕ, ◌-◌, ◌||◌, nat_le, nat_lt, Bool, true, false, cond, List, [], ◌∷◌, ◌++◌, length, map, take, Option, Some, refl, sym, ap, subst, arith, append-nil, append_assoc, leb-true}
+use Rattle.std.proofs.Common.{◌≡◌, ◌≤◌, ◌∙◌, ℕ, ◌-◌, ◌||◌, nat_le, nat_lt, Bool, true, false, cond, List, [], ◌∷◌, ◌++◌, length, map, take}
+use Rattle.std.proofs.Common.{Option, Some, refl, sym, ap, subst, arith, append-nil, append_assoc, leb-true}
 use Rattle.std.proofs.lemmas.List.{map_push}
 use Rattle.rs_mrt.specs.Entry.{front_of}
 use Rattle.rs_mrt.specs.Reader.{ReadEnd, ReadFails, SomethingIsGiven}
@@ -16,9 +17,11 @@ use Rattle.rs_inventory.specs.Reading.{Going, IsInventoryOf, MayBeCompressed, Ma
 use Rattle.rs_inventory.specs.declared.finding.Finding.{Finding}
 
 -- one record more came
-pub going-more : {S : Type 0} (comes : S → List MrtRecord → Option SourceFault → Type 0) (initial old new : S) (before after : Content) (finding : Finding)
+pub going-more : {S : Type 0} (comes : S → List MrtRecord → Option SourceFault → Type 0) (initial old new : S) (before after : Content)
+    (finding : Finding)
     → Going comes initial old before
-    → ((r : MrtRecord) × (finding ≡ finding_of r) × ((later : List MrtRecord) (fault : Option SourceFault) → comes new later fault → comes old (r ∷ later) fault))
+    → ((r : MrtRecord) × (finding ≡ finding_of r) × ((later : List MrtRecord) (fault : Option SourceFault) → comes new later fault
+    → comes old (r ∷ later) fault))
     → TakesFinding before finding after → Going comes initial new after
 going-more comes initial old new before after finding going gives takes = record {
   done = going.done ++ gives.0 ∷ [];
@@ -31,8 +34,10 @@ going-more comes initial old new before after finding going gives takes = record
 }
 
 -- what comes of a reader whose first octets were taken may come of it
-come-whole : {R : Type 0} (gives : R → List ℕ → ReadEnd → Type 0) (old new : R) (front : Taken) (records : List MrtRecord) (fault : Option SourceFault)
-    → IsFrontOf gives old new front → MayCome (RewoundGives gives) (unread (rewound front new)) records fault → MayCome gives (unread old) records fault
+come-whole : {R : Type 0} (gives : R → List ℕ → ReadEnd → Type 0) (old new : R) (front : Taken) (records : List MrtRecord)
+    (fault : Option SourceFault)
+    → IsFrontOf gives old new front → MayCome (RewoundGives gives) (unread (rewound front new)) records fault
+    → MayCome gives (unread old) records fault
 come-whole gives old new front records fault is come = record {
   octets = come.octets;
   end = come.end;
@@ -57,21 +62,30 @@ same-either true end = refl
 same-either false end = refl
 
 -- a reader that may fail may fail behind the records that came of it
-pub fails-read : {R : Type 0} (gives : R → List ℕ → ReadEnd → Type 0) (reader : R) → ReadMayFail gives reader → MayFail (MayCome gives) (unread reader)
+pub fails-read : {R : Type 0} (gives : R → List ℕ → ReadEnd → Type 0) (reader : R) → ReadMayFail gives reader
+    → MayFail (MayCome gives) (unread reader)
 fails-read gives reader fails =
     let octets = take (read_limit - 0) fails.0 in (
       map front_of (records_of ([] ++ octets)),
       record {
         octets = octets;
         end = ReadFails;
-        come = record { all = fails.0; last = ReadFails; given = fails.1; cut = refl; ends = same-either (nat_lt (length fails.0) (read_limit - 0)) ReadFails };
+        come = record {
+          all = fails.0;
+          last = ReadFails;
+          given = fails.1;
+          cut = refl;
+          ends =
+              same-either (nat_lt (length fails.0) (read_limit - 0)) ReadFails;
+        };
         fronts = refl;
         ends = refl;
       },
     )
 
 -- what is read of a reader whose first octets were taken may be read of it
-pub inventory-whole : {R : Type 0} (gives : R → List ℕ → ReadEnd → Type 0) (old new : R) (front : Taken) (content : Content) → IsFrontOf gives old new front
+pub inventory-whole : {R : Type 0} (gives : R → List ℕ → ReadEnd → Type 0) (old new : R) (front : Taken) (content : Content)
+    → IsFrontOf gives old new front
     → IsInventoryOf (MayCome (RewoundGives gives)) (unread (rewound front new)) content → IsInventoryOf (MayCome gives) (unread old) content
 inventory-whole gives old new front content is held = record {
   records = held.records;
@@ -85,7 +99,8 @@ compression-front (a ∷ b ∷ c ∷ d ∷ e ∷ f ∷ octets) later six = refl
 compression-front octets later six = absurd (omega (arith, six))
 
 -- as do fewer, behind which none come
-compression-taken : {R : Type 0} (gives : R → List ℕ → ReadEnd → Type 0) (front : Taken) (inner : R) (later : List ℕ) (end : ReadEnd) → is_done front ≡ true
+compression-taken : {R : Type 0} (gives : R → List ℕ → ReadEnd → Type 0) (front : Taken) (inner : R) (later : List ℕ) (end : ReadEnd)
+    → is_done front ≡ true
     → GivesUnlessEnded gives front.ended inner later end → compression_of (front.octets ++ later) ≡ compression_of front.octets
 compression-taken gives front inner later end done given = go front.ended done given
   where
@@ -96,7 +111,8 @@ compression-taken gives front inner later end done given = go front.ended done g
 
 -- octets that tell as the first ones do may come of the reader
 pub may-be-compressed : {R : Type 0} (gives : R → List ℕ → ReadEnd → Type 0) → ((reader : R) → SomethingIsGiven (gives reader))
-    → (old new : R) (front : Taken) → IsFrontOf gives old new front → is_done front ≡ true → MayBeCompressed gives old (compression_of front.octets)
+    → (old new : R) (front : Taken) → IsFrontOf gives old new front → is_done front ≡ true
+    → MayBeCompressed gives old (compression_of front.octets)
 may-be-compressed gives some old new front is done =
     let whole = rewound_may_come gives some (rewound front new) in (
       whole.0,

@@ -1,5 +1,6 @@
 -- Dumps that are written beside each other, from when they are begun until they are kept.
-use Rattle.std.proofs.Common.{◌≡◌, ℕ, suc, ◌+◌, ◌<◌, ◌≤◌, ◌∙◌, List, [], ◌∷◌, ◌++◌, Option, Some, None, get_or, length, map, refl, sym, ap, subst, arith}
+use Rattle.std.proofs.Common.{◌≡◌, ℕ, suc, ◌+◌, ◌<◌, ◌≤◌, ◌∙◌, List, [], ◌∷◌, ◌++◌, Option, Some, None, get_or, length, map, refl, sym, ap}
+use Rattle.std.proofs.Common.{subst, arith}
 use Rattle.std.specs.Prelude.{slice_get, slice_index_or}
 use Rattle.std.specs.Io.KnownBytes.{Appends}
 use Rattle.std.specs.Option.{option_map}
@@ -16,10 +17,12 @@ use Rattle.rs_keep.specs.Kept.{dump_name}
 use Rattle.rs_keep.specs.Written.{file_name, AreDumpFiles, AreWritten, IsBegun, IsWrittenOf, TellsTaken}
 
 -- a client's file has its name
-pub file-at : (plan : Plan) (files : List DumpFile) (client : ℕ) (file : DumpFile) (peer : Peer) → AreDumpFiles plan files → file ≡ get_or files client file → slice_get plan.peers client ≡ Some peer → file_name file ≡ dump_name peer.name
+pub file-at : (plan : Plan) (files : List DumpFile) (client : ℕ) (file : DumpFile) (peer : Peer) → AreDumpFiles plan files
+    → file ≡ get_or files client file → slice_get plan.peers client ≡ Some peer → file_name file ≡ dump_name peer.name
 file-at plan files client file peer are is at =
     let name_for : Peer → List ℕ = λ peer. dump_name peer.name in
-    let named : slice_get (map name_for plan.peers) client ≡ Some (name_for peer) = slice_get-map name_for plan.peers client ∙ ap (option_map name_for) at in
+    let named : slice_get (map name_for plan.peers) client ≡ Some (name_for peer) =
+    slice_get-map name_for plan.peers client ∙ ap (option_map name_for) at in
     ap file_name is
     ∙ sym (get_or-map file_name files client file)
     ∙ ap (λ names. get_or names client (file_name file)) are
@@ -32,7 +35,8 @@ files-count plan files are =
     sym (length-map files file_name) ∙ ap length are ∙ length-map plan.peers name_for
 
 -- what was told of as taken is told whole
-tells : (kept : Option (List KeptDump)) (old new : Option (List ℕ)) (octets dump : List ℕ) → TellsNothingTaken kept old → octets ≡ dump → Appends old new octets → TellsTaken kept new dump
+tells : (kept : Option (List KeptDump)) (old new : Option (List ℕ)) (octets dump : List ℕ) → TellsNothingTaken kept old → octets ≡ dump
+    → Appends old new octets → TellsTaken kept new dump
 tells None old new octets dump nothing is appended = tt
 tells (Some kept) None new octets dump nothing is appended = absurd cc
 tells (Some kept) (Some before) None octets dump nothing is appended = absurd appended
@@ -41,14 +45,16 @@ tells (Some kept) (Some before) (Some after) octets dump nothing is appended =
     ap (λ all. Some all) (appended ∙ ap (λ front. front ++ octets) none ∙ is)
 
 -- a list that grows is told on
-told-before : (base mid : Option (List KeptDump)) (dumps : List KeptDump) (taken : Option (List ℕ)) (octets : List ℕ) → Grows base mid dumps → TellsTaken mid taken octets → TellsTaken base taken octets
+told-before : (base mid : Option (List KeptDump)) (dumps : List KeptDump) (taken : Option (List ℕ)) (octets : List ℕ) → Grows base mid dumps
+    → TellsTaken mid taken octets → TellsTaken base taken octets
 told-before None mid dumps taken octets grown told = tt
 told-before (Some kept) None dumps taken octets grown told = absurd grown
 told-before (Some kept) (Some more) dumps taken octets grown told = told
 
 module _ {W : Type 0} (taken : W → Option (List ℕ)) (failures : W → ℕ) (tables : TablesContent) (time : ℕ) where
   -- a dump that was begun is written
-  pub written-of : (kept : Option (List KeptDump)) (client : ℕ) (old new : Writing W) → IsBegun taken failures kept tables time client old → IsWritten taken failures old new → IsWrittenOf taken failures kept tables time client new
+  pub written-of : (kept : Option (List KeptDump)) (client : ℕ) (old new : Writing W) → IsBegun taken failures kept tables time client old
+      → IsWritten taken failures old new → IsWrittenOf taken failures kept tables time client new
   written-of kept client old new begun written =
       record {
         told = λ ok. tells kept (taken old.out) (taken new.out) old.dump.octets _ begun.nothing_taken begun.octets (written.sent ok);
@@ -56,8 +62,10 @@ module _ {W : Type 0} (taken : W → Option (List ℕ)) (failures : W → ℕ) (
       }
 
   -- those that are left, or were written anew where none was
-  refilled : (base mid : Option (List KeptDump)) (dumps : List KeptDump) (client : ℕ) (old now : List (Writing W)) → Grows base mid dumps → AreWritten taken failures base tables time client old
-      → (0 < length old → now ≡ old) → (length old ≡ 0 → AreWritten taken failures mid tables time client now) → AreWritten taken failures base tables time client now
+  refilled : (base mid : Option (List KeptDump)) (dumps : List KeptDump) (client : ℕ) (old now : List (Writing W)) → Grows base mid dumps
+      → AreWritten taken failures base tables time client old
+      → (0 < length old → now ≡ old) → (length old ≡ 0 → AreWritten taken failures mid tables time client now)
+      → AreWritten taken failures base tables time client now
   refilled base mid dumps client [] now grown before left anew =
       let some = anew refl in
       record {
@@ -71,20 +79,25 @@ module _ {W : Type 0} (taken : W → Option (List ℕ)) (failures : W → ℕ) (
       subst P (sym (left (omega arith))) before
 
   -- the same where the next one is taken from them
-  pub some-left : (base mid : Option (List KeptDump)) (dumps : List KeptDump) (client : ℕ) (old now : List (Writing W)) (writing : Writing W) (others : List (Writing W)) → Grows base mid dumps → AreWritten taken failures base tables time client old
-      → (0 < length old → now ≡ old) → (length old ≡ 0 → AreWritten taken failures mid tables time client now) → now ≡ writing ∷ others → AreWritten taken failures base tables time client (writing ∷ others)
+  pub some-left : (base mid : Option (List KeptDump)) (dumps : List KeptDump) (client : ℕ) (old now : List (Writing W))
+      (writing : Writing W) (others : List (Writing W)) → Grows base mid dumps → AreWritten taken failures base tables time client old
+      → (0 < length old → now ≡ old) → (length old ≡ 0 → AreWritten taken failures mid tables time client now) → now ≡ writing ∷ others
+      → AreWritten taken failures base tables time client (writing ∷ others)
   some-left base mid dumps client old now writing others grown before left anew is =
       let P : List (Writing W) → Type 0 = λ some. AreWritten taken failures base tables time client some in
       subst P is (refilled base mid dumps client old now grown before left anew)
 
   -- the first of them, and the others
-  pub first-of : (kept : Option (List KeptDump)) (client : ℕ) (writing : Writing W) (others : List (Writing W)) → AreWritten taken failures kept tables time client (writing ∷ others) → IsWrittenOf taken failures kept tables time client writing
+  pub first-of : (kept : Option (List KeptDump)) (client : ℕ) (writing : Writing W) (others : List (Writing W))
+      → AreWritten taken failures kept tables time client (writing ∷ others) → IsWrittenOf taken failures kept tables time client writing
   first-of kept client writing others are =
       let P : ℕ → Type 0 = λ number. IsWrittenOf taken failures kept tables time number writing in
       let number : client + 0 ≡ client = omega arith in
       subst P number (are.each 0 writing (omega arith))
 
-  pub others-of : (kept : Option (List KeptDump)) (client : ℕ) (writing : Writing W) (others : List (Writing W)) → AreWritten taken failures kept tables time client (writing ∷ others) → AreWritten taken failures kept tables time (client + 1) others
+  pub others-of : (kept : Option (List KeptDump)) (client : ℕ) (writing : Writing W) (others : List (Writing W))
+      → AreWritten taken failures kept tables time client (writing ∷ others)
+      → AreWritten taken failures kept tables time (client + 1) others
   others-of kept client writing others are =
       record {
         each = λ k d below.
@@ -94,7 +107,8 @@ module _ {W : Type 0} (taken : W → Option (List ℕ)) (failures : W → ℕ) (
         known = omega (arith, are.known);
       }
 
-  pub none-of : (kept : Option (List KeptDump)) (client : ℕ) (some : List (Writing W)) → length some ≡ 0 → client ≤ length tables.plan.peers → AreWritten taken failures kept tables time client some
+  pub none-of : (kept : Option (List KeptDump)) (client : ℕ) (some : List (Writing W)) → length some ≡ 0 → client ≤ length tables.plan.peers
+      → AreWritten taken failures kept tables time client some
   none-of kept client some none within =
       record {
         each = λ k d below. absurd (omega (arith, below, none));

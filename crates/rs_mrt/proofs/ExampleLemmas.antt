@@ -59,7 +59,8 @@ source_examples =
       fails_not_before = λ left. let e = left.1.0 in cc;
       ends_after = (refl, (refl, refl));
       read_failed = inl refl;
-      read_not_failed = λ counted. elim counted [ inl rose ↦ absurd (omega arith) | inr h ↦ elim h.1 [ inl full ↦ full | inr before ↦ cc ] ];
+      read_not_failed =
+          λ counted. elim counted [ inl rose ↦ absurd (omega arith) | inr h ↦ elim h.1 [ inl full ↦ full | inr before ↦ cc ] ];
       goes_on = refl;
       goes_on_after = refl;
       stopped = refl;

@@ -13,8 +13,8 @@ abbrev pub failed_reads : Result ℕ Failed → ℕ
 failed_reads (Err failed) = 1
 failed_reads (Ok n) = 0
 
--- What a call to `read` shows of the octets that the reader may give. `old` is what it could give before the call, `new`
--- what it can give after it, and `piece` what the call left in the caller's buffer.
+-- What a call to `read` shows of the octets that the reader may give. `old` is what it could give before the call,
+-- `new` what it can give after it, and `piece` what the call left in the caller's buffer.
 --   An error: the reader could fail at once.
 --   No octet for a buffer that isn't empty: the reader could end at once, as a file does.
 --   No octet for an empty buffer: all that it can give now it could give before.

@@ -12,8 +12,10 @@ use Rattle.rs_host.specs.declared.options.WordsFault.TheVariants.{Help, Refused,
 use Rattle.rs_program.specs.CommandLine.{IsToldAs, SaysWhy, number_of}
 
 -- a number of so many bits that was read of a text is the number that the text stands for
-pub number_read : (bits : ℕ) (E : Type 0) (Reads : Text → Result ℕ E → Type 0) → ((text : Text) (read : Result ℕ E) → Reads text read → ParsesUnsigned bits 10 text read)
-    → (text : Option Text) (read : Option ℕ) (number : ℕ) → (text ≡ None → read ≡ None) → ((t : Text) → text ≡ Some t → ReadsOne Reads t read)
+pub number_read : (bits : ℕ) (E : Type 0) (Reads : Text → Result ℕ E → Type 0)
+    → ((text : Text) (read : Result ℕ E) → Reads text read → ParsesUnsigned bits 10 text read)
+    → (text : Option Text) (read : Option ℕ) (number : ℕ) → (text ≡ None → read ≡ None)
+    → ((t : Text) → text ≡ Some t → ReadsOne Reads t read)
     → read ≡ Some number → option_map number_of text ≡ Some number
 number_read bits E Reads parses None read number none some is =
     let bad : None ≡ Some number = sym (none refl) ∙ is in
@@ -28,7 +30,8 @@ the_one kind one (inl same) = same
 the_one kind one (inr none) = absurd none
 
 -- an error of one of these kinds is told as they say
-pub told_as : (kinds : Kinds) (error : Error) (fault : WordsFault) → HasKind kinds error → IsToldAs (kind_of error) fault → SaysWhy kinds fault
+pub told_as : (kinds : Kinds) (error : Error) (fault : WordsFault) → HasKind kinds error → IsToldAs (kind_of error) fault
+    → SaysWhy kinds fault
 told_as kinds error (Help text) (inl memory) (inl is) =
     let bad : OutOfMemory ≡ DisplayHelp = sym memory ∙ is in
     cc

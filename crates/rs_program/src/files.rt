@@ -26,9 +26,9 @@ pub fn octets_of<R: Files>(rt: &R, paths: &[String]) -> Option<u64> {
     Some(octets)
 }
 
-/// Opens the files of these paths, in their order, and reads nothing yet; their octets are counted. The first that can't
-/// be opened is named; where each is there, one that gives its octets only once, as a pipe does, and that an earlier
-/// path names too.
+/// Opens the files of these paths, in their order, and reads nothing yet; their octets are counted. The first that
+/// can't be opened is named; where each is there, one that gives its octets only once, as a pipe does, and that an
+/// earlier path names too.
 pub fn open_files<'a, R: AllocGlobal + Files, E: Eprint>(
     rt: &R,
     paths: &[String],

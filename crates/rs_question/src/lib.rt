@@ -1,8 +1,8 @@
-//! A question to the looking glass: what it asks, the configuration and the files that it names, and how the program ends
-//! where it gives no answer. All of it is our choice.
+//! A question to the looking glass: what it asks, the configuration and the files that it names, and how the program
+//! ends where it gives no answer. All of it is our choice.
 //!
-//! Reading order: `query` (the questions), `times` (times as they are asked for and shown), `setup` and `files` (what is read
-//! before the answer), `ended` and `lines` (how the program stops short).
+//! Reading order: `query` (the questions), `times` (times as they are asked for and shown), `setup` and `files` (what
+//! is read before the answer), `ended` and `lines` (how the program stops short).
 #![tactic(auto)]
 
 mod ended;

@@ -1,5 +1,6 @@
 -- What the cuts of a list leave.
-use Rattle.std.proofs.Common.{◌≡◌, ◌≢◌, ◌∙◌, sym, ap, refl, ℕ, inl, inr, Bool, true, false, ◌||◌, List, [], ◌∷◌, ◌++◌, filter, Option, Some, None}
+use Rattle.std.proofs.Common.{◌≡◌, ◌≢◌, ◌∙◌, sym, ap, refl, ℕ, inl, inr, Bool, true, false, ◌||◌, List, [], ◌∷◌, ◌++◌, filter, Option, Some}
+use Rattle.std.proofs.Common.{None}
 use Rattle.std.specs.List.{list_all, list_any}
 use Rattle.std.specs.FinMap.{get}
 use Rattle.std.proofs.lemmas.Bool.{and_parts, cases_Bool, eq-eqb, eqb-true}
@@ -18,10 +19,12 @@ use Rattle.rs_router.specs.Laws.{CutByShards}
 -- ---- what a shard gets
 
 -- the shard of a prefix gets the changes on it
-gets_own : (shards : ℕ) (prefix : IpPrefix) (change : Change) → is_on prefix change ≡ true → gets shards (shard_of prefix shards) change ≡ true
+gets_own : (shards : ℕ) (prefix : IpPrefix) (change : Change) → is_on prefix change ≡ true
+    → gets shards (shard_of prefix shards) change ≡ true
 gets_own shards prefix change on = by_body change.body on
   where
-    by_body : (body : ChangeBody) → is_on prefix (record { time = change.time; body = body }) ≡ true → gets_on shards (shard_of prefix shards) (body_prefix body) ≡ true
+    by_body : (body : ChangeBody) → is_on prefix (record { time = change.time; body = body }) ≡ true
+        → gets_on shards (shard_of prefix shards) (body_prefix body) ≡ true
     by_body (Announced p attributes) here = eq-eqb _ _ (ap (λ (q : IpPrefix). shard_of q shards) (sym (same_prefix-true prefix p here)))
     by_body (Withdrawn p) here = eq-eqb _ _ (ap (λ (q : IpPrefix). shard_of q shards) (sym (same_prefix-true prefix p here)))
     by_body body here = refl
@@ -30,7 +33,8 @@ gets_none : (shards shard : ℕ) (change : Change) → body_prefix change.body �
 gets_none shards shard change none = ap (gets_on shards shard) none
 
 -- a test that no change on a prefix passes finds a change that every shard gets
-gets_unplaced : (test : ChangeBody → Bool) → ((p : IpPrefix) (attributes : PathAttributes) → test (Announced p attributes) ≡ false) → ((p : IpPrefix) → test (Withdrawn p) ≡ false)
+gets_unplaced : (test : ChangeBody → Bool) → ((p : IpPrefix) (attributes : PathAttributes) → test (Announced p attributes) ≡ false)
+    → ((p : IpPrefix) → test (Withdrawn p) ≡ false)
     → (shards shard : ℕ) (change : Change) → test change.body ≡ true → gets shards shard change ≡ true
 gets_unplaced test announced withdrawn shards shard change passes = by_body change.body passes
   where
@@ -42,7 +46,8 @@ gets_unplaced test announced withdrawn shards shard change passes = by_body chan
 -- ---- parts of lists
 
 -- where all that passes is kept, a part has some that passes exactly where the list has
-any-filter : {X : Type 0} (p keeps : X → Bool) → ((x : X) → p x ≡ true → keeps x ≡ true) → (xs : List X) → list_any p (filter keeps xs) ≡ list_any p xs
+any-filter : {X : Type 0} (p keeps : X → Bool) → ((x : X) → p x ≡ true → keeps x ≡ true) → (xs : List X)
+    → list_any p (filter keeps xs) ≡ list_any p xs
 any-filter p keeps kept [] = refl
 any-filter p keeps kept (x ∷ xs) =
     elim (cases_Bool (keeps x)) [
@@ -83,6 +88,8 @@ by_shards last part shards count changes = record {
       let got : gets shards shard (announcement prefix route) ≡ true =
       member_passes (gets shards shard) changes leaves.earlier leaves.later (announcement prefix route) leaves.is_announced in
       apart (sym (eqb-true (shard_of prefix shards) shard got)));
-  closes = λ shard. any-filter is_close (gets shards shard) (gets_unplaced body_closes (λ p attributes. refl) (λ p. refl) shards shard) changes;
-  losses = λ shard. any-filter is_loss (gets shards shard) (gets_unplaced body_loses (λ p attributes. refl) (λ p. refl) shards shard) changes;
+  closes = λ shard. any-filter is_close (gets shards shard) (gets_unplaced body_closes (λ p attributes. refl) (λ p. refl) shards shard)
+      changes;
+  losses = λ shard. any-filter is_loss (gets shards shard) (gets_unplaced body_loses (λ p attributes. refl) (λ p. refl) shards shard)
+      changes;
 }

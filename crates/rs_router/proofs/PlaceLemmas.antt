@@ -1,5 +1,6 @@
 -- Lists, place by place, as routers change them.
-use Rattle.std.proofs.Common.{◌≡◌, ◌≢◌, ◌∙◌, sym, ap, refl, ℕ, ◌+◌, ◌⊎◌, suc, zero, add-one, inl, inr, Bool, true, List, [], ◌∷◌, length, map, Option, Some, None}
+use Rattle.std.proofs.Common.{◌≡◌, ◌≢◌, ◌∙◌, sym, ap, refl, ℕ, ◌+◌, ◌⊎◌, suc, zero, add-one, inl, inr, Bool, true, List, [], ◌∷◌, length}
+use Rattle.std.proofs.Common.{map, Option, Some, None}
 use Rattle.std.specs.Prelude.{slice_get, slice_set}
 use Rattle.std.specs.List.{list_all}
 use Rattle.std.specs.Option.{option_map}
@@ -9,7 +10,8 @@ use Rattle.std.proofs.lemmas.Option.{slice_get_within}
 use Rattle.rs_worker.proofs.PlaceLemmas.{get-set_same, get-set_other}
 
 -- what stands at a place afterwards: the new one at its own, and elsewhere what stood there
-pub set_cases : {X : Type 0} (xs : List X) (at : ℕ) (old new : X) (place : ℕ) (x : X) → slice_get xs at ≡ Some old → slice_get (slice_set xs at new) place ≡ Some x
+pub set_cases : {X : Type 0} (xs : List X) (at : ℕ) (old new : X) (place : ℕ) (x : X) → slice_get xs at ≡ Some old
+    → slice_get (slice_set xs at new) place ≡ Some x
     → ((place ≡ at) × (new ≡ x)) ⊎ ((place ≢ at) × (slice_get xs place ≡ Some x))
 set_cases xs at old new place x here e = elim (eqb_tells place at) [
   | inl told ↦
@@ -35,12 +37,14 @@ pub map_from-end : {X : Type 0} (f : X → X) (xs : List X) → map_from f (leng
 map_from-end f [] = refl
 map_from-end f (x ∷ xs) = ap (λ ys. x ∷ ys) (map_from-end f xs)
 
-map_from-suc : {X Y : Type 0} (v : X → Y) (f : Y → Y) (n : ℕ) (xs : List X) (x new : X) → slice_get xs n ≡ Some x → v new ≡ f (v x) → map_from f (suc n) (map v (slice_set xs n new)) ≡ map_from f n (map v xs)
+map_from-suc : {X Y : Type 0} (v : X → Y) (f : Y → Y) (n : ℕ) (xs : List X) (x new : X) → slice_get xs n ≡ Some x → v new ≡ f (v x)
+    → map_from f (suc n) (map v (slice_set xs n new)) ≡ map_from f n (map v xs)
 map_from-suc v f n [] x new e is = absurd cc
 map_from-suc v f zero (y ∷ ys) x new e is = let found : y ≡ x = cc in ap (λ z. z ∷ map f (map v ys)) (is ∙ ap (λ z. f (v z)) (sym found))
 map_from-suc v f (suc n) (y ∷ ys) x new e is = ap (λ zs. v y ∷ zs) (map_from-suc v f n ys x new e is)
 
-pub map_from-step : {X Y : Type 0} (v : X → Y) (f : Y → Y) (n : ℕ) (xs : List X) (x new : X) → slice_get xs n ≡ Some x → v new ≡ f (v x) → map_from f (n + 1) (map v (slice_set xs n new)) ≡ map_from f n (map v xs)
+pub map_from-step : {X Y : Type 0} (v : X → Y) (f : Y → Y) (n : ℕ) (xs : List X) (x new : X) → slice_get xs n ≡ Some x → v new ≡ f (v x)
+    → map_from f (n + 1) (map v (slice_set xs n new)) ≡ map_from f n (map v xs)
 map_from-step v f n xs x new e is = rw add-one (map_from-suc v f n xs x new e is)
 
 pub option_map-get : {X Y : Type 0} (f : X → Y) (o : Option X) (y : Y) → option_map f o ≡ Some y → (x : X) × ((o ≡ Some x) × (f x ≡ y))

@@ -37,7 +37,8 @@ reason-last : (xs : List Change) (time : ℕ) (reason : Reason) → has_close xs
 reason-last [] time reason none = refl
 reason-last (x ∷ xs) time reason none =
     let rest : List Change = xs ++ close_at time reason ∷ [] in
-    reason_or-unclosed (reason_in rest) x.body (or-first (body_closes x.body) (has_close xs) none) ∙ reason-last xs time reason (or-second (body_closes x.body) (has_close xs) none)
+    reason_or-unclosed (reason_in rest) x.body (or-first (body_closes x.body) (has_close xs) none)
+    ∙ reason-last xs time reason (or-second (body_closes x.body) (has_close xs) none)
 
 -- two lists that are one have the same last member
 last-same : {X : Type 0} (xs ys : List X) (x y : X) → xs ++ x ∷ [] ≡ ys ++ y ∷ [] → x ≡ y
@@ -52,18 +53,25 @@ reason-same : (t u : ℕ) (reason other : Reason) → close_at t reason ≡ clos
 reason-same t u reason other e = let bodies : Closed reason ≡ Closed other = ap (λ (c : Change). c.body) e in cc
 
 -- a session that ended as a file says ended so
-end-is : ClosesOnce → (errors : Errors) (peer : PeerId) (file : List ℕ) (end : PeerEnd) → IsEndOf errors peer file end → end ≡ end_in errors peer file
+end-is : ClosesOnce → (errors : Errors) (peer : PeerId) (file : List ℕ) (end : PeerEnd) → IsEndOf errors peer file end
+    → end ≡ end_in errors peer file
 end-is once errors peer file end is =
     let changes = changes_in_by errors peer file in
     let close = once errors peer (records_of file) (source_end (end_of file)) in
-    let last : close_at is.time end.reason ≡ close_at close.time close.reason = last-same is.before close.before (close_at is.time end.reason) (close_at close.time close.reason) (sym is.closes ∙ close.splits) in
-    let reason : end.reason ≡ reason_in changes = reason-same is.time close.time end.reason close.reason last ∙ sym (reason-last close.before close.time close.reason close.none_before) ∙ ap reason_in (sym close.splits) in
+    let last : close_at is.time end.reason ≡ close_at close.time close.reason =
+    last-same is.before close.before (close_at is.time end.reason) (close_at close.time close.reason) (sym is.closes ∙ close.splits) in
+    let reason : end.reason ≡ reason_in changes =
+    reason-same is.time close.time end.reason close.reason last
+    ∙ sym (reason-last close.before close.time close.reason close.none_before) ∙ ap reason_in (sym close.splits) in
     let told : ℕ → ℕ → Reason → PeerEnd = λ n m r. record { changes = n; passed = m; reason = r } in
-    ap (λ (n : ℕ). told n end.passed end.reason) is.changes_are ∙ ap (λ (m : ℕ). told (length changes) m end.reason) is.passed_are ∙ ap (told (length changes) (passed_in_by errors peer file)) reason
+    ap (λ (n : ℕ). told n end.passed end.reason) is.changes_are ∙ ap (λ (m : ℕ). told (length changes) m end.reason) is.passed_are
+    ∙ ap (told (length changes) (passed_in_by errors peer file)) reason
 
 -- and so did all sessions
-all-ended : ClosesOnce → (errors : Errors) (peers : List Peer) (files : List (List ℕ)) (ends : List PeerEnd) → length files ≡ length peers → length ends ≡ length peers
-    → ((place : ℕ) (peer : Peer) (file : List ℕ) (end : PeerEnd) → slice_get peers place ≡ Some peer → slice_get files place ≡ Some file → slice_get ends place ≡ Some end → IsEndOf errors (id_of peer) file end)
+all-ended : ClosesOnce → (errors : Errors) (peers : List Peer) (files : List (List ℕ)) (ends : List PeerEnd) → length files ≡ length peers
+    → length ends ≡ length peers
+    → ((place : ℕ) (peer : Peer) (file : List ℕ) (end : PeerEnd) → slice_get peers place ≡ Some peer → slice_get files place ≡ Some file
+    → slice_get ends place ≡ Some end → IsEndOf errors (id_of peer) file end)
     → ends ≡ map (λ (peer, file). end_in errors (id_of peer) file) (zip peers files)
 all-ended once errors [] files [] as_files as_ends at = refl
 all-ended once errors [] files (e ∷ ends) as_files as_ends at = absurd (omega (arith, as_ends))
@@ -72,11 +80,21 @@ all-ended once errors (p ∷ peers) (f ∷ files) [] as_files as_ends at = absur
 all-ended once errors (p ∷ peers) (f ∷ files) (e ∷ ends) as_files as_ends at =
     let first : e ≡ end_in errors (id_of p) f = end-is once errors (id_of p) f e (at 0 p f e refl refl refl) in
     let later : ends ≡ map (λ (peer, file). end_in errors (id_of peer) file) (zip peers files) =
-    all-ended once errors peers files ends (omega (arith, as_files)) (omega (arith, as_ends)) (λ place peer file end peer_at file_at end_at. at (suc place) peer file end peer_at file_at end_at) in
+    all-ended once errors peers files ends (omega (arith, as_files)) (omega (arith, as_ends))
+    (λ place peer file end peer_at file_at end_at. at (suc place) peer file end peer_at file_at end_at) in
     cc
 
 -- what is served is what the files leave, and how they say that the sessions ended
-pub served-files : {R : Type 0} (gives : R → List ℕ → ReadEnd → Type 0) (errors : Errors) (plan : Plan) (readers : List R) (served : ServedContent) → ClosesOnce → length readers ≡ length plan.peers
-    → IsServedBy gives errors plan readers served → OverFiles gives errors plan readers (λ files. (served.tables ≡ tables_of_files errors plan files) × (served.ends ≡ ends_of_files errors plan files))
-served-files gives errors plan readers served once one_for_each by =
-    (by.0, by.1, (by.2.tables_are, all-ended once errors plan.peers by.0 served.ends (by.1.as_many ∙ one_for_each) by.2.counted by.2.ends_are))
+pub served-files : {R : Type 0} (gives : R → List ℕ → ReadEnd → Type 0) (errors : Errors) (plan : Plan) (readers : List R)
+    (served : ServedContent) → ClosesOnce → length readers ≡ length plan.peers
+    → IsServedBy gives errors plan readers served → OverFiles gives errors plan readers
+    (λ files. (served.tables ≡ tables_of_files errors plan files) × (served.ends ≡ ends_of_files errors plan files))
+served-files gives errors plan readers served once one_for_each by = (
+  by.0,
+  by.1,
+  (
+    by.2.tables_are,
+    all-ended once errors plan.peers by.0 served.ends (by.1.as_many ∙ one_for_each)
+        by.2.counted by.2.ends_are,
+  ),
+)

@@ -4,7 +4,8 @@ use Rattle.std.specs.Prelude.{slice_get}
 use Rattle.std.specs.List.{zip}
 
 -- what stands at a place of two lists side by side
-pub slice_get-zip : {X Y : Type 0} (xs : List X) (ys : List Y) (place : ℕ) (x : X) (y : Y) → slice_get xs place ≡ Some x → slice_get ys place ≡ Some y → slice_get (zip xs ys) place ≡ Some (x, y)
+pub slice_get-zip : {X Y : Type 0} (xs : List X) (ys : List Y) (place : ℕ) (x : X) (y : Y) → slice_get xs place ≡ Some x
+    → slice_get ys place ≡ Some y → slice_get (zip xs ys) place ≡ Some (x, y)
 slice_get-zip [] ys place x y at_xs at_ys = absurd cc
 slice_get-zip (a ∷ xs) [] place x y at_xs at_ys = absurd cc
 slice_get-zip (a ∷ xs) (b ∷ ys) zero x y at_xs at_ys = cc

@@ -3,7 +3,8 @@
 //! Our choices: the shards start before the workers; where the system refuses a thread, those that run are
 //! drained and joined.
 
-ghost use Rattle.std.specs.Prelude.{◌≡◌, ◌<◌, ◌≤◌, true, [], All, IfOk, IfSome, IsTrue, length, map, vec_len, vec_capacity};
+ghost use Rattle.std.specs.Prelude.{◌≡◌, ◌<◌, ◌≤◌, true, [], All, IfOk, IfSome, IsTrue, length, map, vec_len};
+ghost use Rattle.std.specs.Prelude.{vec_capacity};
 ghost use mathlib.Core.List.{IsPrefix};
 ghost use Rattle.rs_ring.specs.Items.{is_capacity};
 ghost use Rattle.std.proofs.Props.{props};

@@ -1,5 +1,6 @@
 -- The front of a record says what the record says.
-use Rattle.std.proofs.Common.{◌≡◌, ℕ, ◌<◌, Bool, true, false, cond, not, ◌&&◌, ◌==◌, List, [], ◌∷◌, length, take, Some, Result, Ok, Err, inl, inr, refl, sym, ◌∙◌, ap, arith, length-take}
+use Rattle.std.proofs.Common.{◌≡◌, ℕ, ◌<◌, Bool, true, false, cond, not, ◌&&◌, ◌==◌, List, [], ◌∷◌, length, take, Some, Result, Ok, Err}
+use Rattle.std.proofs.Common.{inl, inr, refl, sym, ◌∙◌, ap, arith, length-take}
 use Rattle.std.specs.Prelude.{nat_lt, nat_le}
 use Rattle.std.proofs.lemmas.Bool.Decides.{leb_tells}
 use Rattle.std.proofs.lemmas.Grind.{common_steps}
@@ -29,7 +30,9 @@ too_long marked = Err (of_header (cond marked BadLength NotSynchronized))
 no_length : (field count : ℕ) → 4096 < count → (nat_le 19 field && nat_le field 4096 && (field == count)) ≡ false
 no_length field count long = grind (arith, common_steps)
 
-header_fault-long : (short marked fits : Bool) (later : List (Bool × HeaderFault)) → short ≡ false → fits ≡ false → first_fault ((short, BadLength) ∷ (not marked, NotSynchronized) ∷ (not fits, BadLength) ∷ later) ≡ Some (cond marked BadLength NotSynchronized)
+header_fault-long : (short marked fits : Bool) (later : List (Bool × HeaderFault)) → short ≡ false → fits ≡ false
+    → first_fault ((short, BadLength) ∷ (not marked, NotSynchronized) ∷ (not fits, BadLength) ∷ later)
+    ≡ Some (cond marked BadLength NotSynchronized)
 header_fault-long false true false later h k = refl
 header_fault-long false false false later h k = refl
 header_fault-long short marked fits later h k = cc
@@ -38,8 +41,14 @@ message_by-long : (errors : Errors) (octets : List ℕ) → 4096 < length octets
 unfolding message_by too_long
 message_by-long errors octets long =
     let short : nat_lt (length octets) 19 ≡ false = grind (arith, common_steps) in
-    let later : List (Bool × HeaderFault) = (is_none (type_of (type_field octets)), BadType) ∷ (not (suits_type (type_of (type_field octets)) (length octets)), BadLength) ∷ [] in
-    rw (message_by, header_fault-long (nat_lt (length octets) 19) (is_marked octets) (has_length octets) later short (no_length (length_field octets) (length octets) long)) refl
+    let later : List (Bool × HeaderFault) =
+    (is_none (type_of (type_field octets)), BadType) ∷ (not (suits_type (type_of (type_field octets)) (length octets)), BadLength)
+    ∷ [] in
+    rw (
+      message_by,
+      header_fault-long (nat_lt (length octets) 19) (is_marked octets) (has_length octets) later short
+          (no_length (length_field octets) (length octets) long),
+    ) refl
 
 -- of octets that are more than any message has, any front that is more says the same
 message_by-take : (errors : Errors) (n : ℕ) (octets : List ℕ) → 4096 < n → message_by errors (take n octets) ≡ message_by errors octets
@@ -53,7 +62,8 @@ message_by-take errors n octets enough =
           ∙ sym (message_by-long errors octets (omega arith))
     ]
 
-effect-cut : (errors : Errors) (peer : PeerId) (time n : ℕ) (meaning : Result Meaning MrtFault) → 4096 < n → effect_of_entry errors peer time (cut_message n meaning) ≡ effect_of_entry errors peer time meaning
+effect-cut : (errors : Errors) (peer : PeerId) (time n : ℕ) (meaning : Result Meaning MrtFault) → 4096 < n
+    → effect_of_entry errors peer time (cut_message n meaning) ≡ effect_of_entry errors peer time meaning
 effect-cut errors peer time n (Ok (Message asn address octets)) enough = rw (message_by-take errors n octets enough) refl
 effect-cut errors peer time n meaning enough = refl
 

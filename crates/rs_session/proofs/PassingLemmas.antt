@@ -1,5 +1,6 @@
 -- What a step leaves to come behind the changes that are passed over.
-use Rattle.std.proofs.Common.{◌≡◌, ℕ, true, false, List, [], ◌∷◌, ◌++◌, Option, Some, None, Result, Ok, Err, refl, sym, subst, ◌∙◌, ap, arith, append_assoc}
+use Rattle.std.proofs.Common.{◌≡◌, ℕ, true, false, List, [], ◌∷◌, ◌++◌, Option, Some, None, Result, Ok, Err, refl, sym, subst, ◌∙◌, ap}
+use Rattle.std.proofs.Common.{arith, append_assoc}
 use Rattle.std.specs.declared.alloc.AllocError.{AllocError}
 use Rattle.rs_mrt.specs.Record.{MrtRecord}
 use Rattle.rs_update.specs.IpPrefix.{IpPrefix}
@@ -14,7 +15,8 @@ use Rattle.rs_session.proofs.FileChangesLemmas.{changes_of-gives, passed_of-give
 use Rattle.rs_session.proofs.StageLemmas.{keeps_by_reading, may_read-held, over-closed}
 
 -- a change that waits was to come before the others
-keeps-given : {S : Type 0} (comes : Comes S) (shows : S → Option MrtRecord) (old new : Stage S) (word : Word) → old.closed ≡ false → GivesWaiting old (Some word) new → KeepsBehind comes shows (change_of word) old new
+keeps-given : {S : Type 0} (comes : Comes S) (shows : S → Option MrtRecord) (old new : Stage S) (word : Word) → old.closed ≡ false
+    → GivesWaiting old (Some word) new → KeepsBehind comes shows (change_of word) old new
 keeps-given comes shows old new word unclosed given changes passed m = record {
   records = m.records;
   end = m.end;
@@ -30,50 +32,66 @@ module _ {S : Type 0} (comes : Comes S) (shows : S → Option MrtRecord) (prefix
     pub are_over : ArePassedOver prefix until over
     pub keeps : KeepsBehindAll comes shows over old new
 
-  keeps-more : (first second : List Change) (old between new : Stage S) → KeepsBehindAll comes shows first old between → KeepsBehindAll comes shows second between new → KeepsBehindAll comes shows (first ++ second) old new
+  keeps-more : (first second : List Change) (old between new : Stage S) → KeepsBehindAll comes shows first old between
+      → KeepsBehindAll comes shows second between new → KeepsBehindAll comes shows (first ++ second) old new
   keeps-more first second old between new keeps more changes passed m =
-      subst (λ (all : List Change). May comes shows old all passed) (sym (append_assoc first second changes)) (keeps (second ++ changes) passed (more changes passed m))
+      subst (λ (all : List Change). May comes shows old all passed) (sym (append_assoc first second changes))
+      (keeps (second ++ changes) passed (more changes passed m))
 
   -- a record that is passed over gives what comes before the rest
-  keeps-beside : (old new : Stage S) (r : MrtRecord) (changes : List Change) → old.held ≡ true → old.closed ≡ false → old.waiting ≡ [] → shows old.source ≡ Some r → effect_of old.errors old.peer r ≡ Gives changes → new ≡ record old { held = false } → KeepsBehindAll comes shows changes old new
+  keeps-beside : (old new : Stage S) (r : MrtRecord) (changes : List Change) → old.held ≡ true → old.closed ≡ false → old.waiting ≡ []
+      → shows old.source ≡ Some r → effect_of old.errors old.peer r ≡ Gives changes → new ≡ record old { held = false }
+      → KeepsBehindAll comes shows changes old new
   keeps-beside old new r changes full unclosed idle shown says same left passed m = record {
     records = r ∷ m.records;
     end = m.end;
     may_read = may_read-held comes shows old new r m.records m.end full (rw same refl) (rw same refl) shown m.may_read;
-    left = rw (unclosed, idle, changes_of-gives old.errors old.peer r changes m.records m.end says) (ap (λ (later : List Change). changes ++ later) (rw (same, unclosed, idle) at m.left));
+    left = rw (unclosed, idle, changes_of-gives old.errors old.peer r changes m.records m.end says)
+        (ap (λ (later : List Change). changes ++ later) (rw (same, unclosed, idle) at m.left));
     counted = rw (unclosed, passed_of-gives old.errors old.peer r changes m.records says) (rw (same, unclosed) at m.counted);
   }
 
-  passed-effect : (old new : Stage S) (r : MrtRecord) (effect : RecordEffect) → old.held ≡ true → old.closed ≡ false → old.waiting ≡ [] → shows old.source ≡ Some r → effect_of old.errors old.peer r ≡ effect → IsBeside prefix until effect → new ≡ record old { held = false } → IsBehind old new
-  passed-effect old new r (Gives changes) full unclosed idle shown says beside same = record { over = changes; are_over = beside; keeps = keeps-beside old new r changes full unclosed idle shown says same }
+  passed-effect : (old new : Stage S) (r : MrtRecord) (effect : RecordEffect) → old.held ≡ true → old.closed ≡ false → old.waiting ≡ []
+      → shows old.source ≡ Some r → effect_of old.errors old.peer r ≡ effect → IsBeside prefix until effect
+      → new ≡ record old { held = false } → IsBehind old new
+  passed-effect old new r (Gives changes) full unclosed idle shown says beside same =
+      record { over = changes; are_over = beside; keeps = keeps-beside old new r changes full unclosed idle shown says same }
   passed-effect old new r effect full unclosed idle shown says beside same = absurd beside
 
-  passed-shown : (old new : Stage S) (shown : Option MrtRecord) → old.held ≡ true → old.closed ≡ false → old.waiting ≡ [] → shows old.source ≡ shown → PassesShown shown prefix until old true new → IsBehind old new
-  passed-shown old new (Some r) full unclosed idle shown h = passed-effect old new r (effect_of old.errors old.peer r) full unclosed idle shown refl h.0 h.1
+  passed-shown : (old new : Stage S) (shown : Option MrtRecord) → old.held ≡ true → old.closed ≡ false → old.waiting ≡ []
+      → shows old.source ≡ shown → PassesShown shown prefix until old true new → IsBehind old new
+  passed-shown old new (Some r) full unclosed idle shown h =
+      passed-effect old new r (effect_of old.errors old.peer r) full unclosed idle shown refl h.0 h.1
   passed-shown old new None full unclosed idle shown h = absurd h
 
   -- the record that was fetched is passed over
-  pub steps-passed : (old fetched new : Stage S) → old.closed ≡ false → old.waiting ≡ [] → fetched ≡ record old { source = fetched.source; held = true } → Fetches comes shows old fetched None → PassesShown (shows fetched.source) prefix until fetched true new → StepsOn comes shows prefix until old new (Ok None)
+  pub steps-passed : (old fetched new : Stage S) → old.closed ≡ false → old.waiting ≡ []
+      → fetched ≡ record old { source = fetched.source; held = true } → Fetches comes shows old fetched None
+      → PassesShown (shows fetched.source) prefix until fetched true new → StepsOn comes shows prefix until old new (Ok None)
   steps-passed old fetched new unclosed idle same h passes =
       let unclosed_yet : fetched.closed ≡ false = ap (λ (stage : Stage S). stage.closed) same ∙ unclosed in
-      let behind = passed-shown fetched new (shows fetched.source) (ap (λ (stage : Stage S). stage.held) same) unclosed_yet (ap (λ (stage : Stage S). stage.waiting) same ∙ idle) refl passes in
+      let behind = passed-shown fetched new (shows fetched.source) (ap (λ (stage : Stage S). stage.held) same) unclosed_yet
+      (ap (λ (stage : Stage S). stage.waiting) same ∙ idle) refl passes in
       let kept = kept_fields (shows fetched.source) passes in
       record {
         over = behind.over;
         are_over = behind.are_over;
         steps = (
-          (λ changes passed m. keeps_by_reading comes shows old fetched same h (behind.over ++ changes) passed (behind.keeps changes passed m)),
+          (λ changes passed m. keeps_by_reading comes shows old fetched same h (behind.over ++ changes) passed
+              (behind.keeps changes passed m)),
           kept.0 ∙ unclosed_yet,
           kept.1 ∙ ap (λ (stage : Stage S). stage.passed) same,
         );
       }
     where
-      kept_fields : (shown : Option MrtRecord) → PassesShown shown prefix until fetched true new → (new.closed ≡ fetched.closed) × (new.passed ≡ fetched.passed)
+      kept_fields : (shown : Option MrtRecord) → PassesShown shown prefix until fetched true new → (new.closed ≡ fetched.closed)
+          × (new.passed ≡ fetched.passed)
       kept_fields (Some r) h = (ap (λ (stage : Stage S). stage.closed) h.1, ap (λ (stage : Stage S). stage.passed) h.1)
       kept_fields None h = absurd h
 
   -- a step that passes nothing over
-  pub steps-plain : (old new : Stage S) (result : Result (Option Word) AllocError) → Steps comes shows old new result → StepsOn comes shows prefix until old new result
+  pub steps-plain : (old new : Stage S) (result : Result (Option Word) AllocError) → Steps comes shows old new result
+      → StepsOn comes shows prefix until old new result
   steps-plain old new result steps = record { over = []; are_over = record { beside = refl; in_time = refl }; steps = plain result steps }
     where
       plain : (result : Result (Option Word) AllocError) → Steps comes shows old new result → StepsBehind comes shows [] old new result
@@ -82,7 +100,8 @@ module _ {S : Type 0} (comes : Comes S) (shows : S → Option MrtRecord) (prefix
       plain (Err refused) steps = steps
 
   -- a step behind what was passed over
-  pub behind-step : (old between new : Stage S) → IsBehind old between → StepsOn comes shows prefix until between new (Ok None) → IsBehind old new
+  pub behind-step : (old between new : Stage S) → IsBehind old between → StepsOn comes shows prefix until between new (Ok None)
+      → IsBehind old new
   behind-step old between new is step = record {
     over = is.over ++ step.over;
     are_over = over-more prefix until is.over step.over is.are_over step.are_over;
@@ -92,7 +111,8 @@ module _ {S : Type 0} (comes : Comes S) (shows : S → Option MrtRecord) (prefix
   -- ---- answers
 
   -- a change that waits is given behind what was passed over
-  pub says-given : (old between new : Stage S) (word : Word) → IsBehind old between → between.closed ≡ false → GivesWaiting between (Some word) new → SaysOn comes shows prefix until old new (Ok (Some word))
+  pub says-given : (old between new : Stage S) (word : Word) → IsBehind old between → between.closed ≡ false
+      → GivesWaiting between (Some word) new → SaysOn comes shows prefix until old new (Ok (Some word))
   says-given old between new word is unclosed given = record {
     over = is.over;
     are_over = is.are_over;
@@ -103,18 +123,22 @@ module _ {S : Type 0} (comes : Comes S) (shows : S → Option MrtRecord) (prefix
   }
 
   -- so is the close
-  pub says-closed : (old between new : Stage S) (word : Word) → IsBehind old between → StepsOn comes shows prefix until between new (Ok (Some word)) → SaysOn comes shows prefix until old new (Ok (Some word))
+  pub says-closed : (old between new : Stage S) (word : Word) → IsBehind old between
+      → StepsOn comes shows prefix until between new (Ok (Some word)) → SaysOn comes shows prefix until old new (Ok (Some word))
   says-closed old between new word is step = record {
     over = is.over ++ step.over;
     are_over = over-more prefix until is.over step.over is.are_over step.are_over;
     says = (
-      (λ changes passed m. subst (λ (all : List Change). May comes shows old (all ++ changes) passed) (sym (append_assoc is.over step.over (change_of word ∷ []))) (keeps-more is.over (step.over ++ change_of word ∷ []) old between new is.keeps step.steps.0 changes passed m)),
+      (λ changes passed m. subst (λ (all : List Change). May comes shows old (all ++ changes) passed)
+          (sym (append_assoc is.over step.over (change_of word ∷ [])))
+          (keeps-more is.over (step.over ++ change_of word ∷ []) old between new is.keeps step.steps.0 changes passed m)),
       λ closes. over-closed comes shows new step.steps.2,
     );
   }
 
   -- refused memory, what was passed over stays passed over
-  pub says-refused : (old between new : Stage S) (refused : AllocError) → IsBehind old between → between.passed ≡ old.passed → StepsOn comes shows prefix until between new (Err refused) → SaysOn comes shows prefix until old new (Err refused)
+  pub says-refused : (old between new : Stage S) (refused : AllocError) → IsBehind old between → between.passed ≡ old.passed
+      → StepsOn comes shows prefix until between new (Err refused) → SaysOn comes shows prefix until old new (Err refused)
   says-refused old between new refused is same step = record {
     over = is.over ++ step.over;
     are_over = over-more prefix until is.over step.over is.are_over step.are_over;

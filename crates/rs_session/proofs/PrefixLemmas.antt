@@ -1,6 +1,7 @@
 -- A sorted list of prefixes, searched, and the lists that hold the same prefixes.
 use Rattle.std.proofs.lemmas.Bool.Decides.{leb_tells}
-use Rattle.std.proofs.Common.{inl, inr, ◌≡◌, ℕ, true, false, not, List, length, IsSorted, IsPermutation, sym, ap, arith, is_ok, Result, Ok, Err, slice_index_or, ◌&&◌}
+use Rattle.std.proofs.Common.{inl, inr, ◌≡◌, ℕ, true, false, not, List, length, IsSorted, IsPermutation, sym, ap, arith, is_ok, Result, Ok}
+use Rattle.std.proofs.Common.{Err, slice_index_or, ◌&&◌}
 use Rattle.std.specs.declared.cmp.Ordering.TheVariants.{Less, Equal, Greater}
 use Rattle.std.specs.Cmp.{IsTotalOrder}
 use Rattle.std.specs.List.Sorted.{IsBinarySearchResult, IsSearchInRange}
@@ -28,7 +29,8 @@ is_prefix-greater : (one other : IpPrefix) → prefix_cmp one other ≡ Greater 
 is_prefix-greater one other h = grind (arith, common_steps)
 
 -- a search of a sorted list finds just what it lists
-pub is_ok-search : (sorted : List IpPrefix) (prefix : IpPrefix) (r : Result ℕ ℕ) → IsSorted prefix_cmp sorted → IsSearchInRange r (length sorted) → IsBinarySearchResult (λ y. prefix_cmp y prefix) sorted r → is_ok r ≡ is_listed sorted prefix
+pub is_ok-search : (sorted : List IpPrefix) (prefix : IpPrefix) (r : Result ℕ ℕ) → IsSorted prefix_cmp sorted
+    → IsSearchInRange r (length sorted) → IsBinarySearchResult (λ y. prefix_cmp y prefix) sorted r → is_ok r ≡ is_listed sorted prefix
 is_ok-search sorted prefix (Ok i) up within h =
     sym (list_any_at (λ y. is_prefix y prefix) sorted i prefix within (is_prefix-equal (slice_index_or sorted i prefix) prefix (h prefix)))
 is_ok-search sorted prefix (Err i) up within h =
@@ -40,5 +42,8 @@ is_ok-search sorted prefix (Err i) up within h =
     ]))
 
 -- which prefixes are withdrawn doesn't depend on the order of those announced
-pub withdrawn_only-IsPermutation : (withdrawn nlri sorted : List IpPrefix) → IsPermutation nlri sorted → withdrawn_only withdrawn nlri ≡ withdrawn_only withdrawn sorted
-withdrawn_only-IsPermutation withdrawn nlri sorted h = filter_agree _ _ (λ prefix. ap (λ b. not (is_multicast prefix) && not b) (list_any-IsPermutation (λ other. is_prefix other prefix) nlri sorted h)) withdrawn
+pub withdrawn_only-IsPermutation : (withdrawn nlri sorted : List IpPrefix) → IsPermutation nlri sorted
+    → withdrawn_only withdrawn nlri ≡ withdrawn_only withdrawn sorted
+withdrawn_only-IsPermutation withdrawn nlri sorted h =
+    filter_agree _ _ (λ prefix. ap (λ b. not (is_multicast prefix) && not b)
+    (list_any-IsPermutation (λ other. is_prefix other prefix) nlri sorted h)) withdrawn

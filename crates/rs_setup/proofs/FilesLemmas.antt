@@ -13,6 +13,7 @@ as_many values peers files all = absurd all
 pub one_for_each : (keys : Members) (plan : Plan) (files : List (List ℕ)) → IsSetup keys plan files → length files ≡ length plan.peers
 one_for_each keys plan files set_up = found (get_member (codes "peer") keys) set_up.peers
   where
-    found : (value : Option Data) → MatchOption value (◌≡◌ {A = List Peer × List (List ℕ)} (plan.peers, files) ([], [])) (λ value. ArePeersOf value (plan.peers, files)) → length files ≡ length plan.peers
+    found : (value : Option Data) → MatchOption value (◌≡◌ {A = List Peer × List (List ℕ)} (plan.peers, files) ([], []))
+        (λ value. ArePeersOf value (plan.peers, files)) → length files ≡ length plan.peers
     found None none = ap (λ both. length both.1) none ∙ sym (ap (λ both. length both.0) none)
     found (Some value) some = as_many some.0 plan.peers files some.2

@@ -32,7 +32,8 @@ pub no_address : (text : List ℕ) → ((address : Ipv4Addr) → ¬ (IsIpv4Text 
 no_address text none address (octets, dotted, is) = none (record { octets = octets }) dotted
 
 -- items are no texts where the one at a place isn't
-pub no_text_at : (values : List Value) (index : ℕ) (value : Value) → index < length values → value ≡ get_or values index value → as_str (view value) ≡ None
+pub no_text_at : (values : List Value) (index : ℕ) (value : Value) → index < length values → value ≡ get_or values index value
+    → as_str (view value) ≡ None
     → StandsForNone AreTexts (items_view values)
 no_text_at [] index value within is none texts same = absurd (omega (arith, within))
 no_text_at (first ∷ values) index value within is none [] same = absurd (cc same)

@@ -1,5 +1,6 @@
 -- What the reading of a configuration rests on: how lengths are written, keys among known ones, and lists that grow by one item.
-use Rattle.std.proofs.Common.{◌≡◌, ◌∙◌, ◌<◌, ◌≤◌, ◌+◌, ◌*◌, ◌/◌, ◌%◌, ◌==◌, ℕ, true, List, [], ◌∷◌, ◌++◌, length, map, take, get_or, codes, Option, None, Some, append_assoc, decimal, Bor, sym, ap, refl, arith}
+use Rattle.std.proofs.Common.{◌≡◌, ◌∙◌, ◌<◌, ◌≤◌, ◌+◌, ◌*◌, ◌/◌, ◌%◌, ◌==◌, ℕ, true, List, [], ◌∷◌, ◌++◌, length, map, take, get_or, codes}
+use Rattle.std.proofs.Common.{Option, None, Some, append_assoc, decimal, Bor, sym, ap, refl, arith}
 use Rattle.std.proofs.lemmas.Fmt.{decimal_digit, decimal_step}
 use Rattle.std.proofs.lemmas.List.Sums.{split_at_first, passes_at_first}
 use Rattle.std.proofs.lemmas.Bool.{eqb-true}
@@ -41,22 +42,27 @@ pub split_at_slash : (text : List ℕ) → position_or_len (λ octet. octet == 4
 split_at_slash text found =
     let place = position_or_len (λ octet. octet == 47) text in
     let slash : get_or text place 0 ≡ 47 = eqb-true (get_or text place 0) 47 (passes_at_first (λ octet. octet == 47) text 0 found) in
-    split_at_first (λ octet. octet == 47) text 0 found ∙ rw slash (sym (append_assoc (take place text) (47 ∷ []) (after_first (λ octet. octet == 47) text)))
+    split_at_first (λ octet. octet == 47) text 0 found ∙ rw slash
+    (sym (append_assoc (take place text) (47 ∷ []) (after_first (λ octet. octet == 47) text)))
 
 -- the same of the parts that a split at the first slash gives
 pub parts_at_slash : (text : List ℕ) (parts : Option (Bor (List ℕ) × Bor (List ℕ)))
-    → MatchOption parts (position_or_len (λ octet. octet == 47) text ≡ length text) (λ both. (both.0.now ≡ before_first (λ octet. octet == 47) text) × (both.1.now ≡ after_first (λ octet. octet == 47) text) × (position_or_len (λ octet. octet == 47) text < length text))
+    → MatchOption parts (position_or_len (λ octet. octet == 47) text ≡ length text)
+    (λ both. (both.0.now ≡ before_first (λ octet. octet == 47) text) × (both.1.now ≡ after_first (λ octet. octet == 47) text)
+    × (position_or_len (λ octet. octet == 47) text < length text))
     → IfSome parts (λ both. text ≡ both.0.now ++ codes "/" ++ both.1.now)
 parts_at_slash text None none = tt
 parts_at_slash text (Some both) (front, back, found) = rw (front, back) (split_at_slash text found)
 
 -- a key that is equal to a known one is among them
-pub known_key : (known : List (Bor (List ℕ))) (key : List ℕ) → list_any (λ one. bytes_eq one.now key) known ≡ true → Contains (map (λ one. one.now) known) key
+pub known_key : (known : List (Bor (List ℕ))) (key : List ℕ) → list_any (λ one. bytes_eq one.now key) known ≡ true
+    → Contains (map (λ one. one.now) known) key
 known_key known key found =
     let (place, one, within, is, same) = Any-from_list_any (λ (one : Bor (List ℕ)). bytes_eq one.now key) known found in (
       place,
       omega (arith, length-map known (λ (one : Bor (List ℕ)). one.now)),
-      get_or-map (λ (one : Bor (List ℕ)). one.now) known place one key within ∙ ap (λ (one : Bor (List ℕ)). one.now) is ∙ (bytes_eq-Decides one.now key).0 same,
+      get_or-map (λ (one : Bor (List ℕ)). one.now) known place one key within ∙ ap (λ (one : Bor (List ℕ)). one.now) is
+          ∙ (bytes_eq-Decides one.now key).0 same,
     )
 
 -- a value whose text there is is that text
@@ -65,7 +71,8 @@ as_str-string (string one) text found = ap string (same_Some one text found)
 as_str-string value text found = cc
 
 -- one more text of a list
-pub items_of-push : (texts : List (List ℕ)) (text : List ℕ) → items_of (map string (texts ++ text ∷ [])) ≡ push_item (items_of (map string texts)) (string text)
+pub items_of-push : (texts : List (List ℕ)) (text : List ℕ)
+    → items_of (map string (texts ++ text ∷ [])) ≡ push_item (items_of (map string texts)) (string text)
 items_of-push [] text = refl
 items_of-push (first ∷ texts) text = ap (item (string first)) (items_of-push texts text)
 
@@ -73,5 +80,6 @@ items_of-push (first ∷ texts) text = ap (item (string first)) (items_of-push t
 pub ArePeers-push : (values : Items) (peers : List Peer) (files : List (List ℕ)) (value : Data) (peer : Peer) (file : List ℕ)
     → ArePeers values peers files → IsPeer value peer file → ArePeers (push_item values value) (peers ++ peer ∷ []) (files ++ file ∷ [])
 ArePeers-push no_items [] [] value peer file so_far is = (is, tt)
-ArePeers-push (item first values) (one ∷ peers) (path ∷ files) value peer file so_far is = (so_far.0, ArePeers-push values peers files value peer file so_far.1 is)
+ArePeers-push (item first values) (one ∷ peers) (path ∷ files) value peer file so_far is =
+    (so_far.0, ArePeers-push values peers files value peer file so_far.1 is)
 ArePeers-push values peers files value peer file so_far is = absurd so_far

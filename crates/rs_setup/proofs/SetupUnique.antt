@@ -1,5 +1,6 @@
 -- A configuration sets up one exchange at most: each value stands for one thing at most, so does each key, and so does each table.
-use Rattle.std.proofs.Common.{◌≡◌, ◌∙◌, ℕ, pos, List, [], ◌∷◌, ◌++◌, map, codes, decimal, Option, None, Some, sym, ap, refl, subst, append_assoc, drop, lit≤, arith}
+use Rattle.std.proofs.Common.{◌≡◌, ◌∙◌, ℕ, pos, List, [], ◌∷◌, ◌++◌, map, codes, decimal, Option, None, Some, sym, ap, refl, subst}
+use Rattle.std.proofs.Common.{append_assoc, drop, lit≤, arith}
 use Rattle.std.proofs.lemmas.Fmt.{decimal_injective}
 use Rattle.std.proofs.NetLemmas.Ipv4.{read_ipv4_complete}
 use Rattle.std.proofs.NetLemmas.Options.{same_parts}
@@ -48,11 +49,13 @@ texts_once value xs ys h k =
 
 dotted_once : (text : List ℕ) (x y : ℕ) → IsDottedAddress text x → IsDottedAddress text y → x ≡ y
 dotted_once text x y (octets, dotted, is) (others, also, are) =
-    let (equal, _) = same_parts octets others [] [] (sym (read_ipv4_complete text octets [] dotted (lit≤ tt)) ∙ read_ipv4_complete text others [] also (lit≤ tt)) in
+    let (equal, _) = same_parts octets others [] [] (sym (read_ipv4_complete text octets [] dotted (lit≤ tt))
+    ∙ read_ipv4_complete text others [] also (lit≤ tt)) in
     is ∙ ap (from_be_bytes w32) equal ∙ sym are
 
 -- so does a value that is a text
-by_text : {A : Type 0} (Writes : List ℕ → A → Type 0) → ((text : List ℕ) (x y : A) → Writes text x → Writes text y → x ≡ y) → StandsForOne (λ value x. (text : List ℕ) × (value ≡ string text) × Writes text x)
+by_text : {A : Type 0} (Writes : List ℕ → A → Type 0) → ((text : List ℕ) (x y : A) → Writes text x → Writes text y → x ≡ y)
+    → StandsForOne (λ value x. (text : List ℕ) × (value ≡ string text) × Writes text x)
 by_text Writes once value x y (text, is, written) (other, are, also) =
     let same : string text ≡ string other = sym is ∙ are in
     let equal : text ≡ other = cc in
@@ -62,7 +65,8 @@ address_once : StandsForOne IsAddress
 address_once = by_text IsDottedAddress dotted_once
 
 slashed_once : (text : List ℕ) (x y : IpPrefix) → IsSlashedSubnet text x → IsSlashedSubnet text y → x ≡ y
-slashed_once text x y (front, address, len, spelled, (octets, dotted, is), small, prefix) (start, place, size, written, (others, also, are), low, other) =
+slashed_once text x y (front, address, len, spelled, (octets, dotted, is), small, prefix)
+    (start, place, size, written, (others, also, are), low, other) =
     let one : text ≡ front ++ (47 ∷ decimal len) = spelled ∙ append_assoc front (47 ∷ []) (decimal len) in
     let two : text ≡ start ++ (47 ∷ decimal size) = written ∙ append_assoc start (47 ∷ []) (decimal size) in
     let same = same_parts octets others (47 ∷ decimal len) (47 ∷ decimal size)
@@ -88,7 +92,8 @@ found_once StandsFor once None x y h k = absurd h
 found_once StandsFor once (Some value) x y h k = once value x y h k
 
 -- and so does what is found or else is a default
-default_once : {A : Type 0} (StandsFor : Data → A → Type 0) → StandsForOne StandsFor → (found : Option Data) (default other x y : A) → default ≡ other
+default_once : {A : Type 0} (StandsFor : Data → A → Type 0) → StandsForOne StandsFor → (found : Option Data) (default other x y : A)
+    → default ≡ other
     → MatchOption found (x ≡ default) (λ value. StandsFor value x) → MatchOption found (y ≡ other) (λ value. StandsFor value y) → x ≡ y
 default_once StandsFor once None default other x y same h k = h ∙ same ∙ sym k
 default_once StandsFor once (Some value) default other x y same h k = once value x y h k
@@ -98,7 +103,8 @@ server_once keys x y h k =
     let asn : x.asn ≡ y.asn = found_once IsWholeNumber number_once (get_member (codes "as") keys) _ _ h.asn k.asn in
     let address : x.address ≡ y.address = found_once IsAddress address_once (get_member (codes "address") keys) _ _ h.address k.address in
     let id : x.id ≡ y.id = default_once IsAddress address_once (get_member (codes "id") keys) _ _ _ _ address h.id k.id in
-    let subnet : x.subnet ≡ y.subnet = default_once IsSomeSubnet some_subnet_once (get_member (codes "subnet") keys) _ _ _ _ refl h.subnet k.subnet in
+    let subnet : x.subnet ≡ y.subnet =
+    default_once IsSomeSubnet some_subnet_once (get_member (codes "subnet") keys) _ _ _ _ refl h.subnet k.subnet in
     λ i. record { asn = asn i; address = address i; id = id i; subnet = subnet i }
 
 peer_once : (keys : Members) (x y : Peer) (file other : List ℕ) → IsPeerOf keys x file → IsPeerOf keys y other → (x ≡ y) × (file ≡ other)
@@ -107,8 +113,10 @@ peer_once keys x y file other h k =
     let asn : x.asn ≡ y.asn = found_once IsWholeNumber number_once (get_member (codes "as") keys) _ _ h.asn k.asn in
     let address : x.address ≡ y.address = found_once IsAddress address_once (get_member (codes "address") keys) _ _ h.address k.address in
     let id : x.id ≡ y.id = default_once IsAddress address_once (get_member (codes "id") keys) _ _ _ _ address h.id k.id in
-    let preference : x.preference ≡ y.preference = default_once IsWholeNumber number_once (get_member (codes "preference") keys) _ _ _ _ refl h.preference k.preference in
-    let refuse_from : x.refuse_from ≡ y.refuse_from = default_once IsTexts texts_once (get_member (codes "refuse_from") keys) _ _ _ _ refl h.refuse_from k.refuse_from in (
+    let preference : x.preference ≡ y.preference =
+    default_once IsWholeNumber number_once (get_member (codes "preference") keys) _ _ _ _ refl h.preference k.preference in
+    let refuse_from : x.refuse_from ≡ y.refuse_from =
+    default_once IsTexts texts_once (get_member (codes "refuse_from") keys) _ _ _ _ refl h.refuse_from k.refuse_from in (
       λ i. record { name = name i; asn = asn i; address = address i; id = id i; preference = preference i; refuse_from = refuse_from i },
       found_once IsText text_once (get_member (codes "file") keys) _ _ h.file k.file,
     )
@@ -125,7 +133,8 @@ peer_table_once value x y file other (keys, is, peer) (others, are, also) =
     let equal : keys ≡ others = cc in
     peer_once others x y file other (subst (λ (one : Members). IsPeerOf one x file) equal peer) also
 
-peers_once : (values : Items) (xs ys : List Peer) (files others : List (List ℕ)) → ArePeers values xs files → ArePeers values ys others → (xs ≡ ys) × (files ≡ others)
+peers_once : (values : Items) (xs ys : List Peer) (files others : List (List ℕ)) → ArePeers values xs files → ArePeers values ys others
+    → (xs ≡ ys) × (files ≡ others)
 peers_once no_items [] [] [] [] h k = (refl, refl)
 peers_once (item value values) (x ∷ xs) (y ∷ ys) (file ∷ files) (other ∷ others) h k =
     let here = peer_table_once value x y file other h.0 k.0 in
@@ -146,6 +155,8 @@ peers_of_once value (xs, files) (ys, others) (values, is, peers) (items, are, al
 
 pub setup_once : SetsUpOnce
 setup_once keys plan other files others h k =
-    let server : plan.local ≡ other.local = found_once IsServer server_table_once (get_member (codes "server") keys) _ _ h.server k.server in
-    let both : (plan.peers, files) ≡ (other.peers, others) = default_once ArePeersOf peers_of_once (get_member (codes "peer") keys) _ _ _ _ refl h.peers k.peers in
+    let server : plan.local ≡ other.local =
+    found_once IsServer server_table_once (get_member (codes "server") keys) _ _ h.server k.server in
+    let both : (plan.peers, files) ≡ (other.peers, others) =
+    default_once ArePeersOf peers_of_once (get_member (codes "peer") keys) _ _ _ _ refl h.peers k.peers in
     (λ i. record { local = server i; peers = (both i).0 }, λ i. (both i).1)

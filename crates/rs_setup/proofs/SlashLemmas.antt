@@ -1,5 +1,6 @@
 -- A text is cut at its first slash in one way, and there the address of a subnet ends.
-use Rattle.std.proofs.Common.{◌≡◌, ◌≢◌, ◌∙◌, ◌<◌, ◌≤◌, ◌+◌, ◌/◌, ◌%◌, ◌^◌, ◌⊎◌, ◌==◌, ℕ, List, [], ◌∷◌, ◌++◌, length, take, get_or, codes, decimal, Option, None, Some, Bor, inl, inr, subst, sym, ap, refl, arith, append_assoc}
+use Rattle.std.proofs.Common.{◌≡◌, ◌≢◌, ◌∙◌, ◌<◌, ◌≤◌, ◌+◌, ◌/◌, ◌%◌, ◌^◌, ◌⊎◌, ◌==◌, ℕ, List, [], ◌∷◌, ◌++◌, length, take, get_or, codes}
+use Rattle.std.proofs.Common.{decimal, Option, None, Some, Bor, inl, inr, subst, sym, ap, refl, arith, append_assoc}
 use Rattle.std.proofs.lemmas.Bool.{cases_lt, eqb-false}
 use Rattle.std.proofs.lemmas.Fmt.{decimal_by_steps, decimal_digit, decimal_injective, decimal_step}
 use Rattle.std.proofs.lemmas.List.{get_or-take, length-take}
@@ -27,13 +28,17 @@ none_at_all text whole = All-from_get_or (λ octet. octet ≢ 47) text 0 (λ i w
 
 -- the same of the parts that a split at the first slash gives
 pub first_slash : (text : List ℕ) (parts : Option (Bor (List ℕ) × Bor (List ℕ)))
-    → MatchOption parts (position_or_len (λ octet. octet == 47) text ≡ length text) (λ both. (both.0.now ≡ before_first (λ octet. octet == 47) text) × (both.1.now ≡ after_first (λ octet. octet == 47) text) × (position_or_len (λ octet. octet == 47) text < length text))
+    → MatchOption parts (position_or_len (λ octet. octet == 47) text ≡ length text)
+    (λ both. (both.0.now ≡ before_first (λ octet. octet == 47) text) × (both.1.now ≡ after_first (λ octet. octet == 47) text)
+    × (position_or_len (λ octet. octet == 47) text < length text))
     → IfSome parts (λ both. HasNoSlash both.0.now)
 first_slash text None none = tt
 first_slash text (Some both) (front, back, found) = subst HasNoSlash (sym front) (none_before text)
 
 pub no_slash : (text : List ℕ) (parts : Option (Bor (List ℕ) × Bor (List ℕ)))
-    → MatchOption parts (position_or_len (λ octet. octet == 47) text ≡ length text) (λ both. (both.0.now ≡ before_first (λ octet. octet == 47) text) × (both.1.now ≡ after_first (λ octet. octet == 47) text) × (position_or_len (λ octet. octet == 47) text < length text))
+    → MatchOption parts (position_or_len (λ octet. octet == 47) text ≡ length text)
+    (λ both. (both.0.now ≡ before_first (λ octet. octet == 47) text) × (both.1.now ≡ after_first (λ octet. octet == 47) text)
+    × (position_or_len (λ octet. octet == 47) text < length text))
     → IfNone parts (HasNoSlash text)
 no_slash text None none = none_at_all text none
 no_slash text (Some both) found = tt
@@ -51,17 +56,20 @@ join_slash : (front back : List ℕ) → HasNoSlash front → HasNoSlash back �
 join_slash = All-append (λ octet. octet ≢ 47)
 
 octet_slash : (front : List ℕ) (n : ℕ) → HasNoSlash front → n < 256 → HasNoSlash (front ++ codes "." ++ decimal n)
-octet_slash front n before small = join_slash (front ++ codes ".") (decimal n) (join_slash front (codes ".") before dot_slash) (decimal_slash n (omega (arith, small)))
+octet_slash front n before small =
+    join_slash (front ++ codes ".") (decimal n) (join_slash front (codes ".") before dot_slash) (decimal_slash n (omega (arith, small)))
 
 dotted_slash : (text octets : List ℕ) → IsDotted text octets → HasNoSlash text
 dotted_slash text octets dotted =
     let one = decimal_slash dotted.a (omega (arith, dotted.fit.0)) in
     subst HasNoSlash (sym dotted.spelled)
     (octet_slash (decimal dotted.a ++ codes "." ++ decimal dotted.b ++ codes "." ++ decimal dotted.c) dotted.d
-    (octet_slash (decimal dotted.a ++ codes "." ++ decimal dotted.b) dotted.c (octet_slash (decimal dotted.a) dotted.b one dotted.fit.1) dotted.fit.2) dotted.fit.3)
+    (octet_slash (decimal dotted.a ++ codes "." ++ decimal dotted.b) dotted.c (octet_slash (decimal dotted.a) dotted.b one dotted.fit.1)
+    dotted.fit.2) dotted.fit.3)
 
 -- so a text is cut in one way
-cut_once : (front start back later : List ℕ) → HasNoSlash front → HasNoSlash start → front ++ 47 ∷ back ≡ start ++ 47 ∷ later → (front ≡ start) × (back ≡ later)
+cut_once : (front start back later : List ℕ) → HasNoSlash front → HasNoSlash start → front ++ 47 ∷ back ≡ start ++ 47 ∷ later
+    → (front ≡ start) × (back ≡ later)
 cut_once [] [] back later none other same = (refl, cc)
 cut_once [] (x ∷ start) back later none other same =
     let slash : x ≡ 47 = cc in
@@ -72,14 +80,17 @@ cut_once (x ∷ front) [] back later none other same =
 cut_once (x ∷ front) (y ∷ start) back later none other same =
     let first : x ≡ y = cc in
     let rest : front ++ 47 ∷ back ≡ start ++ 47 ∷ later = cc in
-    let cut = cut_once front start back later (All-tail (λ octet. octet ≢ 47) x front none) (All-tail (λ octet. octet ≢ 47) y start other) rest in
+    let cut = cut_once front start back later (All-tail (λ octet. octet ≢ 47) x front none) (All-tail (λ octet. octet ≢ 47) y start other)
+    rest in
     (ap (λ (more : List ℕ). x ∷ more) cut.0 ∙ ap (λ one. one ∷ start) first, cut.1)
 
 -- a subnet is its text's front and back
-parts_of_subnet : (text front back : List ℕ) (prefix : IpPrefix) → text ≡ front ++ codes "/" ++ back → HasNoSlash front → IsSlashedSubnet text prefix
+parts_of_subnet : (text front back : List ℕ) (prefix : IpPrefix) → text ≡ front ++ codes "/" ++ back → HasNoSlash front
+    → IsSlashedSubnet text prefix
     → (address len : ℕ) × IsDottedAddress front address × (back ≡ decimal len) × (len ≤ 32)
 parts_of_subnet text front back prefix split none (start, address, len, spelled, (octets, dotted, is), small, value) =
-    let cut = cut_once front start back (decimal len) none (dotted_slash start octets dotted) (sym (split ∙ append_assoc front (47 ∷ []) back) ∙ (spelled ∙ append_assoc start (47 ∷ []) (decimal len))) in
+    let cut = cut_once front start back (decimal len) none (dotted_slash start octets dotted)
+    (sym (split ∙ append_assoc front (47 ∷ []) back) ∙ (spelled ∙ append_assoc start (47 ∷ []) (decimal len))) in
     (address, len, subst (λ one. IsDottedAddress one address) (sym cut.0) (octets, dotted, is), cut.1, small)
 
 -- a text without a slash is no subnet
@@ -93,19 +104,22 @@ without_slash text none prefix (start, address, len, spelled, (octets, dotted, i
     slash_within (x ∷ start) back none = slash_within start back (All-tail (λ octet. octet ≢ 47) x (start ++ 47 ∷ back) none)
 
 -- nor is one whose front is no address
-pub no_front : (text front back : List ℕ) → text ≡ front ++ codes "/" ++ back → HasNoSlash front → StandsForNone IsDottedAddress front → StandsForNone IsSlashedSubnet text
+pub no_front : (text front back : List ℕ) → text ≡ front ++ codes "/" ++ back → HasNoSlash front → StandsForNone IsDottedAddress front
+    → StandsForNone IsSlashedSubnet text
 no_front text front back split none address prefix is =
     let parts = parts_of_subnet text front back prefix split none is in
     address parts.0 parts.2
 
 -- nor one whose back is no number below 100
-pub no_back : (text front back : List ℕ) → text ≡ front ++ codes "/" ++ back → HasNoSlash front → ((len : ℕ) → len < 100 → ¬ (back ≡ decimal len)) → StandsForNone IsSlashedSubnet text
+pub no_back : (text front back : List ℕ) → text ≡ front ++ codes "/" ++ back → HasNoSlash front
+    → ((len : ℕ) → len < 100 → ¬ (back ≡ decimal len)) → StandsForNone IsSlashedSubnet text
 no_back text front back split none length prefix is =
     let parts = parts_of_subnet text front back prefix split none is in
     length parts.1 (omega (arith, parts.4)) parts.3
 
 -- nor one whose back is above 32
-pub long_back : (text front back : List ℕ) (len : ℕ) → text ≡ front ++ codes "/" ++ back → HasNoSlash front → back ≡ decimal len → len < 256 → ¬ (len ≤ 32) → StandsForNone IsSlashedSubnet text
+pub long_back : (text front back : List ℕ) (len : ℕ) → text ≡ front ++ codes "/" ++ back → HasNoSlash front → back ≡ decimal len → len < 256
+    → ¬ (len ≤ 32) → StandsForNone IsSlashedSubnet text
 long_back text front back len split none is small long prefix subnet =
     let parts = parts_of_subnet text front back prefix split none subnet in
     let same : len ≡ parts.1 = decimal_injective len parts.1 (omega (arith, small)) (omega (arith, parts.4)) (sym is ∙ parts.3) in
@@ -118,12 +132,14 @@ none_beyond (Some x) len fits beyond = tt
 
 -- how a number below 100 is written
 pub decimal_places : (text : List ℕ) (len : ℕ) → len < 100 → text ≡ decimal len
-    → ((length text ≡ 1) × (48 ≤ get_or text 0 0) × (get_or text 0 0 < 58)) ⊎ ((length text ≡ 2) × (49 ≤ get_or text 0 0) × (get_or text 0 0 < 58) × (48 ≤ get_or text 1 0) × (get_or text 1 0 < 58))
+    → ((length text ≡ 1) × (48 ≤ get_or text 0 0) × (get_or text 0 0 < 58))
+    ⊎ ((length text ≡ 2) × (49 ≤ get_or text 0 0) × (get_or text 0 0 < 58) × (48 ≤ get_or text 1 0) × (get_or text 1 0 < 58))
 decimal_places text len small is = elim (cases_lt len 10) [
   | inl one ↦
       let spelled : text ≡ (48 + len) ∷ [] = is ∙ decimal_digit len one in
       rw spelled (inl (refl, omega arith, omega arith))
   | inr two ↦
-      let spelled : text ≡ (48 + len / 10) ∷ (48 + len % 10) ∷ [] = is ∙ decimal_step len two (omega (arith, small)) ∙ rw (decimal_digit (len / 10) (omega arith)) refl in
+      let spelled : text ≡ (48 + len / 10) ∷ (48 + len % 10) ∷ [] =
+      is ∙ decimal_step len two (omega (arith, small)) ∙ rw (decimal_digit (len / 10) (omega arith)) refl in
       rw spelled (inr (refl, omega arith, omega arith, omega arith, omega arith))
 ]

@@ -3,8 +3,8 @@
 
 ghost use Rattle.std.specs.Prelude.{◌≡◌, ◌++◌, ◌<◌, ℕ, IfNone, IfOk, IfSome, codes, decimal, map, string_bytes};
 ghost use Rattle.toml.specs.View.{items_view, view};
-ghost use Rattle.rs_setup.specs.Values.{AreTexts, HasNoSlash, IsAddress, IsDottedAddress, IsSlashedSubnet, IsSubnet, IsTexts};
-ghost use Rattle.rs_setup.specs.Values.{IsWholeNumber, StandsForNone};
+ghost use Rattle.rs_setup.specs.Values.{AreTexts, HasNoSlash, IsAddress, IsDottedAddress, IsSlashedSubnet, IsSubnet};
+ghost use Rattle.rs_setup.specs.Values.{IsTexts, IsWholeNumber, StandsForNone};
 
 use rs_update::Prefix;
 use std::alloc::{AllocError, Global};

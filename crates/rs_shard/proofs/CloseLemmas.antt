@@ -7,12 +7,15 @@ use Rattle.rs_table.specs.Left.{HasNoClose}
 use Rattle.rs_shard.specs.Held.{through_close}
 
 -- what follows a close is dropped
-pub through-closed : (changes later : List Change) → list_any is_close changes ≡ true → through_close (changes ++ later) ≡ through_close changes
+pub through-closed : (changes later : List Change) → list_any is_close changes ≡ true
+    → through_close (changes ++ later) ≡ through_close changes
 through-closed [] later closed = absurd cc
 through-closed (change ∷ changes) later closed = cases (is_close change) closed (through-closed changes later)
   where
-    cases : (b : Bool) → (b || list_any is_close changes) ≡ true → (list_any is_close changes ≡ true → through_close (changes ++ later) ≡ through_close changes)
-        → (if b then change ∷ [] else change ∷ through_close (changes ++ later)) ≡ (if b then change ∷ [] else change ∷ through_close changes)
+    cases : (b : Bool) → (b || list_any is_close changes) ≡ true
+        → (list_any is_close changes ≡ true → through_close (changes ++ later) ≡ through_close changes)
+        → (if b then change ∷ [] else change ∷ through_close (changes ++ later))
+        ≡ (if b then change ∷ [] else change ∷ through_close changes)
     cases true closed rest = refl
     cases false closed rest = ap (λ cs. change ∷ cs) (rest closed)
 
@@ -21,7 +24,8 @@ pub through-open : (changes later : List Change) → HasNoClose changes → thro
 through-open [] later none = refl
 through-open (change ∷ changes) later none = cases (is_close change) none (through-open changes later)
   where
-    cases : (b : Bool) → (b || list_any is_close changes) ≡ false → (HasNoClose changes → through_close (changes ++ later) ≡ changes ++ through_close later)
+    cases : (b : Bool) → (b || list_any is_close changes) ≡ false
+        → (HasNoClose changes → through_close (changes ++ later) ≡ changes ++ through_close later)
         → (if b then change ∷ [] else change ∷ through_close (changes ++ later)) ≡ change ∷ (changes ++ through_close later)
     cases true none rest = absurd cc
     cases false none rest = ap (λ cs. change ∷ cs) (rest none)
@@ -33,7 +37,8 @@ through-one change = cases (is_close change)
     cases true = refl
     cases false = refl
 
-pub through-more : (changes : List Change) (change : Change) → HasNoClose changes → through_close (changes ++ change ∷ []) ≡ changes ++ change ∷ []
+pub through-more : (changes : List Change) (change : Change) → HasNoClose changes
+    → through_close (changes ++ change ∷ []) ≡ changes ++ change ∷ []
 through-more changes change none = through-open changes (change ∷ []) none ∙ ap (λ cs. changes ++ cs) (through-one change)
 
 pub through-none : (changes : List Change) → HasNoClose changes → through_close changes ≡ changes
@@ -50,6 +55,7 @@ pub any-through : (changes : List Change) → list_any is_close (through_close c
 any-through [] = refl
 any-through (change ∷ changes) = cases (is_close change) refl (any-through changes)
   where
-    cases : (b : Bool) → is_close change ≡ b → list_any is_close (through_close changes) ≡ list_any is_close changes → list_any is_close (if b then change ∷ [] else change ∷ through_close changes) ≡ (b || list_any is_close changes)
+    cases : (b : Bool) → is_close change ≡ b → list_any is_close (through_close changes) ≡ list_any is_close changes
+        → list_any is_close (if b then change ∷ [] else change ∷ through_close changes) ≡ (b || list_any is_close changes)
     cases true is rest = rw is refl
     cases false is rest = rw is rest

@@ -1,5 +1,6 @@
 -- The tables of all shards, made one.
-use Rattle.std.proofs.Common.{◌≡◌, ◌≢◌, ◌∙◌, sym, ap, ℕ, ◌<◌, ◌≤◌, arith, inl, inr, true, false, List, length, map, get_or, Some, None, AllPairs}
+use Rattle.std.proofs.Common.{◌≡◌, ◌≢◌, ◌∙◌, sym, ap, ℕ, ◌<◌, ◌≤◌, arith, inl, inr, true, false, List, length, map, get_or, Some, None}
+use Rattle.std.proofs.Common.{AllPairs}
 use Rattle.std.specs.Prelude.{slice_get}
 use Rattle.std.specs.List.{list_any}
 use Rattle.std.specs.Option.{option_map}
@@ -26,15 +27,18 @@ use Rattle.rs_table.proofs.PrefixLemmas.{prefix_total, prefix_cmp-IsAntisymmetri
 
 -- ---- the parts
 
-module _ (cuts : CutByShards) (plan : Plan) (received : List (List Word)) (parts : List TablesContent) (are : AreShardsOf plan received parts) where
+module _ (cuts : CutByShards) (plan : Plan) (received : List (List Word)) (parts : List TablesContent)
+    (are : AreShardsOf plan received parts) where
   abbrev changes_of : List Word → List Change
   changes_of words = map change_of words
 
-  part-past : (shard : ℕ) (part : TablesContent) → slice_get parts shard ≡ Some part → (peer : ℕ) → length received ≤ peer → rib_of part peer ≡ nothing_held
+  part-past : (shard : ℕ) (part : TablesContent) → slice_get parts shard ≡ Some part → (peer : ℕ) → length received ≤ peer
+      → rib_of part peer ≡ nothing_held
   part-past shard part at peer past =
       get_or_past part.ribs peer nothing_held (omega (arith, past, are.peers, (are.each shard part at).of_plan.count))
 
-  part-closed : (shard : ℕ) (part : TablesContent) → slice_get parts shard ≡ Some part → (peer : ℕ) (words : List Word) → slice_get received peer ≡ Some words
+  part-closed : (shard : ℕ) (part : TablesContent) → slice_get parts shard ≡ Some part → (peer : ℕ) (words : List Word)
+      → slice_get received peer ≡ Some words
       → (rib_of part peer).closed ≡ list_any is_close (changes_of words)
   part-closed shard part at peer words there =
       ap (λ (rib : RibContent). rib.closed) ((are.each shard part at).ribs peer words there)
@@ -48,17 +52,21 @@ module _ (cuts : CutByShards) (plan : Plan) (received : List (List Word)) (parts
   ]
 
   -- a shard has no route on a prefix of another one
-  not-there : (shard : ℕ) (part : TablesContent) → slice_get parts shard ≡ Some part → (q : IpPrefix) → shard ≢ shard_of q (length parts) → (peer : ℕ)
+  not-there : (shard : ℕ) (part : TablesContent) → slice_get parts shard ≡ Some part → (q : IpPrefix) → shard ≢ shard_of q (length parts)
+      → (peer : ℕ)
       → fin.get (rib_of part peer).routes q ≡ None
   not-there shard part at q apart peer = elim (slice_get_cases received peer).1 [
-    | inl w ↦ ap (λ (rib : RibContent). fin.get rib.routes q) ((are.each shard part at).ribs peer w.0 w.2) ∙ (cuts (length parts) are.counted (changes_of w.0)).others q shard apart
+    | inl w ↦ ap (λ (rib : RibContent). fin.get rib.routes q) ((are.each shard part at).ribs peer w.0 w.2)
+        ∙ (cuts (length parts) are.counted (changes_of w.0)).others q shard apart
     | inr past ↦ ap (λ (rib : RibContent). fin.get rib.routes q) (part-past shard part at peer past.0) ∙ fin.get-empty prefix_cmp q
   ]
 
-  not-held : (shard : ℕ) (part : TablesContent) → slice_get parts shard ≡ Some part → (q : IpPrefix) → shard ≢ shard_of q (length parts) → is_held part.ribs q ≡ false
+  not-held : (shard : ℕ) (part : TablesContent) → slice_get parts shard ≡ Some part → (q : IpPrefix) → shard ≢ shard_of q (length parts)
+      → is_held part.ribs q ≡ false
   not-held shard part at q apart = none-held part.ribs q (not-there shard part at q apart)
 
-  held-by_one : (i j : ℕ) (one other : TablesContent) → i < j → slice_get parts i ≡ Some one → slice_get parts j ≡ Some other → (q : IpPrefix)
+  held-by_one : (i j : ℕ) (one other : TablesContent) → i < j → slice_get parts i ≡ Some one → slice_get parts j ≡ Some other
+      → (q : IpPrefix)
       → is_held one.ribs q ≡ true → is_held other.ribs q ≡ false
   held-by_one i j one other below at_i at_j q held = elim (eqb_tells i (shard_of q (length parts))) [
     | inl here ↦ not-held j other at_j q (λ e. omega (arith, below, here.1, e))
@@ -87,7 +95,8 @@ module _ (cuts : CutByShards) (plan : Plan) (received : List (List Word)) (parts
     merged-plan : merged.plan ≡ plan
     merged-plan = is.plan 0 merged some_part ∙ (are.each 0 (get_or parts 0 merged) first).of_plan.plan_is
 
-    merged-closed : (peer : ℕ) (words : List Word) → slice_get received peer ≡ Some words → (rib_of merged peer).closed ≡ list_any is_close (changes_of words)
+    merged-closed : (peer : ℕ) (words : List Word) → slice_get received peer ≡ Some words
+        → (rib_of merged peer).closed ≡ list_any is_close (changes_of words)
     merged-closed peer words there = is.closed 0 merged some_part peer ∙ part-closed 0 (get_or parts 0 merged) first peer words there
 
     merged-routes : (peer : ℕ) (words : List Word) → slice_get received peer ≡ Some words → (q : IpPrefix)
@@ -95,27 +104,33 @@ module _ (cuts : CutByShards) (plan : Plan) (received : List (List Word)) (parts
     merged-routes peer words there q =
         let at : slice_get parts (shard_of q (length parts)) ≡ Some (get_or parts (shard_of q (length parts)) merged) =
         slice_get-get_or parts (shard_of q (length parts)) merged (mod_below (first_octet q) (length parts) some_part) in
-        is.routes q (shard_of q (length parts)) (get_or parts (shard_of q (length parts)) merged) at (λ other part there_too apart. not-held other part there_too q apart) peer
-        ∙ ap (λ (rib : RibContent). fin.get rib.routes q) ((are.each (shard_of q (length parts)) (get_or parts (shard_of q (length parts)) merged) at).ribs peer words there)
+        is.routes q (shard_of q (length parts)) (get_or parts (shard_of q (length parts)) merged) at
+        (λ other part there_too apart. not-held other part there_too q apart) peer
+        ∙ ap (λ (rib : RibContent). fin.get rib.routes q)
+        ((are.each (shard_of q (length parts)) (get_or parts (shard_of q (length parts)) merged) at).ribs peer words there)
         ∙ (cuts (length parts) are.counted (changes_of words)).own q
 
     merged-rib : (peer : ℕ) (words : List Word) → slice_get received peer ≡ Some words → rib_of merged peer ≡ rib_left (changes_of words)
     merged-rib peer words there =
-        let routes : (rib_of merged peer).routes ≡ left (changes_of words) = fin.same_map prefix_total prefix_cmp-IsAntisymmetric _ _ (merged-routes peer words there) in
+        let routes : (rib_of merged peer).routes ≡ left (changes_of words) =
+        fin.same_map prefix_total prefix_cmp-IsAntisymmetric _ _ (merged-routes peer words there) in
         let closed : (rib_of merged peer).closed ≡ list_any is_close (changes_of words) = merged-closed peer words there in
         λ i. record { routes = routes i; closed = closed i }
 
     merged-length : length (map (λ words. rib_left (changes_of words)) received) ≡ length merged.ribs
     merged-length =
-        length-map received (λ words. rib_left (changes_of words)) ∙ are.peers ∙ ap (λ (p : Plan). length p.peers) (sym merged-plan) ∙ sym count
+        length-map received (λ words. rib_left (changes_of words)) ∙ are.peers ∙ ap (λ (p : Plan). length p.peers) (sym merged-plan)
+        ∙ sym count
 
     merged-ribs : map (λ words. rib_left (changes_of words)) received ≡ merged.ribs
-    merged-ribs = ext_get_or nothing_held (map (λ words. rib_left (changes_of words)) received) merged.ribs merged-length (λ at within. elim (slice_get_cases received at).1 [
-      | inl w ↦ get_or_from_slice_get (map (λ words. rib_left (changes_of words)) received) at (rib_left (changes_of w.0)) nothing_held
-          (slice_get-map (λ words. rib_left (changes_of words)) received at ∙ ap (option_map (λ words. rib_left (changes_of words))) w.2)
-          ∙ sym (merged-rib at w.0 w.2)
-      | inr past ↦ absurd (omega (arith, within, past.0, length-map received (λ words. rib_left (changes_of words))))
-    ])
+    merged-ribs = ext_get_or nothing_held (map (λ words. rib_left (changes_of words)) received) merged.ribs merged-length
+        (λ at within. elim (slice_get_cases received at).1 [
+          | inl w ↦ get_or_from_slice_get (map (λ words. rib_left (changes_of words)) received) at (rib_left (changes_of w.0)) nothing_held
+              (slice_get-map (λ words. rib_left (changes_of words)) received at
+              ∙ ap (option_map (λ words. rib_left (changes_of words))) w.2)
+              ∙ sym (merged-rib at w.0 w.2)
+          | inr past ↦ absurd (omega (arith, within, past.0, length-map received (λ words. rib_left (changes_of words))))
+        ])
 
     pub merged-whole : merged ≡ record { plan = plan; ribs = map (λ words. rib_left (map change_of words)) received }
     merged-whole = λ i. record { plan = merged-plan i; ribs = sym merged-ribs i }

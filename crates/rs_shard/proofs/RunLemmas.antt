@@ -1,5 +1,6 @@
 -- What shards hold that took all that was sent to them.
-use Rattle.std.proofs.Common.{◌≡◌, ◌∙◌, sym, ap, subst, refl, ℕ, arith, inl, inr, Bool, true, false, ◌||◌, List, [], ◌∷◌, ◌++◌, length, map, Some}
+use Rattle.std.proofs.Common.{◌≡◌, ◌∙◌, sym, ap, subst, refl, ℕ, arith, inl, inr, Bool, true, false, ◌||◌, List, [], ◌∷◌, ◌++◌, length, map}
+use Rattle.std.proofs.Common.{Some}
 use Rattle.std.specs.Prelude.{slice_get}
 use Rattle.std.proofs.lemmas.List.{map-append}
 use Rattle.std.proofs.lemmas.List.Elements.{filter-append}
@@ -20,10 +21,13 @@ use Rattle.rs_shard.proofs.CloseLemmas.{through-open, through-one}
 -- the cut of words without a close has none
 open-cut : (shards shard : ℕ) (words : List Word) → is_closed words ≡ false → HasNoClose (cut shards shard (map change_of words))
 open-cut shards shard [] none = refl
-open-cut shards shard (word ∷ words) none = cases (gets shards shard (change_of word)) (is_close (change_of word)) refl refl none (open-cut shards shard words)
+open-cut shards shard (word ∷ words) none =
+    cases (gets shards shard (change_of word)) (is_close (change_of word)) refl refl none (open-cut shards shard words)
   where
-    cases : (kept closes : Bool) → gets shards shard (change_of word) ≡ kept → is_close (change_of word) ≡ closes → (closes || is_closed words) ≡ false
-        → (is_closed words ≡ false → HasNoClose (cut shards shard (map change_of words))) → HasNoClose (cut shards shard (change_of word ∷ map change_of words))
+    cases : (kept closes : Bool) → gets shards shard (change_of word) ≡ kept → is_close (change_of word) ≡ closes
+        → (closes || is_closed words) ≡ false
+        → (is_closed words ≡ false → HasNoClose (cut shards shard (map change_of words)))
+        → HasNoClose (cut shards shard (change_of word ∷ map change_of words))
     cases kept true e is none rest = absurd cc
     cases true false e is none rest = rw (e, is) (rest none)
     cases false false e is none rest = rw e (rest none)
@@ -31,28 +35,34 @@ open-cut shards shard (word ∷ words) none = cases (gets shards shard (change_o
 through-one_cut : (shards shard : ℕ) (change : Change) → through_close (cut shards shard (change ∷ [])) ≡ cut shards shard (change ∷ [])
 through-one_cut shards shard change = cases (gets shards shard change) refl
   where
-    cases : (kept : Bool) → gets shards shard change ≡ kept → through_close (cut shards shard (change ∷ [])) ≡ cut shards shard (change ∷ [])
+    cases : (kept : Bool) → gets shards shard change ≡ kept
+        → through_close (cut shards shard (change ∷ [])) ≡ cut shards shard (change ∷ [])
     cases true e = rw e (through-one change)
     cases false e = rw e refl
 
 -- in the cut of words that close at their end nothing follows a close
-through-cut : (shards shard : ℕ) (words : List Word) → EndsClosed words → through_close (cut shards shard (map change_of words)) ≡ cut shards shard (map change_of words)
+through-cut : (shards shard : ℕ) (words : List Word) → EndsClosed words
+    → through_close (cut shards shard (map change_of words)) ≡ cut shards shard (map change_of words)
 through-cut shards shard words ends =
-    let splits : cut shards shard (map change_of words) ≡ cut shards shard (map change_of ends.earlier) ++ cut shards shard (change_of ends.close ∷ []) =
+    let splits : cut shards shard (map change_of words) ≡ cut shards shard (map change_of ends.earlier)
+    ++ cut shards shard (change_of ends.close ∷ []) =
     ap (λ (ws : List Word). cut shards shard (map change_of ws)) ends.is
     ∙ ap (cut shards shard) (map-append change_of ends.earlier (ends.close ∷ []))
     ∙ filter-append (gets shards shard) (map change_of ends.earlier) (change_of ends.close ∷ []) in
     ap through_close splits
-    ∙ through-open (cut shards shard (map change_of ends.earlier)) (cut shards shard (change_of ends.close ∷ [])) (open-cut shards shard ends.earlier ends.until_then)
+    ∙ through-open (cut shards shard (map change_of ends.earlier)) (cut shards shard (change_of ends.close ∷ []))
+    (open-cut shards shard ends.earlier ends.until_then)
     ∙ ap (λ (cs : List Change). cut shards shard (map change_of ends.earlier) ++ cs) (through-one_cut shards shard (change_of ends.close))
     ∙ sym splits
 
 -- the shards of a run
-module _ (plan : Plan) (received : List (List Word)) (sent : List (List Routed)) (charges : List Charge) (parts : List TablesContent) (run : IsRun plan received sent charges parts) where
+module _ (plan : Plan) (received : List (List Word)) (sent : List (List Routed)) (charges : List Charge) (parts : List TablesContent)
+    (run : IsRun plan received sent charges parts) where
   as_many : length parts ≡ length sent
   as_many = run.hold.count ∙ run.shards
 
-  one-shard : (shard : ℕ) (part : TablesContent) (charge : Charge) (items : List Routed) → slice_get parts shard ≡ Some part → slice_get charges shard ≡ Some charge → slice_get sent shard ≡ Some items
+  one-shard : (shard : ℕ) (part : TablesContent) (charge : Charge) (items : List Routed) → slice_get parts shard ≡ Some part
+      → slice_get charges shard ≡ Some charge → slice_get sent shard ≡ Some items
       → IsShardOf plan received (length parts) shard part
   one-shard shard part charge items at at_charge at_sent =
       let held : HoldReceived charge.tables items part = run.hold.each shard charge items part at_charge at_sent at in

@@ -19,7 +19,8 @@ left_examples =
       after_a_loss = λ a. get-left _ ten;
       since_a_loss = λ a b. get-left _ ten;
       not_where_another_came_back = λ a b. get-left _ ten;
-      by_its_last_place = λ a. record { earlier = []; later = ended ∷ []; is_announced = refl; is_last = refl; stays_up = refl; keeps_routes = refl };
+      by_its_last_place =
+          λ a. record { earlier = []; later = ended ∷ []; is_announced = refl; is_last = refl; stays_up = refl; keeps_routes = refl };
       not_by_an_earlier_place = λ a leaves. let e = sym (get-left _ ten) ∙ left-from-leaves _ ten _ leaves in cc;
       not_before_a_loss = λ a leaves. let e = sym (get-left _ ten) ∙ left-from-leaves _ ten _ leaves in cc;
       not_after_a_fault = λ a leaves. let e = leaves.keeps_routes in cc;

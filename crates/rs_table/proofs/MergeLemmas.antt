@@ -1,5 +1,6 @@
 -- Tables that hold different prefixes, made one: for `joined_with` of tables.rt and `merge` of merge.rt.
-use Rattle.std.proofs.Common.{◌≡◌, ℕ, zero, suc, ◌+◌, ◌<◌, ◌≤◌, Bool, false, List, [], ◌∷◌, length, map, get_or, Option, Some, None, AllPairs, slice_get, refl, sym, ap, subst, ◌∙◌, arith, inl, inr}
+use Rattle.std.proofs.Common.{◌≡◌, ℕ, zero, suc, ◌+◌, ◌<◌, ◌≤◌, Bool, false, List, [], ◌∷◌, length, map, get_or, Option, Some, None}
+use Rattle.std.proofs.Common.{AllPairs, slice_get, refl, sym, ap, subst, ◌∙◌, arith, inl, inr}
 use Rattle.std.specs.List.{AllByRecursion}
 use Rattle.std.specs.List.Sorted.{IsStrictlySortedBy}
 use Rattle.std.specs.FinMap as fin
@@ -29,13 +30,15 @@ use Rattle.rs_table.proofs.tables.TablesLemmas.{tables, rib-closed}
 -- ---- which prefixes are held
 
 -- a prefix that is not held is no peer's
-pub held-none : (ribs : List RibContent) (q : IpPrefix) → is_held ribs q ≡ false → (peer : ℕ) → fin.get (get_or ribs peer nothing_held).routes q ≡ None
+pub held-none : (ribs : List RibContent) (q : IpPrefix) → is_held ribs q ≡ false → (peer : ℕ)
+    → fin.get (get_or ribs peer nothing_held).routes q ≡ None
 held-none [] q e peer = fin.get-empty prefix_cmp q
 held-none (rib ∷ ribs) q e zero = absent (fin.get rib.routes q) (or_parts (fin.contains_key rib.routes q) (is_held ribs q) e).0
 held-none (rib ∷ ribs) q e (suc peer) = held-none ribs q (or_parts (fin.contains_key rib.routes q) (is_held ribs q) e).1 peer
 
 -- and one that is no peer's is not held
-pub none-held : (ribs : List RibContent) (q : IpPrefix) → ((peer : ℕ) → fin.get (get_or ribs peer nothing_held).routes q ≡ None) → is_held ribs q ≡ false
+pub none-held : (ribs : List RibContent) (q : IpPrefix) → ((peer : ℕ) → fin.get (get_or ribs peer nothing_held).routes q ≡ None)
+    → is_held ribs q ≡ false
 none-held [] q none = refl
 none-held (rib ∷ ribs) q none = or_from _ _ (ap is_some (none zero)) (none-held ribs q (λ peer. none (suc peer)))
 
@@ -49,46 +52,51 @@ route_at-past from to peer (route ∷ later) past row =
       | inr apart ↦ rw apart.0 (route_at-past (route.peer + 1) to peer later past row.2)
     ]
 
-module _ (plan : Plan) (entries : Entries) (closed : List Bool) (peers : length closed ≡ length plan.peers) (cells : AreCells plan entries) where
-  row-of : (q : IpPrefix) (o : Option CellContent) → cell_at entries q ≡ o → IsRow 0 (length plan.peers) (routes_of o)
-  row-of q None e = tt
-  row-of q (Some cell) e = (cell-IsCell plan entries q cell cells e).held.row
+module _ (plan : Plan) (entries : Entries) (closed : List Bool) (peers : length closed ≡ length plan.peers) (cells : AreCells plan entries)
+  where
+    row-of : (q : IpPrefix) (o : Option CellContent) → cell_at entries q ≡ o → IsRow 0 (length plan.peers) (routes_of o)
+    row-of q None e = tt
+    row-of q (Some cell) e = (cell-IsCell plan entries q cell cells e).held.row
 
-  pub get-rib : (peer : ℕ) (q : IpPrefix) → fin.get (rib_of (tables plan entries closed) peer).routes q ≡ route_at (routes_at entries q) peer
-  get-rib peer q =
-      elim (cases_lt peer (length closed)) [
-        | inl known ↦
-            ap (λ rib. fin.get rib.routes q) (rib-at entries 0 closed peer known)
-            ∙ ap (λ n. fin.get (routes_from entries n) q) (plus_zero peer)
-            ∙ get-routes_from entries peer q
-        | inr past ↦
-            ap (λ rib. fin.get rib.routes q) (rib-past entries 0 closed peer past)
-            ∙ fin.get-empty prefix_cmp q
-            ∙ sym (route_at-past 0 (length plan.peers) peer (routes_at entries q) (omega (arith, past, peers)) (row-of q (cell_at entries q) refl))
-      ]
-    where
-      plus_zero : (n : ℕ) → 0 + n ≡ n
-      plus_zero n = omega arith
+    pub get-rib : (peer : ℕ) (q : IpPrefix) → fin.get (rib_of (tables plan entries closed) peer).routes q
+        ≡ route_at (routes_at entries q) peer
+    get-rib peer q =
+        elim (cases_lt peer (length closed)) [
+          | inl known ↦
+              ap (λ rib. fin.get rib.routes q) (rib-at entries 0 closed peer known)
+              ∙ ap (λ n. fin.get (routes_from entries n) q) (plus_zero peer)
+              ∙ get-routes_from entries peer q
+          | inr past ↦
+              ap (λ rib. fin.get rib.routes q) (rib-past entries 0 closed peer past)
+              ∙ fin.get-empty prefix_cmp q
+              ∙ sym (route_at-past 0 (length plan.peers) peer (routes_at entries q) (omega (arith, past, peers))
+              (row-of q (cell_at entries q) refl))
+        ]
+      where
+        plus_zero : (n : ℕ) → 0 + n ≡ n
+        plus_zero n = omega arith
 
-  -- a prefix that is not held has no cell
-  pub cell-none : (q : IpPrefix) → is_held (ribs_from entries 0 closed) q ≡ false → cell_at entries q ≡ None
-  cell-none q none = by_cell (cell_at entries q) refl
-    where
-      by_held : (cell : CellContent) → cell_at entries q ≡ Some cell → (held : List HeldRoute) → cell.held ≡ held → 0 < length held → cell_at entries q ≡ None
-      by_held cell e [] is some = absurd (omega (arith, some))
-      by_held cell e (one ∷ later) is some =
-          let gone : route_at (routes_at entries q) one.peer ≡ None = sym (get-rib one.peer q) ∙ held-none (ribs_from entries 0 closed) q none one.peer in
-          let routes : routes_at entries q ≡ map sent_of_held (one ∷ later) = ap routes_of e ∙ ap (map sent_of_held) is in
-          elim (eqb_tells one.peer one.peer) [
-            | inl here ↦ absurd (cc (rw here.0 at (sym (ap (λ routes. route_at routes one.peer) routes) ∙ gone)))
-            | inr apart ↦ absurd (apart.1 refl)
-          ]
+    -- a prefix that is not held has no cell
+    pub cell-none : (q : IpPrefix) → is_held (ribs_from entries 0 closed) q ≡ false → cell_at entries q ≡ None
+    cell-none q none = by_cell (cell_at entries q) refl
+      where
+        by_held : (cell : CellContent) → cell_at entries q ≡ Some cell → (held : List HeldRoute) → cell.held ≡ held → 0 < length held
+            → cell_at entries q ≡ None
+        by_held cell e [] is some = absurd (omega (arith, some))
+        by_held cell e (one ∷ later) is some =
+            let gone : route_at (routes_at entries q) one.peer ≡ None =
+            sym (get-rib one.peer q) ∙ held-none (ribs_from entries 0 closed) q none one.peer in
+            let routes : routes_at entries q ≡ map sent_of_held (one ∷ later) = ap routes_of e ∙ ap (map sent_of_held) is in
+            elim (eqb_tells one.peer one.peer) [
+              | inl here ↦ absurd (cc (rw here.0 at (sym (ap (λ routes. route_at routes one.peer) routes) ∙ gone)))
+              | inr apart ↦ absurd (apart.1 refl)
+            ]
 
-      by_cell : (o : Option CellContent) → cell_at entries q ≡ o → cell_at entries q ≡ None
-      by_cell None e = e
-      by_cell (Some cell) e =
-          let is : IsCell plan cell = cell-IsCell plan entries q cell cells e in
-          by_held cell e cell.held refl is.some
+        by_cell : (o : Option CellContent) → cell_at entries q ≡ o → cell_at entries q ≡ None
+        by_cell None e = e
+        by_cell (Some cell) e =
+            let is : IsCell plan cell = cell-IsCell plan entries q cell cells e in
+            by_held cell e cell.held refl is.some
 
 -- cells that are found are all there are
 pub AreCells-found : (plan : Plan) (entries : Entries) → IsStrictlySortedBy prefix_cmp (map (λ entry. entry.0) entries) →
@@ -115,7 +123,8 @@ pub AreCells-joined : (plan : Plan) (one other joined : Entries) → AreCells pl
 AreCells-joined plan one other joined all others is sorted =
     AreCells-found plan joined sorted (λ q cell found. by_other q cell (cell_at other q) refl (sym (is q) ∙ found))
   where
-    by_other : (q : IpPrefix) (cell : CellContent) (o : Option CellContent) → cell_at other q ≡ o → option_or o (cell_at one q) ≡ Some cell → IsCell plan cell
+    by_other : (q : IpPrefix) (cell : CellContent) (o : Option CellContent) → cell_at other q ≡ o → option_or o (cell_at one q) ≡ Some cell
+        → IsCell plan cell
     by_other q cell None e found = cell-IsCell plan one q cell all found
     by_other q cell (Some c) e found = cell-IsCell plan other q cell others (e ∙ found)
 
@@ -125,23 +134,28 @@ or_nothing : {X : Type 0} (o : Option X) → option_or o None ≡ o
 or_nothing None = refl
 or_nothing (Some x) = refl
 
-module _ (plan : Plan) (one other joined : Entries) (closed later : List Bool) (peers : length closed ≡ length plan.peers) (others : length later ≡ length plan.peers)
-    (cells : AreCells plan one) (other_cells : AreCells plan other) (joined_cells : AreCells plan joined) (is : AreJoined one other joined) where
-  pub from-one : (q : IpPrefix) → is_held (ribs_from other 0 later) q ≡ false → (peer : ℕ) →
-      fin.get (rib_of (tables plan joined closed) peer).routes q ≡ fin.get (rib_of (tables plan one closed) peer).routes q
-  from-one q none peer =
-      get-rib plan joined closed peers joined_cells peer q
-      ∙ ap (λ o. route_at (routes_of o) peer) (is q ∙ ap (λ o. option_or o (cell_at one q)) (cell-none plan other later others other_cells q none))
-      ∙ sym (get-rib plan one closed peers cells peer q)
+module _ (plan : Plan) (one other joined : Entries) (closed later : List Bool) (peers : length closed ≡ length plan.peers)
+    (others : length later ≡ length plan.peers)
+    (cells : AreCells plan one) (other_cells : AreCells plan other) (joined_cells : AreCells plan joined) (is : AreJoined one other joined)
+  where
+    pub from-one : (q : IpPrefix) → is_held (ribs_from other 0 later) q ≡ false → (peer : ℕ) →
+        fin.get (rib_of (tables plan joined closed) peer).routes q ≡ fin.get (rib_of (tables plan one closed) peer).routes q
+    from-one q none peer =
+        get-rib plan joined closed peers joined_cells peer q
+        ∙ ap (λ o. route_at (routes_of o) peer) (is q ∙ ap (λ o. option_or o (cell_at one q))
+        (cell-none plan other later others other_cells q none))
+        ∙ sym (get-rib plan one closed peers cells peer q)
 
-  pub from-other : (q : IpPrefix) → is_held (ribs_from one 0 closed) q ≡ false → (peer : ℕ) →
-      fin.get (rib_of (tables plan joined closed) peer).routes q ≡ fin.get (rib_of (tables plan other later) peer).routes q
-  from-other q none peer =
-      get-rib plan joined closed peers joined_cells peer q
-      ∙ ap (λ o. route_at (routes_of o) peer) (is q ∙ ap (option_or (cell_at other q)) (cell-none plan one closed peers cells q none) ∙ or_nothing (cell_at other q))
-      ∙ sym (get-rib plan other later others other_cells peer q)
+    pub from-other : (q : IpPrefix) → is_held (ribs_from one 0 closed) q ≡ false → (peer : ℕ) →
+        fin.get (rib_of (tables plan joined closed) peer).routes q ≡ fin.get (rib_of (tables plan other later) peer).routes q
+    from-other q none peer =
+        get-rib plan joined closed peers joined_cells peer q
+        ∙ ap (λ o. route_at (routes_of o) peer) (is q ∙ ap (option_or (cell_at other q)) (cell-none plan one closed peers cells q none)
+        ∙ or_nothing (cell_at other q))
+        ∙ sym (get-rib plan other later others other_cells peer q)
 
-pub joined-IsJoined : (plan : Plan) (one other joined : Entries) (closed later : List Bool) → length closed ≡ length plan.peers → length later ≡ length plan.peers →
+pub joined-IsJoined : (plan : Plan) (one other joined : Entries) (closed later : List Bool) → length closed ≡ length plan.peers
+    → length later ≡ length plan.peers →
     AreCells plan one → AreCells plan other → AreJoined one other joined → IsStrictlySortedBy prefix_cmp (map (λ entry. entry.0) joined) →
     IsJoined (tables plan one closed) (tables plan other later) (tables plan joined closed)
 joined-IsJoined plan one other joined closed later peers others cells other_cells is sorted =
@@ -177,23 +191,30 @@ pub record IsUnderWay (all : List TablesContent) (merged : TablesContent) (later
   pub pairs : ArePairs (merged ∷ later)
   pub plan : AllByRecursion (λ part. merged.plan ≡ part.plan) all
   pub closed : AllByRecursion (λ part. (peer : ℕ) → (rib_of merged peer).closed ≡ (rib_of part peer).closed) all
-  pub routes : (peer : ℕ) → (q : IpPrefix) → option_or (fin.get (rib_of merged peer).routes q) (route_among later peer q) ≡ route_among all peer q
+  pub routes : (peer : ℕ) → (q : IpPrefix) → option_or (fin.get (rib_of merged peer).routes q) (route_among later peer q)
+      ≡ route_among all peer q
 
 every : {X : Type 0} (P Q : X → Type 0) → ((x : X) → P x → Q x) → (xs : List X) → AllByRecursion P xs → AllByRecursion Q xs
 every P Q f [] all = tt
 every P Q f (x ∷ xs) all = (f x all.0, every P Q f xs all.1)
 
-every_two : {X : Type 0} (P Q R : X → Type 0) → ((x : X) → P x → Q x → R x) → (xs : List X) → AllByRecursion P xs → AllByRecursion Q xs → AllByRecursion R xs
+every_two : {X : Type 0} (P Q R : X → Type 0) → ((x : X) → P x → Q x → R x) → (xs : List X) → AllByRecursion P xs → AllByRecursion Q xs
+    → AllByRecursion R xs
 every_two P Q R f [] all others = tt
 every_two P Q R f (x ∷ xs) all others = (f x all.0 others.0, every_two P Q R f xs all.1 others.1)
 
-pub way-begins : (first : TablesContent) (later : List TablesContent) → AllPairs AreParts (first ∷ later) → IsUnderWay (first ∷ later) first later
+pub way-begins : (first : TablesContent) (later : List TablesContent) → AllPairs AreParts (first ∷ later)
+    → IsUnderWay (first ∷ later) first later
 way-begins first later all =
     let pairs : ArePairs (first ∷ later) = pairs-from_all (first ∷ later) all in
     record {
       pairs = pairs;
       plan = (refl, every (AreParts first) (λ part. first.plan ≡ part.plan) (λ part are. are.plan) later pairs.0);
-      closed = (λ peer. refl, every (AreParts first) (λ part. (peer : ℕ) → (rib_of first peer).closed ≡ (rib_of part peer).closed) (λ part are. are.closed) later pairs.0);
+      closed = (
+        λ peer. refl,
+        every (AreParts first) (λ part. (peer : ℕ) → (rib_of first peer).closed ≡ (rib_of part peer).closed)
+            (λ part are. are.closed) later pairs.0,
+      );
       routes = λ peer q. refl;
     }
 
@@ -203,7 +224,8 @@ or_assoc (Some x) b c = refl
 
 module _ (one other joined : TablesContent) (are : AreParts one other) (is : IsJoined one other joined) where
   -- the joined tables have what either has
-  joined-routes : (peer : ℕ) (q : IpPrefix) → fin.get (rib_of joined peer).routes q ≡ option_or (fin.get (rib_of one peer).routes q) (fin.get (rib_of other peer).routes q)
+  joined-routes : (peer : ℕ) (q : IpPrefix) → fin.get (rib_of joined peer).routes q
+      ≡ option_or (fin.get (rib_of one peer).routes q) (fin.get (rib_of other peer).routes q)
   joined-routes peer q =
       elim (cases_Bool (is_held one.ribs q)) [
         | inl held ↦
@@ -211,7 +233,8 @@ module _ (one other joined : TablesContent) (are : AreParts one other) (is : IsJ
             is.from_one q none peer
             ∙ sym (or_nothing (fin.get (rib_of one peer).routes q))
             ∙ ap (option_or (fin.get (rib_of one peer).routes q)) (sym (held-none other.ribs q none peer))
-        | inr none ↦ is.from_other q none peer ∙ ap (λ o. option_or o (fin.get (rib_of other peer).routes q)) (sym (held-none one.ribs q none peer))
+        | inr none ↦ is.from_other q none peer ∙ ap (λ o. option_or o (fin.get (rib_of other peer).routes q))
+            (sym (held-none one.ribs q none peer))
       ]
 
   -- and nothing that neither has
@@ -231,16 +254,21 @@ module _ (one other joined : TablesContent) (are : AreParts one other) (is : IsJ
     ];
   }
 
-pub way-goes_on : (all : List TablesContent) (merged part joined : TablesContent) (later : List TablesContent) → IsUnderWay all merged (part ∷ later) → IsJoined merged part joined → IsUnderWay all joined later
+pub way-goes_on : (all : List TablesContent) (merged part joined : TablesContent) (later : List TablesContent)
+    → IsUnderWay all merged (part ∷ later) → IsJoined merged part joined → IsUnderWay all joined later
 way-goes_on all merged part joined later way is =
     let are : AreParts merged part = way.pairs.0.0 in
     record {
       pairs = (
-        every_two (AreParts merged) (AreParts part) (AreParts joined) (joined-part merged part joined are is) later way.pairs.0.1 way.pairs.1.0,
+        every_two (AreParts merged) (AreParts part) (AreParts joined) (joined-part merged part joined are is)
+            later way.pairs.0.1 way.pairs.1.0,
         way.pairs.1.1,
       );
-      plan = every (λ (p : TablesContent). merged.plan ≡ p.plan) (λ (p : TablesContent). joined.plan ≡ p.plan) (λ p same. is.plan ∙ same) all way.plan;
-      closed = every (λ p. (peer : ℕ) → (rib_of merged peer).closed ≡ (rib_of p peer).closed) (λ p. (peer : ℕ) → (rib_of joined peer).closed ≡ (rib_of p peer).closed) (λ p same peer. is.closed peer ∙ same peer) all way.closed;
+      plan = every (λ (p : TablesContent). merged.plan ≡ p.plan) (λ (p : TablesContent). joined.plan ≡ p.plan) (λ p same. is.plan ∙ same)
+          all way.plan;
+      closed = every (λ p. (peer : ℕ) → (rib_of merged peer).closed ≡ (rib_of p peer).closed)
+          (λ p. (peer : ℕ) → (rib_of joined peer).closed ≡ (rib_of p peer).closed) (λ p same peer. is.closed peer ∙ same peer)
+          all way.closed;
       routes = λ peer q.
           ap (λ o. option_or o (route_among later peer q)) (joined-routes merged part joined are is peer q)
           ∙ or_assoc (fin.get (rib_of merged peer).routes q) (fin.get (rib_of part peer).routes q) (route_among later peer q)
@@ -249,17 +277,21 @@ way-goes_on all merged part joined later way is =
 
 -- ---- at the end
 
-among-none : (parts : List TablesContent) (q : IpPrefix) → ((other : ℕ) (part : TablesContent) → slice_get parts other ≡ Some part → is_held part.ribs q ≡ false) → (peer : ℕ) → route_among parts peer q ≡ None
+among-none : (parts : List TablesContent) (q : IpPrefix) → ((other : ℕ) (part : TablesContent) → slice_get parts other ≡ Some part
+    → is_held part.ribs q ≡ false) → (peer : ℕ) → route_among parts peer q ≡ None
 among-none [] q none peer = refl
 among-none (part ∷ later) q none peer =
-    ap (λ o. option_or o (route_among later peer q)) (held-none part.ribs q (none zero part refl) peer) ∙ among-none later q (λ other p found. none (suc other) p found) peer
+    ap (λ o. option_or o (route_among later peer q)) (held-none part.ribs q (none zero part refl) peer)
+    ∙ among-none later q (λ other p found. none (suc other) p found) peer
 
-among-one : (parts : List TablesContent) (q : IpPrefix) (place : ℕ) (part : TablesContent) → slice_get parts place ≡ Some part → IsOfPart parts q place →
+among-one : (parts : List TablesContent) (q : IpPrefix) (place : ℕ) (part : TablesContent) → slice_get parts place ≡ Some part
+    → IsOfPart parts q place →
     (peer : ℕ) → route_among parts peer q ≡ fin.get (rib_of part peer).routes q
 among-one [] q place part found alone peer = absurd (cc found)
 among-one (first ∷ later) q zero part found alone peer =
     let same : first ≡ part = cc found in
-    ap (option_or (fin.get (rib_of first peer).routes q)) (among-none later q (λ other p is. alone (suc other) p is (λ e. omega (arith, e))) peer)
+    ap (option_or (fin.get (rib_of first peer).routes q))
+    (among-none later q (λ other p is. alone (suc other) p is (λ e. omega (arith, e))) peer)
     ∙ or_nothing (fin.get (rib_of first peer).routes q)
     ∙ ap (λ tables. fin.get (rib_of tables peer).routes q) same
 among-one (first ∷ later) q (suc place) part found alone peer =
@@ -269,7 +301,9 @@ among-one (first ∷ later) q (suc place) part found alone peer =
 pub way-ends : (all : List TablesContent) (merged : TablesContent) → IsUnderWay all merged [] → IsMerged all merged
 way-ends all merged way = record {
   plan = All-from_recursion (λ (part : TablesContent). merged.plan ≡ part.plan) all way.plan;
-  closed = All-from_recursion (λ (part : TablesContent). (peer : ℕ) → (rib_of merged peer).closed ≡ (rib_of part peer).closed) all way.closed;
+  closed = All-from_recursion (λ (part : TablesContent). (peer : ℕ) → (rib_of merged peer).closed ≡ (rib_of part peer).closed)
+      all way.closed;
   routes = λ prefix place part found alone peer.
-      sym (or_nothing (fin.get (rib_of merged peer).routes prefix)) ∙ way.routes peer prefix ∙ among-one all prefix place part found alone peer;
+      sym (or_nothing (fin.get (rib_of merged peer).routes prefix)) ∙ way.routes peer prefix
+      ∙ among-one all prefix place part found alone peer;
 }

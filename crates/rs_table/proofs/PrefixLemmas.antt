@@ -1,4 +1,5 @@
--- The order of prefixes is total, and tells all prefixes apart: for `join` of cells.rt, LeftLemmas, MergeLemmas, and the lemmas of cells, listing and tables.
+-- The order of prefixes is total, and tells all prefixes apart: for `join` of cells.rt, LeftLemmas, MergeLemmas, and the lemmas of cells,
+-- listing and tables.
 use Rattle.std.proofs.Common.{◌≡◌, true, false, cond, ◌||◌, List, [], ◌∷◌, Option, Some, None, refl, sym, ap, ◌∙◌, inl, inr}
 use Rattle.std.proofs.lemmas.Bool.{cases_Bool}
 use Rattle.std.specs.List.{filter_map, cons_option, list_any}
@@ -40,17 +41,21 @@ same_prefix-itself x = ap is_eq (tied_itself prefix_total x)
 
 -- the entries of some prefixes, each with what f says of it: a look-up finds just that
 pub find-entries : {X : Type 0} (f : IpPrefix → Option X) (q : IpPrefix) (prefixes : List IpPrefix) →
-    find prefix_cmp q (filter_map (λ p. option_map (λ route. (p, route)) (f p)) prefixes) ≡ cond (list_any (same_prefix q) prefixes) (f q) None
+    find prefix_cmp q (filter_map (λ p. option_map (λ route. (p, route)) (f p)) prefixes)
+    ≡ cond (list_any (same_prefix q) prefixes) (f q) None
 find-entries f q [] = refl
 find-entries {X} f q (p ∷ ps) =
     let rest = find-entries f q ps in
-    let at : Option X → Type 0 = λ o. find prefix_cmp q (cons_option (option_map (λ route. (p, route)) o) (filter_map (λ p. option_map (λ route. (p, route)) (f p)) ps))
+    let at : Option X → Type 0 =
+    λ o. find prefix_cmp q (cons_option (option_map (λ route. (p, route)) o)
+    (filter_map (λ p. option_map (λ route. (p, route)) (f p)) ps))
     ≡ cond (same_prefix q p || list_any (same_prefix q) ps) (f q) None in
     elim (cases_Bool (same_prefix q p)) [
       | inl same ↦
           let one : f p ≡ f q = ap f (sym (same_prefix-true q p same)) in
           let step : (o : Option X) → f q ≡ o → at o = elim [
-            | None ↦ λ none. rest ∙ elim (list_any (same_prefix q) ps) as (λ b. cond b (f q) None ≡ cond (same_prefix q p || b) (f q) None) [ true ↦ rw (same) refl | false ↦ rw (same) (sym none) ]
+            | None ↦ λ none. rest ∙ elim (list_any (same_prefix q) ps) as (λ b. cond b (f q) None ≡ cond (same_prefix q p || b) (f q) None)
+                [ true ↦ rw (same) refl | false ↦ rw (same) (sym none) ]
             | Some route ↦ λ some. rw (same) (sym some)
           ] in
           step (f p) (sym one)

@@ -1,4 +1,5 @@
--- What is held of a peer of which no change was taken, and of one of which one change more was taken: for rs_router, rs_shard, rs_floor and rs_glass.
+-- What is held of a peer of which no change was taken, and of one of which one change more was taken: for rs_router, rs_shard, rs_floor and
+-- rs_glass.
 use Rattle.std.proofs.Common.{◌≡◌, ◌∙◌, sym, ap, refl, Bool, true, false, ◌||◌, List, [], ◌∷◌, ◌++◌}
 use Rattle.std.specs.List.{list_any}
 use Rattle.std.specs.FinMap.{empty}
@@ -26,7 +27,8 @@ pub rib_left-more : (changes : List Change) (change : Change) (before after : Ri
     → HasNoClose changes → BecomeBy before.routes change after.routes → after.closed ≡ is_close change
     → after ≡ rib_left (changes ++ change ∷ [])
 rib_left-more changes change before after held unclosed become closed =
-    let routes : after.routes ≡ left (changes ++ change ∷ []) = sym (become changes unclosed (sym (ap (λ (rib : RibContent). rib.routes) held))) in
+    let routes : after.routes ≡ left (changes ++ change ∷ []) =
+    sym (become changes unclosed (sym (ap (λ (rib : RibContent). rib.routes) held))) in
     let closes : after.closed ≡ list_any is_close (changes ++ change ∷ []) = closed ∙ sym (any-one_more is_close changes change unclosed) in
     ap (λ (rs : Routes). let rib : RibContent = record { routes = rs; closed = after.closed } in rib) routes
     ∙ ap (λ (b : Bool). let rib : RibContent = record { routes = left (changes ++ change ∷ []); closed = b } in rib) closes

@@ -116,5 +116,6 @@ StrongestIsFound =
     → strength (handling_behind before item) ≤ strength (strongest_in section))
     × (strength (handling_of_rest (rest_of section)) ≤ strength (strongest_in section))
     × (IsFirstAsked (items_of section) (strongest_in section)
-    ⊎ (AskForLess (items_of section) (strongest_in section) × (handling_of_rest (rest_of section) ≡ strongest_in section))
+    ⊎ (AskForLess (items_of section) (strongest_in section)
+    × (handling_of_rest (rest_of section) ≡ strongest_in section))
     ⊎ (strongest_in section ≡ Keep))

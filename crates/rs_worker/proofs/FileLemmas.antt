@@ -12,7 +12,8 @@ use Rattle.rs_worker.specs.declared.work.WorkerEnd.{WorkerEnd}
 use Rattle.rs_session.proofs.StageLemmas.{says_just-file}
 
 -- what is sent of a session is sent of any other that may give the same
-has_worked-given : (may other : MayGive) → ((changes : List Change) (passed : ℕ) → may changes passed → other changes passed) → (ring : Ring) (end : WorkerEnd) → HasWorked may ring end → HasWorked other ring end
+has_worked-given : (may other : MayGive) → ((changes : List Change) (passed : ℕ) → may changes passed → other changes passed)
+    → (ring : Ring) (end : WorkerEnd) → HasWorked may ring end → HasWorked other ring end
 has_worked-given may other gives ring end h = record {
   sent = h.sent;
   sends = record {
@@ -37,6 +38,10 @@ has_worked-given may other gives ring end h = record {
 }
 
 -- only the changes of the file may come
-pub has_worked-file : (peer : PeerId) (file : List ℕ) (ring : Ring) (end : WorkerEnd) → HasWorked (May (λ s later end. IsLeft s later end) (λ s. s.shown) (fresh (reading_of None file) peer default_standard)) ring end → HasWorked (just (changes_in peer file) (passed_in peer file)) ring end
+pub has_worked-file : (peer : PeerId) (file : List ℕ) (ring : Ring) (end : WorkerEnd)
+    → HasWorked (May (λ s later end. IsLeft s later end) (λ s. s.shown) (fresh (reading_of None file) peer default_standard)) ring end
+    → HasWorked (just (changes_in peer file) (passed_in peer file)) ring end
 has_worked-file peer file ring end h =
-    has_worked-given (May (λ s later end. IsLeft s later end) (λ s. s.shown) (fresh (reading_of None file) peer default_standard)) (just (changes_in peer file) (passed_in peer file)) (λ changes passed m. (says_just-file default_standard peer file changes passed).0 m) ring end h
+    has_worked-given (May (λ s later end. IsLeft s later end) (λ s. s.shown) (fresh (reading_of None file) peer default_standard))
+    (just (changes_in peer file) (passed_in peer file))
+    (λ changes passed m. (says_just-file default_standard peer file changes passed).0 m) ring end h

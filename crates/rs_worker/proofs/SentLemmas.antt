@@ -20,7 +20,10 @@ word_closes word reason e = ap (λ (body : Body). record { time = word.time; bod
 
 module _ {S : Type 0} (comes : Comes S) (shows : S → Option MrtRecord) where
   -- the last change follows what was sent before
-  pub sent-closes : (first old new : Stage S) (before : List Word) (word : Word) (reason : Reason) → ((changes : List Change) (passed : ℕ) → May comes shows old changes passed → May comes shows first (map change_of before ++ changes) passed) → closes_any before ≡ false → reason_of word.body ≡ Some reason → Ends comes shows old new word reason → HasSent (May comes shows first) (before ++ word ∷ []) reason new.passed
+  pub sent-closes : (first old new : Stage S) (before : List Word) (word : Word) (reason : Reason)
+      → ((changes : List Change) (passed : ℕ) → May comes shows old changes passed
+      → May comes shows first (map change_of before ++ changes) passed) → closes_any before ≡ false → reason_of word.body ≡ Some reason
+      → Ends comes shows old new word reason → HasSent (May comes shows first) (before ++ word ∷ []) reason new.passed
   sent-closes first old new before word reason begun open_yet closing ends = record {
     before = before;
     time = word.time;

@@ -1,6 +1,7 @@
 -- The routes that stand at some places of a list, and the choice among them by neighbour groups.
 -- For clients.rt, `choose_by_groups` of decision.rt, and entrants.rt.
-use Rattle.std.proofs.Common.{◌≡◌, ◌∙◌, sym, ap, refl, ℕ, suc, zero, ◌+◌, ◌<◌, arith, inl, inr, List, [], ◌∷◌, ◌++◌, length, map, take, get_or, Option, Some}
+use Rattle.std.proofs.Common.{◌≡◌, ◌∙◌, sym, ap, refl, ℕ, suc, zero, ◌+◌, ◌<◌, arith, inl, inr, List, [], ◌∷◌, ◌++◌, length, map, take}
+use Rattle.std.proofs.Common.{get_or, Option, Some}
 use Rattle.std.specs.Prelude.{slice_get}
 use Rattle.std.specs.Option.{option_map}
 use Rattle.std.proofs.lemmas.List.{map-append, take_more}
@@ -29,7 +30,8 @@ pub chosen_length : (held : List HeldRoute) (places : List ℕ) → ArePlaces he
 chosen_length held [] all = refl
 chosen_length held (place ∷ places) all =
     let found = some_at held place (all 0 0 (omega arith)) in
-    ap length (chosen_first held place places found.0 found.1) ∙ ap suc (chosen_length held places (All-tail (λ place. place < length held) place places all))
+    ap length (chosen_first held place places found.0 found.1)
+    ∙ ap suc (chosen_length held places (All-tail (λ place. place < length held) place places all))
 
 pub chosen_at : (held : List HeldRoute) (places : List ℕ) → ArePlaces held places → (i place : ℕ) → slice_get places i ≡ Some place →
     slice_get (chosen_of held places) i ≡ slice_get held place
@@ -46,9 +48,11 @@ chosen_at held (first ∷ places) all (suc i) place at =
 -- one more place gives one more route
 pub chosen_push : (held : List HeldRoute) (places : List ℕ) (place : ℕ) (one : HeldRoute) → slice_get held place ≡ Some one →
     chosen_of held (places ++ place ∷ []) ≡ chosen_of held places ++ one ∷ []
-chosen_push held places place one at = filter_map-append (slice_get held) places (place ∷ []) ∙ ap (λ list. chosen_of held places ++ list) (chosen_first held place [] one at)
+chosen_push held places place one at =
+    filter_map-append (slice_get held) places (place ∷ []) ∙ ap (λ list. chosen_of held places ++ list) (chosen_first held place [] one at)
 
-pub within_at : (held : List HeldRoute) (places : List ℕ) → ArePlaces held places → (i place : ℕ) → slice_get places i ≡ Some place → place < length held
+pub within_at : (held : List HeldRoute) (places : List ℕ) → ArePlaces held places → (i place : ℕ) → slice_get places i ≡ Some place
+    → place < length held
 within_at held places all i place at =
     let within = slice_get_within places i place at in
     let is = get_or_from_slice_get places i place 0 at in
@@ -62,14 +66,18 @@ take_one_more xs i x at = take_more xs i x (slice_get_within xs i x at) ∙ ap (
 
 pub sents_push : (held : List HeldRoute) (places : List ℕ) (place : ℕ) (one : HeldRoute) → slice_get held place ≡ Some one →
     sents_at held (places ++ place ∷ []) ≡ sents_at held places ++ sent_of_held one ∷ []
-sents_push held places place one at = ap (map sent_of_held) (chosen_push held places place one at) ∙ map-append sent_of_held (chosen_of held places) (one ∷ [])
+sents_push held places place one at =
+    ap (map sent_of_held) (chosen_push held places place one at) ∙ map-append sent_of_held (chosen_of held places) (one ∷ [])
 
-pub sents_more : (held : List HeldRoute) (places : List ℕ) (i place : ℕ) (one : HeldRoute) → slice_get places i ≡ Some place → slice_get held place ≡ Some one →
+pub sents_more : (held : List HeldRoute) (places : List ℕ) (i place : ℕ) (one : HeldRoute) → slice_get places i ≡ Some place
+    → slice_get held place ≡ Some one →
     sents_at held (take (i + 1) places) ≡ sents_at held (take i places) ++ sent_of_held one ∷ []
-sents_more held places i place one at_places at = ap (sents_at held) (take_one_more places i place at_places) ∙ sents_push held (take i places) place one at
+sents_more held places i place one at_places at =
+    ap (sents_at held) (take_one_more places i place at_places) ∙ sents_push held (take i places) place one at
 
 -- who stands at one of the places is one of the chosen
-pub mem_chosen : (held : List HeldRoute) (places : List ℕ) → ArePlaces held places → (place : ℕ) (one : HeldRoute) → Mem places place → slice_get held place ≡ Some one →
+pub mem_chosen : (held : List HeldRoute) (places : List ℕ) → ArePlaces held places → (place : ℕ) (one : HeldRoute) → Mem places place
+    → slice_get held place ≡ Some one →
     Mem (chosen_of held places) one
 mem_chosen held [] all place one h at = absurd h
 mem_chosen held (first ∷ places) all place one (inl same) at =
@@ -77,7 +85,8 @@ mem_chosen held (first ∷ places) all place one (inl same) at =
     rw (chosen_first held first places one at_first) (inl refl)
 mem_chosen held (first ∷ places) all place one (inr h) at =
     let found = some_at held first (all 0 0 (omega arith)) in
-    rw (chosen_first held first places found.0 found.1) (inr (mem_chosen held places (All-tail (λ place. place < length held) first places all) place one h at))
+    rw (chosen_first held first places found.0 found.1) (inr
+    (mem_chosen held places (All-tail (λ place. place < length held) first places all) place one h at))
 
 -- the first of the groups of all members stands at the place of the choice
 pub place_by_groups : {M : Type 0} (standing : M → Standing) (set : List M) (groups : List Group) (first : Option Placed) →
@@ -89,8 +98,10 @@ place_by_groups standing set groups first are is =
 
 -- the peer of the route at the place of the choice is the choice's
 pub peer_of_choice : (plan : Plan) (held : List HeldRoute) (place : Option ℕ) → place_of_choice (standing_of_held plan) held ≡ place →
-    option_map (λ (one : HeldRoute). one.peer) (member_at held place) ≡ option_map (λ (sent : SentRoute). sent.peer) (choice (standing_of plan) (map sent_of_held held))
+    option_map (λ (one : HeldRoute). one.peer) (member_at held place)
+    ≡ option_map (λ (sent : SentRoute). sent.peer) (choice (standing_of plan) (map sent_of_held held))
 peer_of_choice plan held place is =
     ap (λ place. option_map (λ (one : HeldRoute). one.peer) (member_at held place)) (sym is)
     ∙ ap (option_map (λ (one : HeldRoute). one.peer)) (member_at-place_of_choice (standing_of_held plan) held)
-    ∙ sym (ap (option_map (λ (sent : SentRoute). sent.peer)) (choice-map sent_of_held (standing_of plan) held) ∙ option_map-option_map sent_of_held (λ (sent : SentRoute). sent.peer) (choice (standing_of_held plan) held))
+    ∙ sym (ap (option_map (λ (sent : SentRoute). sent.peer)) (choice-map sent_of_held (standing_of plan) held)
+    ∙ option_map-option_map sent_of_held (λ (sent : SentRoute). sent.peer) (choice (standing_of_held plan) held))

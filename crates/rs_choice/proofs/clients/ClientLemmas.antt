@@ -1,6 +1,7 @@
 -- What is shared of the decisions of all clients, from the groups of the eligible routes: for `share` and `chosen_peer` of clients.rt;
 -- and the places of the eligible routes, for `choose_for_all` and `common`.
-use Rattle.std.proofs.Common.{◌≡◌, ◌∙◌, sym, ap, subst, refl, ℕ, ◌<◌, arith, Bool, true, cond, List, [], ◌∷◌, length, map, get_or, Option, Some, None}
+use Rattle.std.proofs.Common.{◌≡◌, ◌∙◌, sym, ap, subst, refl, ℕ, ◌<◌, arith, Bool, true, cond, List, [], ◌∷◌, length, map, get_or, Option}
+use Rattle.std.proofs.Common.{Some, None}
 use Rattle.std.specs.Prelude.{slice_get, filter, IfSome}
 use Rattle.std.specs.List.{All, Contains}
 use Rattle.std.specs.Option.{option_map, MatchOption}
@@ -34,16 +35,19 @@ view_length plan held places all = length-map (chosen_of held places) (standing_
 
 -- the eligible routes, by what is held of each one
 eligible_alike : (plan : Plan) (held : List HeldRoute) → All (IsJudged plan) held →
-    filter (λ (one : HeldRoute). is_candidate one.candidacy) held ≡ filter (λ (one : HeldRoute). is_eligible plan one.peer one.attributes.value) held
+    filter (λ (one : HeldRoute). is_candidate one.candidacy) held
+    ≡ filter (λ (one : HeldRoute). is_eligible plan one.peer one.attributes.value) held
 eligible_alike plan [] all = refl
 eligible_alike plan (one ∷ later) all =
     let judged = all 0 one (omega arith) in
     let rest = eligible_alike plan later (All-tail (IsJudged plan) one later all) in
-    ap (λ b. cond b (one ∷ filter (λ (one : HeldRoute). is_candidate one.candidacy) later) (filter (λ (one : HeldRoute). is_candidate one.candidacy) later)) judged.eligible
+    ap (λ b. cond b (one ∷ filter (λ (one : HeldRoute). is_candidate one.candidacy) later)
+    (filter (λ (one : HeldRoute). is_candidate one.candidacy) later)) judged.eligible
     ∙ ap (λ list. cond (is_eligible plan one.peer one.attributes.value) (one ∷ list) list) rest
 
 pub eligible_sents : (plan : Plan) (held : List HeldRoute) (places : List ℕ) → All (IsJudged plan) held →
-    chosen_of held places ≡ filter (λ (one : HeldRoute). is_candidate one.candidacy) held → sents_at held places ≡ eligible_among plan (map sent_of_held held)
+    chosen_of held places ≡ filter (λ (one : HeldRoute). is_candidate one.candidacy) held
+    → sents_at held places ≡ eligible_among plan (map sent_of_held held)
 eligible_sents plan held places all is =
     ap (map sent_of_held) (is ∙ eligible_alike plan held all)
     ∙ sym (filter-map sent_of_held (λ (sent : SentRoute). is_eligible plan sent.peer sent.attributes) held)
@@ -60,22 +64,26 @@ filter_twice p (x ∷ xs) = cond_both (p x) (x ∷ filter p xs) (filter p xs) (�
 
 -- the candidates of each client are among the eligible routes
 pub eligible_hold : (plan : Plan) (held : List HeldRoute) (places : List ℕ) → All (IsJudged plan) held → ArePlaces held places →
-    chosen_of held places ≡ filter (λ (one : HeldRoute). is_candidate one.candidacy) held → (client : ℕ) → HoldCandidates plan client held places
+    chosen_of held places ≡ filter (λ (one : HeldRoute). is_candidate one.candidacy) held → (client : ℕ)
+    → HoldCandidates plan client held places
 eligible_hold plan held places judged within is client =
     let same = eligible_sents plan held places judged is in
     record {
       within = within;
       eligible = subst (AreEligible plan) (sym same) (eligible_all plan (map sent_of_held held));
       same = ap (candidates_among plan client) same
-          ∙ ap (filter (is_sent_to plan client)) (filter_twice (λ (sent : SentRoute). is_eligible plan sent.peer sent.attributes) (map sent_of_held held));
+          ∙ ap (filter (is_sent_to plan client)) (filter_twice (λ (sent : SentRoute). is_eligible plan sent.peer sent.attributes)
+          (map sent_of_held held));
     }
 
 -- what holds of what was found, and of what is put where nothing was, holds of what is there then
-pub there : {X : Type 0} {Q : Type 0} (P : X → Type 0) (found : Option X) (one : X) → MatchOption found Q (λ x. one ≡ x) → (Q → P one) → IfSome found P → P one
+pub there : {X : Type 0} {Q : Type 0} (P : X → Type 0) (found : Option X) (one : X) → MatchOption found Q (λ x. one ≡ x) → (Q → P one)
+    → IfSome found P → P one
 there P None one put holds found = holds put
 there P (Some x) one same holds found = subst P (sym same) found
 
-pub weighing_places : (held : List HeldRoute) (eligible weighing : List ℕ) → ArePlaces held eligible → All (λ place. Contains eligible place) weighing → ArePlaces held weighing
+pub weighing_places : (held : List HeldRoute) (eligible weighing : List ℕ) → ArePlaces held eligible
+    → All (λ place. Contains eligible place) weighing → ArePlaces held weighing
 weighing_places held eligible weighing all among k d within =
     let found = among k d within in
     let below = all found.0 (get_or weighing k d) found.1 in
@@ -89,23 +97,33 @@ module _ (plan : Plan) (held : List HeldRoute) (places : List ℕ) (groups : Lis
   view = map (standing_of_held plan) chosen
 
   -- all groups, and the first of them, stand at places of the list
-  pub groups_within : ArePlaces held places → AreGroups (standing_in view) (length view) groups → All (λ group. group.place < length places) groups
+  pub groups_within : ArePlaces held places → AreGroups (standing_in view) (length view) groups
+      → All (λ group. group.place < length places) groups
   groups_within all are k d within =
-      omega (arith, place_within (standing_in view) (length view) groups are k (get_or groups k d) (slice_get-get_or groups k d within), view_length plan held places all)
+      omega (
+        arith,
+        place_within (standing_in view) (length view) groups are k (get_or groups k d) (slice_get-get_or groups k d within),
+        view_length plan held places all,
+      )
 
-  pub first_within : (n : ℕ) (first : Option Placed) → ArePlaces held places → AreGroups (standing_in view) (length view) groups → IsFirstOf (standing_in view) (places_of groups) n first →
+  pub first_within : (n : ℕ) (first : Option Placed) → ArePlaces held places → AreGroups (standing_in view) (length view) groups
+      → IsFirstOf (standing_in view) (places_of groups) n first →
       IfSome first (λ first. first.place < length places)
   first_within n None all are is = tt
   first_within n (Some first) all are is = omega (arith, are.grouping.within is.0.0 first.place is.0.1, view_length plan held places all)
 
   -- the peer of the first of the groups is the choice's
-  pub chosen_is : (first : Option Placed) → AreGroups (standing_in view) (length view) groups → IsFirstOf (standing_in view) (places_of groups) (length (places_of groups)) first →
+  pub chosen_is : (first : Option Placed) → AreGroups (standing_in view) (length view) groups
+      → IsFirstOf (standing_in view) (places_of groups) (length (places_of groups)) first →
       option_map (λ (one : HeldRoute). one.peer) (member_at chosen (option_map (λ (first : Placed). first.place) first))
       ≡ option_map (λ (sent : SentRoute). sent.peer) (choice (standing_of plan) (sents_at held places))
-  chosen_is first are is = peer_of_choice plan chosen (option_map (λ first. first.place) first) (place_by_groups (standing_of_held plan) chosen groups first are is)
+  chosen_is first are is =
+      peer_of_choice plan chosen (option_map (λ first. first.place) first)
+      (place_by_groups (standing_of_held plan) chosen groups first are is)
 
   -- without a group there is no entrant
-  no_entrant : AreGroups (standing_in view) (length view) groups → length (places_of groups) ≡ 0 → (xs : List HeldRoute) → length xs ≡ length view → xs ≡ []
+  no_entrant : AreGroups (standing_in view) (length view) groups → length (places_of groups) ≡ 0 → (xs : List HeldRoute)
+      → length xs ≡ length view → xs ≡ []
   no_entrant are none [] same = refl
   no_entrant are none (x ∷ xs) same =
       let found = are.grouping.all 0 (omega (arith, same)) in
@@ -113,9 +131,11 @@ module _ (plan : Plan) (held : List HeldRoute) (places : List ℕ) (groups : Lis
       absurd (omega (arith, within, none))
 
   -- the choice among the chosen stays while those that have a weight stay
-  settled : (first : Option Placed) → AreGroups (standing_in view) (length view) groups → IsFirstOf (standing_in view) (places_of groups) (length (places_of groups)) first →
+  settled : (first : Option Placed) → AreGroups (standing_in view) (length view) groups
+      → IsFirstOf (standing_in view) (places_of groups) (length (places_of groups)) first →
       (kept : HeldRoute → Bool) →
-      ((i : ℕ) (group : Group) (one : HeldRoute) → slice_get groups i ≡ Some group → Weighs group first → slice_get chosen group.place ≡ Some one → kept one ≡ true) →
+      ((i : ℕ) (group : Group) (one : HeldRoute) → slice_get groups i ≡ Some group → Weighs group first
+      → slice_get chosen group.place ≡ Some one → kept one ≡ true) →
       choice (standing_of_held plan) (filter kept chosen) ≡ choice (standing_of_held plan) chosen
   settled None are none kept keeps =
       let empty = no_entrant are none chosen (sym (length-map chosen (standing_of_held plan))) in
@@ -127,7 +147,8 @@ module _ (plan : Plan) (held : List HeldRoute) (places : List ℕ) (groups : Lis
       (let found = group_at groups is.0.0 first.place is.0.1 in (is.0.0, found.0, found.1, found.2))
       kept keeps
 
-  rests_by : (kept : SentRoute → Bool) → choice (standing_of_held plan) (filter (λ one. kept (sent_of_held one)) chosen) ≡ choice (standing_of_held plan) chosen →
+  rests_by : (kept : SentRoute → Bool) → choice (standing_of_held plan) (filter (λ one. kept (sent_of_held one)) chosen)
+      ≡ choice (standing_of_held plan) chosen →
       choice (standing_of plan) (filter kept (sents_at held places)) ≡ choice (standing_of plan) (sents_at held places)
   rests_by kept same =
       ap (choice (standing_of plan)) (filter-map sent_of_held kept chosen)
@@ -136,7 +157,8 @@ module _ (plan : Plan) (held : List HeldRoute) (places : List ℕ) (groups : Lis
       ∙ sym (choice-map sent_of_held (standing_of plan) chosen)
 
   pub rests : (first : Option Placed) (weighing : List ℕ) → ArePlaces held places → ArePlaces held weighing →
-      AreGroups (standing_in view) (length view) groups → IsFirstOf (standing_in view) (places_of groups) (length (places_of groups)) first →
+      AreGroups (standing_in view) (length view) groups → IsFirstOf (standing_in view) (places_of groups) (length (places_of groups)) first
+      →
       AreWeighing places groups first weighing → RestsOn plan (sents_at held places) (sents_at held weighing)
   rests first weighing all all_weighing are is weigh kept keeps =
       rests_by kept (settled first are is (λ one. kept (sent_of_held one)) (λ i group one at weighs at_one.
@@ -147,4 +169,5 @@ module _ (plan : Plan) (held : List HeldRoute) (places : List ℕ) (groups : Lis
       let at_held : slice_get held place ≡ Some one = sym (chosen_at held places all group.place place at_place) ∙ at_one in
       let weighed = contains-mem weighing place (weigh.all i group at weighs place at_place) in
       keeps (sent_of_held one)
-      (mem-contains (sents_at held weighing) (sent_of_held one) (mem_map sent_of_held (chosen_of held weighing) one (mem_chosen held weighing all_weighing place one weighed at_held)))))
+      (mem-contains (sents_at held weighing) (sent_of_held one)
+      (mem_map sent_of_held (chosen_of held weighing) one (mem_chosen held weighing all_weighing place one weighed at_held)))))

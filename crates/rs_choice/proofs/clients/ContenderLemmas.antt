@@ -38,23 +38,28 @@ module _ (plan : Plan) (client : ℕ) (routes : List SentRoute) (one : SentRoute
       candidates_among plan client (routes ++ one ∷ []) ≡ candidates_among plan client routes ++ one ∷ []
   with_candidate = candidates_with is_fit (is_sent_to plan client) routes [] one
 
-  pub without_candidate : (is_fit one ≡ false) ⊎ (is_sent_to plan client one ≡ false) → candidates_among plan client (routes ++ one ∷ []) ≡ candidates_among plan client routes
-  without_candidate fails = no_candidate is_fit (is_sent_to plan client) routes [] one fails ∙ ap (candidates_among plan client) (append-nil routes)
+  pub without_candidate : (is_fit one ≡ false) ⊎ (is_sent_to plan client one ≡ false)
+      → candidates_among plan client (routes ++ one ∷ []) ≡ candidates_among plan client routes
+  without_candidate fails =
+      no_candidate is_fit (is_sent_to plan client) routes [] one fails ∙ ap (candidates_among plan client) (append-nil routes)
 
   module _ (some : List SentRoute) (same : ChooseSame plan some (candidates_among plan client routes)) where
-    as_before : (is_fit one ≡ false) ⊎ (is_sent_to plan client one ≡ false) → ChooseSame plan some (candidates_among plan client (routes ++ one ∷ []))
+    as_before : (is_fit one ≡ false) ⊎ (is_sent_to plan client one ≡ false)
+        → ChooseSame plan some (candidates_among plan client (routes ++ one ∷ []))
     as_before fails later = same later ∙ sym (ap (λ list. choice (standing_of plan) (list ++ later)) (without_candidate fails))
 
     -- what a list with a candidate more is, whatever comes after it
     with_later : is_fit one ≡ true → is_sent_to plan client one ≡ true → (later : List SentRoute) →
-        choice (standing_of plan) (some ++ one ∷ later) ≡ choice (standing_of plan) (candidates_among plan client (routes ++ one ∷ []) ++ later)
+        choice (standing_of plan) (some ++ one ∷ later) ≡ choice (standing_of plan)
+        (candidates_among plan client (routes ++ one ∷ []) ++ later)
     with_later eligible permitted later =
         same (one ∷ later)
         ∙ sym (ap (choice (standing_of plan)) (append_assoc (candidates_among plan client routes) (one ∷ []) later))
         ∙ sym (ap (λ list. choice (standing_of plan) (list ++ later)) (with_candidate eligible permitted))
 
     -- a candidate is taken
-    pub with_one : is_fit one ≡ true → is_sent_to plan client one ≡ true → ChooseSame plan (some ++ one ∷ []) (candidates_among plan client (routes ++ one ∷ []))
+    pub with_one : is_fit one ≡ true → is_sent_to plan client one ≡ true
+        → ChooseSame plan (some ++ one ∷ []) (candidates_among plan client (routes ++ one ∷ []))
     with_one eligible permitted later =
         ap (choice (standing_of plan)) (append_assoc some (one ∷ []) later) ∙ with_later eligible permitted later
 
@@ -66,12 +71,14 @@ module _ (plan : Plan) (client : ℕ) (routes : List SentRoute) (one : SentRoute
       | inl eligible ↦ elim (cases_Bool (is_sent_to plan client one)) [
         | inr refused ↦ as_before (inr refused)
         | inl permitted ↦ λ later.
-            sym (outdone (standing_of plan) some later one other (mem-append_left some later other member) outdoes) ∙ with_later eligible permitted later
+            sym (outdone (standing_of plan) some later one other (mem-append_left some later other member) outdoes)
+            ∙ with_later eligible permitted later
       ]
     ]
 
     -- one that doesn't contend is left out
-    pub without_one : (last : Option Standing) → HasLast plan some last → Contends plan client one last None → ChooseSame plan some (candidates_among plan client (routes ++ one ∷ []))
+    pub without_one : (last : Option Standing) → HasLast plan some last → Contends plan client one last None
+        → ChooseSame plan some (candidates_among plan client (routes ++ one ∷ []))
     without_one last has (inl refused) = as_before (inr refused)
     without_one None has (inr outdone) = absurd outdone
     without_one (Some standing) has (inr outdoes) =
@@ -79,10 +86,13 @@ module _ (plan : Plan) (client : ℕ) (routes : List SentRoute) (one : SentRoute
 
 -- a route at one of the places among which candidates are is eligible
 pub eligible_at : (plan : Plan) (client : ℕ) (held : List HeldRoute) (places : List ℕ) → HoldCandidates plan client held places →
-    (i place : ℕ) (one : HeldRoute) → slice_get places i ≡ Some place → slice_get held place ≡ Some one → is_eligible plan one.peer one.attributes.value ≡ true
+    (i place : ℕ) (one : HeldRoute) → slice_get places i ≡ Some place → slice_get held place ≡ Some one
+    → is_eligible plan one.peer one.attributes.value ≡ true
 eligible_at plan client held places among i place one at_places at =
     let sents = sents_at held places in
     let sent : slice_get sents i ≡ Some (sent_of_held one) =
-    slice_get-map sent_of_held (chosen_of held places) i ∙ ap (option_map sent_of_held) (chosen_at held places among.within i place at_places ∙ at) in
-    subst (λ (sent : SentRoute). is_eligible plan sent.peer sent.attributes ≡ true) (get_or_from_slice_get sents i (sent_of_held one) (sent_of_held one) sent)
+    slice_get-map sent_of_held (chosen_of held places) i ∙ ap (option_map sent_of_held)
+    (chosen_at held places among.within i place at_places ∙ at) in
+    subst (λ (sent : SentRoute). is_eligible plan sent.peer sent.attributes ≡ true)
+    (get_or_from_slice_get sents i (sent_of_held one) (sent_of_held one) sent)
     (among.eligible i (sent_of_held one) (slice_get_within sents i (sent_of_held one) sent))

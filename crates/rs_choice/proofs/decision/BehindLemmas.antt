@@ -1,7 +1,8 @@
 -- A candidate that the first three steps remove is of no matter to the choice, nor is one that another of its neighbour AS outdoes, nor a
 -- route that is no candidate.
 -- For `those_behind_are_no_matter` of laws.rt, ContenderLemmas and StayLemmas.
-use Rattle.std.proofs.Common.{◌≡◌, ◌∙◌, sym, ap, refl, arith, ℕ, ◌<◌, Bool, true, false, cond, not, ◌⊎◌, inl, inr, List, [], ◌∷◌, ◌++◌, subst, Option}
+use Rattle.std.proofs.Common.{◌≡◌, ◌∙◌, sym, ap, refl, arith, ℕ, ◌<◌, Bool, true, false, cond, not, ◌⊎◌, inl, inr, List, [], ◌∷◌, ◌++◌}
+use Rattle.std.proofs.Common.{subst, Option}
 use Rattle.std.specs.Prelude.{◌==◌, nat_lt, filter, ◌||◌, ◌&&◌}
 use Rattle.std.specs.Bool.{Decides}
 use Rattle.std.specs.List.{list_any}
@@ -43,8 +44,10 @@ equal a b = (a == b, Decides-eqb a b)
 
 pub is_ahead : (one other : Standing) → Test (IsAhead one other)
 is_ahead one other =
-    either (either (below other.preference one.preference) (both (equal one.preference other.preference) (below one.path_length other.path_length)))
-    (both (both (equal one.preference other.preference) (equal one.path_length other.path_length)) (below (origin_code one.origin) (origin_code other.origin)))
+    either (either (below other.preference one.preference)
+    (both (equal one.preference other.preference) (below one.path_length other.path_length)))
+    (both (both (equal one.preference other.preference) (equal one.path_length other.path_length))
+    (below (origin_code one.origin) (origin_code other.origin)))
 
 precedes : (one other : Standing) → Test (Precedes one other)
 precedes one other = either (below one.id other.id) (both (equal one.id other.id) (below one.address other.address))
@@ -56,7 +59,8 @@ outdoes_by_med one other =
 
 is_level : (one other : Standing) → Test (IsLevel one other)
 is_level one other =
-    let parts = both (equal one.preference other.preference) (both (equal one.path_length other.path_length) (equal (origin_code one.origin) (origin_code other.origin))) in
+    let parts = both (equal one.preference other.preference)
+    (both (equal one.path_length other.path_length) (equal (origin_code one.origin) (origin_code other.origin))) in
     (parts.0, Decides-like parts.0 (λ h. (h.0, h.1.0, h.1.1)) (λ h. (h.0, (h.1, h.2))) parts.1)
 
 outdoes : (one other : Standing) → Test (Outdoes one other)
@@ -109,7 +113,8 @@ module _ {M : Type 0} (standing : M → Standing) where
   reaching set = same3 standing set
 
   -- who is chosen isn't outdone
-  chosen_is_kept : (set : List M) (other chosen : M) → Mem set other → Left standing (Mem set) chosen → Outdoes (standing other) (standing chosen) → ⊥
+  chosen_is_kept : (set : List M) (other chosen : M) → Mem set other → Left standing (Mem set) chosen
+      → Outdoes (standing other) (standing chosen) → ⊥
   chosen_is_kept set other chosen member left (inl ahead) = left.member.best other member (inl ahead)
   chosen_is_kept set other chosen member left (inr (level, inl lower)) = left.member.best other member (inr (level, lower))
   chosen_is_kept set other chosen member left (inr (level, inr (med, before))) =
@@ -121,13 +126,15 @@ module _ {M : Type 0} (standing : M → Standing) where
       before
 
   -- whom one that is outdone removes by MED, the other one removes too
-  removed_too : (set : List M) (other third one : M) → Mem set other → Mem (reaching_med standing set) third → Outdoes (standing other) (standing third) →
+  removed_too : (set : List M) (other third one : M) → Mem set other → Mem (reaching_med standing set) third
+      → Outdoes (standing other) (standing third) →
       HasLowerMed (standing third) (standing one) → Mem (reaching_med standing set) other × HasLowerMed (standing other) (standing one)
   removed_too set other third one member reached (inl ahead) lower = absurd (((reaching set).to third reached).best other member ahead)
   removed_too set other third one member reached (inr (level, by_med)) lower = (
     (reaching set).from other (record {
       member = member;
-      best = λ w k ahead. ((reaching set).to third reached).best w k (follows_level (standing w) (standing other) (standing third) level ahead);
+      best = λ w k ahead. ((reaching set).to third reached).best w k
+          (follows_level (standing w) (standing other) (standing third) level ahead);
     }),
     elim by_med [
       | inl less ↦ (less.0 ∙ lower.0, omega (arith, less.1, lower.1))
@@ -140,7 +147,8 @@ module _ {M : Type 0} (standing : M → Standing) where
       let found = some_choice standing set other member in
       choice_stays standing set (is_kept other) found.0 found.1
       (kept other found.0 (chosen_is_kept set other found.0 member found.2))
-      (λ one third one_member stays third_member beaten. by_kept one third (outdoes (standing other) (standing third)).0 refl third_member beaten)
+      (λ one third one_member stays third_member beaten. by_kept one third
+      (outdoes (standing other) (standing third)).0 refl third_member beaten)
       ∙ sym found.1
     where
       by_kept : (one third : M) (b : Bool) → (outdoes (standing other) (standing third)).0 ≡ b → Mem (reaching_med standing set) third →
@@ -148,14 +156,20 @@ module _ {M : Type 0} (standing : M → Standing) where
           (x : M) × Mem (reaching_med standing set) x × (is_kept other x ≡ true) × (beats steps.Med (standing x) (standing one) ≡ true)
       by_kept one third false e reached beaten = (third, reached, ap not e, beaten)
       by_kept one third true e reached beaten =
-          let also = removed_too set other third one member reached ((outdoes (standing other) (standing third)).1.0 e) ((beats_tells steps.Med (standing third) (standing one)).0 beaten) in
-          (other, also.0, kept other other (does_not_outdo_itself (standing other)), (beats_tells steps.Med (standing other) (standing one)).1 also.1)
+          let also = removed_too set other third one member reached ((outdoes (standing other) (standing third)).1.0 e)
+          ((beats_tells steps.Med (standing third) (standing one)).0 beaten) in (
+            other,
+            also.0,
+            kept other other (does_not_outdo_itself (standing other)),
+            (beats_tells steps.Med (standing other) (standing one)).1 also.1,
+          )
 
   pub outdone : (before after : List M) (one other : M) → Mem (before ++ after) other → Outdoes (standing other) (standing one) →
       choice standing (before ++ one ∷ after) ≡ choice standing (before ++ after)
   outdone before after one other member behind =
       sym (without_outdone (before ++ one ∷ after) other (mem_more before after one other member))
-      ∙ ap (choice standing) (filter_without (is_kept other) before after one (ap not ((outdoes (standing other) (standing one)).1.1 behind)))
+      ∙ ap (choice standing) (filter_without (is_kept other) before after one
+      (ap not ((outdoes (standing other) (standing one)).1.1 behind)))
       ∙ without_outdone (before ++ after) other member
 
   pub behind : (before after : List M) (one other : M) → Mem (before ++ after) other → IsAhead (standing other) (standing one) →
@@ -229,10 +243,12 @@ outdone_candidate standing p q before after one other among eligible permitted o
   | inl one_eligible ↦ elim (cases_Bool (q one)) [
     | inr fails ↦ ap (choice standing) (no_candidate p q before after one (inr fails))
     | inl one_permitted ↦
-        let candidate = mem_of-filter q (filter p (before ++ after)) other permitted (mem_of-filter p (before ++ after) other eligible among) in
+        let candidate =
+        mem_of-filter q (filter p (before ++ after)) other permitted (mem_of-filter p (before ++ after) other eligible among) in
         let apart = candidates_apart p q before after in
         ap (choice standing) (candidates_with p q before after one one_eligible one_permitted)
-        ∙ outdone standing (filter q (filter p before)) (filter q (filter p after)) one other (subst (λ list. Mem list other) apart candidate) outdoes
+        ∙ outdone standing (filter q (filter p before)) (filter q (filter p after)) one other
+        (subst (λ list. Mem list other) apart candidate) outdoes
         ∙ ap (choice standing) (sym apart)
   ]
 ]
@@ -245,6 +261,7 @@ others_are_no_matter plan client before after one nothing =
       | inl ineligible ↦ ap (choice (standing_of plan)) (no_candidate p q before after one (inl ineligible))
       | inr (inl refused) ↦ ap (choice (standing_of plan)) (no_candidate p q before after one (inr refused))
       | inr (inr found) ↦
-          outdone_candidate (standing_of plan) p q before after one found.0 (contains-mem (before ++ after) found.0 found.1) found.2 found.3 found.4
+          outdone_candidate (standing_of plan) p q before after one found.0 (contains-mem (before ++ after) found.0 found.1)
+          found.2 found.3 found.4
     ] in
     ap (λ (found : Option SentRoute). peer_or_own (option_map (λ (sent : SentRoute). sent.peer) found) client) same

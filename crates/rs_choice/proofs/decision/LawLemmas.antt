@@ -11,9 +11,11 @@ use Rattle.rs_choice.specs.declared.step.Step.TheVariants as steps
 use Rattle.rs_choice.specs.Policy.{is_permitted}
 use Rattle.rs_choice.specs.Comparison.{Precedes, IsAheadByMed}
 use Rattle.rs_choice.specs.Decision.{SentRoute, beats, decision_steps, unbeaten, remaining, choice, standing_of}
-use Rattle.rs_choice.specs.Laws.{SameMembers, ChoiceIsMember, ChoiceIsUnbeaten, ChoiceIgnoresOrder, MedDecidesWithinNeighbour, OpenPolicySharesChoice}
+use Rattle.rs_choice.specs.Laws.{SameMembers, ChoiceIsMember, ChoiceIsUnbeaten, ChoiceIgnoresOrder, MedDecidesWithinNeighbour}
+use Rattle.rs_choice.specs.Laws.{OpenPolicySharesChoice}
 use Rattle.rs_choice.proofs.Members.{Mem, any_found, contains-mem, mem-contains, none-list_any}
-use Rattle.rs_choice.proofs.Eliminations.{Same, same_unbeaten, Left, LeftByMed, By, same_remaining, beats_tells, choice_left, is_false, means_unbeaten, one_address, remaining-append, remaining_among, unbeaten_means}
+use Rattle.rs_choice.proofs.Eliminations.{Same, same_unbeaten, Left, LeftByMed, By, same_remaining, beats_tells, choice_left, is_false}
+use Rattle.rs_choice.proofs.Eliminations.{means_unbeaten, one_address, remaining-append, remaining_among, unbeaten_means}
 use Rattle.rs_choice.proofs.decision.PlaceLemmas.{first_cases}
 
 no_one_beats_itself : (step : Step) (one : Standing) → beats step one one ≡ false
@@ -37,7 +39,8 @@ module _ {M : Type 0} (standing : M → Standing) (step : Step) where
   beat w x = beats step (standing w) (standing x)
 
   some_unbeaten : (x : M) (xs : List M) → (best : M) × Mem (x ∷ xs) best × ((w : M) → Mem (x ∷ xs) w → beat w best ≡ false)
-  some_unbeaten x [] = (x, inl refl, λ w h. elim h [ inl same ↦ rw (← same) (no_one_beats_itself step (standing x)) | inr none ↦ absurd none ])
+  some_unbeaten x [] =
+      (x, inl refl, λ w h. elim h [ inl same ↦ rw (← same) (no_one_beats_itself step (standing x)) | inr none ↦ absurd none ])
   some_unbeaten x (y ∷ ys) =
       let best = some_unbeaten y ys in
       elim (cases_Bool (beat x best.0)) [
@@ -48,7 +51,8 @@ module _ {M : Type 0} (standing : M → Standing) (step : Step) where
             | inl same ↦ rw (← same) (no_one_beats_itself step (standing x))
             | inr later ↦
                 is_false (beat w x)
-                (λ beats. both_ways (beat w best.0) (best.2 w later) (beats_then step (standing w) (standing x) (standing best.0) beats wins))
+                (λ beats. both_ways (beat w best.0) (best.2 w later)
+                (beats_then step (standing w) (standing x) (standing best.0) beats wins))
           ],
         )
         | inr loses ↦ (best.0, inr best.1, λ w h. elim h [ inl same ↦ rw (← same) loses | inr later ↦ best.2 w later ])
@@ -56,8 +60,11 @@ module _ {M : Type 0} (standing : M → Standing) (step : Step) where
 
   some_left : (x : M) (xs : List M) → (best : M) × Mem (unbeaten standing step (x ∷ xs)) best
   some_left x xs =
-      let found = some_unbeaten x xs in
-      (found.0, means_unbeaten standing step (x ∷ xs) found.0 found.1 (none-list_any (λ other. beats step (standing other) (standing found.0)) (x ∷ xs) found.2))
+      let found = some_unbeaten x xs in (
+        found.0,
+        means_unbeaten standing step (x ∷ xs) found.0 found.1
+            (none-list_any (λ other. beats step (standing other) (standing found.0)) (x ∷ xs) found.2),
+      )
 
 -- some member of a set is left by all steps
 pub some_remaining : {M : Type 0} (standing : M → Standing) (steps : List Step) (set : List M) (x : M) → Mem set x →
@@ -93,7 +100,8 @@ choice_is_member plan set = elim (choice_cases (standing_of plan) set) [
 ]
 
 left_at_step : {M : Type 0} (standing : M → Standing) (step : Step) (after : List Step) (reached : List M) (x : M) →
-    Mem (remaining standing (step ∷ after) reached) x → Mem reached x × ((w : M) → Mem reached w → beats step (standing w) (standing x) ≡ false)
+    Mem (remaining standing (step ∷ after) reached) x → Mem reached x
+    × ((w : M) → Mem reached w → beats step (standing w) (standing x) ≡ false)
 unfolding remaining
 left_at_step standing step after reached x h =
     unbeaten_means standing step reached x (remaining_among standing after (unbeaten standing step reached) x h)
@@ -101,7 +109,8 @@ left_at_step standing step after reached x h =
 pub choice_is_unbeaten : ChoiceIsUnbeaten
 choice_is_unbeaten plan set chosen e before step after all =
     let left = choice_left (standing_of plan) set chosen e in
-    let split : remaining (standing_of plan) decision_steps set ≡ remaining (standing_of plan) (step ∷ after) (remaining (standing_of plan) before set) =
+    let split : remaining (standing_of plan) decision_steps set
+    ≡ remaining (standing_of plan) (step ∷ after) (remaining (standing_of plan) before set) =
     ap (λ steps. remaining (standing_of plan) steps set) all ∙ remaining-append (standing_of plan) before (step ∷ after) set in
     let at_step : Mem (remaining (standing_of plan) (step ∷ after) (remaining (standing_of plan) before set)) chosen = rw (← split) left in
     let facts = left_at_step (standing_of plan) step after (remaining (standing_of plan) before set) chosen at_step in (
@@ -129,7 +138,8 @@ choice_ignores_order plan some others same own =
           let left = (same_unbeaten (By st Precedes) (LeftByMed st (Mem some)) (LeftByMed st (Mem others))
           (same_unbeaten (By st IsAheadByMed) (Mem some) (Mem others) members)).from other.0 other.2 in
           let address = one_address st some one.0 other.0 one.2 left in
-          one.1 ∙ ap Some (own one.0 other.0 (mem-contains some one.0 one.2.member.member) (mem-contains some other.0 left.member.member) address) ∙ sym other.1
+          one.1 ∙ ap Some (own one.0 other.0 (mem-contains some one.0 one.2.member.member) (mem-contains some other.0 left.member.member)
+          address) ∙ sym other.1
     ]
 
 pub med_decides : MedDecidesWithinNeighbour

@@ -20,14 +20,20 @@ pub enumerate-at : {M : Type 0} (xs : List M) (j : ℕ) (x : M) → slice_get xs
 enumerate-at xs j x at =
     let within = slice_get_within xs j x at in
     let read = get_or_from_slice_get xs j x x at in
-    contains-mem (enumerate_from 0 xs) (j, x)
-    (j, omega (arith, within, length-enumerate_from 0 xs), get_or-enumerate_from 0 xs j (j, x) within ∙ ap (λ k. (k, get_or xs j x)) (zero-add j) ∙ ap (λ x. (j, x)) read)
+    contains-mem (enumerate_from 0 xs) (j, x) (
+      j,
+      omega (arith, within, length-enumerate_from 0 xs),
+      get_or-enumerate_from 0 xs j (j, x) within
+          ∙ ap (λ k. (k, get_or xs j x)) (zero-add j) ∙ ap (λ x. (j, x)) read,
+    )
 
-at-enumerate : {M : Type 0} (xs : List M) (numbered : ℕ × M) → Mem (enumerate_from 0 xs) numbered → slice_get xs numbered.0 ≡ Some numbered.1
+at-enumerate : {M : Type 0} (xs : List M) (numbered : ℕ × M) → Mem (enumerate_from 0 xs) numbered
+    → slice_get xs numbered.0 ≡ Some numbered.1
 at-enumerate xs numbered = all_mem (λ numbered. slice_get xs numbered.0 ≡ Some numbered.1) (enumerate_from 0 xs) numbered (numbered_at xs)
 
 -- the first of a list, where there is one, is a member
-pub first_cases : {M : Type 0} (xs : List M) → ((first_member xs ≡ None) × ((x : M) → Mem xs x → ⊥)) ⊎ ((x : M) × (first_member xs ≡ Some x) × Mem xs x)
+pub first_cases : {M : Type 0} (xs : List M) → ((first_member xs ≡ None) × ((x : M) → Mem xs x → ⊥))
+    ⊎ ((x : M) × (first_member xs ≡ Some x) × Mem xs x)
 first_cases [] = inl (refl, λ x h. h)
 first_cases (x ∷ xs) = inr (x, refl, inl refl)
 
@@ -51,10 +57,12 @@ ascends-remaining : {M : Type 0} (standing : ℕ × M → Standing) (steps : Lis
 unfolding remaining unbeaten
 ascends-remaining standing [] xs ascends = ascends
 ascends-remaining standing (step ∷ later) xs ascends =
-    ascends-remaining standing later (unbeaten standing step xs) (AllPairs-filter Ascends (λ one. not (list_any (λ other. beats step (standing other) (standing one)) xs)) xs ascends)
+    ascends-remaining standing later (unbeaten standing step xs)
+    (AllPairs-filter Ascends (λ one. not (list_any (λ other. beats step (standing other) (standing one)) xs)) xs ascends)
 
 -- the member of the least number is the first
-first_least : {M : Type 0} (xs : List (ℕ × M)) (x : ℕ × M) → AllPairs Ascends xs → Mem xs x → ((y : ℕ × M) → Mem xs y → x.0 ≤ y.0) → first_member xs ≡ Some x
+first_least : {M : Type 0} (xs : List (ℕ × M)) (x : ℕ × M) → AllPairs Ascends xs → Mem xs x → ((y : ℕ × M) → Mem xs y → x.0 ≤ y.0)
+    → first_member xs ≡ Some x
 first_least [] x ascends h least = absurd h
 first_least (y ∷ ys) x ascends (inl same) least = ap Some same
 first_least (y ∷ ys) x ascends (inr h) least =
@@ -65,7 +73,8 @@ first_least (y ∷ ys) x ascends (inr h) least =
     let below : y.0 < x.0 = rw e at above in
     absurd (omega (arith, below, least y (inl refl)))
 
-unbeaten_member : {M : Type 0} (standing : M → Standing) (Beats : Standing → Standing → Type 0) (InPairs : ℕ × M → Type 0) (In : M → Type 0) →
+unbeaten_member : {M : Type 0} (standing : M → Standing) (Beats : Standing → Standing → Type 0) (InPairs : ℕ × M → Type 0) (In : M → Type 0)
+    →
     ((p : ℕ × M) → InPairs p → In p.1) → ((x : M) → In x → (k : ℕ) × InPairs (k, x)) → (p : ℕ × M) →
     Unbeaten (By (numbered standing) Beats) InPairs p → Unbeaten (By standing Beats) In p.1
 unbeaten_member standing Beats InPairs In to from p left = record {
@@ -97,7 +106,8 @@ module _ {M : Type 0} (standing : M → Standing) (xs : List M) where
       (found.0, unbeaten_pair standing IsAheadByMed (Mem pairs) (Mem xs) pair_to (found.0, x) found.1 left)
 
   left_to : (p : ℕ × M) → Left (numbered standing) (Mem pairs) p → Left standing (Mem xs) p.1
-  left_to p left = unbeaten_member standing Precedes (LeftByMed (numbered standing) (Mem pairs)) (LeftByMed standing (Mem xs)) by_med_to by_med_from p left
+  left_to p left = unbeaten_member standing Precedes (LeftByMed (numbered standing) (Mem pairs)) (LeftByMed standing (Mem xs))
+      by_med_to by_med_from p left
 
   left_from : (p : ℕ × M) → Mem pairs p → Left standing (Mem xs) p.1 → Left (numbered standing) (Mem pairs) p
   left_from p member left =
@@ -106,18 +116,21 @@ module _ {M : Type 0} (standing : M → Standing) (xs : List M) where
 
 -- the least place at which a member is left is the place of the choice
 pub place_of_choice-Some : {M : Type 0} (standing : M → Standing) (xs : List M) (place : ℕ) (x : M) → slice_get xs place ≡ Some x →
-    Left standing (Mem xs) x → ((k : ℕ) (w : M) → slice_get xs k ≡ Some w → Left standing (Mem xs) w → place ≤ k) → place_of_choice standing xs ≡ Some place
+    Left standing (Mem xs) x → ((k : ℕ) (w : M) → slice_get xs k ≡ Some w → Left standing (Mem xs) w → place ≤ k)
+    → place_of_choice standing xs ≡ Some place
 unfolding place_of_choice choice
 place_of_choice-Some standing xs place x at left least =
     let all = remaining (numbered standing) decision_steps (enumerate_from 0 xs) in
     let same = same_remaining (numbered standing) (enumerate_from 0 xs) in
     let kept = same.from (place, x) (left_from standing xs (place, x) (enumerate-at xs place x at) left) in
-    let first = first_least all (place, x) (ascends-remaining (numbered standing) decision_steps (enumerate_from 0 xs) (ascends-enumerate 0 xs)) kept
+    let first = first_least all (place, x) (ascends-remaining (numbered standing) decision_steps (enumerate_from 0 xs)
+    (ascends-enumerate 0 xs)) kept
     (λ y h. let left = same.to y h in least y.0 y.1 (at-enumerate xs y left.member.member) (left_to standing xs y left)) in
     ap (option_map (λ ((place, member) : ℕ × _). place)) first
 
 -- where no member is left, there is no choice
-pub place_of_choice-None : {M : Type 0} (standing : M → Standing) (xs : List M) → ((x : M) → Left standing (Mem xs) x → ⊥) → place_of_choice standing xs ≡ None
+pub place_of_choice-None : {M : Type 0} (standing : M → Standing) (xs : List M) → ((x : M) → Left standing (Mem xs) x → ⊥)
+    → place_of_choice standing xs ≡ None
 unfolding place_of_choice choice
 place_of_choice-None standing xs none =
     let same = same_remaining (numbered standing) (enumerate_from 0 xs) in

@@ -32,7 +32,8 @@ pub precedes_cases : (a b : Standing) → (Precedes a b → ⊥) → Precedes b 
 precedes_cases a b h = grind arith
 
 -- who precedes the best holds against all that the best holds against
-pub precedes_holds : (one best : Placed) (place : ℕ) (other : Standing) → Precedes one.standing best.standing → Holds best place other → Precedes one.standing other
+pub precedes_holds : (one best : Placed) (place : ℕ) (other : Standing) → Precedes one.standing best.standing → Holds best place other
+    → Precedes one.standing other
 precedes_holds one best place other h k = grind arith
 
 -- who stands before another one that doesn't go first holds against it
@@ -61,20 +62,24 @@ module _ (plan : Plan) (candidates : List Candidate) where
       earlier : (leader : Option Standing) → IsLeader plan candidates i leader → Leads (st candidate) leader →
           (k : ℕ) → k < i → (other : Candidate) → slice_get candidates k ≡ Some other → IsAhead (st other) (st candidate) → ⊥
       earlier None none leads k below other at_other ahead = none k below other at_other
-      earlier (Some leader) is leads k below other at_other ahead = is.1 k below other at_other (ahead_then (st other) (st candidate) leader ahead leads)
+      earlier (Some leader) is leads k below other at_other ahead =
+          is.1 k below other at_other (ahead_then (st other) (st candidate) leader ahead leads)
 
   pub leader_stays : (i : ℕ) (leader : Option Standing) (candidate : Candidate) → slice_get candidates i ≡ Some candidate →
       IsLeader plan candidates i leader → (Leads (st candidate) leader → ⊥) → IsLeader plan candidates (i + 1) leader
   leader_stays i None candidate at none leads_not = absurd (leads_not tt)
-  leader_stays i (Some leader) candidate at is leads_not = (is.0, one_more i candidate at (λ k other. IsAhead other leader → ⊥) is.1 leads_not)
+  leader_stays i (Some leader) candidate at is leads_not =
+      (is.0, one_more i candidate at (λ k other. IsAhead other leader → ⊥) is.1 leads_not)
 
   -- who is level with a leader of all has none ahead
-  pub level_has_none_ahead : (leader one : Standing) → IsLeader plan candidates (length candidates) (Some leader) → IsLevel one leader → HasNoneAhead plan candidates one
+  pub level_has_none_ahead : (leader one : Standing) → IsLeader plan candidates (length candidates) (Some leader) → IsLevel one leader
+      → HasNoneAhead plan candidates one
   level_has_none_ahead leader one is level k candidate at ahead =
       is.1 k (slice_get_within candidates k candidate at) candidate at (follows_level (st candidate) one leader level ahead)
 
   -- and who has none ahead is level with it
-  pub none_ahead_is_level : (leader one : Standing) (k : ℕ) (candidate : Candidate) → slice_get candidates k ≡ Some candidate → st candidate ≡ one →
+  pub none_ahead_is_level : (leader one : Standing) (k : ℕ) (candidate : Candidate) → slice_get candidates k ≡ Some candidate
+      → st candidate ≡ one →
       IsLeader plan candidates (length candidates) (Some leader) → HasNoneAhead plan candidates one → IsLevel one leader
   none_ahead_is_level leader one k candidate at is_one is none =
       equal_level one leader
@@ -102,11 +107,14 @@ module _ (plan : Plan) (candidates : List Candidate) where
         (earlier best is first) (λ left. inr (refl, refl, omega arith)),
   )
     where
-      earlier : (best : Option Placed) → IsBest plan candidates i best → GoesFirst (st candidate) best → (k : ℕ) → k < i → (other : Candidate) →
-          slice_get candidates k ≡ Some other → IsLeftByMed plan candidates (st other) → Holds (record { place = i; standing = st candidate }) k (st other)
+      earlier : (best : Option Placed) → IsBest plan candidates i best → GoesFirst (st candidate) best → (k : ℕ) → k < i
+          → (other : Candidate) →
+          slice_get candidates k ≡ Some other → IsLeftByMed plan candidates (st other)
+          → Holds (record { place = i; standing = st candidate }) k (st other)
       earlier None none first k below other at_other left_other = absurd (none k below other at_other left_other)
       earlier (Some best) is first k below other at_other left_other =
-          inl (precedes_holds (record { place = i; standing = st candidate }) best k (st other) first (is.3 k below other at_other left_other))
+          inl (precedes_holds (record { place = i; standing = st candidate }) best k (st other) first
+          (is.3 k below other at_other left_other))
 
   pub best_stays : (i : ℕ) (best : Option Placed) (candidate : Candidate) → slice_get candidates i ≡ Some candidate →
       IsBest plan candidates i best → (GoesFirst (st candidate) best → ⊥) → IsBest plan candidates (i + 1) best
@@ -115,10 +123,12 @@ module _ (plan : Plan) (candidates : List Candidate) where
     omega (arith, is.0),
     is.1,
     is.2,
-    one_more i candidate at (λ k other. IsLeftByMed plan candidates other → Holds best k other) is.3 (λ left. holds_later best i (st candidate) is.0 first_not),
+    one_more i candidate at (λ k other. IsLeftByMed plan candidates other → Holds best k other) is.3
+        (λ left. holds_later best i (st candidate) is.0 first_not),
   )
 
-  left_candidate : (k : ℕ) (candidate : Candidate) → slice_get candidates k ≡ Some candidate → IsLeftByMed plan candidates (st candidate) → LeftByMed st (Mem candidates) candidate
+  left_candidate : (k : ℕ) (candidate : Candidate) → slice_get candidates k ≡ Some candidate → IsLeftByMed plan candidates (st candidate)
+      → LeftByMed st (Mem candidates) candidate
   left_candidate k candidate at left = record {
     member = mem-slice_get candidates k candidate at;
     best = λ w h beaten.

@@ -1,4 +1,5 @@
--- What may go of a set while its choice stays: for `the_choice_stays_without_those_of_no_weight` of laws.rt, BehindLemmas and GroupSettling.
+-- What may go of a set while its choice stays: for `the_choice_stays_without_those_of_no_weight` of laws.rt, BehindLemmas and
+-- GroupSettling.
 use Rattle.std.proofs.Common.{◌≡◌, ◌∙◌, sym, ap, refl, arith, Bool, true, false, cond, not, inl, inr, List, [], ◌∷◌, Some}
 use Rattle.std.specs.Prelude.{filter}
 use Rattle.std.specs.List.{list_any}
@@ -11,7 +12,8 @@ use Rattle.rs_choice.specs.Decision.{beats, decision_steps, unbeaten, remaining,
 use Rattle.rs_choice.proofs.Members.{Mem, any_found, mem-filter, mem_of-filter, list_any-none, none-list_any}
 use Rattle.rs_choice.proofs.Eliminations.{choice_left, is_false, unbeaten_means}
 
-filter_swap_first : {M : Type 0} (kept p q : M → Bool) (x : M) (xs : List M) (stays passes : Bool) → kept x ≡ stays → (stays ≡ true → q x ≡ passes) →
+filter_swap_first : {M : Type 0} (kept p q : M → Bool) (x : M) (xs : List M) (stays passes : Bool) → kept x ≡ stays
+    → (stays ≡ true → q x ≡ passes) →
     filter q (filter kept xs) ≡ filter kept (filter p xs) →
     filter q (cond stays (x ∷ filter kept xs) (filter kept xs)) ≡ filter kept (cond passes (x ∷ filter p xs) (filter p xs))
 filter_swap_first kept p q x xs true true is alike later = rw (alike refl, is) (ap (λ rest. x ∷ rest) later)
@@ -36,7 +38,8 @@ any_of_some p some all among covered true found = elim (cases_Bool (list_any p a
 ]
 any_of_some p some all among covered false none =
     none-list_any p all
-    (λ w h. is_false (p w) (λ passes. let third = covered w h passes in both_ways (p third.0) (list_any-none p some third.0 none third.1) third.2))
+    (λ w h. is_false (p w) (λ passes. let third = covered w h passes in
+    both_ways (p third.0) (list_any-none p some third.0 none third.1) third.2))
 
 -- each member that stays and that a step removes is removed by one that stays
 abbrev pub RemovedByKept : {M : Type 0} → (M → Standing) → (M → Bool) → Step → List M → Type 0
@@ -45,7 +48,8 @@ RemovedByKept {M} standing kept step set =
     (third : M) × Mem set third × (kept third ≡ true) × (beats step (standing third) (standing one) ≡ true)
 
 -- then it leaves of those that stay what stays of those that it leaves
-unbeaten-filter : {M : Type 0} (standing : M → Standing) (kept : M → Bool) (step : Step) (set : List M) → RemovedByKept standing kept step set →
+unbeaten-filter : {M : Type 0} (standing : M → Standing) (kept : M → Bool) (step : Step) (set : List M)
+    → RemovedByKept standing kept step set →
     unbeaten standing step (filter kept set) ≡ filter kept (unbeaten standing step set)
 unfolding unbeaten
 unbeaten-filter standing kept step set removed =
@@ -63,9 +67,11 @@ unbeaten-filter standing kept step set removed =
 -- and so at each of some steps, of what the steps before leave
 abbrev RemovedByKeptAt : {M : Type 0} → (M → Standing) → (M → Bool) → List Step → List M → Type 0
 RemovedByKeptAt standing kept [] set = Unit {0}
-RemovedByKeptAt standing kept (step ∷ later) set = RemovedByKept standing kept step set × RemovedByKeptAt standing kept later (unbeaten standing step set)
+RemovedByKeptAt standing kept (step ∷ later) set =
+    RemovedByKept standing kept step set × RemovedByKeptAt standing kept later (unbeaten standing step set)
 
-remaining-filter : {M : Type 0} (standing : M → Standing) (kept : M → Bool) (steps : List Step) (set : List M) → RemovedByKeptAt standing kept steps set →
+remaining-filter : {M : Type 0} (standing : M → Standing) (kept : M → Bool) (steps : List Step) (set : List M)
+    → RemovedByKeptAt standing kept steps set →
     remaining standing steps (filter kept set) ≡ filter kept (remaining standing steps set)
 unfolding remaining
 remaining-filter standing kept [] set removed = refl
@@ -78,7 +84,8 @@ abbrev Orders : Step → Type 0
 Orders step = (one other chosen : Standing) → beats step other one ≡ true → beats step other chosen ≡ false → beats step chosen one ≡ true
 
 -- whom such a step removes, a member that it leaves removes
-removed_by_chosen : {M : Type 0} (standing : M → Standing) (kept : M → Bool) (chosen : M) → kept chosen ≡ true → (step : Step) (set : List M) → Orders step →
+removed_by_chosen : {M : Type 0} (standing : M → Standing) (kept : M → Bool) (chosen : M) → kept chosen ≡ true
+    → (step : Step) (set : List M) → Orders step →
     Mem (unbeaten standing step set) chosen → RemovedByKept standing kept step set
 removed_by_chosen standing kept chosen stays step set orders left one other member one_stays other_member beaten =
     let means = unbeaten_means standing step set chosen left in
@@ -118,7 +125,10 @@ removed_at_all standing kept set chosen stays left6 by_med =
       removed_by_chosen standing kept chosen stays steps.Preference set (λ one other chosen h k. grind (arith, nat_tests)) left1,
       (
         removed_by_chosen standing kept chosen stays steps.PathLength s1 (λ one other chosen h k. grind (arith, nat_tests)) left2,
-        (removed_by_chosen standing kept chosen stays steps.Origin s2 (λ one other chosen h k. grind (arith, nat_tests)) left3, (by_med, after_med)),
+        (
+          removed_by_chosen standing kept chosen stays steps.Origin s2 (λ one other chosen h k. grind (arith, nat_tests)) left3,
+          (by_med, after_med),
+        ),
       ),
     )
 

@@ -42,10 +42,16 @@ module _ (fields : Inside) (standings : List Standing) (are : AreHeld fields) (v
     standing_there d =
         let one = get_or held place d in
         let judged = judged_there d in
-        let at_chosen : slice_get chosen k ≡ Some one = chosen_at held fields.places.now are.within k place at ∙ slice_get-get_or held place d held_there in
-        let at_sents : slice_get (map sent_of_held chosen) k ≡ Some (sent_of_held one) = slice_get-map sent_of_held chosen k ∙ ap (option_map sent_of_held) at_chosen in
-        let eligible = All-contains (λ (sent : SentRoute). IsTrue (is_eligible plan sent.peer sent.attributes)) (map sent_of_held chosen) (sent_of_held one) are.eligible
+        let at_chosen : slice_get chosen k ≡ Some one =
+        chosen_at held fields.places.now are.within k place at ∙ slice_get-get_or held place d held_there in
+        let at_sents : slice_get (map sent_of_held chosen) k ≡ Some (sent_of_held one) =
+        slice_get-map sent_of_held chosen k ∙ ap (option_map sent_of_held) at_chosen in
+        let eligible =
+        All-contains (λ (sent : SentRoute). IsTrue (is_eligible plan sent.peer sent.attributes)) (map sent_of_held chosen)
+        (sent_of_held one) are.eligible
         (contains_at (map sent_of_held chosen) k (sent_of_held one) at_sents) in
-        let at_view : slice_get (chosen_view fields) k ≡ Some (standing_of_held plan one) = slice_get-map (standing_of_held plan) chosen k ∙ ap (option_map (standing_of_held plan)) at_chosen in
+        let at_view : slice_get (chosen_view fields) k ≡ Some (standing_of_held plan one) =
+        slice_get-map (standing_of_held plan) chosen k ∙ ap (option_map (standing_of_held plan)) at_chosen in
         judged.standing (judged.eligible ∙ eligible)
-        ∙ sym (ap (λ view. standing_in view k) (sym view) ∙ get_or_from_slice_get (chosen_view fields) k (standing_of_held plan one) no_standing at_view)
+        ∙ sym (ap (λ view. standing_in view k) (sym view)
+        ∙ get_or_from_slice_get (chosen_view fields) k (standing_of_held plan one) no_standing at_view)

@@ -50,10 +50,12 @@ module _ (held : List HeldRoute) (place count peer number : ℕ) (within : place
     | inr apart ↦ lower up k one (omega (arith, below, apart.1))
   ]
 
-  pub others-end : number < peer → AscendByPeer held → (k : ℕ) (one : HeldRoute) → count + 1 ≤ k → k < place + 1 → peer ≤ (get_or held k one).peer
+  pub others-end : number < peer → AscendByPeer held → (k : ℕ) (one : HeldRoute) → count + 1 ≤ k → k < place + 1
+      → peer ≤ (get_or held k one).peer
   others-end low up k one above below = absurd (omega (arith, above, below, all-lower low up one))
 
-  pub others-also : peer ≤ number → AscendByPeer held → (k : ℕ) (one : HeldRoute) → count ≤ k → k < place + 1 → peer ≤ (get_or held k one).peer
+  pub others-also : peer ≤ number → AscendByPeer held → (k : ℕ) (one : HeldRoute) → count ≤ k → k < place + 1
+      → peer ≤ (get_or held k one).peer
   others-also high up k one above below = elim (eqb_tells k place) [
     | inl same ↦ omega (arith, high, here one, ap (λ n. (get_or held n one).peer) same.1)
     | inr apart ↦ others up k one above (omega (arith, below, apart.1))

@@ -1,5 +1,6 @@
 -- A path has no more AS numbers than its written form has octets: for `path_length` of held_route.rt.
-use Rattle.std.proofs.Common.{◌≡◌, ◌∙◌, ap, refl, ℕ, suc, zero, ◌+◌, ◌*◌, ◌<◌, ◌≤◌, arith, List, [], ◌∷◌, length, length-append, get_or, Option, Some, None}
+use Rattle.std.proofs.Common.{◌≡◌, ◌∙◌, ap, refl, ℕ, suc, zero, ◌+◌, ◌*◌, ◌<◌, ◌≤◌, arith, List, [], ◌∷◌, length, length-append, get_or}
+use Rattle.std.proofs.Common.{Option, Some, None}
 use Rattle.std.specs.List.{cons_option, filter_map, flat_map, range_with_len}
 use Rattle.std.proofs.lemmas.List.FromFn.{get_or-range_with_len, length-range_with_len}
 use Rattle.std.proofs.lemmas.List.Sums.{sum_by-cons}
@@ -11,18 +12,21 @@ use Rattle.rs_update.specs.Section.{Item, spelled_length}
 use Rattle.rs_update.specs.Spelling.{spelled_item, well_known, written, written_item, written_items}
 
 -- a piece of what is spelled is no longer than all of it
-piece_fits : {X Y A : Type 0} (spell : Y → List A) (item : X → Option Y) (xs : List X) (i : ℕ) (d : X) (y : Y) → i < length xs → item (get_or xs i d) ≡ Some y →
+piece_fits : {X Y A : Type 0} (spell : Y → List A) (item : X → Option Y) (xs : List X) (i : ℕ) (d : X) (y : Y) → i < length xs
+    → item (get_or xs i d) ≡ Some y →
     length (spell y) ≤ length (flat_map spell (filter_map item xs))
 piece_fits spell item [] i d y within at = absurd (omega (arith, within))
 piece_fits spell item (x ∷ xs) zero d y within at =
-    let both = ap (λ found. length (flat_map spell (cons_option found (filter_map item xs)))) at ∙ length-append (spell y) (flat_map spell (filter_map item xs)) in
+    let both = ap (λ found. length (flat_map spell (cons_option found (filter_map item xs)))) at
+    ∙ length-append (spell y) (flat_map spell (filter_map item xs)) in
     omega (arith, both)
 piece_fits {X} {Y} spell item (x ∷ xs) (suc i) d y within at =
     let rest = piece_fits spell item xs i d y (omega (arith, within)) at in
     let more = longer (item x) in
     omega (arith, rest, more)
   where
-    longer : (found : Option Y) → length (flat_map spell (filter_map item xs)) ≤ length (flat_map spell (cons_option found (filter_map item xs)))
+    longer : (found : Option Y) → length (flat_map spell (filter_map item xs))
+        ≤ length (flat_map spell (cons_option found (filter_map item xs)))
     longer None = omega arith
     longer (Some z) = let both = length-append (spell z) (flat_map spell (filter_map item xs)) in omega (arith, both)
 
@@ -50,7 +54,8 @@ path_length_fits attributes =
     let at : written_item attributes (get_or (range_with_len 0 256) 2 0) (type_of (get_or (range_with_len 0 256) 2 0)) ≡ Some item =
     ap (λ kind. written_item attributes kind (type_of kind)) (get_or-range_with_len 0 256 2 0 (omega arith)) in
     let all = length-range_with_len 0 256 in
-    let fits = piece_fits spelled_item (λ kind. written_item attributes kind (type_of kind)) (range_with_len 0 256) 2 0 item (omega (arith, all)) at in
+    let fits = piece_fits spelled_item (λ kind. written_item attributes kind (type_of kind)) (range_with_len 0 256) 2 0 item
+    (omega (arith, all)) at in
     let inside = length-append (spelled_length item) item.value in
     let path = path_fits attributes.path in
     omega (arith, fits, inside, path)

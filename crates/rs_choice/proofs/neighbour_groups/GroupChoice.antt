@@ -1,5 +1,6 @@
 -- The first of the neighbour groups is the choice: for `first_of` of decision.rt and ChosenLemmas.
-use Rattle.std.proofs.Common.{◌≡◌, ◌∙◌, sym, ap, subst, refl, ℕ, ◌+◌, ◌<◌, ◌≤◌, arith, ◌⊎◌, inl, inr, List, length, Option, Some, None, below_more}
+use Rattle.std.proofs.Common.{◌≡◌, ◌∙◌, sym, ap, subst, refl, ℕ, ◌+◌, ◌<◌, ◌≤◌, arith, ◌⊎◌, inl, inr, List, length, Option, Some, None}
+use Rattle.std.proofs.Common.{below_more}
 use Rattle.std.specs.Prelude.{slice_get}
 use Rattle.std.specs.Option.{option_map}
 use Rattle.std.proofs.lemmas.Option.{get_or_from_slice_get, slice_get-get_or, slice_get_within}
@@ -15,22 +16,26 @@ use Rattle.rs_choice.proofs.decision.PlaceLemmas.{place_of_choice-Some, place_of
 use Rattle.rs_choice.proofs.decision.ScanLemmas.{not_both_precede}
 
 module _ (S : ℕ → Standing) where
-  before_then : (a b c : Placed) → GoesBefore a.standing a.place b.standing b.place → GoesBefore b.standing b.place c.standing c.place → GoesBefore a.standing a.place c.standing c.place
+  before_then : (a b c : Placed) → GoesBefore a.standing a.place b.standing b.place → GoesBefore b.standing b.place c.standing c.place
+      → GoesBefore a.standing a.place c.standing c.place
   before_then a b c h k = grind arith
 
   -- what holds of the first groups and of one more
-  one_more : (groups : List ℕ) (i place : ℕ) → slice_get groups i ≡ Some place → (P : ℕ → Type 0) → ((g other : ℕ) → g < i → slice_get groups g ≡ Some other → P other) → P place →
+  one_more : (groups : List ℕ) (i place : ℕ) → slice_get groups i ≡ Some place → (P : ℕ → Type 0)
+      → ((g other : ℕ) → g < i → slice_get groups g ≡ Some other → P other) → P place →
       (g other : ℕ) → g < i + 1 → slice_get groups g ≡ Some other → P other
   one_more groups i place at P before here g other below =
       below_more (λ g. (other : ℕ) → slice_get groups g ≡ Some other → P other) i (λ g below other. before g other below)
       (λ other at_other. let same : place ≡ other = cc (at, at_other) in subst P same here) g below other
 
   pub first_changes : (groups : List ℕ) (i place : ℕ) (best : Option Placed) → slice_get groups i ≡ Some place → IsFirstOf S groups i best →
-      GoesBeforeSome (record { place = place; standing = S place }) best → IsFirstOf S groups (i + 1) (Some (record { place = place; standing = S place }))
+      GoesBeforeSome (record { place = place; standing = S place }) best
+      → IsFirstOf S groups (i + 1) (Some (record { place = place; standing = S place }))
   first_changes groups i place best at is before = (
     (i, at),
     refl,
-    one_more groups i place at (λ other. GoesBefore (S other) other (S place) place → ⊥) (earlier best is before) (not_before_itself (S place) place),
+    one_more groups i place at (λ other. GoesBefore (S other) other (S place) place → ⊥) (earlier best is before)
+        (not_before_itself (S place) place),
   )
     where
       not_before_itself : (a : Standing) (p : ℕ) → GoesBefore a p a p → ⊥
@@ -67,16 +72,20 @@ module _ (S : ℕ → Standing) where
             ]
       ]
 
-  not_before_cases : (a : Standing) (p : ℕ) (b : Standing) (q : ℕ) → (GoesBefore b q a p → ⊥) → Precedes a b ⊎ ((a.id ≡ b.id) × (a.address ≡ b.address) × (p ≤ q))
+  not_before_cases : (a : Standing) (p : ℕ) (b : Standing) (q : ℕ) → (GoesBefore b q a p → ⊥) → Precedes a b
+      ⊎ ((a.id ≡ b.id) × (a.address ≡ b.address) × (p ≤ q))
   not_before_cases a p b q not_before = grind arith
 
   tie_then : (a b c : Standing) (p q k : ℕ) → (Precedes a b ⊎ ((a.id ≡ b.id) × (a.address ≡ b.address) × (p ≤ q))) →
-      (Precedes b c ⊎ ((b.id ≡ c.id) × (b.address ≡ c.address) × (q ≤ k))) → Precedes a c ⊎ ((a.id ≡ c.id) × (a.address ≡ c.address) × (p ≤ k))
+      (Precedes b c ⊎ ((b.id ≡ c.id) × (b.address ≡ c.address) × (q ≤ k))) → Precedes a c
+      ⊎ ((a.id ≡ c.id) × (a.address ≡ c.address) × (p ≤ k))
   tie_then a b c p q k h e = grind arith
 
   -- and it holds against each that the first four steps leave
-  first_holds : (n : ℕ) (groups : List ℕ) → IsGrouping S n groups → (first : Placed) → IsFirstOf S groups (length groups) (Some first) → (k : ℕ) → k < n →
-      ((j : ℕ) → j < n → IsAhead (S j) (S k) → ⊥) → ((j : ℕ) → j < n → IsLevel (S j) (S k) × HasLowerMed (S j) (S k) → ⊥) → Holds first k (S k)
+  first_holds : (n : ℕ) (groups : List ℕ) → IsGrouping S n groups → (first : Placed) → IsFirstOf S groups (length groups) (Some first)
+      → (k : ℕ) → k < n →
+      ((j : ℕ) → j < n → IsAhead (S j) (S k) → ⊥) → ((j : ℕ) → j < n → IsLevel (S j) (S k) × HasLowerMed (S j) (S k) → ⊥)
+      → Holds first k (S k)
   first_holds n groups is first is_first k below none_ahead least_med =
       let found = is.all k below in
       let q = found.1 in
@@ -87,7 +96,8 @@ module _ (S : ℕ → Standing) where
           | inl less ↦ absurd (least_med q within (stands.0, (stands.1, less)))
           | inr equal ↦
               tie_then first.standing (S q) (S k) first.place q k
-              (not_before_cases first.standing first.place (S q) q (is_first.2 found.0 q (slice_get_within groups found.0 q found.2) found.2)) equal.1
+              (not_before_cases first.standing first.place (S q) q
+              (is_first.2 found.0 q (slice_get_within groups found.0 q found.2) found.2)) equal.1
         ]
       ]
 
@@ -103,13 +113,16 @@ module _ (standings : List Standing) where
   IsLeft = LeftByMed (λ one. one) (Mem standings)
 
   none_ahead : (one : Standing) → IsLeft one → (j : ℕ) → j < length standings → IsAhead (S j) one → ⊥
-  none_ahead one left j below ahead = left.best (S j) (mem-slice_get standings j (S j) (slice_get-get_or standings j no_standing below)) (inl ahead)
+  none_ahead one left j below ahead =
+      left.best (S j) (mem-slice_get standings j (S j) (slice_get-get_or standings j no_standing below)) (inl ahead)
 
   none_lower : (one : Standing) → IsLeft one → (j : ℕ) → j < length standings → IsLevel (S j) one × HasLowerMed (S j) one → ⊥
-  none_lower one left j below lower = left.best (S j) (mem-slice_get standings j (S j) (slice_get-get_or standings j no_standing below)) (inr lower)
+  none_lower one left j below lower =
+      left.best (S j) (mem-slice_get standings j (S j) (slice_get-get_or standings j no_standing below)) (inr lower)
 
   -- the first is left by the first four steps
-  first_left : (groups : List ℕ) → IsGrouping S (length standings) groups → (g p : ℕ) → slice_get groups g ≡ Some p → (one : Standing) → slice_get standings p ≡ Some one → IsLeft one
+  first_left : (groups : List ℕ) → IsGrouping S (length standings) groups → (g p : ℕ) → slice_get groups g ≡ Some p → (one : Standing)
+      → slice_get standings p ≡ Some one → IsLeft one
   first_left groups is g p at one at_one =
       let is_one = standing_is p one at_one in
       record {
@@ -125,7 +138,8 @@ module _ (standings : List Standing) where
       }
 
   -- and holds against each that they leave
-  holds_against : (groups : List ℕ) → IsGrouping S (length standings) groups → (first : Placed) → IsFirstOf S groups (length groups) (Some first) →
+  holds_against : (groups : List ℕ) → IsGrouping S (length standings) groups → (first : Placed)
+      → IsFirstOf S groups (length groups) (Some first) →
       (k : ℕ) (w : Standing) → slice_get standings k ≡ Some w → IsLeft w → Holds first k w
   holds_against groups is first is_first k w at_w left =
       let is_w = standing_is k w at_w in
@@ -133,7 +147,8 @@ module _ (standings : List Standing) where
       (first_holds S (length standings) groups is first is_first k (slice_get_within standings k w at_w)
       (λ j below ahead. none_ahead w left j below (rw is_w at ahead)) (λ j below lower. none_lower w left j below (rw is_w at lower)))
 
-  pub first_is_choice : (groups : List ℕ) → IsGrouping S (length standings) groups → (first : Option Placed) → IsFirstOf S groups (length groups) first →
+  pub first_is_choice : (groups : List ℕ) → IsGrouping S (length standings) groups → (first : Option Placed)
+      → IsFirstOf S groups (length groups) first →
       place_of_choice (λ one. one) standings ≡ option_map (λ first. first.place) first
   first_is_choice groups is None none =
       place_of_choice-None (λ one. one) standings

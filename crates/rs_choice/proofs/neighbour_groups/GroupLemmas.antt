@@ -1,6 +1,7 @@
 -- The pass by neighbour groups: what each step keeps of the places that it has seen.
 -- For GroupMarks.
-use Rattle.std.proofs.Common.{◌≡◌, ◌∙◌, sym, refl, ℕ, ◌+◌, ◌<◌, arith, inl, inr, List, [], ◌∷◌, ◌++◌, length, Some, below_more, length-append}
+use Rattle.std.proofs.Common.{◌≡◌, ◌∙◌, sym, refl, ℕ, ◌+◌, ◌<◌, arith, inl, inr, List, [], ◌∷◌, ◌++◌, length, Some, below_more}
+use Rattle.std.proofs.Common.{length-append}
 use Rattle.std.specs.Prelude.{slice_get, slice_set}
 use Rattle.std.proofs.lemmas.Option.{slice_get_within}
 use Rattle.std.proofs.lemmas.Bool.{cases_eq}
@@ -10,11 +11,13 @@ use Rattle.rs_choice.specs.Comparison.{IsAhead, IsLevel}
 use Rattle.rs_choice.specs.Grouping.{BeatsInGroup, StandsFor, IsGrouping, IsLevelWithSome}
 use Rattle.rs_choice.proofs.Eliminations.{equal_level, follows_level}
 use Rattle.rs_choice.proofs.decision.ScanLemmas.{not_ahead_of_itself, ahead_then}
-use Rattle.rs_choice.proofs.neighbour_groups.GroupLists.{level_ahead, level_back, level_then, stands_for_itself, beats_stands, held_stands, single, push_cases, push_old, push_new, set_cases, set_same, set_other}
+use Rattle.rs_choice.proofs.neighbour_groups.GroupLists.{level_ahead, level_back, level_then, stands_for_itself, beats_stands, held_stands}
+use Rattle.rs_choice.proofs.neighbour_groups.GroupLists.{single, push_cases, push_old, push_new, set_cases, set_same, set_other}
 
 module _ (S : ℕ → Standing) where
   -- all groups are level with one another
-  pub groups_level : (n : ℕ) (groups : List ℕ) → IsGrouping S n groups → (g h p q : ℕ) → slice_get groups g ≡ Some p → slice_get groups h ≡ Some q → IsLevel (S p) (S q)
+  pub groups_level : (n : ℕ) (groups : List ℕ) → IsGrouping S n groups → (g h p q : ℕ) → slice_get groups g ≡ Some p
+      → slice_get groups h ≡ Some q → IsLevel (S p) (S q)
   groups_level n groups is g h p q at_p at_q =
       equal_level (S p) (S q) (is.front h q at_q p (is.within g p at_p)) (is.front g p at_p q (is.within h q at_q))
 
@@ -42,7 +45,8 @@ module _ (S : ℕ → Standing) where
       absurd (omega (arith, within, none))
 
   -- who is ahead of one of the groups is ahead of all before it
-  pub ahead_of_all : (n : ℕ) (groups : List ℕ) → IsGrouping S n groups → (h q : ℕ) → slice_get groups h ≡ Some q → IsAhead (S n) (S q) → (k : ℕ) → k < n → IsAhead (S n) (S k)
+  pub ahead_of_all : (n : ℕ) (groups : List ℕ) → IsGrouping S n groups → (h q : ℕ) → slice_get groups h ≡ Some q → IsAhead (S n) (S q)
+      → (k : ℕ) → k < n → IsAhead (S n) (S k)
   ahead_of_all n groups is h q at_q ahead k below =
       let found = is.all k below in
       let level = groups_level n groups is h found.0 q found.1 at_q found.2 in
@@ -53,36 +57,43 @@ module _ (S : ℕ → Standing) where
       ]
 
   -- who is behind one of the groups is left out
-  pub left_behind : (n : ℕ) (groups : List ℕ) → IsGrouping S n groups → (h q : ℕ) → slice_get groups h ≡ Some q → IsAhead (S q) (S n) → IsGrouping S (n + 1) groups
+  pub left_behind : (n : ℕ) (groups : List ℕ) → IsGrouping S n groups → (h q : ℕ) → slice_get groups h ≡ Some q → IsAhead (S q) (S n)
+      → IsGrouping S (n + 1) groups
   left_behind n groups is h q at_q ahead = record {
     few = omega (arith, is.few);
     within = λ group place at. omega (arith, is.within group place at);
     front = λ group place at.
         below_more (λ k. IsAhead (S k) (S place) → ⊥) n (is.front group place at)
         (λ before. is.front group place at q (is.within h q at_q) (ahead_then (S q) (S n) (S place) ahead before));
-    all = below_more (λ k. (group : ℕ) × (place : ℕ) × (slice_get groups group ≡ Some place) × StandsFor (S place) place (S k) k) n is.all (h, q, at_q, inl ahead);
+    all = below_more (λ k. (group : ℕ) × (place : ℕ) × (slice_get groups group ≡ Some place) × StandsFor (S place) place (S k) k) n is.all
+        (h, q, at_q, inl ahead);
     apart = is.apart;
   }
 
   -- none of the groups is behind one that is level with one of them
-  level_front : (n : ℕ) (groups : List ℕ) → IsGrouping S n groups → IsLevelWithSome S n groups → (group place : ℕ) → slice_get groups group ≡ Some place →
+  level_front : (n : ℕ) (groups : List ℕ) → IsGrouping S n groups → IsLevelWithSome S n groups → (group place : ℕ)
+      → slice_get groups group ≡ Some place →
       (k : ℕ) → k < n + 1 → IsAhead (S k) (S place) → ⊥
   level_front n groups is level group place at =
       below_more (λ k. IsAhead (S k) (S place) → ⊥) n (is.front group place at)
-      (λ before. is.front group place at level.1 (is.within level.0 level.1 level.2) (level_ahead (S level.1) (S n) (S place) (level_back (S n) (S level.1) level.3) before))
+      (λ before. is.front group place at level.1 (is.within level.0 level.1 level.2)
+      (level_ahead (S level.1) (S n) (S place) (level_back (S n) (S level.1) level.3) before))
 
   -- and it is behind none
-  pub level_itself : (n : ℕ) (groups : List ℕ) → IsGrouping S n groups → IsLevelWithSome S n groups → (k : ℕ) → k < n + 1 → IsAhead (S k) (S n) → ⊥
+  pub level_itself : (n : ℕ) (groups : List ℕ) → IsGrouping S n groups → IsLevelWithSome S n groups → (k : ℕ) → k < n + 1
+      → IsAhead (S k) (S n) → ⊥
   level_itself n groups is level =
       below_more (λ k. IsAhead (S k) (S n) → ⊥) n
       (λ k below before. is.front level.0 level.1 level.2 k below (follows_level (S k) (S n) (S level.1) level.3 before))
       (not_ahead_of_itself (S n))
 
-  pub level_with_all : (n : ℕ) (groups : List ℕ) → IsGrouping S n groups → IsLevelWithSome S n groups → (h q : ℕ) → slice_get groups h ≡ Some q → IsLevel (S n) (S q)
+  pub level_with_all : (n : ℕ) (groups : List ℕ) → IsGrouping S n groups → IsLevelWithSome S n groups → (h q : ℕ)
+      → slice_get groups h ≡ Some q → IsLevel (S n) (S q)
   level_with_all n groups is level h q at_q =
       level_then (S n) (S level.1) (S q) level.3 (groups_level n groups is level.0 h level.1 q level.2 at_q)
 
-  pub one_more_group : (n : ℕ) (groups : List ℕ) → IsGrouping S n groups → IsLevelWithSome S n groups → ((group place : ℕ) → slice_get groups group ≡ Some place → (S place).neighbour ≡ (S n).neighbour → ⊥) →
+  pub one_more_group : (n : ℕ) (groups : List ℕ) → IsGrouping S n groups → IsLevelWithSome S n groups
+      → ((group place : ℕ) → slice_get groups group ≡ Some place → (S place).neighbour ≡ (S n).neighbour → ⊥) →
       IsGrouping S (n + 1) (groups ++ n ∷ [])
   one_more_group n groups is level differ = record {
     few = omega (arith, is.few, length-append groups (n ∷ []));
@@ -94,7 +105,8 @@ module _ (S : ℕ → Standing) where
       | inl old ↦ level_front n groups is level group place old
       | inr new ↦ rw new.1 (level_itself n groups is level)
     ];
-    all = below_more (λ k. (group : ℕ) × (place : ℕ) × (slice_get (groups ++ n ∷ []) group ≡ Some place) × StandsFor (S place) place (S k) k) n
+    all = below_more (λ k. (group : ℕ) × (place : ℕ) × (slice_get (groups ++ n ∷ []) group ≡ Some place)
+        × StandsFor (S place) place (S k) k) n
         (λ k below. let found = is.all k below in (found.0, found.1, push_old groups n found.0 found.1 found.2, found.3))
         (length groups, n, push_new groups n, stands_for_itself (S n) n);
     apart = λ i j place other at_i at_j same. elim (push_cases groups n i place at_i) [
@@ -109,7 +121,8 @@ module _ (S : ℕ → Standing) where
     ];
   }
 
-  pub another_place : (n : ℕ) (groups : List ℕ) → IsGrouping S n groups → IsLevelWithSome S n groups → (g q : ℕ) → slice_get groups g ≡ Some q →
+  pub another_place : (n : ℕ) (groups : List ℕ) → IsGrouping S n groups → IsLevelWithSome S n groups → (g q : ℕ)
+      → slice_get groups g ≡ Some q →
       (S q).neighbour ≡ (S n).neighbour → BeatsInGroup (S n) (S q) → IsGrouping S (n + 1) (slice_set groups g n)
   another_place n groups is level g q at_q same beats =
       let known = slice_get_within groups g q at_q in
@@ -123,7 +136,8 @@ module _ (S : ℕ → Standing) where
           | inl new ↦ rw new.1 (level_itself n groups is level)
           | inr old ↦ level_front n groups is level group place old.1
         ];
-        all = below_more (λ k. (group : ℕ) × (place : ℕ) × (slice_get (slice_set groups g n) group ≡ Some place) × StandsFor (S place) place (S k) k) n
+        all = below_more (λ k. (group : ℕ) × (place : ℕ) × (slice_get (slice_set groups g n) group ≡ Some place)
+            × StandsFor (S place) place (S k) k) n
             (λ k below. go k (is.all k below))
             (g, n, set_same groups g n known, stands_for_itself (S n) n);
         apart = λ i j place other at_i at_j equal. elim (set_cases groups g n i place at_i) [
@@ -151,13 +165,19 @@ module _ (S : ℕ → Standing) where
         | inr differ ↦ (found.0, found.1, set_other groups g n found.0 found.1 differ found.2, found.3)
       ]
 
-  pub same_place : (n : ℕ) (groups : List ℕ) → IsGrouping S n groups → IsLevelWithSome S n groups → (g q : ℕ) → slice_get groups g ≡ Some q →
+  pub same_place : (n : ℕ) (groups : List ℕ) → IsGrouping S n groups → IsLevelWithSome S n groups → (g q : ℕ) → slice_get groups g ≡ Some q
+      →
       (S q).neighbour ≡ (S n).neighbour → (BeatsInGroup (S n) (S q) → ⊥) → IsGrouping S (n + 1) groups
   same_place n groups is level g q at_q same beats_not = record {
     few = omega (arith, is.few);
     within = λ group place at. omega (arith, is.within group place at);
     front = level_front n groups is level;
-    all = below_more (λ k. (group : ℕ) × (place : ℕ) × (slice_get groups group ≡ Some place) × StandsFor (S place) place (S k) k) n is.all
-        (g, q, at_q, held_stands (S q) (S n) q n (level_back (S n) (S q) (level_with_all n groups is level g q at_q)) same beats_not (is.within g q at_q));
+    all = below_more (λ k. (group : ℕ) × (place : ℕ) × (slice_get groups group ≡ Some place) × StandsFor (S place) place (S k) k) n is.all (
+      g,
+      q,
+      at_q,
+      held_stands (S q) (S n) q n (level_back (S n) (S q) (level_with_all n groups is level g q at_q)) same beats_not
+          (is.within g q at_q),
+    );
     apart = is.apart;
   }

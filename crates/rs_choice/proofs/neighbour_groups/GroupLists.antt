@@ -20,12 +20,14 @@ pub stands_for_itself : (a : Standing) (place : ℕ) → StandsFor a place a pla
 stands_for_itself a place = inr ((refl, refl, refl), refl, inr (refl, inr (refl, refl, omega arith)))
 
 -- who beats the one that stands for another stands for it too
-pub beats_stands : (one held other : Standing) (place held_place other_place : ℕ) → IsLevel one held → one.neighbour ≡ held.neighbour → BeatsInGroup one held →
+pub beats_stands : (one held other : Standing) (place held_place other_place : ℕ) → IsLevel one held → one.neighbour ≡ held.neighbour
+    → BeatsInGroup one held →
     StandsFor held held_place other other_place → StandsFor one place other other_place
 beats_stands one held other place held_place other_place level same beats stands = grind arith
 
 -- who isn't beaten by a later one stands for it
-pub held_stands : (held one : Standing) (held_place place : ℕ) → IsLevel held one → held.neighbour ≡ one.neighbour → (BeatsInGroup one held → ⊥) → held_place < place →
+pub held_stands : (held one : Standing) (held_place place : ℕ) → IsLevel held one → held.neighbour ≡ one.neighbour
+    → (BeatsInGroup one held → ⊥) → held_place < place →
     StandsFor held held_place one place
 held_stands held one held_place place level same beats_not earlier = grind arith
 
@@ -42,7 +44,8 @@ push_cases (g ∷ groups) n (suc group) place at = elim (push_cases groups n gro
   | inr new ↦ inr (ap suc new.0, new.1)
 ]
 
-pub push_old : {X : Type 0} (groups : List X) (n : X) (group : ℕ) (place : X) → slice_get groups group ≡ Some place → slice_get (groups ++ n ∷ []) group ≡ Some place
+pub push_old : {X : Type 0} (groups : List X) (n : X) (group : ℕ) (place : X) → slice_get groups group ≡ Some place
+    → slice_get (groups ++ n ∷ []) group ≡ Some place
 push_old [] n group place at = absurd (cc (at))
 push_old (g ∷ groups) n zero place at = at
 push_old (g ∷ groups) n (suc group) place at = push_old groups n group place at
@@ -51,7 +54,8 @@ pub push_new : {X : Type 0} (groups : List X) (n : X) → slice_get (groups ++ n
 push_new [] n = refl
 push_new (g ∷ groups) n = push_new groups n
 
-pub set_cases : {X : Type 0} (groups : List X) (at : ℕ) (n : X) (group : ℕ) (place : X) → slice_get (slice_set groups at n) group ≡ Some place →
+pub set_cases : {X : Type 0} (groups : List X) (at : ℕ) (n : X) (group : ℕ) (place : X)
+    → slice_get (slice_set groups at n) group ≡ Some place →
     ((group ≡ at) × (place ≡ n)) ⊎ ((group ≢ at) × (slice_get groups group ≡ Some place))
 set_cases [] at n group place here = absurd (cc (here))
 set_cases (g ∷ groups) zero n zero place here = inl (refl, cc)
@@ -64,9 +68,11 @@ set_cases (g ∷ groups) (suc at) n (suc group) place here = elim (set_cases gro
 
 pub set_same : {X : Type 0} (groups : List X) (at : ℕ) (n : X) → at < length groups → slice_get (slice_set groups at n) at ≡ Some n
 set_same groups at n within =
-    slice_get-get_or (slice_set groups at n) at n (omega (arith, within, length-set groups at n)) ∙ ap Some (get_or-set_same groups at n n within)
+    slice_get-get_or (slice_set groups at n) at n (omega (arith, within, length-set groups at n))
+    ∙ ap Some (get_or-set_same groups at n n within)
 
-pub set_other : {X : Type 0} (groups : List X) (at : ℕ) (n : X) (group : ℕ) (place : X) → group ≢ at → slice_get groups group ≡ Some place → slice_get (slice_set groups at n) group ≡ Some place
+pub set_other : {X : Type 0} (groups : List X) (at : ℕ) (n : X) (group : ℕ) (place : X) → group ≢ at → slice_get groups group ≡ Some place
+    → slice_get (slice_set groups at n) group ≡ Some place
 set_other groups at n group place differ here =
     slice_get-get_or (slice_set groups at n) group place (omega (arith, slice_get_within groups group place here, length-set groups at n))
     ∙ ap Some (get_or-set_other groups at group n place differ ∙ get_or_from_slice_get groups group place place here)

@@ -38,16 +38,19 @@ level_pair standing set one other front_one front_other =
 module _ {M : Type 0} (standing : M → Standing) (set : List M) (S : ℕ → Standing) (groups : List Group)
     (at_place : (k : ℕ) (x : M) → slice_get set k ≡ Some x → S k ≡ standing x) (are : AreGroups S (length set) groups) where
   -- none of the set is ahead of a member that stands for a group
-  group_front : (i place : ℕ) (held : M) → slice_get (places_of groups) i ≡ Some place → slice_get set place ≡ Some held → Unbeaten (By standing IsAhead) (Mem set) held
+  group_front : (i place : ℕ) (held : M) → slice_get (places_of groups) i ≡ Some place → slice_get set place ≡ Some held
+      → Unbeaten (By standing IsAhead) (Mem set) held
   group_front i place held at at_held = record {
     member = mem-slice_get set place held at_held;
     best = λ w h ahead.
         let found = slice_get-mem set w h in
-        are.grouping.front i place at found.0 (slice_get_within set found.0 w found.1) (rw (at_place found.0 w found.1, at_place place held at_held) ahead);
+        are.grouping.front i place at found.0 (slice_get_within set found.0 w found.1)
+        (rw (at_place found.0 w found.1, at_place place held at_held) ahead);
   }
 
   module _ (kept : M → Bool)
-      (stay : (i : ℕ) (group : Group) (x : M) → slice_get groups i ≡ Some group → IsTrue group.keeps_out → slice_get set group.place ≡ Some x → kept x ≡ true) where
+      (stay : (i : ℕ) (group : Group) (x : M) → slice_get groups i ≡ Some group → IsTrue group.keeps_out
+      → slice_get set group.place ≡ Some x → kept x ≡ true) where
     -- whom MED removes, a member that stands for a group removes, and it stays, since this group keeps out another
     removed_by_group : (one other : M) → Unbeaten (By standing IsAhead) (Mem set) one → Unbeaten (By standing IsAhead) (Mem set) other →
         HasLowerMed (standing other) (standing one) →
@@ -60,8 +63,11 @@ module _ {M : Type 0} (standing : M → Standing) (set : List M) (S : ℕ → St
         let held = get_or set place one in
         let at_held = slice_get-get_or set place one (are.grouping.within found.0 place found.2) in
         let front = group_front found.0 place held found.2 at_held in
-        let stands : StandsFor (standing held) place (standing other) at_other.0 = rw (at_place place held at_held, at_place at_other.0 other at_other.1) at found.3 in
-        let removes = stands_removes (standing held) (standing other) (standing one) place at_other.0 stands (λ ahead. front_other.best held front.member ahead)
+        let stands : StandsFor (standing held) place (standing other) at_other.0 =
+        rw (at_place place held at_held, at_place at_other.0 other at_other.1) at found.3 in
+        let removes =
+        stands_removes (standing held) (standing other) (standing one) place at_other.0 stands
+        (λ ahead. front_other.best held front.member ahead)
         (level_pair standing set one other front_one front_other) lower in
         let group = group_at groups found.0 place found.2 in
         let at_group : slice_get set group.0.place ≡ Some held = rw group.2 at_held in
@@ -75,7 +81,8 @@ module _ {M : Type 0} (standing : M → Standing) (set : List M) (S : ℕ → St
     unfolding remaining
     groups_remove one other member stays other_member beaten =
         let front = same3 standing set in
-        let found = removed_by_group one other (front.to one member) (front.to other other_member) ((beats_tells steps.Med (standing other) (standing one)).0 beaten) in
+        let found = removed_by_group one other (front.to one member) (front.to other other_member)
+        ((beats_tells steps.Med (standing other) (standing one)).0 beaten) in
         (found.0, front.from found.0 found.1, found.2, (beats_tells steps.Med (standing found.0) (standing one)).1 found.3)
 
 -- The choice stays where those members stay that stand for groups that keep out others, and for the group of the choice.
@@ -83,14 +90,16 @@ pub groups_settle : {M : Type 0} (standing : M → Standing) (set : List M) (gro
     AreGroups (standing_in (map standing set)) (length set) groups → place_of_choice standing set ≡ Some first.place →
     ((i : ℕ) × (group : Group) × (slice_get groups i ≡ Some group) × (group.place ≡ first.place)) →
     (kept : M → Bool) →
-    ((i : ℕ) (group : Group) (x : M) → slice_get groups i ≡ Some group → (IsTrue group.keeps_out ⊎ (group.place ≡ first.place)) → slice_get set group.place ≡ Some x → kept x ≡ true) →
+    ((i : ℕ) (group : Group) (x : M) → slice_get groups i ≡ Some group → (IsTrue group.keeps_out ⊎ (group.place ≡ first.place))
+    → slice_get set group.place ≡ Some x → kept x ≡ true) →
     choice standing (filter kept set) ≡ choice standing set
 groups_settle standing set groups first are place known kept stay =
     let i = known.0 in
     let group = known.1 in
     let at_place = place_at groups i group known.2 ∙ ap Some known.3 in
     let chosen = some_at set first.place (are.grouping.within i first.place at_place) in
-    let is_chosen : choice standing set ≡ Some chosen.0 = sym (member_at-place_of_choice standing set) ∙ ap (member_at set) place ∙ chosen.1 in
+    let is_chosen : choice standing set ≡ Some chosen.0 =
+    sym (member_at-place_of_choice standing set) ∙ ap (member_at set) place ∙ chosen.1 in
     let at_chosen : slice_get set group.place ≡ Some chosen.0 = ap (slice_get set) known.3 ∙ chosen.1 in
     choice_stays standing set kept chosen.0 is_chosen (stay i group chosen.0 known.2 (inr known.3) at_chosen)
     (groups_remove standing set (standing_in (map standing set)) groups (standing_in-map standing set) are kept

@@ -1,5 +1,6 @@
 -- Laws of the faults of a plan: for `a_plan_is_refused_by_its_first_fault` and `peers_have_addresses_of_their_own` of laws.rt.
-use Rattle.std.proofs.Common.{◌≡◌, ◌∙◌, sym, ap, refl, ℕ, suc, zero, ◌<◌, ◌==◌, arith, true, false, inl, inr, List, [], ◌∷◌, ◌++◌, take, Option, Some, None}
+use Rattle.std.proofs.Common.{◌≡◌, ◌∙◌, sym, ap, refl, ℕ, suc, zero, ◌<◌, ◌==◌, arith, true, false, inl, inr, List, [], ◌∷◌, ◌++◌, take}
+use Rattle.std.proofs.Common.{Option, Some, None}
 use Rattle.std.specs.Prelude.{slice_get, MatchOption}
 use Rattle.std.specs.List.{flat_map, enumerate_from}
 use Rattle.std.proofs.lemmas.Bool.{cases_order}
@@ -15,7 +16,8 @@ use Rattle.rs_update.specs.Fault.{first_fault}
 use Rattle.rs_choice.proofs.Members.{Mem, contains-mem, list_any-none, mem-append_left, mem-append_right}
 use Rattle.rs_choice.proofs.decision.PlaceLemmas.{enumerate-at}
 
-later_match : (o : Option PlanFault) (P P' : Type 0) (Q Q' : PlanFault → Type 0) → (P → P') → ((fault : PlanFault) → Q fault → Q' fault) → MatchOption o P Q → MatchOption o P' Q'
+later_match : (o : Option PlanFault) (P P' : Type 0) (Q Q' : PlanFault → Type 0) → (P → P') → ((fault : PlanFault) → Q fault → Q' fault)
+    → MatchOption o P Q → MatchOption o P' Q'
 later_match None P P' Q Q' p q h = p h
 later_match (Some fault) P P' Q Q' p q h = q fault h
 
@@ -27,8 +29,10 @@ fault_is_first ((false, fault) ∷ later) =
     later_match (first_fault later)
     ((k : ℕ) (test : Test) → slice_get later k ≡ Some test → test.0 ≡ false)
     ((k : ℕ) (test : Test) → slice_get ((false, fault) ∷ later) k ≡ Some test → test.0 ≡ false)
-    (λ found. (place : ℕ) × (slice_get later place ≡ Some (true, found)) × ((k : ℕ) (test : Test) → k < place → slice_get later k ≡ Some test → test.0 ≡ false))
-    (λ found. (place : ℕ) × (slice_get ((false, fault) ∷ later) place ≡ Some (true, found)) × ((k : ℕ) (test : Test) → k < place → slice_get ((false, fault) ∷ later) k ≡ Some test → test.0 ≡ false))
+    (λ found. (place : ℕ) × (slice_get later place ≡ Some (true, found))
+    × ((k : ℕ) (test : Test) → k < place → slice_get later k ≡ Some test → test.0 ≡ false))
+    (λ found. (place : ℕ) × (slice_get ((false, fault) ∷ later) place ≡ Some (true, found))
+    × ((k : ℕ) (test : Test) → k < place → slice_get ((false, fault) ∷ later) k ≡ Some test → test.0 ≡ false))
     (λ none k. shift k none)
     (λ found h. (suc h.0, h.1, λ k test below at. before k test h.0 below h.2 at))
     (fault_is_first later)
@@ -38,7 +42,8 @@ fault_is_first ((false, fault) ∷ later) =
     shift zero none test at = let e : (false, fault) ≡ test = cc (at) in ap (λ (t : Test). t.0) (sym e)
     shift (suc k) none test at = none k test at
 
-    before : (k : ℕ) (test : Test) (place : ℕ) → k < suc place → ((k : ℕ) (test : Test) → k < place → slice_get later k ≡ Some test → test.0 ≡ false) →
+    before : (k : ℕ) (test : Test) (place : ℕ) → k < suc place
+        → ((k : ℕ) (test : Test) → k < place → slice_get later k ≡ Some test → test.0 ≡ false) →
         slice_get ((false, fault) ∷ later) k ≡ Some test → test.0 ≡ false
     before zero test place below none at = let e : (false, fault) ≡ test = cc (at) in ap (λ (t : Test). t.0) (sym e)
     before (suc k) test place below none at = none k test (omega arith) at
@@ -67,11 +72,14 @@ later_address local peers none i j one other below at_one at_other same =
     let tests : ℕ × Peer → List Test = λ (number, peer). peer_tests (take number peers) number peer in
     let test : Test = (has_address (take j peers) other.address, RepeatedAddress j) in
     let numbered = enumerate-at peers j other at_other in
-    let in_peers : Mem (peers_tests peers) test = mem-flat_map tests (enumerate_from 0 peers) (j, other) test numbered (inr (inr (inl refl))) in
+    let in_peers : Mem (peers_tests peers) test =
+    mem-flat_map tests (enumerate_from 0 peers) (j, other) test numbered (inr (inr (inl refl))) in
     let in_all : Mem (plan_tests local peers) test =
-    mem-append_left (whole_tests local peers ++ peers_tests peers) (names_tests peers) test (mem-append_right (whole_tests local peers) (peers_tests peers) test in_peers) in
+    mem-append_left (whole_tests local peers ++ peers_tests peers) (names_tests peers) test
+    (mem-append_right (whole_tests local peers) (peers_tests peers) test in_peers) in
     let fails : has_address (take j peers) other.address ≡ false = all_false (plan_tests local peers) test none in_all in
-    let differs : (one.address == other.address) ≡ false = list_any-none (λ peer. peer.address == other.address) (take j peers) one fails (slice_get-before j peers i one below at_one) in
+    let differs : (one.address == other.address) ≡ false =
+    list_any-none (λ peer. peer.address == other.address) (take j peers) one fails (slice_get-before j peers i one below at_one) in
     absurd (grind (arith, nat_tests))
 
 pub own_addresses : PeersHaveOwnAddresses

@@ -1,7 +1,8 @@
 -- Refusals by name, as an exchange keeps them, the policy at two known peers, and routes whose communities refuse nothing.
 -- For `refusals` and `refuses` of exchange.rt, and `permits` and `permits_other` of policy.rt.
 use mathlib.Core.List.{map-map}
-use Rattle.std.proofs.Common.{◌≡◌, ◌∙◌, sym, ap, arith, ℕ, ◌<◌, ◌/◌, ◌*◌, ◌+◌, ◌==◌, Bool, true, false, not, ◌&&◌, ◌≢◌, inl, inr, List, [], ◌∷◌, length, map, get_or, Option, None, Some, refl}
+use Rattle.std.proofs.Common.{◌≡◌, ◌∙◌, sym, ap, arith, ℕ, ◌<◌, ◌/◌, ◌*◌, ◌+◌, ◌==◌, Bool, true, false, not, ◌&&◌, ◌≢◌, inl, inr, List, []}
+use Rattle.std.proofs.Common.{◌∷◌, length, map, get_or, Option, None, Some, refl}
 use Rattle.std.specs.Prelude.{slice_get, string_bytes, nat_lt, if◌then◌else◌}
 use Rattle.std.specs.List.{list_any}
 use Rattle.std.specs.Str.{bytes_eq}
@@ -24,13 +25,15 @@ use Rattle.rs_choice.proofs.Members.{some_at}
 pub row_of_client : {R : Type 0} (f : R → List Bool) (rows : List R) (peers : List Peer) (client : ℕ) (row : R) (one : Peer) →
     map f rows ≡ refusals_of peers → slice_get peers client ≡ Some one → row ≡ get_or rows client row → f row ≡ map (refuses one) peers
 row_of_client f rows peers client row one agree at_one at_row =
-    let counts : length rows ≡ length peers = sym (length-map rows f) ∙ ap length agree ∙ length-map peers (λ one. map (refuses one) peers) in
+    let counts : length rows ≡ length peers =
+    sym (length-map rows f) ∙ ap length agree ∙ length-map peers (λ one. map (refuses one) peers) in
     let known = slice_get_within peers client one at_one in
     let read = slice_get_read rows (length peers) client row (sym counts) known at_row in
     let row_is : slice_get (map f rows) client ≡ Some (f row) = slice_get-map f rows client ∙ ap (option_map f) read in
     let said_is : slice_get (refusals_of peers) client ≡ Some (map (refuses one) peers) =
     slice_get-map (λ one. map (refuses one) peers) peers client ∙ ap (option_map (λ (one : Peer). map (refuses one) peers)) at_one in
-    let same : Some (f row) ≡ Some (map (refuses one) peers) = sym row_is ∙ ap (λ (all : List (List Bool)). slice_get all client) agree ∙ said_is in
+    let same : Some (f row) ≡ Some (map (refuses one) peers) =
+    sym row_is ∙ ap (λ (all : List (List Bool)). slice_get all client) agree ∙ said_is in
     cc
 
 -- such a row has a place for each peer
@@ -42,12 +45,15 @@ length_of_row f rows peers client row agree known at_row =
 
 -- and at each place it has the answer
 pub answer_of_row : {R : Type 0} (f : R → List Bool) (rows : List R) (peers : List Peer) (client sender : ℕ) (row : R) (answer : Bool) →
-    map f rows ≡ refusals_of peers → row ≡ get_or rows client row → answer ≡ get_or (f row) sender answer → IsRefusal peers client sender answer
+    map f rows ≡ refusals_of peers → row ≡ get_or rows client row → answer ≡ get_or (f row) sender answer
+    → IsRefusal peers client sender answer
 answer_of_row f rows peers client sender row answer agree at_row at_answer one other at_one at_other =
     let row_is = row_of_client f rows peers client row one agree at_one at_row in
     let sender_known = slice_get_within peers sender other at_other in
-    let at_sender : slice_get (map (refuses one) peers) sender ≡ Some (refuses one other) = slice_get-map (refuses one) peers sender ∙ ap (option_map (refuses one)) at_other in
-    at_answer ∙ ap (λ (row : List Bool). get_or row sender answer) row_is ∙ get_or_from_slice_get (map (refuses one) peers) sender (refuses one other) answer at_sender
+    let at_sender : slice_get (map (refuses one) peers) sender ≡ Some (refuses one other) =
+    slice_get-map (refuses one) peers sender ∙ ap (option_map (refuses one)) at_other in
+    at_answer ∙ ap (λ (row : List Bool). get_or row sender answer) row_is
+    ∙ get_or_from_slice_get (map (refuses one) peers) sender (refuses one other) answer at_sender
 
 -- the policy at two known peers
 pub is_permitted-known : (plan : Plan) (client number : ℕ) (attributes : PathAttributes) (one other : Peer) →
@@ -57,29 +63,34 @@ is_permitted-known plan client number attributes one other at_one at_other = rw 
 
 -- for another client that doesn't refuse the sender, the communities decide
 pub is_permitted-not-refused : (plan : Plan) (client number : ℕ) (attributes : PathAttributes) (one : Peer) (refused answer : Bool) →
-    slice_get plan.peers client ≡ Some one → number < length plan.peers → client ≢ number → IsRefusal plan.peers client number refused → refused ≡ false →
+    slice_get plan.peers client ≡ Some one → number < length plan.peers → client ≢ number → IsRefusal plan.peers client number refused
+    → refused ≡ false →
     answer ≡ permits_by_communities plan.local.asn one.asn attributes.communities → answer ≡ is_permitted plan client number attributes
 is_permitted-not-refused plan client number attributes one refused answer at_one known differ refusal refuses_not at_answer =
     let other = some_at plan.peers number known in
     let says : refuses one other.0 ≡ false = sym (refusal one other.0 at_one other.1) ∙ refuses_not in
-    at_answer ∙ sym (is_permitted-known plan client number attributes one other.0 at_one other.1 ∙ rw (ne_eqb client number differ, says) refl)
+    at_answer ∙ sym (is_permitted-known plan client number attributes one other.0 at_one other.1
+    ∙ rw (ne_eqb client number differ, says) refl)
 
 -- where no value has the high half 0, none is that of (0, low)
 no_value_of_0 : (value low : ℕ) → low < 65536 → (value / 65536 == 0) ≡ false → (value == 0 * 65536 + low) ≡ false
 no_value_of_0 value low small other = grind (arith, nat_tests)
 
-no_values_of_0 : (values : List ℕ) (low : ℕ) → low < 65536 → has_value_of values 0 ≡ false → list_any (λ value. value == 0 * 65536 + low) values ≡ false
+no_values_of_0 : (values : List ℕ) (low : ℕ) → low < 65536 → has_value_of values 0 ≡ false
+    → list_any (λ value. value == 0 * 65536 + low) values ≡ false
 no_values_of_0 [] low small none = refl
 no_values_of_0 (value ∷ values) low small none =
     let parts = or_parts (value / 65536 == 0) (has_value_of values 0) none in
     rw (no_value_of_0 value low small parts.0, no_values_of_0 values low small parts.1) refl
 
 -- a route without a community (0, AS) has none that refuses it to an AS
-pub no_community_of_0 : (communities : Option CommunityList) (low : ℕ) → has_community_of_in communities 0 ≡ false → has_community_in communities 0 low ≡ false
+pub no_community_of_0 : (communities : Option CommunityList) (low : ℕ) → has_community_of_in communities 0 ≡ false
+    → has_community_in communities 0 low ≡ false
 no_community_of_0 None low none = refl
 no_community_of_0 (Some list) low none =
     elim (cases_Bool (nat_lt low 65536)) [
-      | inl small ↦ and_right (nat_lt low 65536) (list_any (λ value. value == 0 * 65536 + low) list.values) (no_values_of_0 list.values low (ltb-true low 65536 small) none)
+      | inl small ↦ and_right (nat_lt low 65536) (list_any (λ value. value == 0 * 65536 + low) list.values)
+          (no_values_of_0 list.values low (ltb-true low 65536 small) none)
       | inr large ↦ and_left (nat_lt low 65536) (list_any (λ value. value == 0 * 65536 + low) list.values) large
     ]
 
@@ -90,7 +101,9 @@ any_way false = refl
 -- so that the communities permit it to every client
 pub permits_without_0 : (local_asn client_asn : ℕ) (communities : Option CommunityList) → has_community_of_in communities 0 ≡ false →
     permits_by_communities local_asn client_asn communities ≡ true
-permits_without_0 local_asn client_asn communities none = rw (no_community_of_0 communities client_asn none, no_community_of_0 communities local_asn none) (any_way (has_community_in communities local_asn client_asn))
+permits_without_0 local_asn client_asn communities none =
+    rw (no_community_of_0 communities client_asn none, no_community_of_0 communities local_asn none)
+    (any_way (has_community_in communities local_asn client_asn))
 
 turned : (b : Bool) → (if b then false else true) ≡ not b
 turned true = refl
@@ -105,10 +118,12 @@ is_permitted-without_0 plan client number attributes refused known sender_known 
     let other = some_at plan.peers number sender_known in
     let says : refuses one.0 other.0 ≡ refused = sym (refusal one.0 other.0 one.1 other.1) in
     let permits = permits_without_0 plan.local.asn one.0.asn attributes.communities none in
-    sym (is_permitted-known plan client number attributes one.0 other.0 one.1 other.1 ∙ rw (ne_eqb client number differ, says, permits) (turned refused))
+    sym (is_permitted-known plan client number attributes one.0 other.0 one.1 other.1
+    ∙ rw (ne_eqb client number differ, says, permits) (turned refused))
 
 refuses-map : (client sender : PeerSpec) → refuses (peer_of client) (peer_of sender) ≡ refuses_spec client sender
-refuses-map client sender = list_any-map (λ name. string_bytes name) (λ name. bytes_eq name (string_bytes sender.name)) client.refuse_from.items
+refuses-map client sender =
+    list_any-map (λ name. string_bytes name) (λ name. bytes_eq name (string_bytes sender.name)) client.refuse_from.items
 
 -- refusals by the peers as they are configured
 pub refusals_of-map : (peers : List PeerSpec) → refusals_of (map peer_of peers) ≡ map (λ client. map (refuses_spec client) peers) peers

@@ -29,19 +29,25 @@ to_come-may stage = record {
 }
 
 -- and no others may
-pub to_come-only : (stage : Stage Reading) (changes : List Change) (passed : ℕ) → May comes shows stage changes passed → changes ≡ to_come stage
+pub to_come-only : (stage : Stage Reading) (changes : List Change) (passed : ℕ) → May comes shows stage changes passed
+    → changes ≡ to_come stage
 to_come-only stage changes passed m =
-    let records-are : m.records ≡ records_to_come stage = m.may_read.read ∙ ap (λ (later : List MrtRecord). to_read stage.held stage.source.shown later) m.may_read.come.0 in
-    m.left ∙ ap (λ (rs : List MrtRecord). changes_left stage rs m.end) records-are ∙ ap (λ (e : Option SourceFault). changes_left stage (records_to_come stage) e) m.may_read.come.1
+    let records-are : m.records ≡ records_to_come stage =
+    m.may_read.read ∙ ap (λ (later : List MrtRecord). to_read stage.held stage.source.shown later) m.may_read.come.0 in
+    m.left ∙ ap (λ (rs : List MrtRecord). changes_left stage rs m.end) records-are
+    ∙ ap (λ (e : Option SourceFault). changes_left stage (records_to_come stage) e) m.may_read.come.1
 
 -- at first what the file says
-pub to_come-says : (stage : Stage Reading) (changes : List Change) (passed : ℕ) → SaysJust comes shows stage changes passed → to_come stage ≡ changes
+pub to_come-says : (stage : Stage Reading) (changes : List Change) (passed : ℕ) → SaysJust comes shows stage changes passed
+    → to_come stage ≡ changes
 to_come-says stage changes passed h = ((h (to_come stage) (passed_in_the_end stage (records_to_come stage))).0 (to_come-may stage)).0
 
 -- a change that is given was the first to come
-pub to_come-given : (old new : Stage Reading) (word : Word) → Says comes shows old new (Ok (Some word)) → to_come old ≡ change_of word ∷ to_come new
+pub to_come-given : (old new : Stage Reading) (word : Word) → Says comes shows old new (Ok (Some word))
+    → to_come old ≡ change_of word ∷ to_come new
 to_come-given old new word says =
-    sym (to_come-only old (change_of word ∷ to_come new) (passed_in_the_end new (records_to_come new)) (says.0 (to_come new) (passed_in_the_end new (records_to_come new)) (to_come-may new)))
+    sym (to_come-only old (change_of word ∷ to_come new) (passed_in_the_end new (records_to_come new))
+    (says.0 (to_come new) (passed_in_the_end new (records_to_come new)) (to_come-may new)))
 
 -- nothing is given where nothing is to come
 pub to_come-none : (old new : Stage Reading) → Says comes shows old new (Ok None) → to_come old ≡ []
@@ -50,4 +56,5 @@ to_come-none old new says = (says.0 (to_come old) (passed_in_the_end old (record
 -- refused, what is to come stays
 pub to_come-kept : (old new : Stage Reading) → Keeps comes shows old new → to_come new ≡ to_come old
 to_come-kept old new keeps =
-    to_come-only old (to_come new) (passed_in_the_end new (records_to_come new)) (keeps (to_come new) (passed_in_the_end new (records_to_come new)) (to_come-may new))
+    to_come-only old (to_come new) (passed_in_the_end new (records_to_come new))
+    (keeps (to_come new) (passed_in_the_end new (records_to_come new)) (to_come-may new))

@@ -24,25 +24,35 @@ ok-both (Ok value) P Q R p q h = h p q
 ok-both (Err fault) P Q R p q h = tt
 
 -- a change was received from one lane, and the tables took it
-pub held-after : (lanes : List LaneContent) (before after : TablesContent) (at : ℕ) (lane new : LaneContent) (change : Change) → HoldReceived before lanes → slice_get lanes at ≡ Some lane
-    → new ≡ record lane { counts = after_receive lane.counts } → new.counts.received ≡ lane.counts.received + 1 → slice_get lane.recorded lane.counts.received ≡ Some change → list_any is_close (received_of lane) ≡ false
-    → ((other : ℕ) → other ≢ at → rib_of after other ≡ rib_of before other) → BecomeBy (rib_of before at).routes change (rib_of after at).routes → (rib_of after at).closed ≡ is_close change
+pub held-after : (lanes : List LaneContent) (before after : TablesContent) (at : ℕ) (lane new : LaneContent) (change : Change)
+    → HoldReceived before lanes → slice_get lanes at ≡ Some lane
+    → new ≡ record lane { counts = after_receive lane.counts } → new.counts.received ≡ lane.counts.received + 1
+    → slice_get lane.recorded lane.counts.received ≡ Some change → list_any is_close (received_of lane) ≡ false
+    → ((other : ℕ) → other ≢ at → rib_of after other ≡ rib_of before other)
+    → BecomeBy (rib_of before at).routes change (rib_of after at).routes → (rib_of after at).closed ≡ is_close change
     → HoldReceived after (slice_set lanes at new)
 held-after lanes before after at lane new change held found new_is one_more given unclosed others become closed other one e =
-    elim (eqb_tells other at) [ inl told ↦ here told.1 | inr told ↦ others other told.1 ∙ held other one (sym (get-set_other lanes at new other told.1) ∙ e) ]
+    elim (eqb_tells other at) [
+      | inl told ↦ here told.1
+      | inr told ↦ others other told.1
+          ∙ held other one (sym (get-set_other lanes at new other told.1) ∙ e)
+    ]
   where
     recorded_same : new.recorded ≡ lane.recorded
     recorded_same = ap (λ (l : LaneContent). l.recorded) new_is
 
     more : received_of new ≡ received_of lane ++ change ∷ []
-    more = ap (λ (n : ℕ). take n new.recorded) one_more ∙ ap (λ (cs : List Change). take (lane.counts.received + 1) cs) recorded_same ∙ take-more lane.recorded lane.counts.received change given
+    more = ap (λ (n : ℕ). take n new.recorded) one_more ∙ ap (λ (cs : List Change). take (lane.counts.received + 1) cs) recorded_same
+        ∙ take-more lane.recorded lane.counts.received change given
 
     rib : rib_of after at ≡ rib_left (received_of new)
-    rib = rib_left-more (received_of lane) change (rib_of before at) (rib_of after at) (held at lane found) unclosed become closed ∙ ap rib_left (sym more)
+    rib = rib_left-more (received_of lane) change (rib_of before at) (rib_of after at) (held at lane found) unclosed become closed
+        ∙ ap rib_left (sym more)
 
     here : other ≡ at → rib_of after other ≡ rib_left (received_of one)
     here same =
         let set : slice_get (slice_set lanes at new) at ≡ Some new = get-set_same lanes at new (slice_get_within lanes at lane found) in
-        let there : slice_get (slice_set lanes at new) at ≡ Some one = ap (λ (n : ℕ). slice_get (slice_set lanes at new) n) (sym same) ∙ e in
+        let there : slice_get (slice_set lanes at new) at ≡ Some one =
+        ap (λ (n : ℕ). slice_get (slice_set lanes at new) n) (sym same) ∙ e in
         let one_is : new ≡ one = cc in
         ap (λ (n : ℕ). rib_of after n) same ∙ rib ∙ ap (λ (l : LaneContent). rib_left (received_of l)) one_is

@@ -9,7 +9,11 @@ use Rattle.rs_floor.specs.declared.turn.Turn.TheVariants.{Receive}
 
 -- a turn changes only the lane of its own peer
 pub receive-own : (peer : ℕ) (lane : LaneContent) → lane_after peer lane (Receive peer) ≡ record lane { counts = after_receive lane.counts }
-receive-own peer lane = ap (λ (counts : Counts). let made : LaneContent = record lane { counts = counts } in made) (cond-true (peer == peer) (after_receive lane.counts) lane.counts (eq-eqb peer peer refl))
+receive-own peer lane =
+    ap (λ (counts : Counts). let made : LaneContent = record lane { counts = counts } in made)
+    (cond-true (peer == peer) (after_receive lane.counts) lane.counts (eq-eqb peer peer refl))
 
 pub receive-other : (peer other : ℕ) (lane : LaneContent) → other ≢ peer → lane_after other lane (Receive peer) ≡ lane
-receive-other peer other lane apart = ap (λ (counts : Counts). let made : LaneContent = record lane { counts = counts } in made) (cond-false (peer == other) (after_receive lane.counts) lane.counts (ne_eqb peer other (λ e. apart (sym e))))
+receive-other peer other lane apart =
+    ap (λ (counts : Counts). let made : LaneContent = record lane { counts = counts } in made)
+    (cond-false (peer == other) (after_receive lane.counts) lane.counts (ne_eqb peer other (λ e. apart (sym e))))

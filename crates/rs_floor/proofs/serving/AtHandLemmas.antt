@@ -1,5 +1,6 @@
 -- Readers of files that are at hand: for `serve` of serving.rt.
-use Rattle.std.proofs.Common.{◌≡◌, ◌∙◌, sym, ap, subst, ℕ, ◌<◌, ◌^◌, ◌⊎◌, arith, inl, inr, Bor, List, [], ◌++◌, All, length, map, length-append, Some, Result, Ok, Err}
+use Rattle.std.proofs.Common.{◌≡◌, ◌∙◌, sym, ap, subst, ℕ, ◌<◌, ◌^◌, ◌⊎◌, arith, inl, inr, Bor, List, [], ◌++◌, All, length, map}
+use Rattle.std.proofs.Common.{length-append, Some, Result, Ok, Err}
 use Rattle.std.specs.Prelude.{slice_get}
 use Rattle.std.specs.List.{zip}
 use Rattle.std.proofs.lemmas.List.{length-map}
@@ -36,7 +37,8 @@ record SaysSame (errors : Errors) (peer : PeerId) (file whole : List ℕ) : Type
   passed : passed_in_by errors peer file ≡ passed_in_by errors peer whole
 
 -- what is given of a file at hand says what the file says
-given-whole : {R : Type 0} (gives : R → List ℕ → ReadEnd → Type 0) (f : R → List ℕ) (errors : Errors) (peer : PeerId) (reader : R) (file : List ℕ) → IsAtHand gives f reader → IsGiven gives errors peer reader file → SaysSame errors peer file (f reader)
+given-whole : {R : Type 0} (gives : R → List ℕ → ReadEnd → Type 0) (f : R → List ℕ) (errors : Errors) (peer : PeerId) (reader : R)
+    (file : List ℕ) → IsAtHand gives f reader → IsGiven gives errors peer reader file → SaysSame errors peer file (f reader)
 given-whole gives f errors peer reader file hand (inl whole) =
     let e : file ≡ f reader = (hand.only file FileEnds whole.given).0 in
     record { changes = ap (changes_in_by errors peer) e; passed = ap (passed_in_by errors peer) e }
@@ -46,7 +48,8 @@ given-whole gives f errors peer reader file hand (inr close) =
     record { changes = sym s.0 ∙ ap (changes_in_by errors peer) e; passed = sym s.1 ∙ ap (passed_in_by errors peer) e }
 
 -- no read of it fails
-none-fails : {R : Type 0} (gives : R → List ℕ → ReadEnd → Type 0) (f : R → List ℕ) (errors : Errors) (peer : PeerId) (reader : R) → IsAtHand gives f reader → MayFail gives errors peer reader → ⊥
+none-fails : {R : Type 0} (gives : R → List ℕ → ReadEnd → Type 0) (f : R → List ℕ) (errors : Errors) (peer : PeerId) (reader : R)
+    → IsAtHand gives f reader → MayFail gives errors peer reader → ⊥
 none-fails gives f errors peer reader hand (came, fails) = by fails.fails
   where
     given : (came ++ fails.later ≡ f reader) × (fails.end ≡ FileEnds)
@@ -56,34 +59,49 @@ none-fails gives f errors peer reader hand (came, fails) = by fails.fails
     by (inl read) = let both : ReadFails ≡ FileEnds = sym read.1 ∙ given.1 in cc
     by (inr full) = omega (arith, full, hand.fits, ap length given.0, length-append came fails.later)
 
-module _ {R : Type 0} (gives : R → List ℕ → ReadEnd → Type 0) (f : R → List ℕ) (errors : Errors) (plan : Plan) (readers : List R) (hand : (place : ℕ) (reader : R) → slice_get readers place ≡ Some reader → IsAtHand gives f reader)
+module _ {R : Type 0} (gives : R → List ℕ → ReadEnd → Type 0) (f : R → List ℕ) (errors : Errors) (plan : Plan) (readers : List R)
+    (hand : (place : ℕ) (reader : R) → slice_get readers place ≡ Some reader → IsAtHand gives f reader)
     (served : ServedContent) (as_many : length readers ≡ length plan.peers) (s : IsServedBy gives errors plan readers served) where
   files-counted : length s.0 ≡ length plan.peers
   files-counted = s.1.as_many ∙ as_many
 
-  same : (place : ℕ) (peer : Peer) (reader : R) (file : List ℕ) → slice_get plan.peers place ≡ Some peer → slice_get readers place ≡ Some reader → slice_get s.0 place ≡ Some file → SaysSame errors (id_of peer) file (f reader)
-  same place peer reader file ep er ef = given-whole gives f errors (id_of peer) reader file (hand place reader er) (s.1.each place (id_of peer) reader file (get-map id_of plan.peers place peer ep) er ef)
+  same : (place : ℕ) (peer : Peer) (reader : R) (file : List ℕ) → slice_get plan.peers place ≡ Some peer
+      → slice_get readers place ≡ Some reader → slice_get s.0 place ≡ Some file → SaysSame errors (id_of peer) file (f reader)
+  same place peer reader file ep er ef =
+      given-whole gives f errors (id_of peer) reader file (hand place reader er)
+      (s.1.each place (id_of peer) reader file (get-map id_of plan.peers place peer ep) er ef)
 
   of-zip : (files : List (List ℕ)) → length files ≡ length plan.peers → length (changes_by_peer errors plan files) ≡ length plan.peers
-  of-zip files counts = length-map (zip plan.peers files) (λ (peer, file). changes_in_by errors (id_of peer) file) ∙ zip-counted plan.peers files counts
+  of-zip files counts =
+      length-map (zip plan.peers files) (λ (peer, file). changes_in_by errors (id_of peer) file) ∙ zip-counted plan.peers files counts
 
-  recorded-at : (files : List (List ℕ)) (place : ℕ) (peer : Peer) (file : List ℕ) → slice_get plan.peers place ≡ Some peer → slice_get files place ≡ Some file → slice_get (changes_by_peer errors plan files) place ≡ Some (changes_in_by errors (id_of peer) file)
-  recorded-at files place peer file ep ef = get-map (λ (p, o). changes_in_by errors (id_of p) o) (zip plan.peers files) place (peer, file) (zip-at plan.peers files place peer file ep ef)
+  recorded-at : (files : List (List ℕ)) (place : ℕ) (peer : Peer) (file : List ℕ) → slice_get plan.peers place ≡ Some peer
+      → slice_get files place ≡ Some file → slice_get (changes_by_peer errors plan files) place
+      ≡ Some (changes_in_by errors (id_of peer) file)
+  recorded-at files place peer file ep ef =
+      get-map (λ (p, o). changes_in_by errors (id_of p) o) (zip plan.peers files) place (peer, file)
+      (zip-at plan.peers files place peer file ep ef)
 
   same-changes : changes_by_peer errors plan s.0 ≡ changes_by_peer errors plan (map f readers)
-  same-changes = same-places (changes_by_peer errors plan (map f readers)) (changes_by_peer errors plan s.0) (of-zip (map f readers) (length-map readers f ∙ as_many) ∙ sym (of-zip s.0 files-counted)) places
+  same-changes = same-places (changes_by_peer errors plan (map f readers)) (changes_by_peer errors plan s.0)
+      (of-zip (map f readers) (length-map readers f ∙ as_many) ∙ sym (of-zip s.0 files-counted)) places
     where
-      places : (place : ℕ) (changes : List Change) → slice_get (changes_by_peer errors plan (map f readers)) place ≡ Some changes → slice_get (changes_by_peer errors plan s.0) place ≡ Some changes
+      places : (place : ℕ) (changes : List Change) → slice_get (changes_by_peer errors plan (map f readers)) place ≡ Some changes
+          → slice_get (changes_by_peer errors plan s.0) place ≡ Some changes
       places place changes e =
-          let within : place < length (changes_by_peer errors plan (map f readers)) = slice_get_within (changes_by_peer errors plan (map f readers)) place changes e in
-          let total : length (changes_by_peer errors plan (map f readers)) ≡ length plan.peers = of-zip (map f readers) (length-map readers f ∙ as_many) in
+          let within : place < length (changes_by_peer errors plan (map f readers)) =
+          slice_get_within (changes_by_peer errors plan (map f readers)) place changes e in
+          let total : length (changes_by_peer errors plan (map f readers)) ≡ length plan.peers =
+          of-zip (map f readers) (length-map readers f ∙ as_many) in
           let peer = some-at plan.peers place (omega (arith, within, total)) in
           let reader = some-at readers place (omega (arith, within, total, as_many)) in
           let file = some-at s.0 place (omega (arith, within, total, files-counted)) in
           let one = same place peer.0 reader.0 file.0 peer.1 reader.1 file.1 in
-          recorded-at s.0 place peer.0 file.0 peer.1 file.1 ∙ ap Some one.changes ∙ sym (recorded-at (map f readers) place peer.0 (f reader.0) peer.1 (get-map f readers place reader.0 reader.1)) ∙ e
+          recorded-at s.0 place peer.0 file.0 peer.1 file.1 ∙ ap Some one.changes
+          ∙ sym (recorded-at (map f readers) place peer.0 (f reader.0) peer.1 (get-map f readers place reader.0 reader.1)) ∙ e
 
-  ends : (place : ℕ) (peer : Peer) (whole : List ℕ) (end : PeerEnd) → slice_get plan.peers place ≡ Some peer → slice_get (map f readers) place ≡ Some whole → slice_get served.ends place ≡ Some end → IsEndOf errors (id_of peer) whole end
+  ends : (place : ℕ) (peer : Peer) (whole : List ℕ) (end : PeerEnd) → slice_get plan.peers place ≡ Some peer
+      → slice_get (map f readers) place ≡ Some whole → slice_get served.ends place ≡ Some end → IsEndOf errors (id_of peer) whole end
   ends place peer whole end ep ew ee =
       let within : place < length (map f readers) = slice_get_within (map f readers) place whole ew in
       let reader = some-at readers place (omega (arith, within, length-map readers f)) in
@@ -106,11 +124,17 @@ module _ {R : Type 0} (gives : R → List ℕ → ReadEnd → Type 0) (f : R →
   served-at-hand = record { tables_are = s.2.tables_are ∙ ap (tables_of plan) same-changes; counted = s.2.counted; ends_are = ends }
 
 -- what a run answers over readers of files at hand is what it answers over the files
-pub answer-at-hand : {R : Type 0} (gives : R → List ℕ → ReadEnd → Type 0) (f : R → List ℕ) (errors : Errors) (plan : Plan) (readers : List R) (files : List (List ℕ)) (capacity : ℕ)
-    → ((place : ℕ) (reader : R) → slice_get readers place ≡ Some reader → IsAtHand gives f reader) → length readers ≡ length plan.peers → map f readers ≡ files
-    → (result : Result ServedContent FloorRefused) → ServeAnswer gives errors plan readers capacity 1 result → ServeFilesAnswer errors plan files capacity result
-answer-at-hand gives f errors plan readers files capacity hand as_many same (Ok served) answer =
-    (answer.0.0, subst (λ (all : List (List ℕ)). IsServed errors plan all served) same (served-at-hand gives f errors plan readers hand served as_many answer.1))
+pub answer-at-hand : {R : Type 0} (gives : R → List ℕ → ReadEnd → Type 0) (f : R → List ℕ) (errors : Errors) (plan : Plan)
+    (readers : List R) (files : List (List ℕ)) (capacity : ℕ)
+    → ((place : ℕ) (reader : R) → slice_get readers place ≡ Some reader → IsAtHand gives f reader) → length readers ≡ length plan.peers
+    → map f readers ≡ files
+    → (result : Result ServedContent FloorRefused) → ServeAnswer gives errors plan readers capacity 1 result
+    → ServeFilesAnswer errors plan files capacity result
+answer-at-hand gives f errors plan readers files capacity hand as_many same (Ok served) answer = (
+  answer.0.0,
+  subst (λ (all : List (List ℕ)). IsServed errors plan all served) same
+      (served-at-hand gives f errors plan readers hand served as_many answer.1),
+)
 answer-at-hand gives f errors plan readers files capacity hand as_many same (Err Capacity) answer = answer
 answer-at-hand gives f errors plan readers files capacity hand as_many same (Err Shards) answer = absurd cc
 answer-at-hand gives f errors plan readers files capacity hand as_many same (Err Memory) answer = answer.0
@@ -125,9 +149,11 @@ whole-is : (file : List ℕ) → length file < read_limit → IsAtHand Comes (λ
 whole-is file fits = record { only = λ octets end given. given; fits = fits }
 
 -- the readers of whole files have these at hand
-pub wholes-at-hand : (files : List (Bor (List ℕ))) (readers : List MemoryReading) → All (λ file. length file.now < 2 ^ 50) files → readers ≡ map (λ file. whole_of file.now) files
+pub wholes-at-hand : (files : List (Bor (List ℕ))) (readers : List MemoryReading) → All (λ file. length file.now < 2 ^ 50) files
+    → readers ≡ map (λ file. whole_of file.now) files
     → (place : ℕ) (reader : MemoryReading) → slice_get readers place ≡ Some reader → IsAtHand Comes (λ (r : MemoryReading). r.left) reader
 wholes-at-hand files readers fit are place reader at =
-    let made = map-get (λ (file : Bor (List ℕ)). whole_of file.now) files place reader (sym (ap (λ (all : List MemoryReading). slice_get all place) are) ∙ at) in
+    let made = map-get (λ (file : Bor (List ℕ)). whole_of file.now) files place reader
+    (sym (ap (λ (all : List MemoryReading). slice_get all place) are) ∙ at) in
     let fits : length made.0.now < 2 ^ 50 = all-at (λ (file : Bor (List ℕ)). length file.now < 2 ^ 50) files fit place made.0 made.1.0 in
     subst (IsAtHand Comes (λ (r : MemoryReading). r.left)) made.1.1 (whole-is made.0.now fits)

@@ -1,5 +1,6 @@
 -- What follows the record that ends a session says nothing: for `serve` of serving.rt, by AtHandLemmas.
-use Rattle.std.proofs.Common.{◌≡◌, ◌∙◌, sym, ap, refl, ℕ, ◌+◌, ◌*◌, ◌^◌, ◌≤◌, zero, suc, arith, Bool, true, false, cond, not, List, [], ◌∷◌, ◌++◌, length, take, drop, length-append, length-drop, Option, Some}
+use Rattle.std.proofs.Common.{◌≡◌, ◌∙◌, sym, ap, refl, ℕ, ◌+◌, ◌*◌, ◌^◌, ◌≤◌, zero, suc, arith, Bool, true, false, cond, not, List, [], ◌∷◌}
+use Rattle.std.proofs.Common.{◌++◌, length, take, drop, length-append, length-drop, Option, Some}
 use Rattle.std.specs.Prelude.{nat_le, slice_index, find, take_while, if◌then◌else◌}
 use Rattle.std.specs.List.{list_any}
 use Rattle.std.proofs.lemmas.List.Sums.{take_while-cons}
@@ -65,26 +66,33 @@ stays xs rest has = record { there = there; front = front; after = after }
     there : has_record (xs ++ rest) ≡ true
     there = and_from (nat_le 12 (length (xs ++ rest))) (nat_le (length_field (xs ++ rest)) (length (drop 12 (xs ++ rest))))
         (le-leb 12 (length (xs ++ rest)) (omega (arith, length-append xs rest, head)))
-        (le-leb (length_field (xs ++ rest)) (length (drop 12 (xs ++ rest))) (omega (arith, field, ap length behind, length-append (drop 12 xs) rest, room)))
+        (le-leb (length_field (xs ++ rest)) (length (drop 12 (xs ++ rest)))
+        (omega (arith, field, ap length behind, length-append (drop 12 xs) rest, room)))
 
     body : take (length_field (xs ++ rest)) (drop 12 (xs ++ rest)) ≡ take (length_field xs) (drop 12 xs)
-    body = ap (λ (n : ℕ). take n (drop 12 (xs ++ rest))) field ∙ ap (take (length_field xs)) behind ∙ take-append-le (length_field xs) (drop 12 xs) rest room
+    body = ap (λ (n : ℕ). take n (drop 12 (xs ++ rest))) field ∙ ap (take (length_field xs)) behind
+        ∙ take-append-le (length_field xs) (drop 12 xs) rest room
 
     front : front_record (xs ++ rest) ≡ front_record xs
     front =
-        ap (λ (t : ℕ). mk t (big_number 2 (drop 4 (xs ++ rest))) (big_number 2 (drop 6 (xs ++ rest))) (take (length_field (xs ++ rest)) (drop 12 (xs ++ rest)))) (same-number 4 0 xs rest (omega (arith, head)))
-        ∙ ap (λ (k : ℕ). mk (big_number 4 xs) k (big_number 2 (drop 6 (xs ++ rest))) (take (length_field (xs ++ rest)) (drop 12 (xs ++ rest)))) (same-behind 2 4 xs rest (omega (arith, head)))
-        ∙ ap (λ (s : ℕ). mk (big_number 4 xs) (big_number 2 (drop 4 xs)) s (take (length_field (xs ++ rest)) (drop 12 (xs ++ rest)))) (same-behind 2 6 xs rest (omega (arith, head)))
+        ap (λ (t : ℕ). mk t (big_number 2 (drop 4 (xs ++ rest))) (big_number 2 (drop 6 (xs ++ rest)))
+        (take (length_field (xs ++ rest)) (drop 12 (xs ++ rest)))) (same-number 4 0 xs rest (omega (arith, head)))
+        ∙ ap (λ (k : ℕ). mk (big_number 4 xs) k (big_number 2 (drop 6 (xs ++ rest)))
+        (take (length_field (xs ++ rest)) (drop 12 (xs ++ rest)))) (same-behind 2 4 xs rest (omega (arith, head)))
+        ∙ ap (λ (s : ℕ). mk (big_number 4 xs) (big_number 2 (drop 4 xs)) s (take (length_field (xs ++ rest)) (drop 12 (xs ++ rest))))
+        (same-behind 2 6 xs rest (omega (arith, head)))
         ∙ ap (λ (b : List ℕ). mk (big_number 4 xs) (big_number 2 (drop 4 xs)) (big_number 2 (drop 6 xs)) b) body
 
     after : after_record (xs ++ rest) ≡ after_record xs ++ rest
-    after = ap (λ (n : ℕ). drop n (drop 12 (xs ++ rest))) field ∙ ap (drop (length_field xs)) behind ∙ drop-append-le (length_field xs) (drop 12 xs) rest room
+    after = ap (λ (n : ℕ). drop n (drop 12 (xs ++ rest))) field ∙ ap (drop (length_field xs)) behind
+        ∙ drop-append-le (length_field xs) (drop 12 xs) rest room
 
 within-zero : (xs : List ℕ) → records_within 0 xs ≡ []
 unfolding records_within
 within-zero xs = refl
 
-within-suc : (n : ℕ) (xs : List ℕ) → records_within (suc n) xs ≡ (if has_record xs then front_record xs ∷ records_within n (after_record xs) else [])
+within-suc : (n : ℕ) (xs : List ℕ) → records_within (suc n) xs
+    ≡ (if has_record xs then front_record xs ∷ records_within n (after_record xs) else [])
 unfolding records_within
 within-suc n xs = refl
 
@@ -95,13 +103,21 @@ within-no : (n : ℕ) (xs : List ℕ) → has_record xs ≡ false → records_wi
 within-no n xs has = within-suc n xs ∙ ap (λ (b : Bool). if b then front_record xs ∷ records_within n (after_record xs) else []) has
 
 -- the records of some octets come first, with others behind them
-more-records : (n m : ℕ) (xs rest : List ℕ) → n ≤ m → (later : List MrtRecord) × (records_within m (xs ++ rest) ≡ records_within n xs ++ later)
-more-records zero m xs rest h = (records_within m (xs ++ rest), sym (ap (λ (rs : List MrtRecord). rs ++ records_within m (xs ++ rest)) (within-zero xs)))
+more-records : (n m : ℕ) (xs rest : List ℕ) → n ≤ m → (later : List MrtRecord)
+    × (records_within m (xs ++ rest) ≡ records_within n xs ++ later)
+more-records zero m xs rest h =
+    (records_within m (xs ++ rest), sym (ap (λ (rs : List MrtRecord). rs ++ records_within m (xs ++ rest)) (within-zero xs)))
 more-records (suc n) zero xs rest h = absurd (omega arith)
 more-records (suc n) (suc m) xs rest h = by (has_record xs) refl (more-records n m (after_record xs) rest (omega arith))
   where
-    by : (b : Bool) → has_record xs ≡ b → ((others : List MrtRecord) × (records_within m (after_record xs ++ rest) ≡ records_within n (after_record xs) ++ others)) → (later : List MrtRecord) × (records_within (suc m) (xs ++ rest) ≡ records_within (suc n) xs ++ later)
-    by false is others = (records_within (suc m) (xs ++ rest), sym (ap (λ (rs : List MrtRecord). rs ++ records_within (suc m) (xs ++ rest)) (within-no n xs is)))
+    by : (b : Bool) → has_record xs ≡ b → ((others : List MrtRecord)
+        × (records_within m (after_record xs ++ rest) ≡ records_within n (after_record xs) ++ others)) → (later : List MrtRecord)
+        × (records_within (suc m) (xs ++ rest) ≡ records_within (suc n) xs ++ later)
+    by false is others = (
+      records_within (suc m) (xs ++ rest),
+      sym (ap (λ (rs : List MrtRecord). rs ++ records_within (suc m) (xs ++ rest))
+          (within-no n xs is)),
+    )
     by true is others =
         let s = stays xs rest is in (
           others.0,
@@ -129,8 +145,10 @@ record Ended {X : Type 0} (p : X → Bool) (xs more : List X) : Type 0 where
   found_more : find p (xs ++ more) ≡ Some last
   found : find p xs ≡ Some last
 
-goes-on : {X : Type 0} (p : X → Bool) (x : X) (xs : List X) → p x ≡ false → take_while (λ y. not (p y)) (x ∷ xs) ≡ x ∷ take_while (λ y. not (p y)) xs
-goes-on {X} p x xs is = take_while-cons (λ (y : X). not (p y)) x xs ∙ ap (λ (b : Bool). cond (not b) (x ∷ take_while (λ (y : X). not (p y)) xs) []) is
+goes-on : {X : Type 0} (p : X → Bool) (x : X) (xs : List X) → p x ≡ false
+    → take_while (λ y. not (p y)) (x ∷ xs) ≡ x ∷ take_while (λ y. not (p y)) xs
+goes-on {X} p x xs is =
+    take_while-cons (λ (y : X). not (p y)) x xs ∙ ap (λ (b : Bool). cond (not b) (x ∷ take_while (λ (y : X). not (p y)) xs) []) is
 
 ended : {X : Type 0} (p : X → Bool) (xs more : List X) → list_any p xs ≡ true → Ended p xs more
 ended p [] more e = absurd cc
@@ -141,9 +159,16 @@ ended {X} p (x ∷ xs) more e = by (p x) refl (λ any. ended p xs more any)
     by false is later =
         let any : list_any p xs ≡ true = rw is at e in
         let rest = later any in
-        record { reads = goes-on p x (xs ++ more) is ∙ ap (λ (ys : List X). x ∷ ys) rest.reads ∙ sym (goes-on p x xs is); last = rest.last; found_more = rw is rest.found_more; found = rw is rest.found }
+        record {
+          reads = goes-on p x (xs ++ more) is ∙ ap (λ (ys : List X). x ∷ ys) rest.reads
+              ∙ sym (goes-on p x xs is);
+          last = rest.last;
+          found_more = rw is rest.found_more;
+          found = rw is rest.found;
+        }
 
-changes-front : (errors : Errors) (peer : PeerId) (rs more : List MrtRecord) (end other : Option SourceFault) → list_any (λ r. ends (effect_of errors peer r)) rs ≡ true
+changes-front : (errors : Errors) (peer : PeerId) (rs more : List MrtRecord) (end other : Option SourceFault)
+    → list_any (λ r. ends (effect_of errors peer r)) rs ≡ true
     → changes_of errors peer (rs ++ more) end ≡ changes_of errors peer rs other
 unfolding changes_of
 changes-front errors peer rs more end other has =
@@ -159,9 +184,11 @@ passed-front errors peer rs more has =
 
 -- octets behind the record that ends a session say nothing
 pub front-says : (errors : Errors) (peer : PeerId) (file rest : List ℕ) → has_end errors peer file ≡ true
-    → (changes_in_by errors peer (file ++ rest) ≡ changes_in_by errors peer file) × (passed_in_by errors peer (file ++ rest) ≡ passed_in_by errors peer file)
+    → (changes_in_by errors peer (file ++ rest) ≡ changes_in_by errors peer file)
+    × (passed_in_by errors peer (file ++ rest) ≡ passed_in_by errors peer file)
 front-says errors peer file rest has =
     let more = records-front file rest in (
-      ap (λ (rs : List MrtRecord). changes_of errors peer rs (source_end (end_of (file ++ rest)))) more.1 ∙ changes-front errors peer (records_of file) more.0 (source_end (end_of (file ++ rest))) (source_end (end_of file)) has,
+      ap (λ (rs : List MrtRecord). changes_of errors peer rs (source_end (end_of (file ++ rest)))) more.1
+          ∙ changes-front errors peer (records_of file) more.0 (source_end (end_of (file ++ rest))) (source_end (end_of file)) has,
       ap (λ (rs : List MrtRecord). passed_of errors peer rs) more.1 ∙ passed-front errors peer (records_of file) more.0 has,
     )

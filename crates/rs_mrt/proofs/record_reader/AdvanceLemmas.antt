@@ -1,5 +1,6 @@
 -- What going on to the next record says to those who see a source of records: for `advance` of record_reader.rt.
-use Rattle.std.proofs.Common.{◌≡◌, ℕ, ◌+◌, ◌-◌, ◌≤◌, min, drop, take, List, [], ◌∷◌, ◌++◌, length, Option, Some, None, Result, Ok, Err, Bool, true, false, refl, sym, ap, subst, ◌∙◌, arith, length-append}
+use Rattle.std.proofs.Common.{◌≡◌, ℕ, ◌+◌, ◌-◌, ◌≤◌, min, drop, take, List, [], ◌∷◌, ◌++◌, length, Option, Some, None, Result, Ok, Err}
+use Rattle.std.proofs.Common.{Bool, true, false, refl, sym, ap, subst, ◌∙◌, arith, length-append}
 use Rattle.std.proofs.lemmas.List.{length-take}
 use Rattle.rs_mrt.specs.declared.fault.SourceFault.{SourceFault}
 use Rattle.rs_mrt.specs.Reader.{ReadEnd}
@@ -21,44 +22,53 @@ module _ {R : Type 0} (gives : R → List ℕ → ReadEnd → Type 0) (failures 
   -- ---- what may come
 
   -- the record that was shown before is of no matter
-  pub goes-advances : (old new : RecordReading R) (result : Result Bool SourceFault) → old.stopped ≡ None → GoesOn gives failures (record old { shown = None }) new result
+  pub goes-advances : (old new : RecordReading R) (result : Result Bool SourceFault) → old.stopped ≡ None
+      → GoesOn gives failures (record old { shown = None }) new result
       → Advances (MayCome gives) old new new.shown result
   goes-advances old new (Ok true) asks goes =
       let r = front_of (front_record (old.held ++ goes.0.piece)) in
-      let found = subst (λ (s : Option MrtRecord). FindsRecord gives failures old.inflow new.inflow old.held s new.held) goes.0.front goes.0 in
+      let found = subst (λ (s : Option MrtRecord). FindsRecord gives failures old.inflow new.inflow old.held s new.held)
+      goes.0.front goes.0 in
       subst (λ (s : Option MrtRecord). Advances (MayCome gives) old new s (Ok true)) (sym goes.0.front)
       (λ later fault may.
-      let come = subst (λ (s : Option (Result Bool SourceFault)). ComesUnless s (MayBeShown (MayArrive gives new.inflow) new.held) later fault) goes.1 may in
-      subst (λ (s : Option (Result Bool SourceFault)). ComesUnless s (MayBeShown (MayArrive gives old.inflow) old.held) (r ∷ later) fault) (sym asks)
+      let come = subst (λ (s : Option (Result Bool SourceFault)). ComesUnless s (MayBeShown (MayArrive gives new.inflow) new.held)
+      later fault) goes.1 may in
+      subst (λ (s : Option (Result Bool SourceFault)). ComesUnless s (MayBeShown (MayArrive gives old.inflow) old.held) (r ∷ later) fault)
+      (sym asks)
       (one_shown gives failures old.inflow new.inflow old.held new.held r found later fault come))
   goes-advances old new (Ok false) asks goes =
       subst (λ (s : Option MrtRecord). Advances (MayCome gives) old new s (Ok false)) (sym goes.1) (
         refl,
-        subst (λ (s : Option (Result Bool SourceFault)). ComesUnless s (MayBeShown (MayArrive gives old.inflow) old.held) [] None) (sym asks)
+        subst (λ (s : Option (Result Bool SourceFault)). ComesUnless s (MayBeShown (MayArrive gives old.inflow) old.held) [] None)
+            (sym asks)
             (none_shown gives failures old.inflow new.inflow old.held new.held (Ok false) goes.0),
       )
   goes-advances old new (Err fault) asks goes =
       subst (λ (s : Option MrtRecord). Advances (MayCome gives) old new s (Err fault)) (sym goes.1) (
         refl,
-        subst (λ (s : Option (Result Bool SourceFault)). ComesUnless s (MayBeShown (MayArrive gives old.inflow) old.held) [] (Some fault)) (sym asks)
+        subst (λ (s : Option (Result Bool SourceFault)). ComesUnless s (MayBeShown (MayArrive gives old.inflow) old.held) [] (Some fault))
+            (sym asks)
             (none_shown gives failures old.inflow new.inflow old.held new.held (Err fault) goes.0),
       )
 
   -- ---- room
 
-  goes-none : (old new : RecordReading R) (answer : Result Bool SourceFault) → FindsNone gives failures old.inflow new.inflow old.held new.held answer → new.shown ≡ None
+  goes-none : (old new : RecordReading R) (answer : Result Bool SourceFault)
+      → FindsNone gives failures old.inflow new.inflow old.held new.held answer → new.shown ≡ None
       → room_left new + octets_of new.shown ≤ room_left old
   goes-none old new answer none shown =
       let nothing : octets_of new.shown ≡ 0 = ap octets_of shown in
       omega (arith, nothing, none.drawn.came, none.drawn.within, none.fewer)
 
-  pub goes-room : (old new : RecordReading R) (result : Result Bool SourceFault) → GoesOn gives failures old new result → room_left new + octets_of new.shown ≤ room_left old
+  pub goes-room : (old new : RecordReading R) (result : Result Bool SourceFault) → GoesOn gives failures old new result
+      → room_left new + octets_of new.shown ≤ room_left old
   goes-room old new (Ok true) goes =
       let found = goes.0 in
       let whole = old.held ++ found.piece in
       let long = has_record-long whole found.stands in
       let all : length whole ≡ length old.held + length found.piece = length-append old.held found.piece in
-      let held : length new.held ≡ length whole - octets_of (Some (front_record whole)) = ap length found.behind ∙ length-after_record whole found.stands in
+      let held : length new.held ≡ length whole - octets_of (Some (front_record whole)) =
+      ap length found.behind ∙ length-after_record whole found.stands in
       let shown : octets_of new.shown ≡ octets_of (Some (front_of (front_record whole))) = ap octets_of found.front in
       let body = (front_record whole).body in
       let front : length (take front_len body) ≡ min front_len (length body) = length-take front_len body in

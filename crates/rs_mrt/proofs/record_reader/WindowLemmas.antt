@@ -14,10 +14,12 @@ pub window-drop : (buffer : List ℕ) (start end count : ℕ) → start + count 
 window-drop buffer start end count fits =
     let left = end - (start + count) in
     let split : count + left ≡ end - start = omega arith in
-    sym (ap (λ (k : ℕ). drop count (take k (drop start buffer))) (sym split) ∙ drop-take count left (drop start buffer) ∙ ap (take left) (drop-drop count start buffer))
+    sym (ap (λ (k : ℕ). drop count (take k (drop start buffer))) (sym split) ∙ drop-take count left (drop start buffer)
+    ∙ ap (take left) (drop-drop count start buffer))
 
 -- they are moved to the front of the buffer
-front-settled : (buffer copied : List ℕ) (start end : ℕ) → start ≤ end → end ≤ length buffer → copied ≡ paste buffer 0 (drop start buffer) (end - start)
+front-settled : (buffer copied : List ℕ) (start end : ℕ) → start ≤ end → end ≤ length buffer
+    → copied ≡ paste buffer 0 (drop start buffer) (end - start)
     → take (end - start) copied ≡ take (end - start) (drop start buffer)
 front-settled buffer copied start end order fits same =
     let len = end - start in
@@ -26,8 +28,10 @@ front-settled buffer copied start end order fits same =
     ∙ take-paste buffer 0 (drop start buffer) len (omega arith) (omega (arith, length-drop start buffer))
 
 -- and octets are added behind them
-pub window-extended : (buffer copied added rest : List ℕ) (start end count : ℕ) → start ≤ end → end ≤ length buffer → copied ≡ paste buffer 0 (drop start buffer) (end - start) → count ≤ length added
-    → take (end - start + count - 0) (drop 0 (take (end - start) copied ++ (added ++ rest))) ≡ take (end - start) (drop start buffer) ++ take count added
+pub window-extended : (buffer copied added rest : List ℕ) (start end count : ℕ) → start ≤ end → end ≤ length buffer
+    → copied ≡ paste buffer 0 (drop start buffer) (end - start) → count ≤ length added
+    → take (end - start + count - 0) (drop 0 (take (end - start) copied ++ (added ++ rest))) ≡ take (end - start) (drop start buffer)
+    ++ take count added
 window-extended buffer copied added rest start end count order fits same bound =
     let len = end - start in
     let held = take len (drop start buffer) in

@@ -1,5 +1,6 @@
 -- What a call of a reader over std's or over memory says of the octets that may come: for reader.rt and memory_reader.rt.
-use Rattle.std.proofs.Common.{◌≡◌, ℕ, zero, suc, ◌+◌, ◌-◌, ◌≤◌, ◌<◌, min, List, [], ◌∷◌, ◌++◌, length, take, drop, Option, Some, None, Ok, Bool, refl, sym, ap, subst, ◌∙◌, arith}
+use Rattle.std.proofs.Common.{◌≡◌, ℕ, zero, suc, ◌+◌, ◌-◌, ◌≤◌, ◌<◌, min, List, [], ◌∷◌, ◌++◌, length, take, drop, Option, Some, None, Ok}
+use Rattle.std.proofs.Common.{Bool, refl, sym, ap, subst, ◌∙◌, arith}
 use Rattle.std.specs.Prelude.{nat_le, true, if◌then◌else◌}
 use Rattle.std.specs.Io.KnownBytes.{Consumes, IsAtEnd}
 use Rattle.std.proofs.lemmas.Bool.Decides.{nat_tests}
@@ -13,14 +14,16 @@ use Rattle.rs_mrt.specs.MemoryReading.{MemoryReading, Comes, ComesBefore, amount
 -- ---- over std's
 
 -- octets that came stand before those that may be left
-given_behind : (front left after later : List ℕ) (end : ReadEnd) → left ≡ front ++ after → MayBeLeft (Some after) later end → MayBeLeft (Some left) (front ++ later) end
+given_behind : (front left after later : List ℕ) (end : ReadEnd) → left ≡ front ++ after → MayBeLeft (Some after) later end
+    → MayBeLeft (Some left) (front ++ later) end
 given_behind front left after later FileEnds same may = ap (λ (z : List ℕ). front ++ z) may ∙ sym same
 given_behind front left after later ReadFails same may =
     let most = length front + may.0 in
     (most, ap (λ (z : List ℕ). front ++ z) may.1 ∙ sym (take-append-add front after may.0) ∙ ap (take most) (sym same))
 
 -- a call that gave octets, where those that are left are known or not
-pub given_by_std : (n : ℕ) (piece : List ℕ) (old new : Option (List ℕ)) → Consumes old new (take n piece) × (n ≡ 0 → 0 < length piece → IsAtEnd new)
+pub given_by_std : (n : ℕ) (piece : List ℕ) (old new : Option (List ℕ)) → Consumes old new (take n piece)
+    × (n ≡ 0 → 0 < length piece → IsAtEnd new)
     → ReadGives (MayBeLeft old) (MayBeLeft new) (Ok n) piece
 given_by_std zero (octet ∷ octets) None new h = tt
 given_by_std zero (octet ∷ octets) (Some left) None h = absurd h.0
@@ -40,7 +43,8 @@ le-less n b len hb hl = grind (arith, nat_tests)
 
 -- the octets that come are those of one call, and those that come later
 coming-step : (left : List ℕ) (before : Option ℕ) (wanted n : ℕ) → wanted ≤ length left → Some n ≡ amount_within before wanted
-    → (take n left ++ coming (drop n left) (sooner before n) ≡ coming left before) × (ending (drop n left) (sooner before n) ≡ ending left before)
+    → (take n left ++ coming (drop n left) (sooner before n) ≡ coming left before)
+    × (ending (drop n left) (sooner before n) ≡ ending left before)
 coming-step left None wanted n le e = (take-append-drop n left, refl)
 coming-step left (Some zero) wanted n le e = absurd cc
 coming-step left (Some (suc b)) wanted n le e =
@@ -55,15 +59,18 @@ coming-step left (Some (suc b)) wanted n le e =
 not_nothing : (before : Option ℕ) (wanted : ℕ) → 0 < wanted → Some 0 ≡ amount_within before wanted → ⊥
 not_nothing before wanted h e = grind arith
 
-ends-none : (before : Option ℕ) (wanted : ℕ) → Some 0 ≡ amount_within before wanted → ([] ≡ coming [] before) × (FileEnds ≡ ending [] before)
+ends-none : (before : Option ℕ) (wanted : ℕ) → Some 0 ≡ amount_within before wanted → ([] ≡ coming [] before)
+    × (FileEnds ≡ ending [] before)
 ends-none None wanted e = (refl, refl)
 ends-none (Some zero) wanted e = absurd cc
 ends-none (Some (suc b)) wanted e = (refl, ap (λ (t : Bool). if t then ReadFails else FileEnds) (sym (leb-suc-zero b)))
 
-ends_given : (left : List ℕ) (before : Option ℕ) (len most : ℕ) → 0 < len → 0 < most → Some 0 ≡ amount_within before (min (min len (length left)) most)
+ends_given : (left : List ℕ) (before : Option ℕ) (len most : ℕ) → 0 < len → 0 < most
+    → Some 0 ≡ amount_within before (min (min len (length left)) most)
     → ([] ≡ coming left before) × (FileEnds ≡ ending left before)
 ends_given [] before len most some h e = ends-none before (min (min len 0) most) e
-ends_given (octet ∷ octets) before len most some h e = absurd (not_nothing before (min (min len (length (octet ∷ octets))) most) (omega arith) e)
+ends_given (octet ∷ octets) before len most some h e =
+    absurd (not_nothing before (min (min len (length (octet ∷ octets))) most) (omega arith) e)
 
 -- a call that does not fail gives as many octets as where none fails for its number
 within : (calls before : Option ℕ) (wanted n : ℕ) → Some n ≡ amount_at calls before wanted → Some n ≡ amount_within before wanted
@@ -72,11 +79,15 @@ within (Some zero) before wanted n e = absurd cc
 within (Some (suc calls)) before wanted n e = e
 
 -- octets that came stand before those that may come
-comes_behind : (calls : Option ℕ) (front later-coming all : List ℕ) (later-end last : ReadEnd) → (calls ≡ Some 0 → ⊥) → front ++ later-coming ≡ all → later-end ≡ last
-    → (later : List ℕ) (end : ReadEnd) → ComesBefore (fewer calls) later-coming later-end later end → ComesBefore calls all last (front ++ later) end
-comes_behind None front rest all later-end last goes whole same later end may = (ap (λ (z : List ℕ). front ++ z) may.0 ∙ whole, may.1 ∙ same)
+comes_behind : (calls : Option ℕ) (front later-coming all : List ℕ) (later-end last : ReadEnd) → (calls ≡ Some 0 → ⊥)
+    → front ++ later-coming ≡ all → later-end ≡ last
+    → (later : List ℕ) (end : ReadEnd) → ComesBefore (fewer calls) later-coming later-end later end
+    → ComesBefore calls all last (front ++ later) end
+comes_behind None front rest all later-end last goes whole same later end may =
+    (ap (λ (z : List ℕ). front ++ z) may.0 ∙ whole, may.1 ∙ same)
 comes_behind (Some zero) front rest all later-end last goes whole same later end may = absurd (goes refl)
-comes_behind (Some (suc calls)) front rest all later-end last goes whole same later FileEnds may = (ap (λ (z : List ℕ). front ++ z) may.0 ∙ whole, may.1 ∙ same)
+comes_behind (Some (suc calls)) front rest all later-end last goes whole same later FileEnds may =
+    (ap (λ (z : List ℕ). front ++ z) may.0 ∙ whole, may.1 ∙ same)
 comes_behind (Some (suc calls)) front rest all later-end last goes whole same later ReadFails may =
     let most = length front + may.0 in
     (most, ap (λ (z : List ℕ). front ++ z) may.1 ∙ sym (take-append-add front rest may.0) ∙ ap (take most) whole)
@@ -93,25 +104,29 @@ goes_well (Some (suc calls)) before wanted n e none = absurd cc
 -- what comes later comes behind what a call gives
 given_later : (n : ℕ) (piece : List ℕ) (old new : MemoryReading)
     → Some n ≡ amount_at old.calls old.before_failure (min (min (length piece) (length old.left)) old.most)
-    → take n piece ≡ take n old.left → new.left ≡ drop n old.left → new.calls ≡ fewer old.calls → new.before_failure ≡ sooner old.before_failure n
+    → take n piece ≡ take n old.left → new.left ≡ drop n old.left → new.calls ≡ fewer old.calls
+    → new.before_failure ≡ sooner old.before_failure n
     → (later : List ℕ) (end : ReadEnd) → Comes new later end → Comes old (take n piece ++ later) end
 given_later n piece old new amount same left calls before later end may =
     let wanted = min (min (length piece) (length old.left)) old.most in
     let step = coming-step old.left old.before_failure wanted n (omega arith) (within old.calls old.before_failure wanted n amount) in
     let whole : take n piece ++ coming new.left new.before_failure ≡ coming old.left old.before_failure = rw (same, left, before) step.0 in
     let ends : ending new.left new.before_failure ≡ ending old.left old.before_failure = rw (left, before) step.1 in
-    comes_behind old.calls (take n piece) (coming new.left new.before_failure) (coming old.left old.before_failure) (ending new.left new.before_failure) (ending old.left old.before_failure)
+    comes_behind old.calls (take n piece) (coming new.left new.before_failure) (coming old.left old.before_failure)
+    (ending new.left new.before_failure) (ending old.left old.before_failure)
     (goes_well old.calls old.before_failure wanted n amount) whole ends later end
     (subst (λ c. ComesBefore c (coming new.left new.before_failure) (ending new.left new.before_failure) later end) calls may)
 
 pub given_by_memory : (n : ℕ) (piece : List ℕ) (old new : MemoryReading) → 0 < old.most
     → Some n ≡ amount_at old.calls old.before_failure (min (min (length piece) (length old.left)) old.most)
-    → take n piece ≡ take n old.left → new.left ≡ drop n old.left → new.calls ≡ fewer old.calls → new.before_failure ≡ sooner old.before_failure n
+    → take n piece ≡ take n old.left → new.left ≡ drop n old.left → new.calls ≡ fewer old.calls
+    → new.before_failure ≡ sooner old.before_failure n
     → ReadGives (Comes old) (Comes new) (Ok n) piece
 given_by_memory zero (octet ∷ octets) old new most amount same left calls before =
     let len = length (octet ∷ octets) in
     comes_at_end old.calls (coming old.left old.before_failure) (ending old.left old.before_failure)
-    (ends_given old.left old.before_failure len old.most (omega arith) most (within old.calls old.before_failure (min (min len (length old.left)) old.most) 0 amount))
+    (ends_given old.left old.before_failure len old.most (omega arith) most
+    (within old.calls old.before_failure (min (min len (length old.left)) old.most) 0 amount))
 given_by_memory zero [] old new most amount same left calls before = given_later 0 [] old new amount same left calls before
 given_by_memory (suc n) piece old new most amount same left calls before = given_later (suc n) piece old new amount same left calls before
 

@@ -1,6 +1,7 @@
 -- A run, from the start of its threads to their join: for crew.rt, `open_lines` of lines.rt, and `serve_by` and `serve` of serving.rt.
 use mathlib.Core.List.{IsPrefix, map-map}
-use Rattle.std.proofs.Common.{◌≡◌, ◌∙◌, sym, ap, ℕ, ◌≤◌, arith, Result, Ok, Err, Bool, true, false, List, [], ◌++◌, length, map, get_or, append-nil, length-append}
+use Rattle.std.proofs.Common.{◌≡◌, ◌∙◌, sym, ap, ℕ, ◌≤◌, arith, Result, Ok, Err, Bool, true, false, List, [], ◌++◌, length, map, get_or}
+use Rattle.std.proofs.Common.{append-nil, length-append}
 use Rattle.std.specs.Prelude.{IfErr, IfOk}
 use Rattle.std.proofs.lemmas.List.{length-map, nil_from_length}
 use Rattle.std.proofs.lemmas.List.Elements.{All-map}
@@ -40,25 +41,31 @@ prefix-whole xs ys prefix counts =
     sym (append-nil xs) ∙ ap (λ zs. xs ++ zs) (sym none) ∙ prefix.1
 
 -- where all were started, each is charged with its job
-pub all-charged : {H J C : Type 0} (charged : H → C) (charge : J → C) (handles : List H) (jobs : List J) → IsPrefix (map charged handles) (map charge jobs) → length handles ≡ length jobs → map charged handles ≡ map charge jobs
+pub all-charged : {H J C : Type 0} (charged : H → C) (charge : J → C) (handles : List H) (jobs : List J)
+    → IsPrefix (map charged handles) (map charge jobs) → length handles ≡ length jobs → map charged handles ≡ map charge jobs
 all-charged charged charge handles jobs prefix counts =
     prefix-whole (map charged handles) (map charge jobs) prefix (length-map handles charged ∙ counts ∙ sym (length-map jobs charge))
 
 -- there are no more handles than jobs
-pub prefix-shorter : {H J C : Type 0} (charged : H → C) (charge : J → C) (handles : List H) (jobs : List J) → IsPrefix (map charged handles) (map charge jobs) → length handles ≤ length jobs
+pub prefix-shorter : {H J C : Type 0} (charged : H → C) (charge : J → C) (handles : List H) (jobs : List J)
+    → IsPrefix (map charged handles) (map charge jobs) → length handles ≤ length jobs
 prefix-shorter charged charge handles jobs prefix =
     omega (arith, ap length prefix.1, length-append (map charged handles) prefix.0, length-map handles charged, length-map jobs charge)
 
 -- and has the ring whose other end is here
-pub rings-of : {H J C Q E : Type 0} (charged : H → C) (charge : J → C) (ring : C → Q) (end : E → Q) (handles : List H) (jobs : List J) (before after : List E)
-    → map charged handles ≡ map charge jobs → map (λ job. ring (charge job)) jobs ≡ map end before → map end after ≡ map end before → map (λ handle. ring (charged handle)) handles ≡ map end after
+pub rings-of : {H J C Q E : Type 0} (charged : H → C) (charge : J → C) (ring : C → Q) (end : E → Q) (handles : List H) (jobs : List J)
+    (before after : List E)
+    → map charged handles ≡ map charge jobs → map (λ job. ring (charge job)) jobs ≡ map end before → map end after ≡ map end before
+    → map (λ handle. ring (charged handle)) handles ≡ map end after
 rings-of charged charge ring end handles jobs before after same rings kept =
     sym (map-map ring charged handles) ∙ ap (map ring) same ∙ map-map ring charge jobs ∙ rings ∙ sym kept
 
 -- all were joined
-pub has-run : {R : Type 0} (gives : R → List ℕ → ReadEnd → Type 0) (workers : List (Charge (RecordReading R))) (of_shards : List shards.Charge) (routed joined : List (Receiving Word)) (sent : List (List Routed))
+pub has-run : {R : Type 0} (gives : R → List ℕ → ReadEnd → Type 0) (workers : List (Charge (RecordReading R)))
+    (of_shards : List shards.Charge) (routed joined : List (Receiving Word)) (sent : List (List Routed))
     (ends : List Joined) (parts : List TablesContent) (whole : Bool)
-    → AreClosed (received_lists routed) → AreCuts (received_lists routed) sent → map (λ receiver. receiver.received) joined ≡ map (λ receiver. receiver.received) routed
+    → AreClosed (received_lists routed) → AreCuts (received_lists routed) sent
+    → map (λ receiver. receiver.received) joined ≡ map (λ receiver. receiver.received) routed
     → length routed ≡ length workers → length sent ≡ length of_shards → length ends ≡ length workers
     → AllJoined (MayCome gives) (λ reading. reading.shown) workers joined ends → (whole ≡ true → AllHold of_shards sent parts)
     → HasRun gives workers of_shards ends parts whole
@@ -74,18 +81,22 @@ has-run gives workers of_shards routed joined sent ends parts whole closed cuts 
   held = held;
 }
 
-module _ {R : Type 0} (gives : R → List ℕ → ReadEnd → Type 0) (errors : Errors) (plan : Plan) (readers : List R) (jobs : List (Job (RecordReading R))) (lines : List (Receiving Word))
+module _ {R : Type 0} (gives : R → List ℕ → ReadEnd → Type 0) (errors : Errors) (plan : Plan) (readers : List R)
+    (jobs : List (Job (RecordReading R))) (lines : List (Receiving Word))
     (of_shards : List ShardJob) (senders : List (Sending Routed)) (ends : List Joined) (parts : List TablesContent) (whole : Bool)
-    (are : AreLines gives plan readers jobs lines) (rings : AreRings plan of_shards senders) (run : HasRun gives (map (charge_of errors) jobs) (map shards.charge_of of_shards) ends parts whole) where
+    (are : AreLines gives plan readers jobs lines) (rings : AreRings plan of_shards senders)
+    (run : HasRun gives (map (charge_of errors) jobs) (map shards.charge_of of_shards) ends parts whole) where
   peers-counted : length jobs ≡ length plan.peers
   peers-counted = same-counted (λ (job : Job (RecordReading R)). job.id) id_of jobs plan.peers are.peers
 
   is-run : whole ≡ true → IsRun plan (received_lists run.receivers) run.sent (map shards.charge_of of_shards) parts
   is-run is = record {
     counted = rw (run.shared, length-map of_shards shards.charge_of) rings.can.counted;
-    peers = length-map run.receivers (λ (r : Receiving Word). r.received) ∙ run.counted ∙ length-map jobs (charge_of errors) ∙ peers-counted;
+    peers = length-map run.receivers (λ (r : Receiving Word). r.received) ∙ run.counted ∙ length-map jobs (charge_of errors)
+        ∙ peers-counted;
     shards = sym run.shared;
-    charged = all-at (λ (charge : shards.Charge). IsOfPlan plan charge.tables) (map shards.charge_of of_shards) (All-map (λ (charge : shards.Charge). IsOfPlan plan charge.tables) shards.charge_of of_shards rings.tables);
+    charged = all-at (λ (charge : shards.Charge). IsOfPlan plan charge.tables) (map shards.charge_of of_shards)
+        (All-map (λ (charge : shards.Charge). IsOfPlan plan charge.tables) shards.charge_of of_shards rings.tables);
     closed = run.closed;
     cuts = run.cuts;
     hold = run.held is;
@@ -101,19 +112,26 @@ module _ {R : Type 0} (gives : R → List ℕ → ReadEnd → Type 0) (errors : 
       record {
         some = shards_of.counted.0;
         parts_are = (merge plan (received_lists run.receivers) parts shards_of).0;
-        counted = λ place d below. ap (λ (p : Plan). length p.peers) (shards_of.each place (get_or parts place d) (slice_get-get_or parts place d below)).of_plan.plan_is ∙ sym (run.joined ∙ length-map jobs (charge_of errors) ∙ peers-counted);
+        counted = λ place d below. ap (λ (p : Plan). length p.peers)
+            (shards_of.each place (get_or parts place d) (slice_get-get_or parts place d below)).of_plan.plan_is
+            ∙ sym (run.joined ∙ length-map jobs (charge_of errors) ∙ peers-counted);
       }
 
   -- and then they are what the files leave
-  pub run-served : RunShardsAreWhole → ShardsMerge → FailedReadCloses → (served : ServedContent) → IsAnswer ends parts whole served → IsServedBy gives errors plan readers served
+  pub run-served : RunShardsAreWhole → ShardsMerge → FailedReadCloses → (served : ServedContent) → IsAnswer ends parts whole served
+      → IsServedBy gives errors plan readers served
   run-served law merge closes served answer =
       all-served gives errors plan readers jobs lines of_shards ends parts whole are closes run served answer
-      ((merge plan (received_lists run.receivers) parts (whole-shards law answer.whole_is)).1 served.tables answer.merged answer.one_for_each)
+      ((merge plan (received_lists run.receivers) parts (whole-shards law answer.whole_is)).1 served.tables answer.merged
+      answer.one_for_each)
 
   -- what a run answers of which all threads were joined
-  pub run-answers : (capacity of_shard : ℕ) → WithinLimits capacity of_shard → RunShardsAreWhole → ShardsMerge → ClosesOnce → FailedReadCloses
-      → (result : Result ServedContent FloorRefused) → IfOk result (IsAnswer ends parts whole) → IfErr result (IsRefusal ends whole) → ServeAnswer gives errors plan readers capacity of_shard result
-  run-answers capacity of_shard within law merge once closes (Ok served) answer refused = (within, run-served law merge closes served answer)
+  pub run-answers : (capacity of_shard : ℕ) → WithinLimits capacity of_shard → RunShardsAreWhole → ShardsMerge → ClosesOnce
+      → FailedReadCloses
+      → (result : Result ServedContent FloorRefused) → IfOk result (IsAnswer ends parts whole) → IfErr result (IsRefusal ends whole)
+      → ServeAnswer gives errors plan readers capacity of_shard result
+  run-answers capacity of_shard within law merge once closes (Ok served) answer refused =
+      (within, run-served law merge closes served answer)
   run-answers capacity of_shard within law merge once closes (Err Memory) answer refused = within
   run-answers capacity of_shard within law merge once closes (Err Capacity) answer refused = absurd refused
   run-answers capacity of_shard within law merge once closes (Err Shards) answer refused = absurd refused
@@ -121,12 +139,20 @@ module _ {R : Type 0} (gives : R → List ℕ → ReadEnd → Type 0) (errors : 
     within,
     (
       within-peers gives errors plan readers jobs lines of_shards ends parts whole are closes run peer
-          (omega (arith, slice_get_within (map (λ (end : Joined). is_read end.reason) ends) peer true refused.least.has, length-map ends (λ (end : Joined). is_read end.reason))),
+          (omega (
+            arith,
+            slice_get_within (map (λ (end : Joined). is_read end.reason) ends) peer true refused.least.has,
+            length-map ends (λ (end : Joined). is_read end.reason),
+          )),
       fails-first gives errors plan readers jobs lines of_shards ends parts whole are closes run once peer refused,
     ),
   )
   run-answers capacity of_shard within law merge once closes (Err (Unsettled peer)) answer refused = (
     within,
     within-peers gives errors plan readers jobs lines of_shards ends parts whole are closes run peer
-        (omega (arith, slice_get_within (map (λ (end : Joined). end.settled) ends) peer false refused.least.has, length-map ends (λ (end : Joined). end.settled))),
+        (omega (
+          arith,
+          slice_get_within (map (λ (end : Joined). end.settled) ends) peer false refused.least.has,
+          length-map ends (λ (end : Joined). end.settled),
+        )),
   )

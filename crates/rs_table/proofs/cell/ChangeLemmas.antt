@@ -1,5 +1,6 @@
 -- A change of one peer's route among routes that ascend by peer: for `put` and `take_out` of cell.rt, and PlaceLemmas.
-use Rattle.std.proofs.Common.{◌≡◌, ℕ, ◌+◌, ◌<◌, ◌≤◌, suc, zero, true, false, List, [], ◌∷◌, length, map, get_or, refl, sym, ap, arith, inl, inr, ◌∙◌}
+use Rattle.std.proofs.Common.{◌≡◌, ℕ, ◌+◌, ◌<◌, ◌≤◌, suc, zero, true, false, List, [], ◌∷◌, length, map, get_or, refl, sym, ap, arith, inl}
+use Rattle.std.proofs.Common.{inr, ◌∙◌}
 use Rattle.std.specs.List.{remove}
 use Rattle.std.specs.Prelude.{nat_lt}
 use Rattle.std.proofs.lemmas.Bool.{cases_Bool}
@@ -17,10 +18,12 @@ peer_of one = one.peer
 abbrev pub IsHeldRow : ℕ → ℕ → List HeldRoute → Type 0
 IsHeldRow from to held = IsRow from to (map sent_of_held held)
 
-pub from_peer : (from to : ℕ) (held : List HeldRoute) (i : ℕ) (one : HeldRoute) → IsHeldRow from to held → i < length held → get_or held i one ≡ one → from ≤ one.peer
+pub from_peer : (from to : ℕ) (held : List HeldRoute) (i : ℕ) (one : HeldRoute) → IsHeldRow from to held → i < length held
+    → get_or held i one ≡ one → from ≤ one.peer
 from_peer from to [] i one row within is = absurd (omega (arith, within))
 from_peer from to (x ∷ xs) zero one row within is = omega (arith, row.0, ap peer_of is)
-from_peer from to (x ∷ xs) (suc i) one row within is = omega (arith, row.0, from_peer (x.peer + 1) to xs i one row.2 (omega (arith, within)) is)
+from_peer from to (x ∷ xs) (suc i) one row within is =
+    omega (arith, row.0, from_peer (x.peer + 1) to xs i one row.2 (omega (arith, within)) is)
 
 pub is_below : (a b : ℕ) → a < b → nat_lt a b ≡ true
 is_below a b h = grind (arith, nat_tests)
@@ -74,15 +77,18 @@ without-none from to peer (x ∷ xs) row none =
           let not_here : IsAt (x ∷ xs) 0 peer → ⊥ = rw more at none in
           elim (eqb_tells x.peer peer) [
             | inl same ↦ absurd (not_here (x, refl, same.1))
-            | inr apart ↦ rw apart.0 (ap (λ rest. x ∷ rest) (sym (later_stay (x.peer + 1) to peer xs row.2 (omega (arith, apart.1, not_below x.peer peer more)))))
+            | inr apart ↦ rw apart.0 (ap (λ rest. x ∷ rest)
+                (sym (later_stay (x.peer + 1) to peer xs row.2 (omega (arith, apart.1, not_below x.peer peer more)))))
           ]
     ]
 
 -- ---- who stands at a place
 
-pub at_gives : (held : List HeldRoute) (place peer : ℕ) (d : HeldRoute) → IsAt held place peer → (place < length held) × ((get_or held place d).peer ≡ peer)
+pub at_gives : (held : List HeldRoute) (place peer : ℕ) (d : HeldRoute) → IsAt held place peer → (place < length held)
+    × ((get_or held place d).peer ≡ peer)
 at_gives held place peer d at =
     (slice_get_within held place at.0 at.1, ap peer_of (get_or_from_slice_get held place at.0 d at.1) ∙ at.2)
 
-pub at_from : (held : List HeldRoute) (place peer : ℕ) (d : HeldRoute) → place < length held → (get_or held place d).peer ≡ peer → IsAt held place peer
+pub at_from : (held : List HeldRoute) (place peer : ℕ) (d : HeldRoute) → place < length held → (get_or held place d).peer ≡ peer
+    → IsAt held place peer
 at_from held place peer d within same = (get_or held place d, slice_get-get_or held place d within, same)

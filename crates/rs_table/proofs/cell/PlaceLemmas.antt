@@ -1,5 +1,6 @@
 -- Where the route of a peer stands among routes that ascend by peer, and what is found there: for `place_of` and `place` of cell.rt.
-use Rattle.std.proofs.Common.{◌≡◌, ℕ, ◌+◌, ◌<◌, ◌≤◌, suc, zero, List, [], ◌∷◌, length, map, get_or, Some, None, refl, ap, ◌∙◌, arith, inl, inr}
+use Rattle.std.proofs.Common.{◌≡◌, ℕ, ◌+◌, ◌<◌, ◌≤◌, suc, zero, List, [], ◌∷◌, length, map, get_or, Some, None, refl, ap, ◌∙◌, arith, inl}
+use Rattle.std.proofs.Common.{inr}
 use Rattle.std.specs.Prelude.{nat_lt, slice_get}
 use Rattle.std.specs.List.Sorted.{IsPartitionPoint}
 use Rattle.std.proofs.lemmas.Bool.{cases_Bool}
@@ -30,7 +31,8 @@ ascends held row = row_ascends 0 row.0 held row.1
 
 -- the place that parts those of lower peers from the others is the place of a peer
 pub place_parts : (held : List HeldRoute) (peer place : ℕ) → place ≤ length held →
-    IsPartitionPoint (λ (one : HeldRoute). one.peer < peer) (λ (one : HeldRoute). peer ≤ one.peer) held place → place ≡ place_of peer_of held peer
+    IsPartitionPoint (λ (one : HeldRoute). one.peer < peer) (λ (one : HeldRoute). peer ≤ one.peer) held place
+    → place ≡ place_of peer_of held peer
 place_parts [] peer place within parts = omega (arith, within)
 place_parts (x ∷ xs) peer zero within parts =
     rw (is_not_below x.peer peer (parts.1 0 x (omega arith) (omega arith))) refl
@@ -45,7 +47,8 @@ abbrev left_of : HeldRoute → RouteLeft
 left_of one = record { time = one.time; attributes = one.attributes.value }
 
 -- the one at the place of a peer's, if it is of that peer, is its route
-pub route_there : (peer : ℕ) (held : List HeldRoute) (one : HeldRoute) → slice_get held (place_of peer_of held peer) ≡ Some one → one.peer ≡ peer →
+pub route_there : (peer : ℕ) (held : List HeldRoute) (one : HeldRoute) → slice_get held (place_of peer_of held peer) ≡ Some one
+    → one.peer ≡ peer →
     route_at (map sent_of_held held) peer ≡ Some (left_of one)
 route_there peer [] one at same = absurd (cc (at))
 route_there peer (x ∷ xs) one at same =
@@ -66,7 +69,8 @@ route_there peer (x ∷ xs) one at same =
     ]
 
 -- where none of a peer stands there, it has none
-pub route_nowhere : (from to peer : ℕ) (held : List HeldRoute) → (IsAt held (place_of peer_of held peer) peer → ⊥) → IsHeldRow from to held →
+pub route_nowhere : (from to peer : ℕ) (held : List HeldRoute) → (IsAt held (place_of peer_of held peer) peer → ⊥) → IsHeldRow from to held
+    →
     route_at (map sent_of_held held) peer ≡ None
 route_nowhere from to peer [] none row = refl
 route_nowhere from to peer (x ∷ xs) none row =
@@ -81,6 +85,7 @@ route_nowhere from to peer (x ∷ xs) none row =
           let not_here : IsAt (x ∷ xs) 0 peer → ⊥ = rw more at none in
           elim (eqb_tells x.peer peer) [
             | inl same ↦ absurd (not_here (x, refl, same.1))
-            | inr apart ↦ rw apart.0 (route_at-before (x.peer + 1) to peer (map sent_of_held xs) (omega (arith, not_below x.peer peer more)) row.2)
+            | inr apart ↦ rw apart.0 (route_at-before (x.peer + 1) to peer (map sent_of_held xs) (omega (arith, not_below x.peer peer more))
+                row.2)
           ]
     ]

@@ -6,7 +6,8 @@ use Rattle.rs_table.specs.ByPeer.{place_of, with_one}
 use Rattle.rs_table.proofs.cell.MemberLemmas.{with-set, with-insert, length-with}
 
 module _ {M : Type 0} (peer_of : M → ℕ) (members : List M) (one : M) (place : ℕ) (is : place ≡ place_of peer_of members (peer_of one)) where
-  pub put-set : place < length members → peer_of (get_or members place one) ≡ peer_of one → set members place one ≡ with_one peer_of members one
+  pub put-set : place < length members → peer_of (get_or members place one) ≡ peer_of one
+      → set members place one ≡ with_one peer_of members one
   put-set within same =
       ap (λ at. set members at one) is
       ∙ sym (with-set peer_of members one (omega (arith, within, is)) (ap (λ at. peer_of (get_or members at one)) (sym is) ∙ same))
@@ -15,7 +16,8 @@ module _ {M : Type 0} (peer_of : M → ℕ) (members : List M) (one : M) (place 
   abbrev pub IsApart : Type 0
   IsApart = place < length members → peer_of (get_or members place one) ≡ peer_of one → ⊥
 
-  apart_there : IsApart → place_of peer_of members (peer_of one) < length members → peer_of (get_or members (place_of peer_of members (peer_of one)) one) ≡ peer_of one → ⊥
+  apart_there : IsApart → place_of peer_of members (peer_of one) < length members
+      → peer_of (get_or members (place_of peer_of members (peer_of one)) one) ≡ peer_of one → ⊥
   apart_there apart within same = apart (omega (arith, within, is)) (ap (λ at. peer_of (get_or members at one)) is ∙ same)
 
   pub put-insert : IsApart → insert members place one ≡ with_one peer_of members one

@@ -1,5 +1,6 @@
 -- The routes on one prefix, in ascending order of their peers: for HeldLemmas, ChangeLemmas, PlaceLemmas, CellsLemmas and TablesLemmas.
-use Rattle.std.proofs.Common.{◌≡◌, ℕ, ◌+◌, ◌<◌, ◌≤◌, Bool, true, false, cond, not, List, [], ◌∷◌, length, Some, None, refl, ap, ◌∙◌, arith, inl, inr}
+use Rattle.std.proofs.Common.{◌≡◌, ℕ, ◌+◌, ◌<◌, ◌≤◌, Bool, true, false, cond, not, List, [], ◌∷◌, length, Some, None, refl, ap, ◌∙◌, arith}
+use Rattle.std.proofs.Common.{inl, inr}
 use Rattle.std.specs.Prelude.{◌==◌, nat_lt}
 use Rattle.std.proofs.lemmas.Bool.{cases_Bool}
 use Rattle.std.proofs.lemmas.Bool.Decides.{eqb_tells, nat_tests}
@@ -26,11 +27,17 @@ IsRow-without from to peer (route ∷ later) row =
       | false ↦ IsRow-from from (route.peer + 1) to (without_route later peer) (omega (arith, row.0)) rest
     ]
 
-pub IsRow-with : (from to : ℕ) (routes : List SentRoute) (route : SentRoute) → from ≤ route.peer → route.peer < to → IsRow from to routes → IsRow from to (with_route routes route)
+pub IsRow-with : (from to : ℕ) (routes : List SentRoute) (route : SentRoute) → from ≤ route.peer → route.peer < to → IsRow from to routes
+    → IsRow from to (with_route routes route)
 IsRow-with from to [] route lo hi row = (lo, hi, tt)
 IsRow-with from to (first ∷ later) route lo hi row =
     elim (cases_Bool (nat_lt first.peer route.peer)) [
-      | inl less ↦ rw less (row.0, row.1, IsRow-with (first.peer + 1) to later route (omega (arith, below first.peer route.peer less)) hi row.2)
+      | inl less ↦ rw less (
+        row.0,
+        row.1,
+        IsRow-with (first.peer + 1) to later route (omega (arith, below first.peer route.peer less))
+            hi row.2,
+      )
       | inr more ↦ rw more (elim (eqb_tells first.peer route.peer) [
         | inl same ↦ rw same.0 (lo, hi, IsRow-from (route.peer + 1) (first.peer + 1) to later (omega (arith, same.1)) row.2)
         | inr apart ↦ rw apart.0 (lo, hi, (omega (arith, not_below first.peer route.peer more, apart.1), row.1, row.2))
@@ -53,7 +60,8 @@ route_at-before from to peer (route ∷ later) less row =
 
 -- ---- what a change leaves of each peer
 
-swap_tests : {X : Type 0} (one other : Bool) (x y z : X) → (one ≡ true → other ≡ true → ⊥) → cond one x (cond other y z) ≡ cond other y (cond one x z)
+swap_tests : {X : Type 0} (one other : Bool) (x y z : X) → (one ≡ true → other ≡ true → ⊥)
+    → cond one x (cond other y z) ≡ cond other y (cond one x z)
 swap_tests true true x y z apart = absurd (apart refl refl)
 swap_tests true false x y z apart = refl
 swap_tests false other x y z apart = refl
@@ -62,7 +70,8 @@ abbrev left_of : SentRoute → RouteLeft
 left_of route = record { time = route.time; attributes = route.attributes }
 
 pub route_at-with : (routes : List SentRoute) (route : SentRoute) (peer : ℕ) →
-    route_at (with_route routes route) peer ≡ cond (route.peer == peer) (Some (record { time = route.time; attributes = route.attributes })) (route_at routes peer)
+    route_at (with_route routes route) peer ≡ cond (route.peer == peer) (Some (record { time = route.time; attributes = route.attributes }))
+    (route_at routes peer)
 route_at-with [] route peer = refl
 route_at-with (first ∷ later) route peer =
     elim (cases_Bool (nat_lt first.peer route.peer)) [
@@ -92,7 +101,8 @@ either_way : {X : Type 0} (b : Bool) (x : X) → x ≡ cond b x x
 either_way true x = refl
 either_way false x = refl
 
-pub route_at-without : (routes : List SentRoute) (gone peer : ℕ) → route_at (without_route routes gone) peer ≡ cond (gone == peer) None (route_at routes peer)
+pub route_at-without : (routes : List SentRoute) (gone peer : ℕ)
+    → route_at (without_route routes gone) peer ≡ cond (gone == peer) None (route_at routes peer)
 route_at-without [] gone peer = either_way (gone == peer) None
 route_at-without (route ∷ later) gone peer =
     elim (eqb_tells route.peer gone) [

@@ -23,9 +23,11 @@ none_below q (e ∷ es) below = rw below.0 (none_below q es below.1)
 
 -- what one call of the closure does
 abbrev pub Withdraws : Plan → ℕ → CellContent → Bool → CellContent → Type 0
-Withdraws plan peer old left new = (routes_in new ≡ without_route (routes_in old) peer) × (left ≡ true → IsCell plan new) × (left ≡ false → routes_in new ≡ [])
+Withdraws plan peer old left new =
+    (routes_in new ≡ without_route (routes_in old) peer) × (left ≡ true → IsCell plan new) × (left ≡ false → routes_in new ≡ [])
 
-pub member-IsCell : (plan : Plan) (before after : Entries) (prefix : IpPrefix) (cell : CellContent) → AreCells plan (before ++ (prefix, cell) ∷ after) → IsCell plan cell
+pub member-IsCell : (plan : Plan) (before after : Entries) (prefix : IpPrefix) (cell : CellContent)
+    → AreCells plan (before ++ (prefix, cell) ∷ after) → IsCell plan cell
 member-IsCell plan [] after prefix cell all = all.0
 member-IsCell plan (e ∷ es) after prefix cell all = member-IsCell plan es after prefix cell all.1
 
@@ -34,7 +36,8 @@ front-AreCells plan [] after all = tt
 front-AreCells plan (e ∷ es) after all = (all.0, front-AreCells plan es after all.1)
 
 module _ {F : Type 0} (T : F → IpPrefix → CellContent → Bool → CellContent → F → Type 0) (plan : Plan) (peer : ℕ) (f : F)
-    (calls : (k : IpPrefix) (v : CellContent) (b : Bool) (w : CellContent) (f' : F) → IsCell plan v → T f k v b w f' → Withdraws plan peer v b w × (f' ≡ f)) where
+    (calls : (k : IpPrefix) (v : CellContent) (b : Bool) (w : CellContent) (f' : F) → IsCell plan v → T f k v b w f'
+    → Withdraws plan peer v b w × (f' ≡ f)) where
   pub left-AreCells : (es kept : Entries) → AreCells plan es → RetainsPairs T f es kept → AreCells plan kept
   left-AreCells [] kept all kept_is = subst (AreCells plan) (sym kept_is) tt
   left-AreCells (e ∷ es) kept all (b, w, f', rest, call, later, kept_is) =
@@ -46,26 +49,31 @@ module _ {F : Type 0} (T : F → IpPrefix → CellContent → Bool → CellConte
       by_left true is others = (is refl, others)
       by_left false is others = others
 
-  pub left-routes : (es kept : Entries) → AreCells plan es → IsStrictlySortedBy prefix_cmp (map (λ entry. entry.0) es) → RetainsPairs T f es kept →
+  pub left-routes : (es kept : Entries) → AreCells plan es → IsStrictlySortedBy prefix_cmp (map (λ entry. entry.0) es)
+      → RetainsPairs T f es kept →
       (q : IpPrefix) → routes_at kept q ≡ without_route (routes_at es q) peer
   unfolding IsStrictlySortedBy
   left-routes [] kept all sorted kept_is q = ap (λ entries. routes_at entries q) kept_is
   left-routes (e ∷ es) kept all sorted (b, w, f', rest, call, later, kept_is) q =
       let one = calls e.0 e.1 b w f' all.0 call in
-      let others : routes_at rest q ≡ without_route (routes_at es q) peer = left-routes es rest all.1 sorted.1 (subst (λ g. RetainsPairs T g es rest) one.1 later) q in
+      let others : routes_at rest q ≡ without_route (routes_at es q) peer =
+      left-routes es rest all.1 sorted.1 (subst (λ g. RetainsPairs T g es rest) one.1 later) q in
       ap (λ entries. routes_at entries q) kept_is
       ∙ elim (cases_Bool (same_prefix q e.0)) [
         | inl here ↦
-            let gone : routes_at es q ≡ [] = ap routes_of (none_below q es (subst (λ p. Below p es) (sym (same_prefix-true q e.0 here)) sorted.0)) in
+            let gone : routes_at es q ≡ [] =
+            ap routes_of (none_below q es (subst (λ p. Below p es) (sym (same_prefix-true q e.0 here)) sorted.0)) in
             rw here (at_one b one.0 (others ∙ ap (λ routes. without_route routes peer) gone) here)
         | inr there ↦ rw there (past_one b others there)
       ]
     where
-      at_one : (b : Bool) → Withdraws plan peer e.1 b w → routes_at rest q ≡ [] → same_prefix q e.0 ≡ true → routes_at (cond b ((e.0, w) ∷ rest) rest) q ≡ without_route (routes_in e.1) peer
+      at_one : (b : Bool) → Withdraws plan peer e.1 b w → routes_at rest q ≡ [] → same_prefix q e.0 ≡ true
+          → routes_at (cond b ((e.0, w) ∷ rest) rest) q ≡ without_route (routes_in e.1) peer
       at_one true call none here = rw here call.0
       at_one false call none here = none ∙ sym (call.2 refl) ∙ call.0
 
-      past_one : (b : Bool) → routes_at rest q ≡ without_route (routes_at es q) peer → same_prefix q e.0 ≡ false → routes_at (cond b ((e.0, w) ∷ rest) rest) q ≡ without_route (routes_at es q) peer
+      past_one : (b : Bool) → routes_at rest q ≡ without_route (routes_at es q) peer → same_prefix q e.0 ≡ false
+          → routes_at (cond b ((e.0, w) ∷ rest) rest) q ≡ without_route (routes_at es q) peer
       past_one true others there = rw there others
       past_one false others there = others
 

@@ -39,11 +39,13 @@ module _ (one : IpPrefix × CellContent) (rest : Entries) where
 
   -- and nothing is lost where that one is written instead
   pub found-without : (left : Entries) → AreDistinct (left ++ one ∷ rest) → (found : Option CellContent) (prefix : IpPrefix) →
-      option_or (cell_at (left ++ rest) prefix) (cond (same prefix one.0) (Some one.1) found) ≡ option_or (cell_at (left ++ one ∷ rest) prefix) found
+      option_or (cell_at (left ++ rest) prefix) (cond (same prefix one.0) (Some one.1) found)
+      ≡ option_or (cell_at (left ++ one ∷ rest) prefix) found
   found-without [] distinct found prefix =
       elim (cases_Bool (same prefix one.0)) [
         | inl here ↦
-            let none : cell_at rest prefix ≡ None = lookup-none (same prefix) rest (none_past_head (eq_by_cmp_equiv prefix_total) prefix one rest distinct here) in
+            let none : cell_at rest prefix ≡ None =
+            lookup-none (same prefix) rest (none_past_head (eq_by_cmp_equiv prefix_total) prefix one rest distinct here) in
             rw (here, none) refl
         | inr there ↦ rw there refl
       ]
@@ -56,11 +58,13 @@ module _ (one : IpPrefix × CellContent) (rest : Entries) where
 -- the cells of two maps are those that one of them holds by now, and some that are to come
 pub record AreToCome (to_come : Entries) (cells : Entries) (one other : Entries) : Type 0 where
   pub distinct : AreDistinct to_come
-  pub joined : (prefix : IpPrefix) → option_or (cell_at to_come prefix) (cell_at cells prefix) ≡ option_or (cell_at other prefix) (cell_at one prefix)
+  pub joined : (prefix : IpPrefix) → option_or (cell_at to_come prefix) (cell_at cells prefix)
+      ≡ option_or (cell_at other prefix) (cell_at one prefix)
 
 module _ (one other : Entries) (m n : BTreeMap IpPrefix CellContent) (left rest : Entries) (next : IpPrefix × CellContent) where
   -- one of those to come is written
-  pub written : AreToCome (left ++ next ∷ rest) m.entries one other → Updates prefix_cmp m n next.0 (Some next.1) → AreToCome (left ++ rest) n.entries one other
+  pub written : AreToCome (left ++ next ∷ rest) m.entries one other → Updates prefix_cmp m n next.0 (Some next.1)
+      → AreToCome (left ++ rest) n.entries one other
   written to_come updates = record {
     distinct = distinct-without next rest left to_come.distinct;
     joined = λ prefix.

@@ -1,5 +1,6 @@
 -- What was gathered, peer by peer, and what a change makes of it: for gathering.rt.
-use Rattle.std.proofs.Common.{◌≡◌, ◌≢◌, ℕ, ◌+◌, ◌<◌, Bool, false, cond, List, [], ◌∷◌, All, length, get_or, None, refl, sym, ap, subst, ◌∙◌, arith, inl, inr}
+use Rattle.std.proofs.Common.{◌≡◌, ◌≢◌, ℕ, ◌+◌, ◌<◌, Bool, false, cond, List, [], ◌∷◌, All, length, get_or, None, refl, sym, ap, subst, ◌∙◌}
+use Rattle.std.proofs.Common.{arith, inl, inr}
 use Rattle.std.specs.FinMap as fin
 use Rattle.std.proofs.lemmas.Bool.{cases_lt, eq-eqb}
 use Rattle.std.proofs.lemmas.Bool.Decides.{eqb_tells}
@@ -33,7 +34,8 @@ module _ (plan : Plan) (routes : ℕ → Routes) (closed : List Bool) where
   held = record { plan = plan; ribs = ribs_by routes 0 closed }
 
   pub held-rib : (peer : ℕ) → peer < length closed → rib_of held peer ≡ record { routes = routes peer; closed = get_or closed peer false }
-  held-rib peer known = by-at routes 0 closed peer known ∙ ap (λ n. record { routes = routes n; closed = get_or closed peer false }) (omega arith)
+  held-rib peer known =
+      by-at routes 0 closed peer known ∙ ap (λ n. record { routes = routes n; closed = get_or closed peer false }) (omega arith)
 
   pub held-closed : (peer : ℕ) → (rib_of held peer).closed ≡ get_or closed peer false
   held-closed peer =
@@ -43,14 +45,16 @@ module _ (plan : Plan) (routes : ℕ → Routes) (closed : List Bool) where
       ]
 
 -- the same routes of each peer are the same
-pub same-ribs : (routes others : ℕ → Routes) → ((peer : ℕ) → routes peer ≡ others peer) → (first : ℕ) (closed : List Bool) → ribs_by routes first closed ≡ ribs_by others first closed
+pub same-ribs : (routes others : ℕ → Routes) → ((peer : ℕ) → routes peer ≡ others peer) → (first : ℕ) (closed : List Bool)
+    → ribs_by routes first closed ≡ ribs_by others first closed
 same-ribs routes others same first [] = refl
 same-ribs routes others same first (c ∷ cs) =
     λ i. (record { routes = same first i; closed = c }) ∷ same-ribs routes others same (first + 1) cs i
 
 -- one peer's routes became others, and those of other peers stayed
 module _ (routes others : ℕ → Routes) (peer : ℕ) (stay : (p : ℕ) → p ≢ peer → others p ≡ routes p) where
-  pub held-other : (plan : Plan) (closed later : List Bool) → length later ≡ length closed → (other : ℕ) → other ≢ peer → get_or later other false ≡ get_or closed other false
+  pub held-other : (plan : Plan) (closed later : List Bool) → length later ≡ length closed → (other : ℕ) → other ≢ peer
+      → get_or later other false ≡ get_or closed other false
       → rib_of (held plan others later) other ≡ rib_of (held plan routes closed) other
   held-other plan closed later long other apart same =
       elim (cases_lt other (length closed)) [
@@ -63,7 +67,8 @@ module _ (routes others : ℕ → Routes) (peer : ℕ) (stay : (p : ℕ) → p �
 
 -- ---- a change
 
-module _ (losses later : List ℕ) (logs logs_later : List Log) (peer : ℕ) (change : Change) (to : GathersTo peer change losses logs later logs_later) where
+module _ (losses later : List ℕ) (logs logs_later : List Log) (peer : ℕ) (change : Change)
+    (to : GathersTo peer change losses logs later logs_later) where
   pub gathered-own : routes_gathered later logs_later peer ≡ after (routes_gathered losses logs peer) change
   gathered-own =
       fin.same_map prefix_total prefix_cmp-IsAntisymmetric _ _
@@ -82,7 +87,8 @@ module _ (losses later : List ℕ) (logs logs_later : List Log) (peer : ℕ) (ch
       ∙ sym (get-gathered losses logs p q))
 
 -- lists and counts that take the places of those before
-module _ (inside : Inside) (is : IsGathering inside) (losses : List ℕ) (logs : List Log) (counted : length losses ≡ length inside.losses.items) (are : AreLogs losses logs) where
+module _ (inside : Inside) (is : IsGathering inside) (losses : List ℕ) (logs : List Log)
+    (counted : length losses ≡ length inside.losses.items) (are : AreLogs losses logs) where
   losses_are : (with_items inside.losses losses).items ≡ losses
   losses_are = with_items_is inside.losses losses (omega (arith, counted, inside.losses.ok.0))
 
@@ -100,7 +106,8 @@ module _ (inside : Inside) (is : IsGathering inside) (losses : List ℕ) (logs :
   then-gathering closed peers = record {
     peers = peers;
     losses = ap (λ (ns : List ℕ). length ns) losses_are ∙ counted ∙ is.losses;
-    logs = subst (λ (ns : List ℕ). AreLogs ns (with_items inside.logs logs).items) (sym losses_are) (subst (AreLogs losses) (sym logs_are) are);
+    logs = subst (λ (ns : List ℕ). AreLogs ns (with_items inside.logs logs).items) (sym losses_are)
+        (subst (AreLogs losses) (sym logs_are) are);
   }
 
   module _ (peer : ℕ) (change : Change) (to : GathersTo peer change inside.losses.items inside.logs.items losses logs) where
@@ -109,39 +116,52 @@ module _ (inside : Inside) (is : IsGathering inside) (losses : List ℕ) (logs :
 
     -- what the peer has left, by its change
     pub then-own : (closed later : List Bool) → peer < length closed → length later ≡ length closed
-        → BecomeBy (rib_of (held inside.plan.value before closed) peer).routes change (rib_of (held inside.plan.value then-routes later) peer).routes
+        → BecomeBy (rib_of (held inside.plan.value before closed) peer).routes change
+        (rib_of (held inside.plan.value then-routes later) peer).routes
     then-own closed later known long changes unclosed left_is =
         left_more changes change unclosed
-        ∙ ap (λ routes. after routes change) (left_is ∙ ap (λ (rib : RibContent). rib.routes) (held-rib inside.plan.value before closed peer known))
+        ∙ ap (λ routes. after routes change) (left_is ∙ ap (λ (rib : RibContent). rib.routes)
+        (held-rib inside.plan.value before closed peer known))
         ∙ sym (gathered-own inside.losses.items losses inside.logs.items logs peer change to)
         ∙ sym (then-is peer)
         ∙ sym (ap (λ (rib : RibContent). rib.routes) (held-rib inside.plan.value then-routes later peer (omega (arith, known, long))))
 
-    pub then-others : (closed later : List Bool) → length later ≡ length closed → (other : ℕ) → other ≢ peer → get_or later other false ≡ get_or closed other false
+    pub then-others : (closed later : List Bool) → length later ≡ length closed → (other : ℕ) → other ≢ peer
+        → get_or later other false ≡ get_or closed other false
         → rib_of (held inside.plan.value then-routes later) other ≡ rib_of (held inside.plan.value before closed) other
     then-others closed later long other apart same =
-        held-other before then-routes peer (λ p not_own. then-is p ∙ gathered-other inside.losses.items losses inside.logs.items logs peer change to p not_own)
+        held-other before then-routes peer (λ p not_own. then-is p
+        ∙ gathered-other inside.losses.items losses inside.logs.items logs peer change to p not_own)
         inside.plan.value closed later long other apart same
 
 -- ---- before any change, and at the end
 
-pub gathered-none : (losses : List ℕ) (logs : List Log) → ((peer : ℕ) (q : IpPrefix) → left_at losses logs peer q ≡ None) → (peer : ℕ) → routes_gathered losses logs peer ≡ fin.empty
+pub gathered-none : (losses : List ℕ) (logs : List Log) → ((peer : ℕ) (q : IpPrefix) → left_at losses logs peer q ≡ None) → (peer : ℕ)
+    → routes_gathered losses logs peer ≡ fin.empty
 gathered-none losses logs none peer =
     fin.same_map prefix_total prefix_cmp-IsAntisymmetric _ _ (λ q. get-gathered losses logs peer q ∙ none peer q ∙ sym (fin.get-empty _ q))
 
-pub settled-routes : (losses : List ℕ) (logs : List Log) (entries : Entries) → ((peer : ℕ) (q : IpPrefix) → route_at (routes_at entries q) peer ≡ left_at losses logs peer q)
+pub settled-routes : (losses : List ℕ) (logs : List Log) (entries : Entries)
+    → ((peer : ℕ) (q : IpPrefix) → route_at (routes_at entries q) peer ≡ left_at losses logs peer q)
     → (peer : ℕ) → routes_from entries peer ≡ routes_gathered losses logs peer
 settled-routes losses logs entries same peer =
-    fin.same_map prefix_total prefix_cmp-IsAntisymmetric _ _ (λ q. get-routes_from entries peer q ∙ same peer q ∙ sym (get-gathered losses logs peer q))
+    fin.same_map prefix_total prefix_cmp-IsAntisymmetric _ _
+    (λ q. get-routes_from entries peer q ∙ same peer q ∙ sym (get-gathered losses logs peer q))
 
 -- lists without entries leave nothing
 module _ (losses : List ℕ) (logs : List Log) (empty : (octet : ℕ) → get_or (lists_of logs) octet [] ≡ []) where
-  pub empty-held : (plan : Plan) (closed : List Bool) → ((peer : ℕ) → get_or closed peer false ≡ false) → (peer : ℕ) → rib_of (held plan (routes_gathered losses logs) closed) peer ≡ nothing_held
+  pub empty-held : (plan : Plan) (closed : List Bool) → ((peer : ℕ) → get_or closed peer false ≡ false) → (peer : ℕ)
+      → rib_of (held plan (routes_gathered losses logs) closed) peer ≡ nothing_held
   empty-held plan closed open_all peer =
       elim (cases_lt peer (length closed)) [
         | inl known ↦
             held-rib plan (routes_gathered losses logs) closed peer known
-            ∙ (λ i. record { routes = gathered-none losses logs (λ p q. ap (λ (entries : List Entry). left_in losses entries p q) (empty (first_octet q))) peer i; closed = open_all peer i })
+            ∙ (λ i. record {
+              routes = gathered-none losses logs
+                  (λ p q. ap (λ (entries : List Entry). left_in losses entries p q) (empty (first_octet q))) peer i;
+              closed =
+                  open_all peer i;
+            })
         | inr past ↦ by-past (routes_gathered losses logs) 0 closed peer past
       ]
 

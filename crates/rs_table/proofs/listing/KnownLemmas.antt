@@ -14,7 +14,8 @@ module _ (tables : TablesContent) (client : ℕ) where
   abbrev AreKnown : List TableRow → Type 0
   AreKnown rows = AllByRecursion (λ (row : TableRow). row.route.peer < length tables.ribs) rows
 
-  row_known : (prefix : IpPrefix) (later : List TableRow) (best : Option SentRoute) → best_of tables client prefix ≡ best → AreKnown later → AreKnown (cons_option (option_map (λ route. record { prefix = prefix; route = route }) best) later)
+  row_known : (prefix : IpPrefix) (later : List TableRow) (best : Option SentRoute) → best_of tables client prefix ≡ best → AreKnown later
+      → AreKnown (cons_option (option_map (λ route. record { prefix = prefix; route = route }) best) later)
   row_known prefix later None e h = h
   row_known prefix later (Some route) e h = (best-known tables client prefix route e, h)
 
@@ -23,5 +24,8 @@ module _ (tables : TablesContent) (client : ℕ) where
   rows_known (p ∷ ps) = row_known p (filter_map (row_on (best_of tables client)) ps) (best_of tables client p) refl (rows_known ps)
 
   -- the rows of any prefixes
-  pub rows-known : (prefixes : List IpPrefix) → All (λ (row : TableRow). row.route.peer < length tables.ribs) (filter_map (row_on (best_of tables client)) prefixes)
-  rows-known prefixes = All-from_recursion (λ (row : TableRow). row.route.peer < length tables.ribs) (filter_map (row_on (best_of tables client)) prefixes) (rows_known prefixes)
+  pub rows-known : (prefixes : List IpPrefix) → All (λ (row : TableRow). row.route.peer < length tables.ribs)
+      (filter_map (row_on (best_of tables client)) prefixes)
+  rows-known prefixes =
+      All-from_recursion (λ (row : TableRow). row.route.peer < length tables.ribs) (filter_map (row_on (best_of tables client)) prefixes)
+      (rows_known prefixes)

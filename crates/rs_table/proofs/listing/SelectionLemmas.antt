@@ -1,5 +1,7 @@
--- Members of lists that are filtered, and the peer of the route that a client gets: for `iter_rows` of listing.rt by KnownLemmas, and StoredLemmas.
-use Rattle.std.proofs.Common.{◌≡◌, ℕ, ◌+◌, ◌<◌, Bool, true, false, cond, List, [], ◌∷◌, length, filter, Option, Some, None, All, refl, arith}
+-- Members of lists that are filtered, and the peer of the route that a client gets: for `iter_rows` of listing.rt by KnownLemmas, and
+-- StoredLemmas.
+use Rattle.std.proofs.Common.{◌≡◌, ℕ, ◌+◌, ◌<◌, Bool, true, false, cond, List, [], ◌∷◌, length, filter, Option, Some, None, All, refl}
+use Rattle.std.proofs.Common.{arith}
 use Rattle.std.specs.List.{cons_option, enumerate_from, filter_map, AllByRecursion}
 use Rattle.std.specs.Option.{option_map}
 use Rattle.std.specs.FinMap.{get}
@@ -37,20 +39,26 @@ module _ (prefix : IpPrefix) (count : ℕ) where
   abbrev routes_from_one : ℕ → List RibContent → List SentRoute
   routes_from_one first ribs = filter_map (λ (peer, rib). option_map (sent_by peer) (get rib.routes prefix)) (enumerate_from first ribs)
 
-  one_more : (first : ℕ) (later : List SentRoute) (o : Option RouteLeft) → first < count → AllByRecursion IsOfOne later → AllByRecursion IsOfOne (cons_option (option_map (sent_by first) o) later)
+  one_more : (first : ℕ) (later : List SentRoute) (o : Option RouteLeft) → first < count → AllByRecursion IsOfOne later
+      → AllByRecursion IsOfOne (cons_option (option_map (sent_by first) o) later)
   one_more first later None known all = all
   one_more first later (Some route) known all = (known, all)
 
   of_ones : (first : ℕ) (ribs : List RibContent) → first + length ribs ≡ count → AllByRecursion IsOfOne (routes_from_one first ribs)
   of_ones first [] all = tt
-  of_ones first (rib ∷ ribs) all = one_more first (routes_from_one (first + 1) ribs) (get rib.routes prefix) (omega (arith, all)) (of_ones (first + 1) ribs (omega (arith, all)))
+  of_ones first (rib ∷ ribs) all =
+      one_more first (routes_from_one (first + 1) ribs) (get rib.routes prefix) (omega (arith, all))
+      (of_ones (first + 1) ribs (omega (arith, all)))
 
 -- what a client gets is the route of a peer that there is
-pub best-known : (tables : TablesContent) (client : ℕ) (prefix : IpPrefix) (route : SentRoute) → best_of tables client prefix ≡ Some route → route.peer < length tables.ribs
+pub best-known : (tables : TablesContent) (client : ℕ) (prefix : IpPrefix) (route : SentRoute) → best_of tables client prefix ≡ Some route
+    → route.peer < length tables.ribs
 best-known tables client prefix route is =
     let IsKnown : SentRoute → Type 0 = λ route. route.peer < length tables.ribs in
     let eligible : SentRoute → Bool = λ route. is_eligible tables.plan route.peer route.attributes in
     let permitted : SentRoute → Bool = is_sent_to tables.plan client in
     let known : AllByRecursion IsKnown (candidates_of tables client prefix) =
-    filter_keeps IsKnown permitted (filter eligible (routes_on prefix tables.ribs)) (filter_keeps IsKnown eligible (routes_on prefix tables.ribs) (of_ones prefix (length tables.ribs) 0 tables.ribs (omega arith))) in
-    choice-All IsKnown (standing_of tables.plan) (candidates_of tables client prefix) route (all_places IsKnown (candidates_of tables client prefix) known) is
+    filter_keeps IsKnown permitted (filter eligible (routes_on prefix tables.ribs))
+    (filter_keeps IsKnown eligible (routes_on prefix tables.ribs) (of_ones prefix (length tables.ribs) 0 tables.ribs (omega arith))) in
+    choice-All IsKnown (standing_of tables.plan) (candidates_of tables client prefix) route
+    (all_places IsKnown (candidates_of tables client prefix) known) is

@@ -1,5 +1,7 @@
--- A client's table, which is the one that is computed: for `table_is_computed` of laws.rt, `iter_rows` of listing.rt, StoredLemmas and TablesLemmas.
-use Rattle.std.proofs.Common.{◌≡◌, ℕ, Bool, true, false, T, ◌&&◌, List, [], ◌∷◌, ◌++◌, ◌+◌, map, Option, Some, None, refl, sym, ap, subst, ◌∙◌, inl, inr}
+-- A client's table, which is the one that is computed: for `table_is_computed` of laws.rt, `iter_rows` of listing.rt, StoredLemmas and
+-- TablesLemmas.
+use Rattle.std.proofs.Common.{◌≡◌, ℕ, Bool, true, false, T, ◌&&◌, List, [], ◌∷◌, ◌++◌, ◌+◌, map, Option, Some, None, refl, sym, ap, subst}
+use Rattle.std.proofs.Common.{◌∙◌, inl, inr}
 use Rattle.std.specs.List.{filter_map, cons_option, list_any, flat_map, enumerate_from, AllByRecursion}
 use Rattle.std.specs.List.Sorted.{IsStrictlySortedBy}
 use Rattle.std.specs.Option.{option_map, is_some}
@@ -42,27 +44,32 @@ both_true true b g h = h
 both_true false b g h = absurd g
 
 module _ {X : Type 0} where
-  Below-keys : (prefix : IpPrefix) (entries : List (IpPrefix × X)) → T (below_all prefix_cmp prefix entries) → Below prefix (map (λ entry. entry.0) entries)
+  Below-keys : (prefix : IpPrefix) (entries : List (IpPrefix × X)) → T (below_all prefix_cmp prefix entries)
+      → Below prefix (map (λ entry. entry.0) entries)
   Below-keys prefix [] h = tt
   Below-keys prefix (e ∷ es) h = (less _ (first_true _ _ h), Below-keys prefix es (second_true _ _ h))
 
-  ascending-keys : (entries : List (IpPrefix × X)) → T (fin.is_sorted prefix_cmp entries) → IsStrictlySortedBy prefix_cmp (map (λ entry. entry.0) entries)
+  ascending-keys : (entries : List (IpPrefix × X)) → T (fin.is_sorted prefix_cmp entries)
+      → IsStrictlySortedBy prefix_cmp (map (λ entry. entry.0) entries)
   unfolding IsStrictlySortedBy
   ascending-keys [] h = tt
   ascending-keys (e ∷ es) h = (Below-keys e.0 es (first_true _ _ h), ascending-keys es (second_true _ _ h))
 
-  below_all-keys : (prefix : IpPrefix) (entries : List (IpPrefix × X)) → Below prefix (map (λ entry. entry.0) entries) → T (below_all prefix_cmp prefix entries)
+  below_all-keys : (prefix : IpPrefix) (entries : List (IpPrefix × X)) → Below prefix (map (λ entry. entry.0) entries)
+      → T (below_all prefix_cmp prefix entries)
   below_all-keys prefix [] h = tt
   below_all-keys prefix (e ∷ es) h = both_true _ _ (subst (λ order. T (is_lt order)) (sym h.0) tt) (below_all-keys prefix es h.1)
 
-  is_sorted-keys : (entries : List (IpPrefix × X)) → IsStrictlySortedBy prefix_cmp (map (λ entry. entry.0) entries) → T (fin.is_sorted prefix_cmp entries)
+  is_sorted-keys : (entries : List (IpPrefix × X)) → IsStrictlySortedBy prefix_cmp (map (λ entry. entry.0) entries)
+      → T (fin.is_sorted prefix_cmp entries)
   unfolding IsStrictlySortedBy
   is_sorted-keys [] h = tt
   is_sorted-keys (e ∷ es) h = both_true _ _ (below_all-keys e.0 es h.0) (is_sorted-keys es h.1)
 
 -- ---- a prefix on which no peer has a route
 
-find-append : {X : Type 0} (q : IpPrefix) (xs ys : List (IpPrefix × X)) → fin.find prefix_cmp q (xs ++ ys) ≡ None → (fin.find prefix_cmp q xs ≡ None) × (fin.find prefix_cmp q ys ≡ None)
+find-append : {X : Type 0} (q : IpPrefix) (xs ys : List (IpPrefix × X)) → fin.find prefix_cmp q (xs ++ ys) ≡ None
+    → (fin.find prefix_cmp q xs ≡ None) × (fin.find prefix_cmp q ys ≡ None)
 find-append q [] ys e = (refl, e)
 find-append q (x ∷ xs) ys e =
     elim (cases_Bool (eq_by_cmp prefix_cmp q x.0)) [
@@ -71,7 +78,8 @@ find-append q (x ∷ xs) ys e =
     ]
 
 -- a prefix among no peer's entries is held by none
-none_held : (q : IpPrefix) (ribs : List RibContent) → fin.find prefix_cmp q (flat_map (λ rib. fin.entries rib.routes) ribs) ≡ None → is_held ribs q ≡ false
+none_held : (q : IpPrefix) (ribs : List RibContent) → fin.find prefix_cmp q (flat_map (λ rib. fin.entries rib.routes) ribs) ≡ None
+    → is_held ribs q ≡ false
 none_held q [] e = refl
 none_held q (rib ∷ ribs) e =
     let parts = find-append q (fin.entries rib.routes) (flat_map (λ rib. fin.entries rib.routes) ribs) e in
@@ -100,7 +108,8 @@ not_held : (ribs : List RibContent) (q : IpPrefix) → list_any (same_prefix q) 
 not_held ribs q none =
     let found : List (IpPrefix × RouteLeft) = flat_map (λ rib. fin.entries rib.routes) ribs in
     none_held q ribs (absent (fin.find prefix_cmp q found)
-    (ap is_some (sym (fin.get-from_entries prefix_total found q)) ∙ fin.contains_key-keys (fin.from_entries {R = prefix_cmp} found) q ∙ none))
+    (ap is_some (sym (fin.get-from_entries prefix_total found q)) ∙ fin.contains_key-keys (fin.from_entries {R = prefix_cmp} found) q
+    ∙ none))
 
 -- ---- the computed table is the table
 
@@ -108,34 +117,42 @@ module _ (f : IpPrefix → Option SentRoute) where
   abbrev pub row_on : IpPrefix → Option TableRow
   row_on prefix = option_map (λ route. record { prefix = prefix; route = route }) (f prefix)
 
-  entries-rows : (prefixes : List IpPrefix) → map entry_of_row (filter_map row_on prefixes) ≡ filter_map (λ prefix. option_map (λ route. (prefix, route)) (f prefix)) prefixes
+  entries-rows : (prefixes : List IpPrefix) → map entry_of_row (filter_map row_on prefixes)
+      ≡ filter_map (λ prefix. option_map (λ route. (prefix, route)) (f prefix)) prefixes
   entries-rows [] = refl
   entries-rows (p ∷ ps) =
-      elim (f p) as (λ o. map entry_of_row (cons_option (option_map (λ route. record { prefix = p; route = route }) o) (filter_map row_on ps)) ≡ cons_option (option_map (λ route. (p, route)) o) (filter_map (λ prefix. option_map (λ route. (prefix, route)) (f prefix)) ps)) [
+      elim (f p) as (λ o. map entry_of_row (cons_option (option_map (λ route. record { prefix = p; route = route }) o)
+      (filter_map row_on ps)) ≡ cons_option (option_map (λ route. (p, route)) o)
+      (filter_map (λ prefix. option_map (λ route. (prefix, route)) (f prefix)) ps)) [
         | None ↦ entries-rows ps
         | Some route ↦ ap (λ es. (p, route) ∷ es) (entries-rows ps)
       ]
 
-  Below-rows : (prefix : IpPrefix) (prefixes : List IpPrefix) → Below prefix prefixes → Below prefix (map (λ row. row.prefix) (filter_map row_on prefixes))
+  Below-rows : (prefix : IpPrefix) (prefixes : List IpPrefix) → Below prefix prefixes
+      → Below prefix (map (λ row. row.prefix) (filter_map row_on prefixes))
   Below-rows prefix [] h = tt
   Below-rows prefix (p ∷ ps) h =
-      elim (f p) as (λ o. Below prefix (map (λ row. row.prefix) (cons_option (option_map (λ route. record { prefix = p; route = route }) o) (filter_map row_on ps)))) [
+      elim (f p) as (λ o. Below prefix (map (λ row. row.prefix)
+      (cons_option (option_map (λ route. record { prefix = p; route = route }) o) (filter_map row_on ps)))) [
         | None ↦ Below-rows prefix ps h.1
         | Some route ↦ (h.0, Below-rows prefix ps h.1)
       ]
 
-  ascending-rows : (prefixes : List IpPrefix) → IsStrictlySortedBy prefix_cmp prefixes → IsStrictlySortedBy prefix_cmp (map (λ row. row.prefix) (filter_map row_on prefixes))
+  ascending-rows : (prefixes : List IpPrefix) → IsStrictlySortedBy prefix_cmp prefixes
+      → IsStrictlySortedBy prefix_cmp (map (λ row. row.prefix) (filter_map row_on prefixes))
   unfolding IsStrictlySortedBy
   ascending-rows [] h = tt
   ascending-rows (p ∷ ps) h =
-      elim (f p) as (λ o. IsStrictlySortedBy prefix_cmp (map (λ row. row.prefix) (cons_option (option_map (λ route. record { prefix = p; route = route }) o) (filter_map row_on ps)))) [
+      elim (f p) as (λ o. IsStrictlySortedBy prefix_cmp (map (λ row. row.prefix)
+      (cons_option (option_map (λ route. record { prefix = p; route = route }) o) (filter_map row_on ps)))) [
         | None ↦ ascending-rows ps h.1
         | Some route ↦ (Below-rows p ps h.0, ascending-rows ps h.1)
       ]
 
 -- rows for prefixes that ascend and leave out none that is held
 pub rows-IsTable : (tables : TablesContent) (client : ℕ) (prefixes : List IpPrefix) → IsStrictlySortedBy prefix_cmp prefixes →
-    ((q : IpPrefix) → list_any (same_prefix q) prefixes ≡ false → is_held tables.ribs q ≡ false) → IsTable tables client (filter_map (row_on (best_of tables client)) prefixes)
+    ((q : IpPrefix) → list_any (same_prefix q) prefixes ≡ false → is_held tables.ribs q ≡ false)
+    → IsTable tables client (filter_map (row_on (best_of tables client)) prefixes)
 rows-IsTable tables client prefixes ascending complete =
     let best : IpPrefix → Option SentRoute = best_of tables client in
     record {
@@ -170,10 +187,12 @@ keys-rows : (rows : List TableRow) → map (λ entry. entry.0) (map entry_of_row
 keys-rows [] = refl
 keys-rows (row ∷ rows) = ap (λ more. row.prefix ∷ more) (keys-rows rows)
 
-pub same_tables : (tables : TablesContent) (client : ℕ) (rows others : List TableRow) → IsTable tables client rows → IsTable tables client others → rows ≡ others
+pub same_tables : (tables : TablesContent) (client : ℕ) (rows others : List TableRow) → IsTable tables client rows
+    → IsTable tables client others → rows ≡ others
 same_tables tables client rows others one other =
     let sorted : (rows : List TableRow) → IsTable tables client rows → T (fin.is_sorted prefix_cmp (map entry_of_row rows)) =
     λ rows is. is_sorted-keys (map entry_of_row rows) (subst (IsStrictlySortedBy prefix_cmp) (sym (keys-rows rows)) is.ascending) in
     sym (rows_again rows)
-    ∙ ap (map row_from) (same_entries prefix_cmp prefix_total prefix_cmp-IsAntisymmetric (map entry_of_row rows) (map entry_of_row others) (sorted rows one) (sorted others other) (λ q. one.best q ∙ sym (other.best q)))
+    ∙ ap (map row_from) (same_entries prefix_cmp prefix_total prefix_cmp-IsAntisymmetric (map entry_of_row rows) (map entry_of_row others)
+    (sorted rows one) (sorted others other) (λ q. one.best q ∙ sym (other.best q)))
     ∙ rows_again others

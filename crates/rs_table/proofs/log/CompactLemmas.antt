@@ -1,5 +1,6 @@
 -- What a list leaves once it is compacted: for `compact` of log.rt.
-use Rattle.std.proofs.Common.{◌≡◌, ℕ, Bool, true, false, cond, not, ◌&&◌, ◌==◌, List, [], ◌∷◌, ◌++◌, reverse, filter, All, Option, Some, None, refl, sym, ap, subst, ◌∙◌, inl, inr}
+use Rattle.std.proofs.Common.{◌≡◌, ℕ, Bool, true, false, cond, not, ◌&&◌, ◌==◌, List, [], ◌∷◌, ◌++◌, reverse, filter, All, Option, Some}
+use Rattle.std.proofs.Common.{None, refl, sym, ap, subst, ◌∙◌, inl, inr}
 use Rattle.std.specs.Cmp.{IsTotalOrder, Equal-is, nat_cmp_total, on_total, then_total, tied_itself}
 use Rattle.std.specs.FinMap.{nat_cmp-IsAntisymmetric}
 use Rattle.std.specs.List.{find, list_any, dedup, dedup_from, AllByRecursion}
@@ -34,7 +35,8 @@ find-filter p keeps (x ∷ xs) =
       | inr goes ↦ rw (goes, and_right (p x) false refl) (find-filter p keeps xs)
     ]
   where
-    by_test : (b : Bool) → find p (filter keeps xs) ≡ find (λ x. p x && keeps x) xs → cond b (Some x) (find p (filter keeps xs)) ≡ cond (b && true) (Some x) (find (λ x. p x && keeps x) xs)
+    by_test : (b : Bool) → find p (filter keeps xs) ≡ find (λ x. p x && keeps x) xs
+        → cond b (Some x) (find p (filter keeps xs)) ≡ cond (b && true) (Some x) (find (λ x. p x && keeps x) xs)
     by_test true rest = refl
     by_test false rest = rest
 
@@ -65,7 +67,8 @@ filter-reverse {X = X} keeps (x ∷ xs) =
 find-agree-all : {X : Type 0} (p q : X → Bool) (xs : List X) → All (λ x. p x ≡ q x) xs → find p xs ≡ find q xs
 find-agree-all p q [] all = refl
 find-agree-all p q (x ∷ xs) all =
-    rw (All-head (λ y. p y ≡ q y) x xs all) (ap (λ rest. cond (q x) (Some x) rest) (find-agree-all p q xs (All-tail (λ y. p y ≡ q y) x xs all)))
+    rw (All-head (λ y. p y ≡ q y) x xs all) (ap (λ rest. cond (q x) (Some x) rest)
+    (find-agree-all p q xs (All-tail (λ y. p y ≡ q y) x xs all)))
 
 -- ---- what a search finds after `dedup`
 
@@ -172,17 +175,20 @@ same_key-tells x y =
 -- ---- step by step
 
 -- after a stable sort by key a search finds the same
-find-sorted : (xs ys : List Entry) → IsStableByKey key key_cmp xs ys → (peer : ℕ) (prefix : IpPrefix) → find (is_of peer prefix) ys ≡ find (is_of peer prefix) xs
+find-sorted : (xs ys : List Entry) → IsStableByKey key key_cmp xs ys → (peer : ℕ) (prefix : IpPrefix)
+    → find (is_of peer prefix) ys ≡ find (is_of peer prefix) xs
 find-sorted xs ys stable peer prefix =
     let one : Entry = of peer prefix in
     let test : Entry → Bool = ties (λ x y. is_lt (entry_cmp x y)) one in
     let agree : (y : Entry) → test y ≡ is_of peer prefix y = λ y. tie-is one y ∙ eq-of peer prefix y in
     sym (find-first (is_of peer prefix) ys)
-    ∙ ap (find (is_of peer prefix)) (sym (filter-agree test (is_of peer prefix) agree ys) ∙ stable one ∙ filter-agree test (is_of peer prefix) agree xs)
+    ∙ ap (find (is_of peer prefix)) (sym (filter-agree test (is_of peer prefix) agree ys) ∙ stable one
+    ∙ filter-agree test (is_of peer prefix) agree xs)
     ∙ find-first (is_of peer prefix) xs
 
 -- behind an entry of a lower key stands none of its peer and prefix
-none-behind : (peer : ℕ) (prefix : IpPrefix) (x : Entry) (rest : List Entry) → is_of peer prefix x ≡ true → AllByRecursion (λ y. entry_cmp x y ≡ Less) rest
+none-behind : (peer : ℕ) (prefix : IpPrefix) (x : Entry) (rest : List Entry) → is_of peer prefix x ≡ true
+    → AllByRecursion (λ y. entry_cmp x y ≡ Less) rest
     → list_any (is_of peer prefix) rest ≡ false
 none-behind peer prefix x [] is below = refl
 none-behind peer prefix x (y ∷ ys) is below =
@@ -218,7 +224,8 @@ no-route entry e = none-mapped _ entry.attributes e
 
 -- among entries that ascend strictly by key, withdrawals may go
 announced-left : (peer : ℕ) (prefix : IpPrefix) (entries : List Entry) → IsStrictlySortedBy entry_cmp entries →
-    option_map_or entry_route (find (is_of peer prefix) (reverse (filter announces entries))) None ≡ option_map_or entry_route (find (is_of peer prefix) entries) None
+    option_map_or entry_route (find (is_of peer prefix) (reverse (filter announces entries))) None
+    ≡ option_map_or entry_route (find (is_of peer prefix) entries) None
 unfolding IsStrictlySortedBy
 announced-left peer prefix [] sorted = refl
 announced-left peer prefix (x ∷ rest) sorted =
@@ -228,16 +235,19 @@ announced-left peer prefix (x ∷ rest) sorted =
     elim (cases_Bool (p x)) [
       | inl here ↦
           let none : find p (reverse later) ≡ None =
-          find_none p (reverse later) (list_any-reverse p later (any-filtered p announces rest (none-behind peer prefix x rest here sorted.0))) in
+          find_none p (reverse later) (list_any-reverse p later
+          (any-filtered p announces rest (none-behind peer prefix x rest here sorted.0))) in
           let only : find p (x ∷ []) ≡ Some x = rw here refl in
-          let found : find p (reverse (x ∷ later)) ≡ Some x = find_last_more p x later ∙ ap (λ (o : Option Entry). option_or o (find p (x ∷ []))) none ∙ only in
+          let found : find p (reverse (x ∷ later)) ≡ Some x =
+          find_last_more p x later ∙ ap (λ (o : Option Entry). option_or o (find p (x ∷ []))) none ∙ only in
           elim (cases_Bool (announces x)) [
             | inl stays ↦ rw (stays, here) (ap route found)
             | inr goes ↦ rw (goes, here) (ap route none ∙ sym (no-route x goes))
           ]
       | inr there ↦
           let not_it : find p (x ∷ []) ≡ None = rw there refl in
-          let passed : find p (reverse (x ∷ later)) ≡ find p (reverse later) = find_last_more p x later ∙ ap (option_or (find p (reverse later))) not_it ∙ or_none (find p (reverse later)) in
+          let passed : find p (reverse (x ∷ later)) ≡ find p (reverse later) =
+          find_last_more p x later ∙ ap (option_or (find p (reverse later))) not_it ∙ or_none (find p (reverse later)) in
           elim (cases_Bool (announces x)) [
             | inl stays ↦ rw (stays, there) (ap route passed ∙ announced-left peer prefix rest sorted.1)
             | inr goes ↦ rw (goes, there) (announced-left peer prefix rest sorted.1)
@@ -248,13 +258,16 @@ announced-left peer prefix (x ∷ rest) sorted =
 
 module _ (losses : List ℕ) (old current turned sorted short new : List Entry)
     (current_is : current ≡ filter (is_current losses) old) (turned_is : turned ≡ reverse current) (moved : IsPermutation turned sorted)
-    (same : Entry → Entry → Bool) (tells : (x y : Entry) → same x y ≡ is_eq (entry_cmp x y)) (short_is : short ≡ dedup same sorted) (new_is : new ≡ filter announces short) where
+    (same : Entry → Entry → Bool) (tells : (x y : Entry) → same x y ≡ is_eq (entry_cmp x y)) (short_is : short ≡ dedup same sorted)
+    (new_is : new ≡ filter announces short) where
   kept-sorted : (P : Entry → Type 0) → All P current → All P sorted
   kept-sorted P all =
-      All-permutation P turned sorted moved (subst (All P) (sym turned_is) (All-permutation P current (reverse current) (IsPermutation-reverse current) all))
+      All-permutation P turned sorted moved (subst (All P) (sym turned_is)
+      (All-permutation P current (reverse current) (IsPermutation-reverse current) all))
 
   kept-new : (P : Entry → Type 0) → All P current → All P new
-  kept-new P all = subst (All P) (sym new_is) (All-filter announces P short (subst (All P) (sym short_is) (All-dedup same P sorted (kept-sorted P all))))
+  kept-new P all = subst (All P) (sym new_is) (All-filter announces P short
+      (subst (All P) (sym short_is) (All-dedup same P sorted (kept-sorted P all))))
 
   -- no entry is made up
   pub kept : (P : Entry → Type 0) → All P old → All P new
@@ -264,7 +277,8 @@ module _ (losses : List ℕ) (old current turned sorted short new : List Entry)
   all-current =
       kept-new (λ entry. is_current losses entry ≡ true)
       (subst (All (λ entry. is_current losses entry ≡ true)) (sym current_is)
-      (All-from_recursion (λ entry. is_current losses entry ≡ true) (filter (is_current losses) old) (filter_passes (is_current losses) old)))
+      (All-from_recursion (λ entry. is_current losses entry ≡ true) (filter (is_current losses) old)
+      (filter_passes (is_current losses) old)))
 
   module _ (stable : IsStableByKey key key_cmp turned sorted) (up : IsSortedByKey key key_cmp sorted) where
     pub compacted : (peer : ℕ) (prefix : IpPrefix) → left_in losses new peer prefix ≡ left_in losses old peer prefix
@@ -275,14 +289,17 @@ module _ (losses : List ℕ) (old current turned sorted short new : List Entry)
         All-permutation (λ entry. is_current losses entry ≡ true) new (reverse new) (IsPermutation-reverse new) all-current in
         let counting : find (counts losses peer prefix) (reverse new) ≡ find p (reverse new) =
         find-agree-all (counts losses peer prefix) p (reverse new)
-        (All-weaker (λ entry. is_current losses entry ≡ true) (λ entry. counts losses peer prefix entry ≡ p entry) (λ entry is. rw is (and-true (p entry))) (reverse new) reversed_current) in
+        (All-weaker (λ entry. is_current losses entry ≡ true) (λ entry. counts losses peer prefix entry ≡ p entry)
+        (λ entry is. rw is (and-true (p entry))) (reverse new) reversed_current) in
         let strict : IsStrictlySortedBy entry_cmp short =
         subst (IsStrictlySortedBy entry_cmp) (sym short_is) (IsStrictlySortedBy-dedup entry_total tells sorted up) in
         ap route counting
         ∙ ap (λ (list : List Entry). route (find p (reverse list))) new_is
         ∙ announced-left peer prefix short strict
-        ∙ ap route (ap (find p) short_is ∙ find-dedup p same (λ x y e. alike peer prefix x y (sym (tells x y) ∙ e)) sorted ∙ find-sorted turned sorted stable peer prefix
-        ∙ ap (find p) (turned_is ∙ ap reverse current_is ∙ sym (filter-reverse (is_current losses) old)) ∙ find-filter p (is_current losses) (reverse old))
+        ∙ ap route (ap (find p) short_is ∙ find-dedup p same (λ x y e. alike peer prefix x y (sym (tells x y) ∙ e)) sorted
+        ∙ find-sorted turned sorted stable peer prefix
+        ∙ ap (find p) (turned_is ∙ ap reverse current_is ∙ sym (filter-reverse (is_current losses) old))
+        ∙ find-filter p (is_current losses) (reverse old))
       where
         and-true : (b : Bool) → (b && true) ≡ b
         and-true true = refl

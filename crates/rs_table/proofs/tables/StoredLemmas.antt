@@ -1,5 +1,6 @@
 -- What a cell keeps for a client is the choice among the candidates of the client: for `best` and `cells` of tables.rt, by TablesLemmas.
-use Rattle.std.proofs.Common.{◌≡◌, ℕ, ◌+◌, ◌≤◌, Bool, true, false, not, ◌&&◌, ◌==◌, List, [], ◌∷◌, length, filter, Option, Some, None, refl, sym, ap, ◌∙◌, arith, inl, inr}
+use Rattle.std.proofs.Common.{◌≡◌, ℕ, ◌+◌, ◌≤◌, Bool, true, false, not, ◌&&◌, ◌==◌, List, [], ◌∷◌, length, filter, Option, Some, None, refl}
+use Rattle.std.proofs.Common.{sym, ap, ◌∙◌, arith, inl, inr}
 use Rattle.std.specs.List.{AllByRecursion}
 use Rattle.std.specs.Option.{option_map, option_and_then}
 use Rattle.std.proofs.lemmas.Bool.{cases_Bool, cases_lt, and_right, eq-eqb}
@@ -29,26 +30,33 @@ filter_passes test (x ∷ xs) =
       | inr fails ↦ rw fails (filter_passes test xs)
     ]
 
-both : {X : Type 0} (P Q R : X → Type 0) (xs : List X) → ((x : X) → P x → Q x → R x) → AllByRecursion P xs → AllByRecursion Q xs → AllByRecursion R xs
+both : {X : Type 0} (P Q R : X → Type 0) (xs : List X) → ((x : X) → P x → Q x → R x) → AllByRecursion P xs → AllByRecursion Q xs
+    → AllByRecursion R xs
 both P Q R [] f p q = tt
 both P Q R (x ∷ xs) f p q = (f x p.0 q.0, both P Q R xs f p.1 q.1)
 
 -- each route of a row is found at its peer
-from_there : (from to : ℕ) (routes : List SentRoute) → IsRow from to routes → AllByRecursion (λ (route : SentRoute). from ≤ route.peer) routes
+from_there : (from to : ℕ) (routes : List SentRoute) → IsRow from to routes
+    → AllByRecursion (λ (route : SentRoute). from ≤ route.peer) routes
 from_there from to [] row = tt
 from_there from to (route ∷ later) row = (
   row.0,
-  both (λ (r : SentRoute). route.peer + 1 ≤ r.peer) (λ (r : SentRoute). route.peer + 1 ≤ r.peer) (λ (r : SentRoute). from ≤ r.peer) later (λ r p q. omega (arith, p, row.0))
+  both (λ (r : SentRoute). route.peer + 1 ≤ r.peer) (λ (r : SentRoute). route.peer + 1 ≤ r.peer) (λ (r : SentRoute). from ≤ r.peer) later
+      (λ r p q. omega (arith, p, row.0))
       (from_there (route.peer + 1) to later row.2) (from_there (route.peer + 1) to later row.2),
 )
 
-each_found : (from to : ℕ) (routes : List SentRoute) → IsRow from to routes → AllByRecursion (λ (route : SentRoute). route_at routes route.peer ≡ Some (left_of route)) routes
+each_found : (from to : ℕ) (routes : List SentRoute) → IsRow from to routes
+    → AllByRecursion (λ (route : SentRoute). route_at routes route.peer ≡ Some (left_of route)) routes
 each_found from to [] row = tt
 each_found from to (route ∷ later) row =
-    let passed : (r : SentRoute) → route.peer + 1 ≤ r.peer → route_at later r.peer ≡ Some (left_of r) → route_at (route ∷ later) r.peer ≡ Some (left_of r) =
-    λ r more found. elim (eqb_tells route.peer r.peer) [ inl same ↦ absurd (omega (arith, same.1, more)) | inr apart ↦ rw apart.0 found ] in (
+    let passed : (r : SentRoute) → route.peer + 1 ≤ r.peer → route_at later r.peer ≡ Some (left_of r)
+    → route_at (route ∷ later) r.peer ≡ Some (left_of r) =
+    λ r more found. elim (eqb_tells route.peer r.peer) [ inl same ↦ absurd (omega (arith, same.1, more)) | inr apart ↦ rw apart.0 found ]
+    in (
       rw (eq-eqb route.peer route.peer refl) refl,
-      both (λ (r : SentRoute). route.peer + 1 ≤ r.peer) (λ (r : SentRoute). route_at later r.peer ≡ Some (left_of r)) (λ (r : SentRoute). route_at (route ∷ later) r.peer ≡ Some (left_of r)) later passed
+      both (λ (r : SentRoute). route.peer + 1 ≤ r.peer) (λ (r : SentRoute). route_at later r.peer ≡ Some (left_of r))
+          (λ (r : SentRoute). route_at (route ∷ later) r.peer ≡ Some (left_of r)) later passed
           (from_there (route.peer + 1) to later row.2) (each_found (route.peer + 1) to later row.2),
     )
 
@@ -67,19 +75,24 @@ module _ (plan : Plan) (client : ℕ) (routes : List SentRoute) (row : IsRow 0 (
   all_others =
       let eligible = eligible_among plan routes in
       let permitted : SentRoute → Bool = is_sent_to plan client in
-      both (λ (route : SentRoute). permitted route ≡ true) (λ (route : SentRoute). route_at routes route.peer ≡ Some (left_of route)) IsOthers (candidates_among plan client routes)
+      both (λ (route : SentRoute). permitted route ≡ true) (λ (route : SentRoute). route_at routes route.peer ≡ Some (left_of route))
+      IsOthers (candidates_among plan client routes)
       (λ route is_one found. (not_own client route.peer _ is_one, found))
       (filter_passes permitted eligible)
       (filter_keeps (λ (route : SentRoute). route_at routes route.peer ≡ Some (left_of route)) permitted eligible
-      (filter_keeps (λ (route : SentRoute). route_at routes route.peer ≡ Some (left_of route)) (λ (route : SentRoute). is_eligible plan route.peer route.attributes) routes (each_found 0 (length plan.peers) routes row)))
+      (filter_keeps (λ (route : SentRoute). route_at routes route.peer ≡ Some (left_of route))
+      (λ (route : SentRoute). is_eligible plan route.peer route.attributes) routes (each_found 0 (length plan.peers) routes row)))
 
   pub unless_own-best : route_unless_own routes client (best_peer_for plan client routes) ≡ chosen_for plan client routes
   unless_own-best = by_best (chosen_for plan client routes) refl
     where
-      by_best : (o : Option SentRoute) → chosen_for plan client routes ≡ o → route_unless_own routes client (peer_or_own (option_map (λ (route : SentRoute). route.peer) o) client) ≡ o
+      by_best : (o : Option SentRoute) → chosen_for plan client routes ≡ o
+          → route_unless_own routes client (peer_or_own (option_map (λ (route : SentRoute). route.peer) o) client) ≡ o
       by_best None e = rw (eq-eqb client client refl) refl
       by_best (Some route) e =
-          let other : IsOthers route = choice-All IsOthers (standing_of plan) (candidates_among plan client routes) route (all_places IsOthers (candidates_among plan client routes) all_others) e in
+          let other : IsOthers route =
+          choice-All IsOthers (standing_of plan) (candidates_among plan client routes) route
+          (all_places IsOthers (candidates_among plan client routes) all_others) e in
           rw other.0 (ap (option_map (sent_by route.peer)) other.1)
 
 pub best-past : (plan : Plan) (client : ℕ) (routes : List SentRoute) → length plan.peers ≤ client → chosen_for plan client routes ≡ None
@@ -88,11 +101,13 @@ best-past plan client routes past =
     λ route. rw (slice_get_past plan.peers client past) (and_right (not (client == route.peer)) false refl) in
     rw (filter_none (is_sent_to plan client) refused (eligible_among plan routes)) (choice-nil plan)
 
-pub stored : (plan : Plan) (cell : CellContent) (client : ℕ) → IsCell plan cell → stored_best cell client ≡ chosen_for plan client (routes_in cell)
+pub stored : (plan : Plan) (cell : CellContent) (client : ℕ) → IsCell plan cell
+    → stored_best cell client ≡ chosen_for plan client (routes_in cell)
 stored plan cell client is =
     elim (cases_lt client (length plan.peers)) [
       | inl known ↦
-          ap (option_and_then (route_unless_own (routes_in cell) client)) (slice_get-get_or cell.bests client 0 (omega (arith, known, is.count)))
+          ap (option_and_then (route_unless_own (routes_in cell) client))
+          (slice_get-get_or cell.bests client 0 (omega (arith, known, is.count)))
           ∙ ap (route_unless_own (routes_in cell) client) (is.best client known)
           ∙ unless_own-best plan client (routes_in cell) is.held.row
       | inr past ↦

@@ -1,6 +1,7 @@
 -- Attributes by their types: look-ups, and lists that have one of each type at most.
 -- For `is_at_fault` of concerns.rt, and the lemmas of messages and of what is found and written by type.
-use Rattle.std.proofs.Common.{◌≡◌, ℕ, zero, suc, ◌+◌, ◌<◌, ◌≤◌, ◌==◌, ◌⊎◌, true, false, List, [], ◌∷◌, Option, Some, None, refl, sym, ◌∙◌, arith, inl, inr}
+use Rattle.std.proofs.Common.{◌≡◌, ℕ, zero, suc, ◌+◌, ◌<◌, ◌≤◌, ◌==◌, ◌⊎◌, true, false, List, [], ◌∷◌, Option, Some, None, refl, sym, ◌∙◌}
+use Rattle.std.proofs.Common.{arith, inl, inr}
 use Rattle.std.specs.Prelude.{find, is_some}
 use Rattle.std.specs.List.{filter_map, range_with_len, list_any, AllByRecursion}
 use Rattle.std.proofs.lemmas.Bool.Decides.{nat_tests}
@@ -25,10 +26,12 @@ none_there (Some x) e = absurd cc
 -- what holds of each number from one on holds of a range
 pub All-range : (P : ℕ → Type 0) (a n b : ℕ) → a + n ≡ b → ((k : ℕ) → a ≤ k → k < b → P k) → AllByRecursion P (range_with_len a n)
 All-range P a zero b end each = tt
-All-range P a (suc n) b end each = (each a (omega arith) (omega arith), All-range P (a + 1) n b (omega arith) (λ k le lt. each k (omega arith) lt))
+All-range P a (suc n) b end each =
+    (each a (omega arith) (omega arith), All-range P (a + 1) n b (omega arith) (λ k le lt. each k (omega arith) lt))
 
 -- lists made the same way of each element
-pub filter_map-same : {X Y : Type 0} (f g : X → Option Y) (xs : List X) → AllByRecursion (λ x. f x ≡ g x) xs → filter_map f xs ≡ filter_map g xs
+pub filter_map-same : {X Y : Type 0} (f g : X → Option Y) (xs : List X) → AllByRecursion (λ x. f x ≡ g x) xs
+    → filter_map f xs ≡ filter_map g xs
 filter_map-same f g [] each = refl
 filter_map-same f g (x ∷ xs) each = grind (arith, filter_map-same f g xs each.1, each.0)
 

@@ -1,5 +1,5 @@
--- Attributes out of what is found in a section without fault: for gather.rt, `spell` of spelling.rt, `lacks_mandatory` of update.rt, attributes.rt,
--- and the lemmas of the written form and of messages.
+-- Attributes out of what is found in a section without fault: for gather.rt, `spell` of spelling.rt, `lacks_mandatory` of update.rt,
+-- attributes.rt, and the lemmas of the written form and of messages.
 use Rattle.std.proofs.Common.{◌≡◌, ℕ, ◌<◌, ◌&&◌, Bool, false, List, [], ◌∷◌, length, Option, Some, None}
 use Rattle.std.proofs.Common.{refl, sym, ap, ◌∙◌, arith, inl, inr}
 use Rattle.std.specs.Prelude.{option_and_then, is_some}
@@ -21,16 +21,19 @@ use Rattle.rs_update.proofs.attributes.KindLemmas.{cases_Option, none_there}
 use Rattle.rs_update.proofs.section.SoundLemmas.{AreSound, look_sound, received_short}
 
 -- what is there is found
-pub there : (kind : ℕ) (items : List Item) (field : Option ItemThere) (item : ItemThere) → option_map item_of field ≡ look kind items → field ≡ Some item → look kind items ≡ Some (item_of item)
+pub there : (kind : ℕ) (items : List Item) (field : Option ItemThere) (item : ItemThere) → option_map item_of field ≡ look kind items
+    → field ≡ Some item → look kind items ≡ Some (item_of item)
 there kind items field item e is = sym e ∙ ap (option_map item_of) is
 
-pub not_there : (kind : ℕ) (items : List Item) (field : Option ItemThere) → option_map item_of field ≡ look kind items → ((item : ItemThere) → field ≡ Some item → ⊥) → look kind items ≡ None
+pub not_there : (kind : ℕ) (items : List Item) (field : Option ItemThere) → option_map item_of field ≡ look kind items
+    → ((item : ItemThere) → field ≡ Some item → ⊥) → look kind items ≡ None
 not_there kind items field e none = grind (arith, none)
 
 pub found_short : (items : List Item) (kind : ℕ) (item : Item) → AreSound items → look kind items ≡ Some item → length item.value < 65536
 found_short items kind item sound e = received_short item (look_sound items kind item sound e).received
 
-pub All-filter_map : {X Y : Type 0} (P : Y → Type 0) (f : X → Option Y) (xs : List X) → AllByRecursion (λ x. (y : Y) → f x ≡ Some y → P y) xs → AllByRecursion P (filter_map f xs)
+pub All-filter_map : {X Y : Type 0} (P : Y → Type 0) (f : X → Option Y) (xs : List X)
+    → AllByRecursion (λ x. (y : Y) → f x ≡ Some y → P y) xs → AllByRecursion P (filter_map f xs)
 All-filter_map P f [] each = tt
 All-filter_map P f (x ∷ xs) each =
     let later = All-filter_map P f xs each.1 in
@@ -46,30 +49,47 @@ abbrev of_three : List Item → Option Item → Option Item → Option Item → 
 of_three items origin path next_hop =
     option_and_then (λ o. option_and_then (λ p. option_map (attributes_from items o p) next_hop) path) origin
 
-pub attributes_of-found : (items : List Item) (origin path next_hop : Item) → look 1 items ≡ Some origin → look 2 items ≡ Some path → look 3 items ≡ Some next_hop → attributes_of items ≡ Some (attributes_from items origin path next_hop)
+pub attributes_of-found : (items : List Item) (origin path next_hop : Item) → look 1 items ≡ Some origin → look 2 items ≡ Some path
+    → look 3 items ≡ Some next_hop → attributes_of items ≡ Some (attributes_from items origin path next_hop)
 unfolding attributes_of
 attributes_of-found items origin path next_hop o p n =
     rw o (rw p (rw n refl))
 
-all_three : (items : List Item) (origin path next_hop : Option Item) → (is_some origin && is_some path && is_some next_hop) ≡ is_some (of_three items origin path next_hop)
+all_three : (items : List Item) (origin path next_hop : Option Item)
+    → (is_some origin && is_some path && is_some next_hop) ≡ is_some (of_three items origin path next_hop)
 all_three items origin path next_hop = grind arith
 
 -- a section has the mandatory attributes exactly where it gives a route attributes
-pub mandatory_given : {origin path next_hop : Bool} (items : List Item) → origin ≡ is_some (look 1 items) → path ≡ is_some (look 2 items) → next_hop ≡ is_some (look 3 items)
+pub mandatory_given : {origin path next_hop : Bool} (items : List Item) → origin ≡ is_some (look 1 items) → path ≡ is_some (look 2 items)
+    → next_hop ≡ is_some (look 3 items)
     → (origin && path && next_hop) ≡ is_some (attributes_of items)
 unfolding attributes_of
 mandatory_given items o p n = rw (o, p, n) (all_three items (look 1 items) (look 2 items) (look 3 items))
 
-pub mandatory-found : (found : Found) (section : List ℕ) → Finds found section → has_mandatory found ≡ is_some (attributes_of (items_of section))
-mandatory-found found section is = mandatory_given (items_of section) (is.at_each 1 (omega arith)) (is.at_each 2 (omega arith)) (is.at_each 3 (omega arith))
+pub mandatory-found : (found : Found) (section : List ℕ) → Finds found section
+    → has_mandatory found ≡ is_some (attributes_of (items_of section))
+mandatory-found found section is =
+    mandatory_given (items_of section) (is.at_each 1 (omega arith)) (is.at_each 2 (omega arith)) (is.at_each 3 (omega arith))
 
 -- where one of them misses, there are none
-pub one_missing : (items : List Item) → (is_some (look 1 items) && is_some (look 2 items) && is_some (look 3 items)) ≡ false → attributes_of items ≡ None
+pub one_missing : (items : List Item) → (is_some (look 1 items) && is_some (look 2 items) && is_some (look 3 items)) ≡ false
+    → attributes_of items ≡ None
 one_missing items e = none_there (attributes_of items) (sym (mandatory_given items refl refl refl) ∙ e)
 
-pub same_attributes : {a a' : Origin} {b b' : List PathSegment} {c c' : ℕ} {d d' : Option ℕ} {e e' : Bool} {f f' : Option Aggregator} {g g' : Option CommunityList} {h h' : List PassedOn}
+pub same_attributes : {a a' : Origin} {b b' : List PathSegment} {c c' : ℕ} {d d' : Option ℕ} {e e' : Bool} {f f' : Option Aggregator}
+    {g g' : Option CommunityList} {h h' : List PassedOn}
     → a ≡ a' → b ≡ b' → c ≡ c' → d ≡ d' → e ≡ e' → f ≡ f' → g ≡ g' → h ≡ h'
-    → ◌≡◌ {A = PathAttributes} (record { origin = a; path = b; next_hop = c; med = d; atomic = e; aggregator = f; communities = g; others = h }) (record { origin = a'; path = b'; next_hop = c'; med = d'; atomic = e'; aggregator = f'; communities = g'; others = h' })
+    → ◌≡◌ {A = PathAttributes} (record {
+      origin = a;
+      path = b;
+      next_hop = c;
+      med = d;
+      atomic = e;
+      aggregator = f;
+      communities = g;
+      others =
+          h;
+    }) (record { origin = a'; path = b'; next_hop = c'; med = d'; atomic = e'; aggregator = f'; communities = g'; others = h' })
 same_attributes p q r s t u v w = cc
 
 -- attributes as they are made
@@ -82,20 +102,25 @@ pub record AreMade (items : List Item) (found1 found2 found3 : Option Item) (att
   pub has_next_hop : found3 ≡ Some next_hop
   pub are : attributes_from items origin path next_hop ≡ attributes
 
-made_of_three : (items : List Item) (found1 found2 found3 : Option Item) (attributes : PathAttributes) → of_three items found1 found2 found3 ≡ Some attributes → AreMade items found1 found2 found3 attributes
+made_of_three : (items : List Item) (found1 found2 found3 : Option Item) (attributes : PathAttributes)
+    → of_three items found1 found2 found3 ≡ Some attributes → AreMade items found1 found2 found3 attributes
 made_of_three items None path next_hop attributes e = absurd cc
 made_of_three items (Some o) None next_hop attributes e = absurd cc
 made_of_three items (Some o) (Some p) None attributes e = absurd cc
-made_of_three items (Some o) (Some p) (Some n) attributes e = record { origin = o; path = p; next_hop = n; has_origin = refl; has_path = refl; has_next_hop = refl; are = same_Some _ _ e }
+made_of_three items (Some o) (Some p) (Some n) attributes e =
+    record { origin = o; path = p; next_hop = n; has_origin = refl; has_path = refl; has_next_hop = refl; are = same_Some _ _ e }
 
-pub made_of : (items : List Item) (attributes : PathAttributes) → attributes_of items ≡ Some attributes → AreMade items (look 1 items) (look 2 items) (look 3 items) attributes
+pub made_of : (items : List Item) (attributes : PathAttributes) → attributes_of items ≡ Some attributes
+    → AreMade items (look 1 items) (look 2 items) (look 3 items) attributes
 unfolding attributes_of
 made_of items attributes e = made_of_three items (look 1 items) (look 2 items) (look 3 items) attributes e
 
 -- the written form of the attributes that a section without fault gives is that of the section
-pub written-made : (items : List Item) (attributes : PathAttributes) → AreSound items → attributes_of items ≡ Some attributes → written attributes ≡ spelled_section items
+pub written-made : (items : List Item) (attributes : PathAttributes) → AreSound items → attributes_of items ≡ Some attributes
+    → written attributes ≡ spelled_section items
 unfolding written
 written-made items attributes sound e =
     let made = made_of items attributes e in
     ap (λ (a : PathAttributes). flat_map spelled_item (written_items a)) (sym made.are)
-    ∙ ap (flat_map spelled_item) (written_items-kept items sound made.origin made.path made.next_hop made.has_origin made.has_path made.has_next_hop)
+    ∙ ap (flat_map spelled_item) (written_items-kept items sound made.origin made.path made.next_hop made.has_origin made.has_path
+    made.has_next_hop)

@@ -5,8 +5,10 @@ use Rattle.std.specs.Prelude.{◌↔◌}
 use Rattle.rs_update.specs.Parts.{AreOctets, IsWholeFront, parts_of}
 use Rattle.rs_update.proofs.fields.PartsLemmas.{Shrinks, Reads, parts_of-whole, whole-parts_of}
 
-pub splits_as_read : {A : Type 0} (read : List ℕ → Option (A × List ℕ)) (Spells : List ℕ → A → Type 0) → Shrinks read → Reads read Spells → (octets : List ℕ) → AreOctets octets
-    → (parts : List A) (rest : List ℕ) → (IsWholeFront Spells octets parts rest ↔ ((parts ≡ (parts_of read octets).0) × (rest ≡ (parts_of read octets).1)))
+pub splits_as_read : {A : Type 0} (read : List ℕ → Option (A × List ℕ)) (Spells : List ℕ → A → Type 0) → Shrinks read → Reads read Spells
+    → (octets : List ℕ) → AreOctets octets
+    → (parts : List A) (rest : List ℕ) → (IsWholeFront Spells octets parts rest
+    ↔ ((parts ≡ (parts_of read octets).0) × (rest ≡ (parts_of read octets).1)))
 splits_as_read {A} read Spells shrinks reads octets are parts rest = (
   λ whole.
       let found = whole-parts_of read Spells shrinks reads octets parts rest are whole in

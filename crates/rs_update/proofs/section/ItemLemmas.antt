@@ -1,6 +1,7 @@
 -- What an attribute is spelled as is read as that attribute, and what is read is spelled so.
 -- For item.rt, each loop over a section, `a_section_is_one_list_of_attributes` of laws.rt, and the lemmas of sections.
-use Rattle.std.proofs.Common.{◌≡◌, ℕ, suc, ◌+◌, ◌*◌, ◌/◌, ◌%◌, ◌<◌, ◌≤◌, true, false, ltb, List, [], ◌∷◌, ◌++◌, length, take, drop, Some, None, refl, sym, ap, arith, inl, inr}
+use Rattle.std.proofs.Common.{◌≡◌, ℕ, suc, ◌+◌, ◌*◌, ◌/◌, ◌%◌, ◌<◌, ◌≤◌, true, false, ltb, List, [], ◌∷◌, ◌++◌, length, take, drop, Some}
+use Rattle.std.proofs.Common.{None, refl, sym, ap, arith, inl, inr}
 use Rattle.std.proofs.lemmas.Bool.{cases_Bool, ltb-false, le-ltb}
 use Rattle.std.proofs.lemmas.List.{take_at, drop_at, take-append-drop, length-append, length-drop, length-take-le}
 use Rattle.std.proofs.lemmas.Option.{same_Some}
@@ -13,7 +14,8 @@ use Rattle.rs_update.proofs.fields.PartsLemmas.{Shrinks, Reads, unless_some, par
 -- ---- read from its spelling
 
 -- a value of the length that is asked for
-item_with-spelled : (flags kind count : ℕ) (value rest : List ℕ) → count ≡ length value → item_with flags kind count (value ++ rest) ≡ Some (record { flags = flags; kind = kind; value = value }, rest)
+item_with-spelled : (flags kind count : ℕ) (value rest : List ℕ) → count ≡ length value
+    → item_with flags kind count (value ++ rest) ≡ Some (record { flags = flags; kind = kind; value = value }, rest)
 item_with-spelled flags kind count value rest same =
     let long : ltb (length (value ++ rest)) count ≡ false = le-ltb _ _ (omega (arith, length-append value rest)) in
     rw (long, take_at value rest count (sym same), drop_at value rest count (sym same)) refl
@@ -39,20 +41,24 @@ item_at-spelled item rest fits =
 pub item_with-is : (flags kind count : ℕ) (octets : List ℕ) (split : Item × List ℕ) → item_with flags kind count octets ≡ Some split
     → (count ≤ length octets) × (split ≡ (record { flags = flags; kind = kind; value = take count octets }, drop count octets))
 item_with-is flags kind count octets split e =
-    let guarded = unless_some (ltb (length octets) count) (Some (record { flags = flags; kind = kind; value = take count octets }, drop count octets)) split e in
+    let guarded = unless_some (ltb (length octets) count)
+    (Some (record { flags = flags; kind = kind; value = take count octets }, drop count octets)) split e in
     (ltb-false _ _ guarded.0, sym (same_Some _ _ guarded.1))
 
-item_with-takes : (flags kind count : ℕ) (octets : List ℕ) (split : Item × List ℕ) → item_with flags kind count octets ≡ Some split → length split.1 ≤ length octets
+item_with-takes : (flags kind count : ℕ) (octets : List ℕ) (split : Item × List ℕ) → item_with flags kind count octets ≡ Some split
+    → length split.1 ≤ length octets
 item_with-takes flags kind count octets split e =
     let is = item_with-is flags kind count octets split e in
     rw is.1 (omega (arith, length-drop count octets))
 
-long_item_at-takes : (flags kind : ℕ) (octets : List ℕ) (split : Item × List ℕ) → long_item_at flags kind octets ≡ Some split → length split.1 ≤ length octets
+long_item_at-takes : (flags kind : ℕ) (octets : List ℕ) (split : Item × List ℕ) → long_item_at flags kind octets ≡ Some split
+    → length split.1 ≤ length octets
 long_item_at-takes flags kind [] split e = absurd cc
 long_item_at-takes flags kind (high ∷ []) split e = absurd cc
 long_item_at-takes flags kind (high ∷ low ∷ octets) split e = omega (arith, item_with-takes flags kind (high * 256 + low) octets split e)
 
-short_item_at-takes : (flags kind : ℕ) (octets : List ℕ) (split : Item × List ℕ) → short_item_at flags kind octets ≡ Some split → length split.1 ≤ length octets
+short_item_at-takes : (flags kind : ℕ) (octets : List ℕ) (split : Item × List ℕ) → short_item_at flags kind octets ≡ Some split
+    → length split.1 ≤ length octets
 short_item_at-takes flags kind [] split e = absurd cc
 short_item_at-takes flags kind (count ∷ octets) split e = omega (arith, item_with-takes flags kind count octets split e)
 
@@ -71,7 +77,8 @@ pub item_shrinks : Shrinks item_at
 item_shrinks = record { shrinks = λ octets item rest e. item_at-takes octets (item, rest) e }
 
 -- behind a length of two octets
-long_item_at-found : (flags kind : ℕ) (octets : List ℕ) (split : Item × List ℕ) → is_extended flags ≡ true → AreOctets octets → long_item_at flags kind octets ≡ Some split
+long_item_at-found : (flags kind : ℕ) (octets : List ℕ) (split : Item × List ℕ) → is_extended flags ≡ true → AreOctets octets
+    → long_item_at flags kind octets ≡ Some split
     → (flags ∷ kind ∷ octets ≡ spelled_item split.0 ++ split.1) × FitsItsLength split.0
 long_item_at-found flags kind [] split long are e = absurd cc
 long_item_at-found flags kind (high ∷ []) split long are e = absurd cc
@@ -85,7 +92,8 @@ long_item_at-found flags kind (high ∷ low ∷ octets) split long are e =
     rw is.1 (rw (long, counted, first, second, take-append-drop (high * 256 + low) octets) refl, rw (long, counted) (omega arith))
 
 -- behind a length of one octet
-short_item_at-found : (flags kind : ℕ) (octets : List ℕ) (split : Item × List ℕ) → is_extended flags ≡ false → AreOctets octets → short_item_at flags kind octets ≡ Some split
+short_item_at-found : (flags kind : ℕ) (octets : List ℕ) (split : Item × List ℕ) → is_extended flags ≡ false → AreOctets octets
+    → short_item_at flags kind octets ≡ Some split
     → (flags ∷ kind ∷ octets ≡ spelled_item split.0 ++ split.1) × FitsItsLength split.0
 short_item_at-found flags kind [] split short are e = absurd cc
 short_item_at-found flags kind (count ∷ octets) split short are e =
@@ -95,7 +103,8 @@ short_item_at-found flags kind (count ∷ octets) split short are e =
     rw is.1 (rw (short, counted, take-append-drop count octets) refl, rw (short, counted) (omega arith))
 
 -- an attribute that is read from octets is spelled by a front of them
-pub item_at-found : (octets : List ℕ) (split : Item × List ℕ) → AreOctets octets → item_at octets ≡ Some split → (octets ≡ spelled_item split.0 ++ split.1) × FitsItsLength split.0
+pub item_at-found : (octets : List ℕ) (split : Item × List ℕ) → AreOctets octets → item_at octets ≡ Some split
+    → (octets ≡ spelled_item split.0 ++ split.1) × FitsItsLength split.0
 unfolding item_at
 item_at-found [] split are e = absurd cc
 item_at-found (flags ∷ []) split are e = absurd cc

@@ -3,19 +3,22 @@ use Rattle.std.proofs.Common.{◌≡◌, List, ℕ, [], ◌∷◌, ◌++◌, map
 use Rattle.rs_update.specs.declared.attribute_type.AttributeType.TheVariants.{Origin, MultiExitDisc, As4Path, Communities, Unrecognized}
 use Rattle.rs_update.specs.declared.attribute_type.WantedFlags.TheVariants.{WellKnown}
 use Rattle.rs_update.specs.declared.fault.UpdateFault.{UpdateFault}
-use Rattle.rs_update.specs.declared.fault.UpdateFault.TheVariants.{MalformedAttributeList, UnrecognizedWellKnown, AttributeFlags, AttributeLength, InvalidOrigin, InvalidNextHop, MalformedAsPath}
+use Rattle.rs_update.specs.declared.fault.UpdateFault.TheVariants.{MalformedAttributeList, UnrecognizedWellKnown, AttributeFlags}
+use Rattle.rs_update.specs.declared.fault.UpdateFault.TheVariants.{AttributeLength, InvalidOrigin, InvalidNextHop, MalformedAsPath}
 use Rattle.rs_update.specs.AttributeType.{type_of, flags_of, suits}
 use Rattle.rs_update.specs.Numbers.{numbers_at}
 use Rattle.rs_update.specs.Parts.{parts_within}
 use Rattle.rs_update.specs.PathSegments.{segment_at}
-use Rattle.rs_update.specs.Section.{Item, SpellsItem, item_at, items_of, rest_of, suits_length, is_origin, is_next_hop, fault_behind, first_item_fault, section_fault, AreFaultless, IsFirstAtFault}
+use Rattle.rs_update.specs.Section.{Item, SpellsItem, item_at, items_of, rest_of, suits_length, is_origin, is_next_hop, fault_behind}
+use Rattle.rs_update.specs.Section.{first_item_fault, section_fault, AreFaultless, IsFirstAtFault}
 use Rattle.rs_update.proofs.section.FirstFaultLemmas.{nothing_before}
 
 -- ---- the first fault of a section
 
 -- ORIGIN, AS_PATH and NEXT_HOP
 abbrev pub mandatory : List ℕ
-mandatory = 0x40 ∷ 0x01 ∷ 0x01 ∷ 0x00 ∷ 0x40 ∷ 0x02 ∷ 0x06 ∷ 0x02 ∷ 0x01 ∷ 0x00 ∷ 0x00 ∷ 0xFB ∷ 0xF5 ∷ 0x40 ∷ 0x03 ∷ 0x04 ∷ 0xC0 ∷ 0x00 ∷ 0x02 ∷ 0x0B ∷ []
+mandatory = 0x40 ∷ 0x01 ∷ 0x01 ∷ 0x00 ∷ 0x40 ∷ 0x02 ∷ 0x06 ∷ 0x02 ∷ 0x01 ∷ 0x00 ∷ 0x00 ∷ 0xFB ∷ 0xF5 ∷ 0x40 ∷ 0x03 ∷ 0x04 ∷ 0xC0 ∷ 0x00
+    ∷ 0x02 ∷ 0x0B ∷ []
 
 abbrev sections : List (List ℕ × Option UpdateFault)
 sections =
@@ -32,8 +35,15 @@ sections =
     ∷ (mandatory ++ 0xE0 ∷ 0x20 ∷ 0x01 ∷ 0x00 ∷ [], None)  -- one that is
     ∷ (mandatory ++ 0x40 ∷ 0x06 ∷ 0x01 ∷ 0x01 ∷ [], Some AttributeLength)  -- ATOMIC_AGGREGATE with a value
     ∷ (0x40 ∷ 0x01 ∷ 0x01 ∷ 0x00 ∷ 0x40 ∷ 0x02 ∷ 0x00 ∷ 0x40 ∷ 0x03 ∷ 0x04 ∷ 0xC0 ∷ 0x00 ∷ 0x02 ∷ 0x0B ∷ [], None)  -- an empty AS_PATH
-    ∷ (0x40 ∷ 0x01 ∷ 0x01 ∷ 0x00 ∷ 0x40 ∷ 0x02 ∷ 0x06 ∷ 0x02 ∷ 0x02 ∷ 0x00 ∷ 0x00 ∷ 0xFB ∷ 0xF5 ∷ 0x40 ∷ 0x03 ∷ 0x04 ∷ 0xC0 ∷ 0x00 ∷ 0x02 ∷ 0x0B ∷ [], Some MalformedAsPath)  -- a segment past its value
-    ∷ (0x40 ∷ 0x01 ∷ 0x01 ∷ 0x00 ∷ 0x40 ∷ 0x02 ∷ 0x02 ∷ 0x02 ∷ 0x00 ∷ 0x00 ∷ 0x40 ∷ 0x03 ∷ 0x04 ∷ 0xC0 ∷ 0x00 ∷ 0x02 ∷ 0x0B ∷ [], Some MalformedAsPath)  -- a segment of count 0
+    ∷ (
+      0x40 ∷ 0x01 ∷ 0x01 ∷ 0x00 ∷ 0x40 ∷ 0x02 ∷ 0x06 ∷ 0x02 ∷ 0x02 ∷ 0x00 ∷ 0x00 ∷ 0xFB ∷ 0xF5 ∷ 0x40 ∷ 0x03 ∷ 0x04 ∷ 0xC0 ∷ 0x00 ∷ 0x02
+          ∷ 0x0B ∷ [],
+      Some MalformedAsPath,
+    )  -- a segment past its value
+    ∷ (
+      0x40 ∷ 0x01 ∷ 0x01 ∷ 0x00 ∷ 0x40 ∷ 0x02 ∷ 0x02 ∷ 0x02 ∷ 0x00 ∷ 0x00 ∷ 0x40 ∷ 0x03 ∷ 0x04 ∷ 0xC0 ∷ 0x00 ∷ 0x02 ∷ 0x0B ∷ [],
+      Some MalformedAsPath,
+    )  -- a segment of count 0
     ∷ (0x40 ∷ 0x02 ∷ 0x06 ∷ 0x03 ∷ 0x01 ∷ 0x00 ∷ 0x00 ∷ 0xFB ∷ 0xF5 ∷ [], Some MalformedAsPath)  -- a segment of a confederation
     ∷ (0x40 ∷ 0x63 ∷ 0x01 ∷ 0x00 ∷ 0x40 ∷ 0x01 ∷ 0x01 ∷ 0x03 ∷ [], Some UnrecognizedWellKnown)
     ∷ (0x40 ∷ 0x01 ∷ 0x01 ∷ 0x03 ∷ [], Some InvalidOrigin)

@@ -1,5 +1,6 @@
 -- The first fault of a section, attribute by attribute, with the types seen so far: for `find_fault` of section.rt, and treating.rt.
-use Rattle.std.proofs.Common.{◌≡◌, ℕ, ◌<◌, Bool, true, false, eqb, ◌||◌, List, [], ◌∷◌, ◌++◌, length, get_or, set, Option, Some, None, refl, sym, ap, ◌∙◌, arith, inl, inr, get_or-set_same, get_or-set_other, replicate, append_assoc}
+use Rattle.std.proofs.Common.{◌≡◌, ℕ, ◌<◌, Bool, true, false, eqb, ◌||◌, List, [], ◌∷◌, ◌++◌, length, get_or, set, Option, Some, None, refl}
+use Rattle.std.proofs.Common.{sym, ap, ◌∙◌, arith, inl, inr, get_or-set_same, get_or-set_other, replicate, append_assoc}
 use Rattle.std.specs.Prelude.{if◌then◌else◌}
 use mathlib.Core.Bool.{or-true, or-false}
 use Rattle.std.specs.List.{list_any}
@@ -11,7 +12,8 @@ use Rattle.rs_update.specs.declared.fault.UpdateFault.TheVariants.{MalformedAttr
 use Rattle.rs_update.specs.Concerns.{AreTypesOf}
 use Rattle.rs_update.specs.Fault.{or_else}
 use Rattle.rs_update.specs.Parts.{parts_of}
-use Rattle.rs_update.specs.Section.{Item, item_at, items_of, rest_of, own_fault_of, has_type, fault_behind, first_item_fault, fault_of_rest, section_fault}
+use Rattle.rs_update.specs.Section.{Item, item_at, items_of, rest_of, own_fault_of, has_type, fault_behind, first_item_fault, fault_of_rest}
+use Rattle.rs_update.specs.Section.{section_fault}
 use Rattle.rs_update.proofs.section.ItemLemmas.{item_shrinks, items_of-step, items_of-end}
 use Rattle.rs_update.proofs.fields.PartsLemmas.{parts_of-some, parts_of-none}
 
@@ -38,7 +40,8 @@ pub fault_after-step : (earlier : List Item) (octets : List ℕ) (split : Item �
 unfolding first_item_fault
 fault_after-step earlier octets split e =
     let parts = parts_of-some item_at item_shrinks octets split.0 split.1 e in
-    ap (fault_of_parts earlier) parts ∙ (or_else-assoc (fault_behind earlier split.0) (first_item_fault (earlier ++ split.0 ∷ []) (items_of split.1)) (fault_of_rest (rest_of split.1)))
+    ap (fault_of_parts earlier) parts ∙ (or_else-assoc (fault_behind earlier split.0)
+    (first_item_fault (earlier ++ split.0 ∷ []) (items_of split.1)) (fault_of_rest (rest_of split.1)))
 
 -- no attribute is left
 pub fault_after-end : (earlier : List Item) (octets : List ℕ) → item_at octets ≡ None → fault_after earlier octets ≡ fault_of_rest octets
@@ -55,18 +58,21 @@ pub none_seen : IsSeen (replicate 256 false) []
 none_seen = record { whole = length-replicate 256 false; at_each = λ kind below. get_or-replicate 256 kind false false below }
 
 -- one more type stood earlier
-pub one_seen : (seen : List Bool) (earlier : List Item) (item : Item) → item.kind < 256 → IsSeen seen earlier → IsSeen (set seen item.kind true) (earlier ++ item ∷ [])
+pub one_seen : (seen : List Bool) (earlier : List Item) (item : Item) → item.kind < 256 → IsSeen seen earlier
+    → IsSeen (set seen item.kind true) (earlier ++ item ∷ [])
 one_seen seen earlier item octet before = record {
   whole = length-set seen item.kind true ∙ before.whole;
   at_each = λ kind below.
       elim (cases_eq kind item.kind) [
         | inl same ↦
             let stands : eqb item.kind kind ≡ true = eq-eqb _ _ (sym same) in
-            let table : get_or (set seen item.kind true) kind false ≡ true = rw same (get_or-set_same seen item.kind true false (omega (arith, before.whole))) in
+            let table : get_or (set seen item.kind true) kind false ≡ true =
+            rw same (get_or-set_same seen item.kind true false (omega (arith, before.whole))) in
             table ∙ sym (rw (list_any-push, stands) (or-true (has_type kind earlier)))
         | inr other ↦
             let differs : eqb item.kind kind ≡ false = ne_eqb _ _ (λ same. other (sym same)) in
-            rw (get_or-set_other seen item.kind kind true false other, list_any-push, differs) (before.at_each kind below ∙ sym (or-false (has_type kind earlier)))
+            rw (get_or-set_other seen item.kind kind true false other, list_any-push, differs)
+            (before.at_each kind below ∙ sym (or-false (has_type kind earlier)))
       ];
 }
 
@@ -74,28 +80,34 @@ one_seen seen earlier item octet before = record {
 -- them nor what is left decides otherwise than the whole
 abbrev pub GoesOn : List Bool → List ℕ → List ℕ → Type 0
 GoesOn seen octets section =
-    (earlier : List Item) × IsSeen seen earlier × (earlier ++ items_of octets ≡ items_of section) × (fault_after earlier octets ≡ section_fault section)
+    (earlier : List Item) × IsSeen seen earlier × (earlier ++ items_of octets ≡ items_of section)
+    × (fault_after earlier octets ≡ section_fault section)
 
 -- the fault of an attribute, by a table of the types that stood earlier
 abbrev pub fault_seen : List Bool → Item → Option UpdateFault
 fault_seen seen item = if get_or seen item.kind false then Some MalformedAttributeList else own_fault_of item
 
-seen_is : (seen : List Bool) (earlier : List Item) (item : Item) → item.kind < 256 → IsSeen seen earlier → fault_seen seen item ≡ fault_behind earlier item
+seen_is : (seen : List Bool) (earlier : List Item) (item : Item) → item.kind < 256 → IsSeen seen earlier
+    → fault_seen seen item ≡ fault_behind earlier item
 seen_is seen earlier item octet before = rw (before.at_each item.kind octet) refl
 
 -- the next attribute is without fault
-pub goes_on : (seen : List Bool) (octets behind section : List ℕ) (item : Item) → item.kind < 256 → Some (item, behind) ≡ item_at octets → None ≡ fault_seen seen item
+pub goes_on : (seen : List Bool) (octets behind section : List ℕ) (item : Item) → item.kind < 256 → Some (item, behind) ≡ item_at octets
+    → None ≡ fault_seen seen item
     → GoesOn seen octets section → GoesOn (set seen item.kind true) behind section
 goes_on seen octets behind section item octet read faultless so_far =
     let earlier = so_far.0 in
     let step = fault_after-step earlier octets (item, behind) (sym read) in
     let here : fault_behind earlier item ≡ None = sym (faultless ∙ seen_is seen earlier item octet so_far.1) in
-    let on : fault_after earlier octets ≡ fault_after (earlier ++ item ∷ []) behind = step ∙ ap (λ (found : Option UpdateFault). or_else found (fault_after (earlier ++ item ∷ []) behind)) here in
-    let items = append_assoc earlier (item ∷ []) (items_of behind) ∙ ap (λ (later : List Item). earlier ++ later) (sym (items_of-step octets (item, behind) (sym read))) in
+    let on : fault_after earlier octets ≡ fault_after (earlier ++ item ∷ []) behind =
+    step ∙ ap (λ (found : Option UpdateFault). or_else found (fault_after (earlier ++ item ∷ []) behind)) here in
+    let items = append_assoc earlier (item ∷ []) (items_of behind)
+    ∙ ap (λ (later : List Item). earlier ++ later) (sym (items_of-step octets (item, behind) (sym read))) in
     (earlier ++ item ∷ [], one_seen seen earlier item octet so_far.1, items ∙ so_far.2, sym on ∙ so_far.3)
 
 -- the next attribute is at fault
-pub ends_at : (seen : List Bool) (octets behind section : List ℕ) (item : Item) (fault : UpdateFault) → item.kind < 256 → Some (item, behind) ≡ item_at octets → Some fault ≡ fault_seen seen item
+pub ends_at : (seen : List Bool) (octets behind section : List ℕ) (item : Item) (fault : UpdateFault) → item.kind < 256
+    → Some (item, behind) ≡ item_at octets → Some fault ≡ fault_seen seen item
     → GoesOn seen octets section → Some fault ≡ section_fault section
 ends_at seen octets behind section item fault octet read found so_far =
     let earlier = so_far.0 in
@@ -104,10 +116,12 @@ ends_at seen octets behind section item fault octet read found so_far =
     sym (step ∙ ap (λ (f : Option UpdateFault). or_else f (fault_after (earlier ++ item ∷ []) behind)) here) ∙ so_far.3
 
 -- no attribute is left
-pub ends_with : (seen : List Bool) (octets section : List ℕ) → None ≡ item_at octets → GoesOn seen octets section → fault_of_rest octets ≡ section_fault section
+pub ends_with : (seen : List Bool) (octets section : List ℕ) → None ≡ item_at octets → GoesOn seen octets section
+    → fault_of_rest octets ≡ section_fault section
 ends_with seen octets section none so_far = sym (fault_after-end so_far.0 octets (sym none)) ∙ so_far.3
 
-pub all_types : (seen : List Bool) (octets section : List ℕ) → None ≡ item_at octets → GoesOn seen octets section → AreTypesOf seen (items_of section)
+pub all_types : (seen : List Bool) (octets section : List ℕ) → None ≡ item_at octets → GoesOn seen octets section
+    → AreTypesOf seen (items_of section)
 all_types seen octets section none so_far kind below =
     let all = sym (append-nil so_far.0) ∙ ap (λ (later : List Item). so_far.0 ++ later) (sym (items_of-end octets (sym none))) ∙ so_far.2 in
     so_far.1.at_each kind below ∙ ap (has_type kind) all

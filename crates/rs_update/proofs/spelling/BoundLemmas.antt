@@ -1,5 +1,6 @@
 -- The written form of attributes is never longer than the section that they were received in: for WrittenLemmas and AgainLemmas.
-use Rattle.std.proofs.Common.{◌≡◌, ℕ, zero, suc, ◌+◌, ◌<◌, ◌≤◌, Bool, true, false, cond, List, [], ◌∷◌, ◌++◌, length, Option, Some, None, refl, sym, ap, subst, ◌∙◌, le_trans, arith, inl, inr}
+use Rattle.std.proofs.Common.{◌≡◌, ℕ, zero, suc, ◌+◌, ◌<◌, ◌≤◌, Bool, true, false, cond, List, [], ◌∷◌, ◌++◌, length, Option, Some, None}
+use Rattle.std.proofs.Common.{refl, sym, ap, subst, ◌∙◌, le_trans, arith, inl, inr}
 use Rattle.std.specs.List.{filter_map, range_with_len, flat_map, AllByRecursion}
 use Rattle.std.proofs.lemmas.Bool.{cases_Bool, cases_lt, lt-ltb, le-ltb}
 use Rattle.std.proofs.lemmas.Bool.Decides.{nat_tests}
@@ -7,7 +8,8 @@ use Rattle.std.proofs.lemmas.List.{length-append}
 use Rattle.std.proofs.lemmas.Option.{same_Some}
 use Rattle.rs_update.specs.declared.attribute_type.AttributeType.{AttributeType}
 use Rattle.rs_update.specs.declared.attribute_type.WantedFlags.{WantedFlags}
-use Rattle.rs_update.specs.declared.attribute_type.WantedFlags.TheVariants.{WellKnown, OptionalNonTransitive, OptionalTransitive, Optional, Any}
+use Rattle.rs_update.specs.declared.attribute_type.WantedFlags.TheVariants.{WellKnown, OptionalNonTransitive, OptionalTransitive, Optional}
+use Rattle.rs_update.specs.declared.attribute_type.WantedFlags.TheVariants.{Any}
 use Rattle.rs_update.specs.AttributeType.{type_of, row_of, is_extended, is_transitive, is_partial}
 use Rattle.rs_update.specs.Found.{IsPlain, kept_by, kept_as, kept_of, kept_in, spelled_kept, spelled_section}
 use Rattle.rs_update.specs.Gathered.{look, attributes_of}
@@ -47,7 +49,8 @@ plain_partial false = plain_C0
 kept_by-is : (wanted : WantedFlags) (item kept : Item) → kept_by wanted item ≡ Some kept → IsKept item kept
 kept_by-is WellKnown item kept e = record { flags = 0x40; plain = plain_40; is = sym (same_Some _ _ e) }
 kept_by-is OptionalNonTransitive item kept e = record { flags = 0x80; plain = plain_80; is = sym (same_Some _ _ e) }
-kept_by-is OptionalTransitive item kept e = record { flags = cond (is_partial item.flags) 0xE0 0xC0; plain = plain_partial (is_partial item.flags); is = sym (same_Some _ _ e) }
+kept_by-is OptionalTransitive item kept e =
+    record { flags = cond (is_partial item.flags) 0xE0 0xC0; plain = plain_partial (is_partial item.flags); is = sym (same_Some _ _ e) }
 kept_by-is Optional item kept e =
     elim (cases_Bool (is_transitive item.flags)) [
       | inl passed ↦ record { flags = 0xE0; plain = plain_E0; is = sym (same_Some _ _ (rw passed at e)) }
@@ -74,19 +77,24 @@ length_above item =
 
 -- Extended Length is written only where it was received
 pub written_length : (item : Item) (flags : ℕ) → IsReceived item → IsPlain flags
-    → length (spelled_length (record { flags = written_flags flags item.value; kind = item.kind; value = item.value })) ≤ length (spelled_length item)
+    → length (spelled_length (record { flags = written_flags flags item.value; kind = item.kind; value = item.value }))
+    ≤ length (spelled_length item)
 written_length item flags received plain =
     elim (cases_lt 255 (length item.value)) [
       | inl long ↦
           let is : written_flags flags item.value ≡ flags + 0x10 = rw (lt-ltb _ _ long) refl in
-          let size : length (spelled_length (record { flags = written_flags flags item.value; kind = item.kind; value = item.value })) ≡ 2 = long_length (record { flags = written_flags flags item.value; kind = item.kind; value = item.value }) (ap is_extended is ∙ plain.may_be_long) in
+          let size : length (spelled_length (record { flags = written_flags flags item.value; kind = item.kind; value = item.value })) ≡ 2 =
+          long_length (record { flags = written_flags flags item.value; kind = item.kind; value = item.value })
+          (ap is_extended is ∙ plain.may_be_long) in
           elim (cases_Bool (is_extended item.flags)) [
             | inl extended ↦ omega (arith, size, long_length item extended)
             | inr not_extended ↦ let fits = rw not_extended at received.length_fits in absurd (omega (arith, fits, long))
           ]
       | inr short ↦
           let is : written_flags flags item.value ≡ flags = rw (le-ltb _ _ short) refl in
-          let size : length (spelled_length (record { flags = written_flags flags item.value; kind = item.kind; value = item.value })) ≡ 1 = short_length (record { flags = written_flags flags item.value; kind = item.kind; value = item.value }) (ap is_extended is ∙ plain.is_short) in
+          let size : length (spelled_length (record { flags = written_flags flags item.value; kind = item.kind; value = item.value })) ≡ 1 =
+          short_length (record { flags = written_flags flags item.value; kind = item.kind; value = item.value })
+          (ap is_extended is ∙ plain.is_short) in
           omega (arith, size, length_above item)
     ]
 
@@ -96,7 +104,8 @@ length-spelled_item item = omega (arith, length-append (spelled_length item) ite
 pub kept_shorter : (item kept : Item) → IsReceived item → IsKept item kept → length (spelled_item kept) ≤ length (spelled_item item)
 kept_shorter item kept received is =
     let made : Item = record { flags = written_flags is.flags item.value; kind = item.kind; value = item.value } in
-    let shorter : length (spelled_item made) ≤ length (spelled_item item) = omega (arith, length-spelled_item made, length-spelled_item item, written_length item is.flags received is.plain) in
+    let shorter : length (spelled_item made) ≤ length (spelled_item item) =
+    omega (arith, length-spelled_item made, length-spelled_item item, written_length item is.flags received is.plain) in
     subst (λ (k : Item). length (spelled_item k) ≤ length (spelled_item item)) (sym is.is) shorter
 
 -- ---- all of them
@@ -109,7 +118,8 @@ total size (k ∷ ks) = size k + total size ks
 abbrev octets_at : List Item → ℕ → ℕ
 octets_at items kind = length (spelled_kept (look kind items))
 
-made_total : (make : ℕ → Option Item) (size : ℕ → ℕ) (ks : List ℕ) → AllByRecursion (λ k. length (spelled_kept (make k)) ≤ size k) ks → length (flat_map spelled_item (filter_map make ks)) ≤ total size ks
+made_total : (make : ℕ → Option Item) (size : ℕ → ℕ) (ks : List ℕ) → AllByRecursion (λ k. length (spelled_kept (make k)) ≤ size k) ks
+    → length (flat_map spelled_item (filter_map make ks)) ≤ total size ks
 unfolding total
 made_total make size [] each = omega arith
 made_total make size (k ∷ ks) each =
@@ -128,12 +138,14 @@ nothing_total [] = refl
 nothing_total (k ∷ ks) = let later = nothing_total ks in omega (arith, later)
 
 -- an attribute of a lower type isn't in the range
-lower_total : (item : Item) (items : List Item) (a n : ℕ) → item.kind < a → total (octets_at (item ∷ items)) (range_with_len a n) ≡ total (octets_at items) (range_with_len a n)
+lower_total : (item : Item) (items : List Item) (a n : ℕ) → item.kind < a
+    → total (octets_at (item ∷ items)) (range_with_len a n) ≡ total (octets_at items) (range_with_len a n)
 unfolding total
 lower_total item items a zero below = refl
 lower_total item items a (suc n) below = grind (arith, nat_tests, lower_total item items (a + 1) n)
 
-one_more_total : (item : Item) (items : List Item) (a n : ℕ) → total (octets_at (item ∷ items)) (range_with_len a n) ≤ length (spelled_item item) + total (octets_at items) (range_with_len a n)
+one_more_total : (item : Item) (items : List Item) (a n : ℕ)
+    → total (octets_at (item ∷ items)) (range_with_len a n) ≤ length (spelled_item item) + total (octets_at items) (range_with_len a n)
 unfolding total
 one_more_total item items a zero = omega arith
 one_more_total item items a (suc n) = grind (arith, nat_tests, lower_total item items (a + 1) n, one_more_total item items (a + 1) n)
@@ -151,22 +163,26 @@ kept_at items kind sound =
       | inr some ↦
           elim (cases_Option (kept_of some.0)) [
             | inl dropped ↦ rw (some.1, dropped) (omega arith)
-            | inr kept ↦ rw (some.1, kept.1) (kept_shorter some.0 kept.0 (look_sound items kind some.0 sound some.1).received (kept_as-is (type_of some.0.kind) some.0 kept.0 kept.1))
+            | inr kept ↦ rw (some.1, kept.1) (kept_shorter some.0 kept.0 (look_sound items kind some.0 sound some.1).received
+                (kept_as-is (type_of some.0.kind) some.0 kept.0 kept.1))
           ]
     ]
 
 kept_section : (items : List Item) → AreSound items → length (spelled_section items) ≤ length (flat_map spelled_item items)
 kept_section items sound =
     le_trans
-    (made_total (kept_in items) (octets_at items) (range_with_len 0 256) (All-range (λ k. length (spelled_kept (kept_in items k)) ≤ octets_at items k) 0 256 256 refl (λ k le lt. kept_at items k sound)))
+    (made_total (kept_in items) (octets_at items) (range_with_len 0 256)
+    (All-range (λ k. length (spelled_kept (kept_in items k)) ≤ octets_at items k) 0 256 256 refl (λ k le lt. kept_at items k sound)))
     (received_total items 0 256)
 
 section_length : (front rest section : List ℕ) → front ++ rest ≡ section → length front ≤ length section
 section_length front rest section e = omega (arith, ap length e, length-append front rest)
 
-pub written-shorter : (section : List ℕ) (attributes : PathAttributes) → AreOctets section → section_fault section ≡ None → attributes_of (items_of section) ≡ Some attributes → length (written attributes) ≤ length section
+pub written-shorter : (section : List ℕ) (attributes : PathAttributes) → AreOctets section → section_fault section ≡ None
+    → attributes_of (items_of section) ≡ Some attributes → length (written attributes) ≤ length section
 written-shorter section attributes fit faultless e =
     let items = items_of section in
     let sound = sound_section section fit faultless in
     subst (λ (octets : List ℕ). length octets ≤ length section) (sym (written-made items attributes sound e))
-    (le_trans (kept_section items sound) (section_length (flat_map spelled_item items) (rest_of section) section (section-is_spelled section fit).0))
+    (le_trans (kept_section items sound) (section_length (flat_map spelled_item items) (rest_of section) section
+    (section-is_spelled section fit).0))

@@ -1,5 +1,6 @@
 -- What is written of the attributes of a section without fault has the values that were received: for WholeLemmas.
-use Rattle.std.proofs.Common.{◌≡◌, ℕ, ◌<◌, ◌==◌, true, List, [], ◌∷◌, ◌++◌, length, take, drop, Option, Some, None, refl, sym, ap, ◌∙◌, arith, inl, inr}
+use Rattle.std.proofs.Common.{◌≡◌, ℕ, ◌<◌, ◌==◌, true, List, [], ◌∷◌, ◌++◌, length, take, drop, Option, Some, None, refl, sym, ap, ◌∙◌}
+use Rattle.std.proofs.Common.{arith, inl, inr}
 use Rattle.std.specs.Prelude.{find, option_and_then, is_some, slice_index, if◌then◌else◌}
 use Rattle.std.specs.List.{filter_map, range_with_len, flat_map}
 use Rattle.std.specs.Option.{option_map}
@@ -16,7 +17,8 @@ use Rattle.rs_update.specs.Parts.{AreOctets}
 use Rattle.rs_update.specs.PathAttributes.{PathAttributes, PassedOn}
 use Rattle.rs_update.specs.PathSegments.{segments_of, spelled_segment}
 use Rattle.rs_update.specs.Section.{Item, is_origin, is_path}
-use Rattle.rs_update.specs.Spelling.{well_known, optional_non_transitive, optional_transitive, aggregator_item, communities_item, origin_code, passed_on_item, written_item, written_items}
+use Rattle.rs_update.specs.Spelling.{well_known, optional_non_transitive, optional_transitive, aggregator_item, communities_item}
+use Rattle.rs_update.specs.Spelling.{origin_code, passed_on_item, written_item, written_items}
 use Rattle.rs_update.proofs.attributes.KindLemmas.{cases_Option, find-made, range-any, All-range, filter_map-same, passed_on_kind}
 use Rattle.rs_update.proofs.fields.OctetLemmas.{big_bytes-big_number}
 use Rattle.rs_update.proofs.fields.PartsLemmas.{AreOctets-drop}
@@ -32,16 +34,19 @@ code_again value known = grind (arith, nat_tests)
 path_again : (value : List ℕ) → AreOctets value → is_path value ≡ true → flat_map spelled_segment (segments_of value).0 ≡ value
 path_again value fit path =
     let none : (segments_of value).1 ≡ [] = nil_from_length _ (eqb-true _ _ path) in
-    sym (append-nil (flat_map spelled_segment (segments_of value).0)) ∙ ap (λ (rest : List ℕ). flat_map spelled_segment (segments_of value).0 ++ rest) (sym none) ∙ value-is_spelled value fit
+    sym (append-nil (flat_map spelled_segment (segments_of value).0))
+    ∙ ap (λ (rest : List ℕ). flat_map spelled_segment (segments_of value).0 ++ rest) (sym none) ∙ value-is_spelled value fit
 
 number_again : (value : List ℕ) → AreOctets value → length value ≡ 4 → big_bytes 4 (big_number 4 value) ≡ value
 number_again value fit size = big_bytes-big_number value (omega arith) fit ∙ take_all 4 value (omega arith)
 
-two_numbers_again : (value : List ℕ) → AreOctets value → length value ≡ 8 → big_bytes 4 (big_number 4 value) ++ big_bytes 4 (big_number 4 (drop 4 value)) ≡ value
+two_numbers_again : (value : List ℕ) → AreOctets value → length value ≡ 8
+    → big_bytes 4 (big_number 4 value) ++ big_bytes 4 (big_number 4 (drop 4 value)) ≡ value
 two_numbers_again value fit size =
     let first = big_bytes-big_number value (omega arith) fit in
     let second = number_again (drop 4 value) (AreOctets-drop 4 value fit) (omega (arith, length-drop 4 value)) in
-    ap (λ (front : List ℕ). front ++ big_bytes 4 (big_number 4 (drop 4 value))) first ∙ ap (λ (behind : List ℕ). take 4 value ++ behind) second ∙ take-append-drop 4 value
+    ap (λ (front : List ℕ). front ++ big_bytes 4 (big_number 4 (drop 4 value))) first
+    ∙ ap (λ (behind : List ℕ). take 4 value ++ behind) second ∙ take-append-drop 4 value
 
 -- ---- what is written of each type
 
@@ -49,10 +54,13 @@ nothing_kept : (found : Option Item) (make : Item → Option Item) → ((item : 
 nothing_kept found make none = grind (arith, none)
 
 -- an attribute of the number and the value that were received
-value_as_received : (make : ℕ → List ℕ → Item) (kind : ℕ) (item : Item) (value : List ℕ) → item.kind ≡ kind → value ≡ item.value → Some (make kind value) ≡ Some (make item.kind item.value)
-value_as_received make kind item value same again = ap (λ (v : List ℕ). Some (make kind v)) again ∙ ap (λ (k : ℕ). Some (make k item.value)) (sym same)
+value_as_received : (make : ℕ → List ℕ → Item) (kind : ℕ) (item : Item) (value : List ℕ) → item.kind ≡ kind → value ≡ item.value
+    → Some (make kind value) ≡ Some (make item.kind item.value)
+value_as_received make kind item value same again =
+    ap (λ (v : List ℕ). Some (make kind v)) again ∙ ap (λ (k : ℕ). Some (make k item.value)) (sym same)
 
-module _ (items : List Item) (sound : AreSound items) (origin path next_hop : Item) (has_origin : look 1 items ≡ Some origin) (has_path : look 2 items ≡ Some path) (has_next_hop : look 3 items ≡ Some next_hop) where
+module _ (items : List Item) (sound : AreSound items) (origin path next_hop : Item) (has_origin : look 1 items ≡ Some origin)
+    (has_path : look 2 items ≡ Some path) (has_next_hop : look 3 items ≡ Some next_hop) where
   abbrev the_attributes : PathAttributes
   the_attributes = attributes_from items origin path next_hop
 
@@ -78,47 +86,59 @@ module _ (items : List Item) (sound : AreSound items) (origin path next_hop : It
       rw has_next_hop (ap (λ (v : List ℕ). Some (well_known 3 v)) value ∙ ap (λ (k : ℕ). Some (well_known k next_hop.value)) (sym kind))
 
   -- one that may be missing is written where it was received
-  written_found : (kind : ℕ) (type : AttributeType) (write : Option Item → Option Item) → write None ≡ None → ((item : Item) → IsSound kind item → write (Some item) ≡ kept_as type item)
+  written_found : (kind : ℕ) (type : AttributeType) (write : Option Item → Option Item) → write None ≡ None
+      → ((item : Item) → IsSound kind item → write (Some item) ≡ kept_as type item)
       → write (look kind items) ≡ option_and_then (kept_as type) (look kind items)
   written_found kind type write nothing one =
       elim (cases_Option (look kind items)) [
         | inl none ↦ ap write none ∙ nothing ∙ ap (option_and_then (kept_as type)) (sym none)
-        | inr some ↦ ap write some.1 ∙ one some.0 (look_sound items kind some.0 sound some.1) ∙ ap (option_and_then (kept_as type)) (sym some.1)
+        | inr some ↦ ap write some.1 ∙ one some.0 (look_sound items kind some.0 sound some.1)
+            ∙ ap (option_and_then (kept_as type)) (sym some.1)
       ]
 
   written_med : written_item the_attributes 4 types.MultiExitDisc ≡ option_and_then (kept_as types.MultiExitDisc) (look 4 items)
   written_med =
-      written_found 4 types.MultiExitDisc (λ found. option_map (λ med. optional_non_transitive 4 (big_bytes 4 med)) (option_map (λ (item : Item). big_number 4 item.value) found)) refl
-      (λ item is. value_as_received optional_non_transitive 4 item _ is.has_kind (number_again item.value is.received.value_octets (exact_value 4 4 item refl is.tests)))
+      written_found 4 types.MultiExitDisc (λ found. option_map (λ med. optional_non_transitive 4 (big_bytes 4 med))
+      (option_map (λ (item : Item). big_number 4 item.value) found)) refl
+      (λ item is. value_as_received optional_non_transitive 4 item _ is.has_kind
+      (number_again item.value is.received.value_octets (exact_value 4 4 item refl is.tests)))
 
   written_atomic : written_item the_attributes 6 types.AtomicAggregate ≡ option_and_then (kept_as types.AtomicAggregate) (look 6 items)
   written_atomic =
       written_found 6 types.AtomicAggregate (λ found. if is_some found then Some (well_known 6 []) else None) refl
-      (λ item is. value_as_received well_known 6 item [] is.has_kind (sym (nil_from_length item.value (exact_value 6 0 item refl is.tests))))
+      (λ item is. value_as_received well_known 6 item [] is.has_kind
+      (sym (nil_from_length item.value (exact_value 6 0 item refl is.tests))))
 
   written_aggregator : written_item the_attributes 7 types.Aggregator ≡ option_and_then (kept_as types.Aggregator) (look 7 items)
   written_aggregator =
       written_found 7 types.Aggregator (λ found. option_map (aggregator_item 7) (option_map aggregator_of found)) refl
-      (λ item is. value_as_received (optional_transitive (is_partial item.flags)) 7 item _ is.has_kind (two_numbers_again item.value is.received.value_octets (exact_value 7 8 item refl is.tests)))
+      (λ item is. value_as_received (optional_transitive (is_partial item.flags)) 7 item _ is.has_kind
+      (two_numbers_again item.value is.received.value_octets (exact_value 7 8 item refl is.tests)))
 
   written_communities : written_item the_attributes 8 types.Communities ≡ option_and_then (kept_as types.Communities) (look 8 items)
   written_communities =
       written_found 8 types.Communities (λ found. option_map (communities_item 8) (option_map community_list_of found)) refl
-      (λ item is. value_as_received (optional_transitive (is_partial item.flags)) 8 item _ is.has_kind (spelled_numbers-all item.value (communities_value item is) is.received.value_octets))
+      (λ item is. value_as_received (optional_transitive (is_partial item.flags)) 8 item _ is.has_kind
+      (spelled_numbers-all item.value (communities_value item is) is.received.value_octets))
 
   -- an attribute that is passed on
-  passed_again : (kind : ℕ) → type_of kind ≡ types.Unrecognized → option_map passed_on_item (passed_on_in items kind) ≡ option_and_then (kept_as types.Unrecognized) (look kind items)
+  passed_again : (kind : ℕ) → type_of kind ≡ types.Unrecognized
+      → option_map passed_on_item (passed_on_in items kind) ≡ option_and_then (kept_as types.Unrecognized) (look kind items)
   passed_again kind unknown =
       let has : (item : Item) → look kind items ≡ Some item → item.kind ≡ kind = λ item e. (look_sound items kind item sound e).has_kind in
       grind (arith, has)
 
-  written_other : (kind : ℕ) → kind < 256 → type_of kind ≡ types.Unrecognized → written_item the_attributes kind types.Unrecognized ≡ option_and_then (kept_as types.Unrecognized) (look kind items)
+  written_other : (kind : ℕ) → kind < 256 → type_of kind ≡ types.Unrecognized
+      → written_item the_attributes kind types.Unrecognized ≡ option_and_then (kept_as types.Unrecognized) (look kind items)
   unfolding others_of
   written_other kind octet unknown =
-      let made : find (λ other. other.kind == kind) (filter_map (passed_on_in items) (range_with_len 0 256)) ≡ passed_on_in items kind = find-made (λ (other : PassedOn). other.kind) (passed_on_in items) (passed_on_kind items) kind (range_with_len 0 256) (range-any 0 256 kind (omega arith) (omega arith)) in
+      let made : find (λ other. other.kind == kind) (filter_map (passed_on_in items) (range_with_len 0 256)) ≡ passed_on_in items kind =
+      find-made (λ (other : PassedOn). other.kind) (passed_on_in items) (passed_on_kind items) kind (range_with_len 0 256)
+      (range-any 0 256 kind (omega arith) (omega arith)) in
       ap (option_map passed_on_item) made ∙ passed_again kind unknown
 
-  written_as : (type : AttributeType) (kind : ℕ) → kind < 256 → type_of kind ≡ type → written_item the_attributes kind type ≡ option_and_then (kept_as type) (look kind items)
+  written_as : (type : AttributeType) (kind : ℕ) → kind < 256 → type_of kind ≡ type
+      → written_item the_attributes kind type ≡ option_and_then (kept_as type) (look kind items)
   written_as types.Origin kind octet is = let k : kind ≡ 1 = grind (arith, nat_tests) in rw k written_origin
   written_as types.AsPath kind octet is = let k : kind ≡ 2 = grind (arith, nat_tests) in rw k written_path
   written_as types.NextHop kind octet is = let k : kind ≡ 3 = grind (arith, nat_tests) in rw k written_next_hop
@@ -148,4 +168,5 @@ module _ (items : List Item) (sound : AreSound items) (origin path next_hop : It
   unfolding written_items
   written_items-kept =
       filter_map-same (λ kind. written_item the_attributes kind (type_of kind)) (kept_in items) (range_with_len 0 256)
-      (All-range (λ kind. written_item the_attributes kind (type_of kind) ≡ kept_in items kind) 0 256 256 refl (λ kind le lt. written_kept kind lt))
+      (All-range (λ kind. written_item the_attributes kind (type_of kind) ≡ kept_in items kind) 0 256 256 refl
+      (λ kind le lt. written_kept kind lt))

@@ -1,5 +1,6 @@
 -- What is written of the attributes of a section without fault is itself without fault: for AgainLemmas.
-use Rattle.std.proofs.Common.{◌≡◌, ℕ, zero, suc, ◌+◌, ◌<◌, ◌&&◌, Bool, true, false, not, cond, List, [], ◌∷◌, ◌++◌, length, Option, Some, None, refl, sym, ap, subst, ◌∙◌, arith, inl, inr}
+use Rattle.std.proofs.Common.{◌≡◌, ℕ, zero, suc, ◌+◌, ◌<◌, ◌&&◌, Bool, true, false, not, cond, List, [], ◌∷◌, ◌++◌, length, Option, Some}
+use Rattle.std.proofs.Common.{None, refl, sym, ap, subst, ◌∙◌, arith, inl, inr}
 use Rattle.std.specs.List.{filter_map, range_with_len, AllByRecursion}
 use Rattle.std.proofs.lemmas.Bool.{cases_lt, lt-ltb, le-ltb}
 use Rattle.std.proofs.lemmas.Bool.Decides.{nat_tests}
@@ -25,7 +26,8 @@ both_ways P flags value short long =
       | inr below ↦ rw (le-ltb _ _ below) short
     ]
 
-suited : (wanted : WantedFlags) (flags : ℕ) (value : List ℕ) → suits wanted flags ≡ true → suits wanted (flags + 0x10) ≡ true → suits wanted (written_flags flags value) ≡ true
+suited : (wanted : WantedFlags) (flags : ℕ) (value : List ℕ) → suits wanted flags ≡ true → suits wanted (flags + 0x10) ≡ true
+    → suits wanted (written_flags flags value) ≡ true
 suited wanted = both_ways (λ flags. suits wanted flags ≡ true)
 
 -- the Partial bit as it was received
@@ -43,10 +45,12 @@ kept_bits : (wanted : WantedFlags) (item kept : Item) → kept_by wanted item �
 kept_bits wanted item kept e = grind (arith, suited wanted)
 
 -- so they say its class, too
-suits_class : (type : AttributeType) (flags : ℕ) → suits (flags_of type) flags ≡ true → (is_unrecognized type && not (is_optional flags)) ≡ false
+suits_class : (type : AttributeType) (flags : ℕ) → suits (flags_of type) flags ≡ true
+    → (is_unrecognized type && not (is_optional flags)) ≡ false
 suits_class type flags bits = grind arith
 
-no_fault : (type : AttributeType) (flags : ℕ) (value : List ℕ) → suits (flags_of type) flags ≡ true → suits_length type (length value) ≡ true → first_fault (value_tests type value) ≡ None → first_fault (tests_of type flags value) ≡ None
+no_fault : (type : AttributeType) (flags : ℕ) (value : List ℕ) → suits (flags_of type) flags ≡ true
+    → suits_length type (length value) ≡ true → first_fault (value_tests type value) ≡ None → first_fault (tests_of type flags value) ≡ None
 no_fault type flags value bits size tests = rw (suits_class type flags bits, bits, size) tests
 
 -- what is written of an attribute without fault: its type, a length that can be spelled, and no fault
@@ -55,7 +59,8 @@ pub record IsWritten (kind : ℕ) (kept : Item) : Type 0 where
   pub fits : FitsItsLength kept
   pub without : own_fault_of kept ≡ None
 
-kept_fits : (item : Item) (flags : ℕ) → IsPlain flags → length item.value < 65536 → FitsItsLength (record { flags = written_flags flags item.value; kind = item.kind; value = item.value })
+kept_fits : (item : Item) (flags : ℕ) → IsPlain flags → length item.value < 65536
+    → FitsItsLength (record { flags = written_flags flags item.value; kind = item.kind; value = item.value })
 kept_fits item flags plain short = grind (arith, nat_tests, plain.is_short, plain.may_be_long)
 
 kept_without : (kind : ℕ) (item kept : Item) → IsSound kind item → kept_of item ≡ Some kept → own_fault_of kept ≡ None
@@ -67,11 +72,13 @@ kept_without kind item kept sound e =
     let type : type_of item.kind ≡ type_of kind = ap type_of sound.has_kind in
     let size : suits_length (type_of item.kind) (length item.value) ≡ true = rw type all.2 in
     let tests : first_fault (value_tests (type_of item.kind) item.value) ≡ None = rw type all.3 in
-    let none : first_fault (tests_of (type_of item.kind) kept.flags item.value) ≡ None = no_fault (type_of item.kind) kept.flags item.value (kept_bits (flags_of (type_of item.kind)) item kept e) size tests in
+    let none : first_fault (tests_of (type_of item.kind) kept.flags item.value) ≡ None =
+    no_fault (type_of item.kind) kept.flags item.value (kept_bits (flags_of (type_of item.kind)) item kept e) size tests in
     rw (same_kind, same_value) none
 
 -- where what is written of a type comes from
-pub kept_from : (items : List Item) (kind : ℕ) (kept : Item) → kept_in items kind ≡ Some kept → (item : Item) × (look kind items ≡ Some item) × (kept_of item ≡ Some kept)
+pub kept_from : (items : List Item) (kind : ℕ) (kept : Item) → kept_in items kind ≡ Some kept → (item : Item)
+    × (look kind items ≡ Some item) × (kept_of item ≡ Some kept)
 kept_from items kind kept e =
     elim (cases_Option (look kind items)) [
       | inl none ↦ let nothing = rw none at e in absurd cc
@@ -97,7 +104,8 @@ not_among : (kind : ℕ) (items : List Item) → AllByRecursion (λ (item : Item
 not_among kind [] each = refl
 not_among kind (item ∷ items) each = grind (arith, nat_tests, not_among kind items each.1, each.0)
 
-one_more : (a : ℕ) (items : List Item) (item : Item) → AllByRecursion (λ (i : Item). i.kind < a) items → item.kind < a + 1 → AllByRecursion (λ (i : Item). i.kind < a + 1) (items ++ item ∷ [])
+one_more : (a : ℕ) (items : List Item) (item : Item) → AllByRecursion (λ (i : Item). i.kind < a) items → item.kind < a + 1
+    → AllByRecursion (λ (i : Item). i.kind < a + 1) (items ++ item ∷ [])
 one_more a [] item each last = (last, tt)
 one_more a (first ∷ items) item each last = (omega (arith, each.0), one_more a items item each.1 last)
 
@@ -107,7 +115,8 @@ wider a (first ∷ items) each = (omega (arith, each.0), wider a items each.1)
 
 -- attributes made in ascending type, each without fault by its own tests, are without fault
 pub ascending_without : (make : ℕ → Option Item) → ((kind : ℕ) (item : Item) → make kind ≡ Some item → IsWritten kind item)
-    → (a n : ℕ) (earlier : List Item) → AllByRecursion (λ (i : Item). i.kind < a) earlier → first_item_fault earlier (filter_map make (range_with_len a n)) ≡ None
+    → (a n : ℕ) (earlier : List Item) → AllByRecursion (λ (i : Item). i.kind < a) earlier
+    → first_item_fault earlier (filter_map make (range_with_len a n)) ≡ None
 unfolding first_item_fault
 ascending_without make is a zero earlier below = refl
 ascending_without make is a (suc n) earlier below =

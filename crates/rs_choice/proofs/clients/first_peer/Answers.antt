@@ -14,6 +14,8 @@ returns-in-Some c =
     let places = c.args.places.now in
     let one = c.index-held-place.result in
     let within = within_at held places c.requires.places c.in-Some.first.place c.place.result c.place.ensures.value in
-    let at_chosen = chosen_at held places c.requires.places c.in-Some.first.place c.place.result c.place.ensures.value ∙ slice_get-get_or held c.place.result one within in
-    let is = ap (λ (first : Option Placed). option_map (λ (held : HeldRoute). held.peer) (member_at (chosen_of held places) (option_map (λ (first : Placed). first.place) first))) c.in-Some.is in
+    let at_chosen = chosen_at held places c.requires.places c.in-Some.first.place c.place.result c.place.ensures.value
+    ∙ slice_get-get_or held c.place.result one within in
+    let is = ap (λ (first : Option Placed). option_map (λ (held : HeldRoute). held.peer)
+    (member_at (chosen_of held places) (option_map (λ (first : Placed). first.place) first))) c.in-Some.is in
     sym (is ∙ ap (option_map (λ (held : HeldRoute). held.peer)) at_chosen)

@@ -28,9 +28,12 @@ loop-number-preserved c =
           let at : slice_get eligible one.place ≡ Some place = rw w.from.ensures at w.place.ensures.value in
           rw (w.weighing-is, w.push.ensures) (record {
             few = omega (arith, length_push so_far place, c.loop-number.invariant.few);
-            among = All-push (λ place. Contains eligible place) so_far place c.loop-number.invariant.among (contains_at eligible one.place place at);
-            all = below_more (λ i. (group : Group) → slice_get groups i ≡ Some group → Weighs group first → (p : ℕ) → slice_get eligible group.place ≡ Some p → Contains (so_far ++ place ∷ []) p) n
-                (λ i below group at_group weighs p at_p. Contains-append_left so_far (place ∷ []) p (c.loop-number.invariant.all i below group at_group weighs p at_p))
+            among = All-push (λ place. Contains eligible place) so_far place c.loop-number.invariant.among
+                (contains_at eligible one.place place at);
+            all = below_more (λ i. (group : Group) → slice_get groups i ≡ Some group → Weighs group first → (p : ℕ)
+                → slice_get eligible group.place ≡ Some p → Contains (so_far ++ place ∷ []) p) n
+                (λ i below group at_group weighs p at_p. Contains-append_left so_far (place ∷ []) p
+                (c.loop-number.invariant.all i below group at_group weighs p at_p))
                 (λ group at_group weighs p at_p.
                 let same : one ≡ group = cc (c.group-group.ensures, at_group) in
                 let at_one : slice_get eligible one.place ≡ Some p = ap (λ (group : Group). slice_get eligible group.place) same ∙ at_p in
@@ -40,7 +43,8 @@ loop-number-preserved c =
           rw w.weighing-is (record {
             few = omega (arith, c.loop-number.invariant.few);
             among = c.loop-number.invariant.among;
-            all = below_more (λ i. (group : Group) → slice_get groups i ≡ Some group → Weighs group first → (p : ℕ) → slice_get eligible group.place ≡ Some p → Contains so_far p) n
+            all = below_more (λ i. (group : Group) → slice_get groups i ≡ Some group → Weighs group first → (p : ℕ)
+                → slice_get eligible group.place ≡ Some p → Contains so_far p) n
                 (λ i below group at_group weighs p at_p. c.loop-number.invariant.all i below group at_group weighs p at_p)
                 (λ group at_group weighs p at_p.
                 let same : one ≡ group = cc (c.group-group.ensures, at_group) in
@@ -54,8 +58,10 @@ loop-number-preserved c =
 
 pub returns : goal.returns
 returns c =
-    let end : c.loop-number.number ≡ length c.args.groups.now = omega (arith, c.loop-number.auto.number-end, c.loop-number-test.false, c.len-number-end.ensures.value) in
+    let end : c.loop-number.number ≡ length c.args.groups.now =
+    omega (arith, c.loop-number.auto.number-end, c.loop-number-test.false, c.len-number-end.ensures.value) in
     record {
       among = c.loop-number.invariant.among;
-      all = λ i group at. c.loop-number.invariant.all i (let within = slice_get_within c.args.groups.now i group at in omega (arith, within, end)) group at;
+      all = λ i group at. c.loop-number.invariant.all i (let within = slice_get_within c.args.groups.now i group at in
+          omega (arith, within, end)) group at;
     }

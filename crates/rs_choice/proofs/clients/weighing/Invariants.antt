@@ -10,5 +10,6 @@ abbrev pub invariant-loop-number : goal.invariant-loop-number
 invariant-loop-number l = record {
   few : length l.weighing ≤ l.number;
   among : All (λ place. Contains l.eligible place) l.weighing;
-  all : (i : ℕ) → i < l.number → (group : Group) → slice_get l.groups i ≡ Some group → Weighs group l.first → (place : ℕ) → slice_get l.eligible group.place ≡ Some place → Contains l.weighing place;
+  all : (i : ℕ) → i < l.number → (group : Group) → slice_get l.groups i ≡ Some group → Weighs group l.first → (place : ℕ)
+      → slice_get l.eligible group.place ≡ Some place → Contains l.weighing place;
 }

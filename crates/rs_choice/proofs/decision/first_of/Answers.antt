@@ -10,7 +10,8 @@ use Rattle.rs_choice.proofs.decision.first_of.Goals.{then-goes_before, else-goes
 pub standing-requires : goal.standing-requires
 standing-requires g c =
     let standings = g.E.Entrants.standings c.args.entrants.now in
-    let within = place_within (standing_in standings) (length standings) c.args.groups.now c.requires.grouped c.loop-number.number c.group.result c.group.ensures in
+    let within = place_within (standing_in standings) (length standings)
+    c.args.groups.now c.requires.grouped c.loop-number.number c.group.result c.group.ensures in
     omega (arith, within, c.from-place.ensures)
 
 pub loop-number-preserved : goal.loop-number-preserved
@@ -23,7 +24,8 @@ loop-number-preserved g c =
       | then-goes_before w ↦
           let before : GoesBeforeSome (record { place = place; standing = S place }) c.loop-number.first =
           rw (c.standing.ensures, c.from-place.ensures) at (c.goes_before.ensures.0 w.if-goes_before.true) in
-          rw (w.first-is, c.standing.ensures, c.from-place.ensures) (first_changes S places c.loop-number.number place c.loop-number.first at c.loop-number.invariant before)
+          rw (w.first-is, c.standing.ensures, c.from-place.ensures)
+          (first_changes S places c.loop-number.number place c.loop-number.first at c.loop-number.invariant before)
       | else-goes_before w ↦
           let before_not : GoesBeforeSome (record { place = place; standing = S place }) c.loop-number.first → ⊥ =
           rw (c.standing.ensures, c.from-place.ensures) at

@@ -10,7 +10,8 @@ pub returns-in_default : goal.returns-in_default
 returns-in_default g c =
     let S : ℕ → Standing = standing_in (g.E.Entrants.standings c.args.entrants.now) in
     let none : IsNeighboursGroup c.args.groups.now (S c.args.place).neighbour None = rw c.requires.is_standing at c.in_default.ensures in
-    rw (c.push.ensures, c.of.ensures, c.requires.is_standing) (one_more_marked S c.args.place c.args.groups.now c.requires.grouped c.requires.level none)
+    rw (c.push.ensures, c.of.ensures, c.requires.is_standing)
+    (one_more_marked S c.args.place c.args.groups.now c.requires.grouped c.requires.level none)
 
 pub group-group-requires : goal.group-group-requires
 group-group-requires g c = let found = c.in-Some.ensures in slice_get_within c.args.groups.now c.in-Some.number found.0 found.1
@@ -18,7 +19,8 @@ group-group-requires g c = let found = c.in-Some.ensures in slice_get_within c.a
 pub standing-held-requires : goal.standing-held-requires
 standing-held-requires g c =
     let S : ℕ → Standing = standing_in (g.E.Entrants.standings c.args.entrants.now) in
-    let within = place_within S c.args.place c.args.groups.now c.requires.grouped c.in-Some.number c.group-group.result c.group-group.ensures in
+    let within = place_within S c.args.place c.args.groups.now c.requires.grouped c.in-Some.number c.group-group.result
+    c.group-group.ensures in
     omega (arith, within, c.from.ensures, c.requires.within)
 
 pub replace-requires : goal.replace-requires
@@ -37,5 +39,7 @@ returns g c =
     let e : found.0 ≡ held = cc (found.1, c.group-group.ensures) in
     let same : held.neighbour ≡ (S c.args.place).neighbour =
     ap (λ (group : Group). group.neighbour) (sym e) ∙ found.2 ∙ ap (λ (one : Standing). one.neighbour) c.requires.is_standing in
-    let joined : IsJoined held (S held.place) c.args.place (S c.args.place) c.joined.result = rw (c.requires.is_standing, c.standing-held.ensures, c.from.ensures) at c.joined.ensures in
-    rw c.replace.ensures (joined_marked S c.args.place c.args.groups.now c.requires.grouped c.requires.level c.in-Some.number held c.joined.result c.group-group.ensures same joined)
+    let joined : IsJoined held (S held.place) c.args.place (S c.args.place) c.joined.result =
+    rw (c.requires.is_standing, c.standing-held.ensures, c.from.ensures) at c.joined.ensures in
+    rw c.replace.ensures (joined_marked S c.args.place c.args.groups.now c.requires.grouped c.requires.level c.in-Some.number held
+    c.joined.result c.group-group.ensures same joined)

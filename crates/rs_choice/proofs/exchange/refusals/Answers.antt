@@ -8,5 +8,6 @@ pub returns : goal.returns
 returns c =
     let peers = c.args.peers.now in
     c.loop-client.invariant
-    ∙ ap (map (λ client. map (refuses_spec client) peers)) (take_all c.loop-client.client-index peers (omega (arith, c.loop-client-test.false)))
+    ∙ ap (map (λ client. map (refuses_spec client) peers))
+    (take_all c.loop-client.client-index peers (omega (arith, c.loop-client-test.false)))
     ∙ sym (refusals_of-map peers)

@@ -15,7 +15,8 @@ loop-place-preserved c =
     let number = c.from.result in
     let so_far = c.loop-place.invariant in
     let within = c.loop-place-test.true in
-    let here = λ (one : HeldRoute). ap (λ (found : HeldRoute). found.peer) (get_or_default held place one c.index-held-place.result within) ∙ sym c.from.ensures in
+    let here = λ (one : HeldRoute). ap (λ (found : HeldRoute). found.peer) (get_or_default held place one c.index-held-place.result within)
+    ∙ sym c.from.ensures in
     elim (leb_tells (suc number) peer) [
       | inl low ↦
           let more : c.from-count.result ≡ 1 = c.from-count.ensures ∙ ap from_bool low.0 in
@@ -29,6 +30,7 @@ loop-place-preserved c =
           record {
             within = omega (arith, so_far.within, none);
             lower = λ up k one below. so_far.lower up k one (omega (arith, below, none));
-            others = λ up k one above below. others-also held place count peer number within so_far.within so_far.lower so_far.others here (omega (arith, high.1)) up k one (omega (arith, above, none)) below;
+            others = λ up k one above below. others-also held place count peer number within so_far.within so_far.lower so_far.others here
+                (omega (arith, high.1)) up k one (omega (arith, above, none)) below;
           }
     ]

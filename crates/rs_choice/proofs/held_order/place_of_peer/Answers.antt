@@ -13,6 +13,7 @@ pub returns-clause-place : goal.returns-clause-place
 returns-clause-place c = λ up.
     let held = c.args.held.now in
     let peer = c.args.peer in
-    let parted = IsPartitionPoint-from_clause (λ (one : HeldRoute). nat_lt one.peer peer) held c.partition_point.result c.partition_point.ensures.partitioned
+    let parted = IsPartitionPoint-from_clause (λ (one : HeldRoute). nat_lt one.peer peer)
+    held c.partition_point.result c.partition_point.ensures.partitioned
     (IsPartitionedBy-ltb (λ (one : HeldRoute). one.peer) held peer (rising held up)) (λ a r f called. search rules) in
     (λ k one low below. ltb-true _ _ (parted.0 k one low below), λ k one above within. ltb-false _ _ (parted.1 k one above within))

@@ -7,7 +7,8 @@ use Rattle.rs_choice.proofs.policy.permitted_by_list.Given as goal
 abbrev pub invariant-loop-value : goal.invariant-loop-value
 invariant-loop-value l = record {
   refuses : has_value (numbers_in l.rest) 0 l.client_asn ≡ has_value (numbers_in l.list.values) 0 l.client_asn;
-  permits : (l.permits || has_value (numbers_in l.rest) l.local_asn l.client_asn) ≡ has_value (numbers_in l.list.values) l.local_asn l.client_asn;
+  permits : (l.permits || has_value (numbers_in l.rest) l.local_asn l.client_asn)
+      ≡ has_value (numbers_in l.list.values) l.local_asn l.client_asn;
   refuses_all : (l.refuses_all || has_value (numbers_in l.rest) 0 l.local_asn) ≡ has_value (numbers_in l.list.values) 0 l.local_asn;
 }
 

@@ -14,7 +14,8 @@ returns-in_err-add_rows-clause-failed g c =
     let rows = map row_of c.args.rows.now in
     let octets = spelled_rows c.args.time 0 rows in
     let P : List ℕ → Type 0 = λ all. AppendsBeginning (taken c.args.out.now) (taken c.add_rows.new.out) all in
-    λ _. subst P (ap (λ first. first ++ octets) c.in_ok-buffer.ensures.begun ∙ sym (dumped-rows c.args.plan.now c.args.client rows c.args.time)) c.in_err-add_rows.ensures.err
+    λ _. subst P (ap (λ first. first ++ octets) c.in_ok-buffer.ensures.begun
+    ∙ sym (dumped-rows c.args.plan.now c.args.client rows c.args.time)) c.in_err-add_rows.ensures.err
 
 pub returns-in_err-write_all-clause-failed : goal.returns-in_err-write_all-clause-failed
 returns-in_err-write_all-clause-failed g c =
@@ -24,9 +25,11 @@ returns-in_err-write_all-clause-failed g c =
     let waited = c.in_ok-buffer.buffer.items in
     let all = dumped c.args.plan.now c.args.client rows c.args.time in
     let is : all ≡ waited ++ octets ++ [] =
-    dumped-rows c.args.plan.now c.args.client rows c.args.time ∙ ap (λ first. first ++ octets) (sym c.in_ok-buffer.ensures.begun) ∙ sym (append-nil (waited ++ octets)) in
+    dumped-rows c.args.plan.now c.args.client rows c.args.time ∙ ap (λ first. first ++ octets) (sym c.in_ok-buffer.ensures.begun)
+    ∙ sym (append-nil (waited ++ octets)) in
     let P : List ℕ → Type 0 = λ piece. AppendsBeginning (taken c.add_rows.new.out) (taken c.write_all.new.out) piece in
-    λ _. AppendsBeginning-part (taken c.args.out.now) (taken c.add_rows.new.out) (taken c.write_all.new.out) c.add_rows.new.buffer.items (waited ++ octets) [] all c.in_ok-add_rows.ensures.ok (subst P c.deref.ensures.value c.in_err-write_all.ensures.err) is
+    λ _. AppendsBeginning-part (taken c.args.out.now) (taken c.add_rows.new.out) (taken c.write_all.new.out) c.add_rows.new.buffer.items
+    (waited ++ octets) [] all c.in_ok-add_rows.ensures.ok (subst P c.deref.ensures.value c.in_err-write_all.ensures.err) is
 
 pub returns-clause-written : goal.returns-clause-written
 returns-clause-written g c =
@@ -37,4 +40,5 @@ returns-clause-written g c =
     let P : List ℕ → Type 0 = λ piece. Appends (taken c.add_rows.new.out) (taken c.write_all.new.out) piece in
     let Q : List ℕ → Type 0 = λ all. Appends (taken c.args.out.now) (taken c.write_all.new.out) all in
     subst Q (ap (λ first. first ++ octets) c.in_ok-buffer.ensures.begun ∙ sym (dumped-rows c.args.plan.now c.args.client rows c.args.time))
-    (Appends-whole (taken c.args.out.now) (taken c.add_rows.new.out) (taken c.write_all.new.out) c.add_rows.new.buffer.items (waited ++ octets) c.in_ok-add_rows.ensures.ok (subst P c.deref.ensures.value c.in_ok-write_all.ensures.ok))
+    (Appends-whole (taken c.args.out.now) (taken c.add_rows.new.out) (taken c.write_all.new.out) c.add_rows.new.buffer.items
+    (waited ++ octets) c.in_ok-add_rows.ensures.ok (subst P c.deref.ensures.value c.in_ok-write_all.ensures.ok))

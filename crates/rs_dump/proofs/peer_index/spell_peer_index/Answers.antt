@@ -12,4 +12,5 @@ returns-clause-spelled c =
     let header = λ (len : ℕ). header_spelling c.args.time TABLE_DUMP_V2 PEER_INDEX_TABLE len in
     let P : ℕ → Type 0 = λ len. Gains c.args.buffer.now c.spell_body.new.buffer (header len ++ body) in
     subst P c.body_len.ensures.value
-    (Gains-append c.args.buffer.now c.put_header.new.buffer c.spell_body.new.buffer (header c.body_len.result) body c.put_header.ensures c.spell_body.ensures)
+    (Gains-append c.args.buffer.now c.put_header.new.buffer c.spell_body.new.buffer (header c.body_len.result)
+    body c.put_header.ensures c.spell_body.ensures)

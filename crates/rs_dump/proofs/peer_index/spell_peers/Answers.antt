@@ -20,7 +20,8 @@ loop-number-preserved c =
     let peers = c.args.plan.now.peers in
     let number = c.loop-number.number in
     let peer = peer_of c.peer.result.now in
-    let both = Gains-append c.args.buffer.now c.loop-number.buffer c.spell_peer.new.buffer (flat_map peer_entry (take number peers)) (peer_entry peer) c.loop-number.invariant c.spell_peer.ensures in
+    let both = Gains-append c.args.buffer.now c.loop-number.buffer c.spell_peer.new.buffer (flat_map peer_entry (take number peers))
+    (peer_entry peer) c.loop-number.invariant c.spell_peer.ensures in
     let P : List ℕ → Type 0 = λ octets. Gains c.args.buffer.now c.spell_peer.new.buffer octets in
     subst P (peer_entries-more peers number peer c.peer.ensures) both
 

@@ -13,4 +13,5 @@ returns-clause-ok g c =
     let waiting = c.args.buffer.now.items in
     let octets = record_spelling (row_record c.args.time (c.args.sequence, row_of c.args.row.now)) in
     let P : List ℕ → Type 0 = λ later. IsUnderWay old new later (waiting ++ octets) in
-    subst P (sym c.spell_row.ensures.items) (IsUnderWay-more old new c.make_room.new.buffer.items octets waiting c.in_ok-make_room.ensures.ok)
+    subst P (sym c.spell_row.ensures.items) (IsUnderWay-more old new c.make_room.new.buffer.items octets waiting
+    c.in_ok-make_room.ensures.ok)

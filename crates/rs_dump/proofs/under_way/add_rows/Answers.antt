@@ -32,7 +32,8 @@ returns-in_err-add_row-clause-err g c =
     let before = spelled_rows time first (map row_of (take place rows)) in
     let rest = spelled_rows time (first + place) (map row_of (drop place rows)) in
     let within : place ≤ length rows = omega arith in
-    OnErr-always c.from_residual.result (AppendsBeginning-part (taken c.args.out.now) (taken c.loop-place.out) (taken c.add_row.new.out) c.loop-place.buffer.items (waited ++ before) rest
+    OnErr-always c.from_residual.result (AppendsBeginning-part (taken c.args.out.now) (taken c.loop-place.out) (taken c.add_row.new.out)
+    c.loop-place.buffer.items (waited ++ before) rest
     (waited ++ spelled_rows time first (map row_of rows)) c.loop-place.invariant.under_way c.in_err-add_row.ensures.err
     (ap (λ octets. waited ++ octets) (spelled-cut time first rows place within) ∙ sym (append_assoc waited before rest)))
 
@@ -50,10 +51,12 @@ loop-place-preserved g c =
     let within : place < length rows = omega arith in
     let before = spelled_rows time first (map row_of (take place rows)) in
     let more = record_spelling (row_record time (first + place, row_of row)) in
-    let sent = IsUnderWay-also old (taken c.loop-place.out) new c.loop-place.buffer.items c.add_row.new.buffer.items (waited ++ before) more c.loop-place.invariant.under_way c.in_ok-add_row.ensures.ok in
+    let sent = IsUnderWay-also old (taken c.loop-place.out) new c.loop-place.buffer.items c.add_row.new.buffer.items (waited ++ before)
+    more c.loop-place.invariant.under_way c.in_ok-add_row.ensures.ok in
     let P : List ℕ → Type 0 = λ octets. IsUnderWay old new c.add_row.new.buffer.items octets in
     record {
-      under_way = subst P (append_assoc waited before more ∙ ap (λ octets. waited ++ octets) (sym (spelled-next time first rows place row within c.index-rows-place.is))) sent;
+      under_way = subst P (append_assoc waited before more
+          ∙ ap (λ octets. waited ++ octets) (sym (spelled-next time first rows place row within c.index-rows-place.is))) sent;
       failures = c.in_ok-add_row.ensures.ok_failures ∙ c.loop-place.invariant.failures;
       capacity = c.add_row.ensures.capacity;
     }

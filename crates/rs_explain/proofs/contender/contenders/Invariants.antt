@@ -8,7 +8,9 @@ use Rattle.rs_explain.proofs.contender.contenders.Given as goal
 
 abbrev pub invariant-loop-peer : goal.invariant-loop-peer
 invariant-loop-peer l = record {
-  listed : l.all.items ++ contenders_in l.tables.plan l.client l.prefix l.peer (drop l.peer l.tables.ribs) ≡ contenders_of l.tables l.client l.prefix;
+  listed : l.all.items ++ contenders_in l.tables.plan l.client l.prefix l.peer (drop l.peer l.tables.ribs)
+      ≡ contenders_of l.tables l.client l.prefix;
   addresses : All (HasOwnAddress l.tables.plan) l.all.items;
-  has : (peer : ℕ) → peer < l.peer → (one : Contender) → contender_from l.tables l.client l.prefix peer ≡ Some one → Contains l.all.items one;
+  has : (peer : ℕ) → peer < l.peer → (one : Contender) → contender_from l.tables l.client l.prefix peer ≡ Some one
+      → Contains l.all.items one;
 }

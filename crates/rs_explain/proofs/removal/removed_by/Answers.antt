@@ -22,16 +22,20 @@ returns-in-Some c =
       order = steps-around c.args.steps.now c.loop-step.step-index steps.Preference c.loop-step-test.true;
       removed = refl;
       reaches = rw c.loop-step.invariant.0 at c.loop-step.invariant.1;
-      rival = ap (λ (set : List Contender). rival_of step c.args.best.now set c.args.loser) (sym (c.deref.ensures.value ∙ c.loop-step.invariant.0)) ∙ sym c.rival.ensures ∙ c.in-Some.is;
+      rival = ap (λ (set : List Contender). rival_of step c.args.best.now set c.args.loser)
+          (sym (c.deref.ensures.value ∙ c.loop-step.invariant.0)) ∙ sym c.rival.ensures ∙ c.in-Some.is;
     }
 
 pub loop-step-preserved : goal.loop-step-preserved
 loop-step-preserved c =
     let step : Step = get_or c.args.steps.now c.loop-step.step-index steps.Preference in
-    let set_is : c.in_ok-set.set.items ≡ unbeaten standing_in step c.loop-step.set.items = c.in_ok-set.ensures ∙ ap (unbeaten standing_in step) c.deref-in-loop-step.ensures.value in
+    let set_is : c.in_ok-set.set.items ≡ unbeaten standing_in step c.loop-step.set.items =
+    c.in_ok-set.ensures ∙ ap (unbeaten standing_in step) c.deref-in-loop-step.ensures.value in
     let none : rival_of step c.args.best.now c.loop-step.set.items c.args.loser ≡ None =
-    ap (λ (set : List Contender). rival_of step c.args.best.now set c.args.loser) (sym c.deref.ensures.value) ∙ sym c.rival.ensures ∙ c.in_default.is in (
-      set_is ∙ ap (unbeaten standing_in step) c.loop-step.invariant.0 ∙ remaining-more c.args.steps.now c.loop-step.step-index steps.Preference c.args.contenders.items c.loop-step-test.true,
+    ap (λ (set : List Contender). rival_of step c.args.best.now set c.args.loser) (sym c.deref.ensures.value) ∙ sym c.rival.ensures
+    ∙ c.in_default.is in (
+      set_is ∙ ap (unbeaten standing_in step) c.loop-step.invariant.0
+          ∙ remaining-more c.args.steps.now c.loop-step.step-index steps.Preference c.args.contenders.items c.loop-step-test.true,
       rw set_is (left_without_rival step c.args.best.now c.args.loser c.loop-step.set.items none c.loop-step.invariant.1),
     )
 

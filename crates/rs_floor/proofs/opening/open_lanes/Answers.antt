@@ -10,14 +10,25 @@ new-requires-clause-file c = c.requires.limit c.loop-number.number (record { ref
 
 pub loop-number-preserved : goal.loop-number-preserved
 loop-number-preserved c =
-    let opened = one-more c.args.plan.now.peers c.args.files.now c.args.capacity c.loop-number.lanes.items c.in_ok-new.field-0 c.loop-number.number (peer_of c.peer-peer.result.now) (record { ref_ptr = (0, 0); now = [] }) c.loop-number.invariant.as_many c.loop-number.invariant.fresh c.peer-peer.ensures (omega arith) (rw c.peer_id.ensures at c.in_ok-new.ensures) in
+    let opened = one-more c.args.plan.now.peers c.args.files.now c.args.capacity c.loop-number.lanes.items c.in_ok-new.field-0
+    c.loop-number.number (peer_of c.peer-peer.result.now) (record { ref_ptr = (0, 0); now = [] })
+    c.loop-number.invariant.as_many c.loop-number.invariant.fresh c.peer-peer.ensures (omega arith)
+    (rw c.peer_id.ensures at c.in_ok-new.ensures) in
     record {
-      as_many = rw c.in_ok-push.ensures.items (omega (arith, c.loop-number.invariant.as_many, length-append c.loop-number.lanes.items (c.in_ok-new.field-0 ∷ [])));
+      as_many =
+          rw c.in_ok-push.ensures.items (omega (
+            arith,
+            c.loop-number.invariant.as_many,
+            length-append c.loop-number.lanes.items (c.in_ok-new.field-0 ∷ []),
+          ));
       fresh = rw c.in_ok-push.ensures.items opened;
     }
 
 pub returns-clause-fresh : goal.returns-clause-fresh
-returns-clause-fresh c = all-opened c.args.plan.now.peers (map (λ file. file.now) c.args.files.now) c.args.capacity c.loop-number.lanes.items c.loop-number.number (omega (arith, c.requires.files, length-map c.args.files.now (λ file. file.now))) c.loop-number.invariant.fresh
+returns-clause-fresh c =
+    all-opened c.args.plan.now.peers (map (λ file. file.now) c.args.files.now)
+    c.args.capacity c.loop-number.lanes.items c.loop-number.number
+    (omega (arith, c.requires.files, length-map c.args.files.now (λ file. file.now))) c.loop-number.invariant.fresh
 
 pub loop-number-init : goal.loop-number-init
 loop-number-init c = search rules

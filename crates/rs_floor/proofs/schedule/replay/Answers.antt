@@ -16,8 +16,10 @@ run_turns-requires-clause-held c =
     let many : length files ≡ length c.args.files.now = length-map c.args.files.now (λ file. file.now) in
     let plan_is : c.deref.result.now ≡ c.args.plan.now.value = c.deref.ensures in
     let P : List LaneContent → Type 0 = λ lanes. HoldReceived c.in_ok-tables.tables lanes in
-    subst P (sym c.deref_mut.ensures.value) (held-fresh c.deref.result.now files c.args.capacity c.in_ok-lanes.lanes.items c.in_ok-tables.tables
-    (many ∙ c.requires.files ∙ sym (ap (λ (plan : Plan). length plan.peers) plan_is)) (c.in_ok-lanes.ensures.count ∙ sym many) c.in_ok-lanes.ensures.fresh c.in_ok-tables.ensures.empty)
+    subst P (sym c.deref_mut.ensures.value) (held-fresh c.deref.result.now files c.args.capacity c.in_ok-lanes.lanes.items
+    c.in_ok-tables.tables
+    (many ∙ c.requires.files ∙ sym (ap (λ (plan : Plan). length plan.peers) plan_is)) (c.in_ok-lanes.ensures.count ∙ sym many)
+    c.in_ok-lanes.ensures.fresh c.in_ok-tables.ensures.empty)
 
 pub returns-clause-floor : goal.returns-clause-floor
 returns-clause-floor c =
@@ -27,11 +29,14 @@ returns-clause-floor c =
     let before : c.deref_mut.result.now ≡ c.in_ok-lanes.lanes.items = c.deref_mut.ensures.value in
     let of_plan : c.in_ok-tables.tables.plan ≡ plan = search rules in
     let ribs : length c.in_ok-tables.tables.ribs ≡ length plan.peers = search rules in
-    let Fresh : Plan → List LaneContent → Type 0 = λ held lanes. (number : ℕ) (peer : Peer) (file : List ℕ) → slice_get held.peers number ≡ Some peer → slice_get files number ≡ Some file → slice_get lanes number ≡ Some (fresh_lane c.args.capacity (id_of peer) file) in
+    let Fresh : Plan → List LaneContent → Type 0 =
+    λ held lanes. (number : ℕ) (peer : Peer) (file : List ℕ) → slice_get held.peers number ≡ Some peer
+    → slice_get files number ≡ Some file → slice_get lanes number ≡ Some (fresh_lane c.args.capacity (id_of peer) file) in
     let OfPlan : Plan → Type 0 = λ held. Fresh held c.in_ok-lanes.lanes.items in
     let OfLanes : List LaneContent → Type 0 = λ lanes. Fresh plan lanes in
     let fresh : OfLanes c.deref_mut.result.now = subst OfLanes (sym before) (subst OfPlan c.deref.ensures c.in_ok-lanes.ensures.fresh) in
     let P : FloorContent → Type 0 = λ floor. IsReplayed plan (recorded_by plan files) c.args.capacity c.args.turns.now floor in
-    subst P (sym c.new-2.ensures) (replayed plan files c.args.capacity c.args.turns.now c.deref_mut.result.now c.run_turns.new.tables c.in_ok-counts.counts.items
+    subst P (sym c.new-2.ensures) (replayed plan files c.args.capacity c.args.turns.now c.deref_mut.result.now c.run_turns.new.tables
+    c.in_ok-counts.counts.items
     (many ∙ c.requires.files) (ap (λ (lanes : List LaneContent). length lanes) before ∙ c.in_ok-lanes.ensures.count ∙ sym many)
     (c.in_ok-counts.ensures.plan.0 ∙ of_plan) (c.in_ok-counts.ensures.plan.1 ∙ ribs) fresh c.in_ok-counts.ensures.end)

@@ -7,7 +7,8 @@ use Rattle.rs_floor.proofs.steps.take_turns.Given as goal
 
 abbrev pub invariant-loop-turn : goal.invariant-loop-turn
 invariant-loop-turn l = record {
-  turned : (peer : ℕ) → option_map (lane_through (drop l.turn-index l.turns) peer) (slice_get l.lanes peer) ≡ option_map (lane_through l.turns peer) (slice_get l.fn.lanes peer);
+  turned : (peer : ℕ) → option_map (lane_through (drop l.turn-index l.turns) peer) (slice_get l.lanes peer)
+      ≡ option_map (lane_through l.turns peer) (slice_get l.fn.lanes peer);
   held : HoldReceived l.tables l.lanes;
   count : length l.lanes ≡ length l.tables.plan.peers;
   plan : l.tables.plan ≡ l.fn.tables.plan;

@@ -11,5 +11,6 @@ loop-dropped-preserved c =
     let prefix = c.args.prefix in
     let tried : c.cover-wide.result ≡ network_of prefix.address (prefix.len - c.loop-dropped.dropped) =
     c.cover-wide.ensures ∙ ap (λ (len : ℕ). network_of prefix.address (len - c.loop-dropped.dropped)) c.len.ensures.value in
-    let none : is_held ribs (network_of prefix.address (prefix.len - c.loop-dropped.dropped)) ≡ false = sym (ap (is_held ribs) tried) ∙ sym c.is_announced.ensures ∙ c.if-is_announced.false in
+    let none : is_held ribs (network_of prefix.address (prefix.len - c.loop-dropped.dropped)) ≡ false =
+    sym (ap (is_held ribs) tried) ∙ sym c.is_announced.ensures ∙ c.if-is_announced.false in
     lack-more ribs prefix c.loop-dropped.dropped c.loop-dropped.invariant none

@@ -1,5 +1,5 @@
--- A change that is given comes before whatever may come, behind those that were passed over, and the routes take it where it concerns the prefix; once none is given, or
--- one is too late, all that are in time were given or passed over.
+-- A change that is given comes before whatever may come, behind those that were passed over, and the routes take it where it concerns the
+-- prefix; once none is given, or one is too late, all that are in time were given or passed over.
 use Rattle.std.proofs.Common.{◌≡◌, ◌∙◌, ◌++◌, ◌∷◌, [], false, refl, sym}
 use Rattle.std.specs.List.{list_any}
 use Rattle.rs_mrt.specs.RecordReading.{MayCome, room_left}
@@ -15,15 +15,19 @@ loop-routes-init g c =
     let question = c.args.question.now in
     rw (c.over_by-session.ensures, c.new.ensures) (record {
       given = [];
-      is_given = given-none (MayCome g.R.Read.gives) (λ r. r.shown) _ _ c.new-until.result refl c.new-until.ensures.nothing c.new-until.ensures.time;
-      is_taken = taken-none question.prefix c.none-routes.result c.nothing-said.result c.none-routes.ensures (c.nothing-said.ensures question.prefix);
+      is_given = given-none (MayCome g.R.Read.gives) (λ r. r.shown)
+          _ _ c.new-until.result refl c.new-until.ensures.nothing c.new-until.ensures.time;
+      is_taken = taken-none question.prefix c.none-routes.result c.nothing-said.result c.none-routes.ensures
+          (c.nothing-said.ensures question.prefix);
     })
 
 pub loop-routes-smaller : goal.loop-routes-smaller
 loop-routes-smaller g c =
     let closes = rw c.in-Some.is at c.in_ok-word.ensures.closes in
     let fewer = rw c.in-Some.is at c.in_ok-word.ensures.fewer in
-    few-smaller (most_changes (λ r. room_left r) (λ r. r.shown) c.loop-routes.session) (most_changes (λ r. room_left r) (λ r. r.shown) c.next_word_on.new.self) c.loop-routes.session.closed c.next_word_on.new.self.closed (is_close (change_of c.in-Some.word)) closes.0 closes.1 fewer
+    few-smaller (most_changes (λ r. room_left r) (λ r. r.shown) c.loop-routes.session)
+    (most_changes (λ r. room_left r) (λ r. r.shown) c.next_word_on.new.self) c.loop-routes.session.closed c.next_word_on.new.self.closed
+    (is_close (change_of c.in-Some.word)) closes.0 closes.1 fewer
 
 pub loop-routes-preserved : goal.loop-routes-preserved
 loop-routes-preserved g c =
@@ -35,13 +39,18 @@ loop-routes-preserved g c =
     let given = r.given ++ over in
     let takes = takes-over c.loop-routes.until question.until r.given over r.is_given.time says.are_over.in_time r.is_given.takes in
     let taken = rw c.if-not-takes.false at c.takes.ensures.taken in
-    let held = taken-over question.prefix c.a_prefix_covers_itself.ensures r.given over c.loop-routes.routes c.loop-routes.said says.are_over.beside r.is_taken in
-    let none : list_any is_close given ≡ false = open-over question.prefix r.given over says.are_over.beside (sym r.is_given.closed ∙ closes.0) in
+    let held = taken-over question.prefix c.a_prefix_covers_itself.ensures r.given over c.loop-routes.routes c.loop-routes.said
+    says.are_over.beside r.is_taken in
+    let none : list_any is_close given ≡ false =
+    open-over question.prefix r.given over says.are_over.beside (sym r.is_given.closed ∙ closes.0) in
     record {
       given = given ++ change_of c.in-Some.word ∷ [];
-      is_given = given-more-behind (MayCome g.R.Read.gives) (λ r. r.shown) _ _ question.prefix r.given over c.loop-routes.session c.next_word_on.new.self c.loop-routes.until c.takes.new.self c.in-Some.word says.are_over.beside
+      is_given = given-more-behind (MayCome g.R.Read.gives) (λ r. r.shown)
+          _ _ question.prefix r.given over c.loop-routes.session c.next_word_on.new.self c.loop-routes.until c.takes.new.self c.in-Some.word
+          says.are_over.beside
           r.is_given says.says closes (taken given given takes) c.takes.ensures.time;
-      is_taken = taken-more question.prefix given (change_of c.in-Some.word) c.loop-routes.routes c.take_change.new.routes c.loop-routes.said c.after-said.result c.left_after_one_more.ensures held none
+      is_taken = taken-more question.prefix given (change_of c.in-Some.word)
+          c.loop-routes.routes c.take_change.new.routes c.loop-routes.said c.after-said.result c.left_after_one_more.ensures held none
           (c.after-said.ensures given held.is_said) c.in_ok-take_change.ensures;
     }
 
@@ -54,17 +63,23 @@ returns-then-not-takes g c =
     let given = r.given ++ over in
     let takes = takes-over c.loop-routes.until question.until r.given over r.is_given.time says.are_over.in_time r.is_given.takes in
     let taken = rw c.if-not-takes.true at c.takes.ensures.taken in
-    let held = taken-over question.prefix c.a_prefix_covers_itself.ensures r.given over c.loop-routes.routes c.loop-routes.said says.are_over.beside r.is_taken in
-    let late = given-late-behind (MayCome g.R.Read.gives) (λ r. r.shown) _ _ g.R.Read.gives question c.args.id c.args.reader refl (c.a_reader_gives_a_file_or_fails.ensures question.errors c.args.id)
-    c.what_is_taken_is_the_longest_beginning.ensures r.given over c.loop-routes.session c.next_word_on.new.self c.loop-routes.until c.takes.new.self c.in-Some.word r.is_given says.says c.in_ok-word.ensures.more (taken given given takes)
+    let held = taken-over question.prefix c.a_prefix_covers_itself.ensures r.given over c.loop-routes.routes c.loop-routes.said
+    says.are_over.beside r.is_taken in
+    let late = given-late-behind (MayCome g.R.Read.gives) (λ r. r.shown) _ _ g.R.Read.gives question c.args.id c.args.reader refl
+    (c.a_reader_gives_a_file_or_fails.ensures question.errors c.args.id)
+    c.what_is_taken_is_the_longest_beginning.ensures r.given over c.loop-routes.session c.next_word_on.new.self c.loop-routes.until
+    c.takes.new.self c.in-Some.word r.is_given says.says c.in_ok-word.ensures.more (taken given given takes)
     c.takes.ensures.time in
-    taken-said question.prefix g.R.Read.gives question c.args.id c.args.reader refl given c.loop-routes.routes c.loop-routes.said held late c.left_by_part.ensures c.left_by_last_changes.ensures
+    taken-said question.prefix g.R.Read.gives question c.args.id c.args.reader refl given c.loop-routes.routes c.loop-routes.said held late
+    c.left_by_part.ensures c.left_by_last_changes.ensures
 
 pub returns : goal.returns
 returns g c =
     let question = c.args.question.now in
     let says = rw c.in_default.is at c.in_ok-word.ensures.says in
     let r = c.loop-routes.invariant in
-    let all = given-all (MayCome g.R.Read.gives) (λ r. r.shown) _ _ g.R.Read.gives question c.args.id c.args.reader refl (c.a_reader_gives_a_file_or_fails.ensures question.errors c.args.id) c.what_is_taken_is_the_longest_beginning.ensures
+    let all = given-all (MayCome g.R.Read.gives) (λ r. r.shown) _ _ g.R.Read.gives question c.args.id c.args.reader refl
+    (c.a_reader_gives_a_file_or_fails.ensures question.errors c.args.id) c.what_is_taken_is_the_longest_beginning.ensures
     r.given c.loop-routes.session c.next_word_on.new.self c.loop-routes.until r.is_given says.says c.in_ok-word.ensures.more in
-    taken-said question.prefix g.R.Read.gives question c.args.id c.args.reader refl r.given c.loop-routes.routes c.loop-routes.said r.is_taken all c.left_by_part.ensures c.left_by_last_changes.ensures
+    taken-said question.prefix g.R.Read.gives question c.args.id c.args.reader refl r.given c.loop-routes.routes c.loop-routes.said
+    r.is_taken all c.left_by_part.ensures c.left_by_last_changes.ensures

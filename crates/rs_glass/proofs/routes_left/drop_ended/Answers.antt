@@ -6,4 +6,5 @@ use Rattle.rs_glass.specs.RoutesLeftView.{ends_route}
 use Rattle.rs_glass.proofs.routes_left.drop_ended.Goals as goal
 
 pub returns : goal.returns
-returns c = filter_same _ (λ kept. not (ends_route (change_of c.args.word.now) (change_of kept))) _ (λ x b f' k. search rules) _ _ c.retain.ensures.filtered
+returns c = filter_same _ (λ kept. not (ends_route (change_of c.args.word.now) (change_of kept))) _ (λ x b f' k. search rules)
+    _ _ c.retain.ensures.filtered

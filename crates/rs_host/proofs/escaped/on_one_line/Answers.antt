@@ -9,5 +9,6 @@ use Rattle.rs_host.proofs.escaped.on_one_line.Goals as goal
 
 pub returns : goal.returns
 returns c =
-    let whole = YieldsList-end (YieldsList-from_chars c.args.text.now c.utf8.text cc) c.loop-character.yielded _ c.loop-character.yielded_by _ _ c.in-None.is c.next.ensures.steps in
+    let whole = YieldsList-end (YieldsList-from_chars c.args.text.now c.utf8.text cc)
+    c.loop-character.yielded _ c.loop-character.yielded_by _ _ c.in-None.is c.next.ensures.steps in
     c.loop-character.invariant ∙ ap (flat_map shown) (sym (map-id c.loop-character.yielded) ∙ whole.0)

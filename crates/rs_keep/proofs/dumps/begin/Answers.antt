@@ -11,6 +11,8 @@ returns-in-Ok-start-clause-started g c =
     let files = c.args.dumping.now.files.now in
     let client = c.args.client in
     let file = c.index-dumping-client.result in
-    let below : client < length files = omega (arith, c.requires.client_known, files-count c.args.dumping.now.tables.now.plan files c.requires.files) in
+    let below : client < length files =
+    omega (arith, c.requires.client_known, files-count c.args.dumping.now.tables.now.plan files c.requires.files) in
     let is : file ≡ get_or files client file = search rules in
-    goes-out (O.started c.args.outlet.now) (O.started c.start.new.self) files client file c.as_str.result.now below is (c.as_str.ensures.value ∙ ap file_name (sym is)) c.in-Ok-start.ensures.ok_started
+    goes-out (O.started c.args.outlet.now) (O.started c.start.new.self) files client file c.as_str.result.now below is
+    (c.as_str.ensures.value ∙ ap file_name (sym is)) c.in-Ok-start.ensures.ok_started

@@ -17,14 +17,19 @@ returns-clause-written g c =
     let begun = c.deref_mut.result.now in
     let new = c.write_side_by_side.new.writings in
     let P : List (Writing g.row.O-Out.Denot) → Type 0 = λ some. AreWritten Out.taken Out.failures kept tables time client some in
-    let count : length new ≡ length c.begin_behind.new.some.items = c.write_side_by_side.ensures.count ∙ ap length c.deref_mut.ensures.value in
+    let count : length new ≡ length c.begin_behind.new.some.items =
+    c.write_side_by_side.ensures.count ∙ ap length c.deref_mut.ensures.value in
     let Q : List (Writing g.row.O-Out.Denot) → Type 0 = λ some. AreBegun Out.taken Out.failures kept tables time client some in
-    let R : Option (List KeptDump) → Type 0 = λ kept. AreBegun Out.taken Out.failures kept tables time client c.begin_behind.new.some.items in
-    let all : AreBegun Out.taken Out.failures kept tables time client begun = subst Q (sym c.deref_mut.ensures.value) (subst R c.in_ok-first.ensures.kept c.begin_behind.ensures.begun) in
-    subst P (sym (take_at new (drop (length new) c.begin_behind.new.some.items) c.begin_behind.new.some.len (omega (arith, count)))) record {
+    let R : Option (List KeptDump) → Type 0 =
+    λ kept. AreBegun Out.taken Out.failures kept tables time client c.begin_behind.new.some.items in
+    let all : AreBegun Out.taken Out.failures kept tables time client begun =
+    subst Q (sym c.deref_mut.ensures.value) (subst R c.in_ok-first.ensures.kept c.begin_behind.ensures.begun) in
+    subst P (sym (take_at new (drop (length new) c.begin_behind.new.some.items) c.begin_behind.new.some.len (omega (arith, count))))
+    record {
       each = λ k d below.
           let within : k < length begun = omega (arith, below, count, ap length c.deref_mut.ensures.value) in
-          written-of Out.taken Out.failures tables time kept (client + k) (slice_index_or begun k d) (slice_index_or new k d) (all k d within) (c.write_side_by_side.ensures.written k d within);
+          written-of Out.taken Out.failures tables time kept (client + k) (slice_index_or begun k d) (slice_index_or new k d)
+          (all k d within) (c.write_side_by_side.ensures.written k d within);
       known = omega (arith, count, c.begin_behind.ensures.some.1, c.most_at_once-most.ensures.known);
     }
 
@@ -36,6 +41,8 @@ returns-clause-started g c =
     let new = c.write_side_by_side.new.writings in
     let count : length new ≡ length begun = c.write_side_by_side.ensures.count ∙ ap length c.deref_mut.ensures.value in
     let all = take c.begin_behind.new.some.len (new ++ drop (length new) begun) in
-    let whole : length all ≡ length new = ap length (take_at new (drop (length new) begun) c.begin_behind.new.some.len (omega (arith, count))) in
-    too-more (O.started c.args.outlet.now) (O.started c.begin.new.outlet) (O.started c.begin_behind.new.outlet) c.args.dumping.now.files.now client 1 (client + 1) (length begun - 1) (length all) (omega arith)
+    let whole : length all ≡ length new =
+    ap length (take_at new (drop (length new) begun) c.begin_behind.new.some.len (omega (arith, count))) in
+    too-more (O.started c.args.outlet.now) (O.started c.begin.new.outlet) (O.started c.begin_behind.new.outlet)
+    c.args.dumping.now.files.now client 1 (client + 1) (length begun - 1) (length all) (omega arith)
     (omega (arith, whole, count, c.begin_behind.ensures.some.0)) c.in_ok-first.ensures.started c.begin_behind.ensures.started

@@ -5,4 +5,6 @@ use Rattle.rs_keep.proofs.keeping.add_table_lines.Given as goal
 
 -- the lines so far
 abbrev pub invariant-loop-client : goal.invariant-loop-client
-invariant-loop-client l = string_bytes l.report ≡ string_bytes l.fn.report ++ flat_map (table_line_of l.tables) (take l.client (enumerate_from 0 l.tables.plan.peers))
+invariant-loop-client l =
+    string_bytes l.report ≡ string_bytes l.fn.report ++ flat_map (table_line_of l.tables)
+    (take l.client (enumerate_from 0 l.tables.plan.peers))

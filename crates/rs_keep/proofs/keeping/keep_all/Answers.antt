@@ -1,5 +1,6 @@
 -- One client more: its dump is kept, and the rows of its table are counted. After the last one all is kept.
-use Rattle.std.proofs.Common.{◌≡◌, ℕ, ◌+◌, ◌<◌, ◌≤◌, List, ◌++◌, ◌∷◌, [], Option, get_or, length, length-append, take, refl, sym, ap, subst, ◌∙◌, arith, rules}
+use Rattle.std.proofs.Common.{◌≡◌, ℕ, ◌+◌, ◌<◌, ◌≤◌, List, ◌++◌, ◌∷◌, [], Option, get_or, length, length-append, take, refl, sym, ap, subst}
+use Rattle.std.proofs.Common.{◌∙◌, arith, rules}
 use Rattle.std.specs.Vec.Iter.{into_iter_items}
 use Rattle.rs_choice.specs.Plan.{Plan}
 use Rattle.rs_dump.specs.Dump.{dumped}
@@ -18,7 +19,8 @@ use Rattle.rs_keep.proofs.keeping.keep_all.Goals as goal
 
 pub returns-in_err-rows-clause-fault : goal.returns-in_err-rows-clause-fault
 returns-in_err-rows-clause-fault g c =
-    stop-memory c.args.dumping.now.tables.now c.args.dumping.now.time _ _ _ _ c.from_residual.result c.from_residual.ensures.1 (0, Grows-none (g.O.Outlet.kept c.args.outlet.now)) refl
+    stop-memory c.args.dumping.now.tables.now c.args.dumping.now.time _ _ _ _ c.from_residual.result c.from_residual.ensures.1
+    (0, Grows-none (g.O.Outlet.kept c.args.outlet.now)) refl
 
 pub returns-in_err-rows-clause-back : goal.returns-in_err-rows-clause-back
 returns-in_err-rows-clause-back g c = as-many-same (g.O.Outlet.started c.args.outlet.now)
@@ -27,23 +29,27 @@ pub returns-clause-kept : goal.returns-clause-kept
 returns-clause-kept g c =
     let O = g.O.Outlet in
     let tables = c.args.dumping.now.tables.now in
-    let past : length tables.plan.peers ≤ c.loop-client.client = omega (arith, c.count-client-end.ensures.value, ap (λ (of : Plan). length of.peers) c.plan-plan.ensures) in
+    let past : length tables.plan.peers ≤ c.loop-client.client =
+    omega (arith, c.count-client-end.ensures.value, ap (λ (of : Plan). length of.peers) c.plan-plan.ensures) in
     let P : List KeptDump → Type 0 = λ dumps. Grows (O.kept c.args.outlet.now) (O.kept c.loop-client.outlet) dumps in
     subst P (kept-all tables c.args.dumping.now.time c.loop-client.client past) c.loop-client.invariant.kept
 
 pub returns-clause-rows : goal.returns-clause-rows
 returns-clause-rows g c =
     let tables = c.args.dumping.now.tables.now in
-    let past : length tables.plan.peers ≤ c.loop-client.client = omega (arith, c.count-client-end.ensures.value, ap (λ (of : Plan). length of.peers) c.plan-plan.ensures) in
+    let past : length tables.plan.peers ≤ c.loop-client.client =
+    omega (arith, c.count-client-end.ensures.value, ap (λ (of : Plan). length of.peers) c.plan-plan.ensures) in
     c.loop-client.invariant.counts ∙ counts-all tables c.loop-client.client past
 
 pub returns-clause-back : goal.returns-clause-back
 returns-clause-back g c =
     let O = g.O.Outlet in
     let tables = c.args.dumping.now.tables.now in
-    let past : length tables.plan.peers ≤ c.loop-client.client = omega (arith, c.count-client-end.ensures.value, ap (λ (of : Plan). length of.peers) c.plan-plan.ensures) in
+    let past : length tables.plan.peers ≤ c.loop-client.client =
+    omega (arith, c.count-client-end.ensures.value, ap (λ (of : Plan). length of.peers) c.plan-plan.ensures) in
     let none : length (into_iter_items c.loop-client.written) ≡ 0 = omega (arith, past, c.loop-client.invariant.written.known) in
-    all-kept (O.started c.args.outlet.now) (O.started c.loop-client.outlet) c.args.dumping.now.files.now c.loop-client.client (length (into_iter_items c.loop-client.written)) none c.loop-client.invariant.started
+    all-kept (O.started c.args.outlet.now) (O.started c.loop-client.outlet) c.args.dumping.now.files.now c.loop-client.client
+    (length (into_iter_items c.loop-client.written)) none c.loop-client.invariant.started
 
 pub loop-client-init : goal.loop-client-init
 loop-client-init g c =
@@ -57,8 +63,10 @@ loop-client-init g c =
       counts = search rules;
       count = search rules;
       room = search rules;
-      written = none-of Out.taken Out.failures c.args.dumping.now.tables.now c.args.dumping.now.time kept 0 (into_iter_items c.into_iter-written.result) none (omega arith);
-      started = none-from (O.started c.args.outlet.now) c.args.dumping.now.files.now 0 (length (into_iter_items c.into_iter-written.result)) none;
+      written = none-of Out.taken Out.failures c.args.dumping.now.tables.now c.args.dumping.now.time kept 0
+          (into_iter_items c.into_iter-written.result) none (omega arith);
+      started = none-from (O.started c.args.outlet.now) c.args.dumping.now.files.now 0 (length (into_iter_items c.into_iter-written.result))
+          none;
     }
 
 pub returns-in_err-refill-clause-fault : goal.returns-in_err-refill-clause-fault
@@ -67,11 +75,15 @@ returns-in_err-refill-clause-fault g c =
     let time = c.args.dumping.now.time in
     let client = c.loop-client.client in
     let tables = c.args.dumping.now.tables.now in
-    let known : client < length tables.plan.peers = omega (arith, c.count-client-end.ensures.value, ap (λ (of : Plan). length of.peers) c.plan-plan.ensures) in
+    let known : client < length tables.plan.peers =
+    omega (arith, c.count-client-end.ensures.value, ap (λ (of : Plan). length of.peers) c.plan-plan.ensures) in
     let P : Option (List KeptDump) → Type 0 = λ kept. Grows (O.kept c.args.outlet.now) kept (take client (dumps_of tables time)) in
-    let R : ℕ → Type 0 = λ before. IsFaultAt client (length (table_of tables client)) before (O.failures c.refill.new.outlet) c.in_err-refill.field-0.0 in
-    stop-client tables time client (O.failures c.args.outlet.now) (O.failures c.refill.new.outlet) (O.kept c.args.outlet.now) (O.kept c.refill.new.outlet) c.in_err-refill.field-0.0 c.from_residual-in_err-refill.result c.from_residual-in_err-refill.ensures.1
-    known (subst P (sym c.refill.ensures.kept) c.loop-client.invariant.kept) (subst R c.loop-client.invariant.failures c.in_err-refill.ensures.fault)
+    let R : ℕ → Type 0 =
+    λ before. IsFaultAt client (length (table_of tables client)) before (O.failures c.refill.new.outlet) c.in_err-refill.field-0.0 in
+    stop-client tables time client (O.failures c.args.outlet.now) (O.failures c.refill.new.outlet) (O.kept c.args.outlet.now)
+    (O.kept c.refill.new.outlet) c.in_err-refill.field-0.0 c.from_residual-in_err-refill.result c.from_residual-in_err-refill.ensures.1
+    known (subst P (sym c.refill.ensures.kept) c.loop-client.invariant.kept)
+    (subst R c.loop-client.invariant.failures c.in_err-refill.ensures.fault)
 
 pub returns-in_err-refill-clause-back : goal.returns-in_err-refill-clause-back
 returns-in_err-refill-clause-back g c =
@@ -79,7 +91,8 @@ returns-in_err-refill-clause-back g c =
     let refused = c.in_err-refill.ensures.refused in
     let P : Names → Type 0 = λ now. AreAsMany (O.started c.args.outlet.now) now in
     subst P (sym refused.1)
-    (all-kept (O.started c.args.outlet.now) (O.started c.loop-client.outlet) c.args.dumping.now.files.now c.loop-client.client (length (into_iter_items c.loop-client.written)) refused.0 c.loop-client.invariant.started)
+    (all-kept (O.started c.args.outlet.now) (O.started c.loop-client.outlet) c.args.dumping.now.files.now c.loop-client.client
+    (length (into_iter_items c.loop-client.written)) refused.0 c.loop-client.invariant.started)
 
 pub keep-requires-clause-started : goal.keep-requires-clause-started
 keep-requires-clause-started g c =
@@ -93,14 +106,19 @@ keep-requires-clause-started g c =
     let file = c.index-dumping-client.result in
     let name = c.as_str.result.now in
     let others = into_iter_items c.next.new.self in
-    let left = some-left Out.taken Out.failures tables time (O.kept c.args.outlet.now) (O.kept c.loop-client.outlet) (take client (dumps_of tables time)) client (into_iter_items c.loop-client.written) (into_iter_items c.refill.new.written) c.in-Some.writing
-    others c.loop-client.invariant.kept c.loop-client.invariant.written (λ some. ap into_iter_items (c.refill.ensures.left some)) (λ none. c.in_ok-refill.ensures.written none) c.in-Some.ensures.cases.0 in
+    let left = some-left Out.taken Out.failures tables time (O.kept c.args.outlet.now) (O.kept c.loop-client.outlet)
+    (take client (dumps_of tables time)) client (into_iter_items c.loop-client.written) (into_iter_items c.refill.new.written)
+    c.in-Some.writing
+    others c.loop-client.invariant.kept c.loop-client.invariant.written (λ some. ap into_iter_items (c.refill.ensures.left some))
+    (λ none. c.in_ok-refill.ensures.written none) c.in-Some.ensures.cases.0 in
     let within : client + 1 + length others ≤ length files = omega (arith, left.known, files-count tables.plan files c.requires.files) in
     let is : file ≡ get_or files client file = search rules in
     let named : name ≡ file_name file = c.as_str.ensures.value ∙ ap file_name (sym is) in
     let long : length (into_iter_items c.refill.new.written) ≡ 1 + length others = omega (arith, ap length c.in-Some.ensures.cases.0) in
-    let out : AreOutToo (O.started c.args.outlet.now) (O.started c.refill.new.outlet) (name ∷ names_from files (client + 1) (length others)) =
-    first-out (O.started c.args.outlet.now) (O.started c.refill.new.outlet) files client (length (into_iter_items c.refill.new.written)) (length others) file name (omega (arith, within)) is named long
+    let out : AreOutToo (O.started c.args.outlet.now) (O.started c.refill.new.outlet)
+    (name ∷ names_from files (client + 1) (length others)) =
+    first-out (O.started c.args.outlet.now) (O.started c.refill.new.outlet) files client (length (into_iter_items c.refill.new.written))
+    (length others) file name (omega (arith, within)) is named long
     (c.in_ok-refill.ensures.started (O.started c.args.outlet.now) c.loop-client.invariant.started) in
     is_out (O.started c.args.outlet.now) (O.started c.refill.new.outlet) name (names_from files (client + 1) (length others)) out
 
@@ -116,16 +134,22 @@ lose_all-requires-after_bounds g c =
     let file = c.index-dumping-client.result in
     let name = c.as_str.result.now in
     let others = into_iter_items c.next.new.self in
-    let left = some-left Out.taken Out.failures tables time (O.kept c.args.outlet.now) (O.kept c.loop-client.outlet) (take client (dumps_of tables time)) client (into_iter_items c.loop-client.written) (into_iter_items c.refill.new.written) c.in-Some.writing
-    others c.loop-client.invariant.kept c.loop-client.invariant.written (λ some. ap into_iter_items (c.refill.ensures.left some)) (λ none. c.in_ok-refill.ensures.written none) c.in-Some.ensures.cases.0 in
+    let left = some-left Out.taken Out.failures tables time (O.kept c.args.outlet.now) (O.kept c.loop-client.outlet)
+    (take client (dumps_of tables time)) client (into_iter_items c.loop-client.written) (into_iter_items c.refill.new.written)
+    c.in-Some.writing
+    others c.loop-client.invariant.kept c.loop-client.invariant.written (λ some. ap into_iter_items (c.refill.ensures.left some))
+    (λ none. c.in_ok-refill.ensures.written none) c.in-Some.ensures.cases.0 in
     let within : client + 1 + length others ≤ length files = omega (arith, left.known, files-count tables.plan files c.requires.files) in
     let is : file ≡ get_or files client file = search rules in
     let named : name ≡ file_name file = c.as_str.ensures.value ∙ ap file_name (sym is) in
     let long : length (into_iter_items c.refill.new.written) ≡ 1 + length others = omega (arith, ap length c.in-Some.ensures.cases.0) in
-    let out : AreOutToo (O.started c.args.outlet.now) (O.started c.refill.new.outlet) (name ∷ names_from files (client + 1) (length others)) =
-    first-out (O.started c.args.outlet.now) (O.started c.refill.new.outlet) files client (length (into_iter_items c.refill.new.written)) (length others) file name (omega (arith, within)) is named long
+    let out : AreOutToo (O.started c.args.outlet.now) (O.started c.refill.new.outlet)
+    (name ∷ names_from files (client + 1) (length others)) =
+    first-out (O.started c.args.outlet.now) (O.started c.refill.new.outlet) files client (length (into_iter_items c.refill.new.written))
+    (length others) file name (omega (arith, within)) is named long
     (c.in_ok-refill.ensures.started (O.started c.args.outlet.now) c.loop-client.invariant.started) in
-    others-out (O.started c.args.outlet.now) (O.started c.refill.new.outlet) (O.started c.keep.new.outlet) files (client + 1) (length others) name within out c.keep.ensures.one_back
+    others-out (O.started c.args.outlet.now) (O.started c.refill.new.outlet) (O.started c.keep.new.outlet) files (client + 1)
+    (length others) name within out c.keep.ensures.one_back
 
 pub returns-in_default-keep-clause-back : goal.returns-in_default-keep-clause-back
 returns-in_default-keep-clause-back g c =
@@ -138,16 +162,22 @@ returns-in_default-keep-clause-back g c =
     let file = c.index-dumping-client.result in
     let name = c.as_str.result.now in
     let others = into_iter_items c.next.new.self in
-    let left = some-left Out.taken Out.failures tables time (O.kept c.args.outlet.now) (O.kept c.loop-client.outlet) (take client (dumps_of tables time)) client (into_iter_items c.loop-client.written) (into_iter_items c.refill.new.written) c.in-Some.writing
-    others c.loop-client.invariant.kept c.loop-client.invariant.written (λ some. ap into_iter_items (c.refill.ensures.left some)) (λ none. c.in_ok-refill.ensures.written none) c.in-Some.ensures.cases.0 in
+    let left = some-left Out.taken Out.failures tables time (O.kept c.args.outlet.now) (O.kept c.loop-client.outlet)
+    (take client (dumps_of tables time)) client (into_iter_items c.loop-client.written) (into_iter_items c.refill.new.written)
+    c.in-Some.writing
+    others c.loop-client.invariant.kept c.loop-client.invariant.written (λ some. ap into_iter_items (c.refill.ensures.left some))
+    (λ none. c.in_ok-refill.ensures.written none) c.in-Some.ensures.cases.0 in
     let within : client + 1 + length others ≤ length files = omega (arith, left.known, files-count tables.plan files c.requires.files) in
     let is : file ≡ get_or files client file = search rules in
     let named : name ≡ file_name file = c.as_str.ensures.value ∙ ap file_name (sym is) in
     let long : length (into_iter_items c.refill.new.written) ≡ 1 + length others = omega (arith, ap length c.in-Some.ensures.cases.0) in
-    let out : AreOutToo (O.started c.args.outlet.now) (O.started c.refill.new.outlet) (name ∷ names_from files (client + 1) (length others)) =
-    first-out (O.started c.args.outlet.now) (O.started c.refill.new.outlet) files client (length (into_iter_items c.refill.new.written)) (length others) file name (omega (arith, within)) is named long
+    let out : AreOutToo (O.started c.args.outlet.now) (O.started c.refill.new.outlet)
+    (name ∷ names_from files (client + 1) (length others)) =
+    first-out (O.started c.args.outlet.now) (O.started c.refill.new.outlet) files client (length (into_iter_items c.refill.new.written))
+    (length others) file name (omega (arith, within)) is named long
     (c.in_ok-refill.ensures.started (O.started c.args.outlet.now) c.loop-client.invariant.started) in
-    others-back (O.started c.args.outlet.now) (O.started c.refill.new.outlet) (O.started c.keep.new.outlet) (O.started c.lose_all.new.outlet) files (client + 1) (length others) name within out c.keep.ensures.one_back
+    others-back (O.started c.args.outlet.now) (O.started c.refill.new.outlet) (O.started c.keep.new.outlet)
+    (O.started c.lose_all.new.outlet) files (client + 1) (length others) name within out c.keep.ensures.one_back
     c.lose_all.ensures.back
 
 pub loop-client-preserved : goal.loop-client-preserved
@@ -161,14 +191,19 @@ loop-client-preserved g c =
     let file = c.index-dumping-client.result in
     let name = c.as_str.result.now in
     let others = into_iter_items c.next.new.self in
-    let left = some-left Out.taken Out.failures tables time (O.kept c.args.outlet.now) (O.kept c.loop-client.outlet) (take client (dumps_of tables time)) client (into_iter_items c.loop-client.written) (into_iter_items c.refill.new.written) c.in-Some.writing
-    others c.loop-client.invariant.kept c.loop-client.invariant.written (λ some. ap into_iter_items (c.refill.ensures.left some)) (λ none. c.in_ok-refill.ensures.written none) c.in-Some.ensures.cases.0 in
+    let left = some-left Out.taken Out.failures tables time (O.kept c.args.outlet.now) (O.kept c.loop-client.outlet)
+    (take client (dumps_of tables time)) client (into_iter_items c.loop-client.written) (into_iter_items c.refill.new.written)
+    c.in-Some.writing
+    others c.loop-client.invariant.kept c.loop-client.invariant.written (λ some. ap into_iter_items (c.refill.ensures.left some))
+    (λ none. c.in_ok-refill.ensures.written none) c.in-Some.ensures.cases.0 in
     let within : client + 1 + length others ≤ length files = omega (arith, left.known, files-count tables.plan files c.requires.files) in
     let is : file ≡ get_or files client file = search rules in
     let named : name ≡ file_name file = c.as_str.ensures.value ∙ ap file_name (sym is) in
     let long : length (into_iter_items c.refill.new.written) ≡ 1 + length others = omega (arith, ap length c.in-Some.ensures.cases.0) in
-    let out : AreOutToo (O.started c.args.outlet.now) (O.started c.refill.new.outlet) (name ∷ names_from files (client + 1) (length others)) =
-    first-out (O.started c.args.outlet.now) (O.started c.refill.new.outlet) files client (length (into_iter_items c.refill.new.written)) (length others) file name (omega (arith, within)) is named long
+    let out : AreOutToo (O.started c.args.outlet.now) (O.started c.refill.new.outlet)
+    (name ∷ names_from files (client + 1) (length others)) =
+    first-out (O.started c.args.outlet.now) (O.started c.refill.new.outlet) files client (length (into_iter_items c.refill.new.written))
+    (length others) file name (omega (arith, within)) is named long
     (c.in_ok-refill.ensures.started (O.started c.args.outlet.now) c.loop-client.invariant.started) in
     let writing = c.in-Some.writing in
     let count = c.in-Some-keep.count in
@@ -178,14 +213,22 @@ loop-client-preserved g c =
     let rows : count ≡ length (table_of tables client) = c.in-Some-keep.ensures.rows ∙ first.rows whole in
     let P : Option (List KeptDump) → Type 0 = λ kept. Grows (O.kept c.args.outlet.now) kept (take client (dumps_of tables time)) in
     record {
-      kept = kept-one_more tables time client peer.0 (O.kept c.args.outlet.now) (O.kept c.refill.new.outlet) (O.kept c.keep.new.outlet) name (dumped tables.plan client (table_of tables client) time) (Out.taken writing.out)
+      kept = kept-one_more tables time client peer.0 (O.kept c.args.outlet.now) (O.kept c.refill.new.outlet) (O.kept c.keep.new.outlet) name
+          (dumped tables.plan client (table_of tables client) time) (Out.taken writing.out)
           peer.1 (named ∙ file-at tables.plan files client file peer.0 c.requires.files is peer.1) refl
           (subst P (sym c.refill.ensures.kept) c.loop-client.invariant.kept) (first.told whole) c.in-Some-keep.ensures.kept;
       failures = c.in-Some-keep.ensures.no_failure ∙ c.in_ok-refill.ensures.no_failure ∙ c.loop-client.invariant.failures;
-      counts = c.in-Ok.ensures.items ∙ ap (λ before. before ++ count ∷ []) c.loop-client.invariant.counts ∙ ap (λ last. take client (row_counts tables) ++ last ∷ []) rows
+      counts = c.in-Ok.ensures.items ∙ ap (λ before. before ++ count ∷ []) c.loop-client.invariant.counts
+          ∙ ap (λ last. take client (row_counts tables) ++ last ∷ []) rows
           ∙ sym (take-one_more (row_counts tables) client (length (table_of tables client)) (row_count-at tables client peer.0 peer.1));
-      count = omega (arith, ap length c.in-Ok.ensures.items, length-append c.loop-client.rows.items (count ∷ []), c.loop-client.invariant.count);
+      count = omega (
+        arith,
+        ap length c.in-Ok.ensures.items,
+        length-append c.loop-client.rows.items (count ∷ []),
+        c.loop-client.invariant.count,
+      );
       room = search rules;
       written = others-of Out.taken Out.failures tables time (O.kept c.args.outlet.now) client writing others left;
-      started = comes-back (O.started c.args.outlet.now) (O.started c.refill.new.outlet) (O.started c.keep.new.outlet) name (names_from files (client + 1) (length others)) out c.in-Some-keep.ensures.back;
+      started = comes-back (O.started c.args.outlet.now) (O.started c.refill.new.outlet) (O.started c.keep.new.outlet) name
+          (names_from files (client + 1) (length others)) out c.in-Some-keep.ensures.back;
     }

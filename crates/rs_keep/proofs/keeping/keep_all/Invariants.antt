@@ -18,6 +18,8 @@ invariant-loop-client g l =
       counts : l.rows.items ≡ take l.client (row_counts l.dumping.tables.now);
       count : length l.rows.items ≡ l.client;
       room : length l.dumping.tables.now.plan.peers ≤ vec_capacity l.rows;
-      written : AreWritten Out.taken Out.failures (O.kept l.fn.outlet) l.dumping.tables.now l.dumping.time l.client (into_iter_items l.written);
-      started : AreOutToo (O.started l.fn.outlet) (O.started l.outlet) (names_from l.dumping.files.now l.client (length (into_iter_items l.written)));
+      written : AreWritten Out.taken Out.failures (O.kept l.fn.outlet) l.dumping.tables.now l.dumping.time l.client
+          (into_iter_items l.written);
+      started : AreOutToo (O.started l.fn.outlet) (O.started l.outlet)
+          (names_from l.dumping.files.now l.client (length (into_iter_items l.written)));
     }

@@ -6,7 +6,8 @@ use Rattle.rs_keep.proofs.keeping.keep_dumps.Goals as goal
 
 pub returns-in_err-files-clause-fault : goal.returns-in_err-files-clause-fault
 returns-in_err-files-clause-fault g c =
-    stop-memory c.args.tables.now c.args.time _ _ _ _ c.from_residual.result c.from_residual.ensures.1 (0, Grows-none (g.O.Outlet.kept c.args.outlet.now)) refl
+    stop-memory c.args.tables.now c.args.time _ _ _ _ c.from_residual.result c.from_residual.ensures.1
+    (0, Grows-none (g.O.Outlet.kept c.args.outlet.now)) refl
 
 pub returns-in_err-files-clause-back : goal.returns-in_err-files-clause-back
 returns-in_err-files-clause-back g c = as-many-same (g.O.Outlet.started c.args.outlet.now)

@@ -29,7 +29,8 @@ loop-writing-preserved g c =
       tt,
       record {
         out = still-out (O.started c.loop-writing.outlet) (O.started c.lost.new.self) _ _ left before.out c.lost.ensures.back;
-        back = one-more-back (O.started c.args.outlet.now) (O.started c.loop-writing.outlet) (O.started c.lost.new.self) _ _ (omega (arith, left, before.fewer)) before.back c.lost.ensures.back;
+        back = one-more-back (O.started c.args.outlet.now) (O.started c.loop-writing.outlet) (O.started c.lost.new.self) _ _
+            (omega (arith, left, before.fewer)) before.back c.lost.ensures.back;
         fewer = omega (arith, left, before.fewer);
         kept = search rules;
         failures = omega (arith, before.failures, c.lost.ensures.no_fewer);
@@ -40,5 +41,6 @@ pub returns-clause-back : goal.returns-clause-back
 returns-clause-back g c =
     let O = g.O.Outlet in
     let none : length (into_iter_items c.loop-writing.writing-iterator) ≡ 0 = search rules in
-    let all : length (into_iter_items c.args.written) - length (into_iter_items c.loop-writing.writing-iterator) ≡ length (into_iter_items c.args.written) = omega (arith, none) in
+    let all : length (into_iter_items c.args.written) - length (into_iter_items c.loop-writing.writing-iterator)
+    ≡ length (into_iter_items c.args.written) = omega (arith, none) in
     subst (AreBack (O.started c.args.outlet.now) (O.started c.loop-writing.outlet)) all c.loop-writing.invariant.2.back

@@ -11,7 +11,8 @@ invariant-loop-writing g l =
     × (goal.iterator-loop-writing g).is_finite l.writing-iterator
     × record {
       out : AreOut (O.started l.outlet) (length (into_iter_items l.writing-iterator));
-      back : AreBack (O.started l.fn.outlet) (O.started l.outlet) (length (into_iter_items l.fn.written) - length (into_iter_items l.writing-iterator));
+      back : AreBack (O.started l.fn.outlet) (O.started l.outlet)
+          (length (into_iter_items l.fn.written) - length (into_iter_items l.writing-iterator));
       fewer : length (into_iter_items l.writing-iterator) ≤ length (into_iter_items l.fn.written);
       kept : O.kept l.outlet ≡ O.kept l.fn.outlet;
       failures : O.failures l.fn.outlet ≤ O.failures l.outlet;

@@ -13,10 +13,13 @@ returns-in_err-fill-2-clause-finds g c =
     let p = err_from_is_err_and c.from_residual-in_err-fill-2.result c.from_residual-in_err-fill-2.ensures.1 in
     let header = rw c.if-not-branch.false at c.in_ok-fill.ensures.fills in
     let long = rw c.if-not-branch.false at c.in_ok-fill.ensures.enough in
-    let field : c.read_u32-length.result ≡ length_field c.fill.new.self = field-read c.octets-2.result.now c.fill.new.self c.read_u32-length.result c.read_u32-length.ensures c.octets-2.ensures.value in
-    let short : length c.fill-2.new.self < 12 + length_field c.fill.new.self = omega (arith, field, c.min-front.ensures, c.in_err-fill-2.ensures.enough) in
+    let field : c.read_u32-length.result ≡ length_field c.fill.new.self =
+    field-read c.octets-2.result.now c.fill.new.self c.read_u32-length.result c.read_u32-length.ensures c.octets-2.ensures.value in
+    let short : length c.fill-2.new.self < 12 + length_field c.fill.new.self =
+    omega (arith, field, c.min-front.ensures, c.in_err-fill-2.ensures.enough) in
     rw (p.1, p.2)
-    (short-body R.gives R.failures c.args.inlet.now c.fill.new.inlet c.fill-2.new.inlet c.args.window.now c.fill.new.self c.fill-2.new.self ReadFails c.in_err-fill-2.field-0.0
+    (short-body R.gives R.failures c.args.inlet.now c.fill.new.inlet c.fill-2.new.inlet c.args.window.now c.fill.new.self c.fill-2.new.self
+    ReadFails c.in_err-fill-2.field-0.0
     header long c.in_err-fill-2.ensures.fills short)
 
 pub returns-then-not-branch-2-clause-finds : goal.returns-then-not-branch-2-clause-finds
@@ -26,9 +29,11 @@ returns-then-not-branch-2-clause-finds g c =
     let long = rw c.if-not-branch.false at c.in_ok-fill.ensures.enough in
     let fills = rw c.if-not-branch-2.true at c.in_ok-fill-2.ensures.fills in
     let enough = rw c.if-not-branch-2.true at c.in_ok-fill-2.ensures.enough in
-    let field : c.read_u32-length.result ≡ length_field c.fill.new.self = field-read c.octets-2.result.now c.fill.new.self c.read_u32-length.result c.read_u32-length.ensures c.octets-2.ensures.value in
+    let field : c.read_u32-length.result ≡ length_field c.fill.new.self =
+    field-read c.octets-2.result.now c.fill.new.self c.read_u32-length.result c.read_u32-length.ensures c.octets-2.ensures.value in
     let short : length c.fill-2.new.self < 12 + length_field c.fill.new.self = omega (arith, field, c.min-front.ensures, enough) in
-    short-body R.gives R.failures c.args.inlet.now c.fill.new.inlet c.fill-2.new.inlet c.args.window.now c.fill.new.self c.fill-2.new.self FileEnds (record {}) header long fills short
+    short-body R.gives R.failures c.args.inlet.now c.fill.new.inlet c.fill-2.new.inlet c.args.window.now c.fill.new.self c.fill-2.new.self
+    FileEnds (record {}) header long fills short
 
 pub returns-in_err-skip-clause-finds : goal.returns-in_err-skip-clause-finds
 returns-in_err-skip-clause-finds g c =
@@ -38,13 +43,18 @@ returns-in_err-skip-clause-finds g c =
     let long = rw c.if-not-branch.false at c.in_ok-fill.ensures.enough in
     let fills = rw c.if-not-branch-2.false at c.in_ok-fill-2.ensures.fills in
     let enough = rw c.if-not-branch-2.false at c.in_ok-fill-2.ensures.enough in
-    let both = Fills-then R.gives R.failures c.args.inlet.now c.fill.new.inlet c.fill-2.new.inlet c.args.window.now c.fill.new.self c.fill-2.new.self (Ok true) header fills in
-    let field : c.read_u32-length.result ≡ length_field c.fill.new.self = field-read c.octets-2.result.now c.fill.new.self c.read_u32-length.result c.read_u32-length.ensures c.octets-2.ensures.value in
-    let still : length_field c.fill-2.new.self ≡ length_field c.fill.new.self = field-filled c.fill.new.self c.fill-2.new.self fills.piece long fills.filled in
+    let both = Fills-then R.gives R.failures c.args.inlet.now c.fill.new.inlet c.fill-2.new.inlet c.args.window.now c.fill.new.self
+    c.fill-2.new.self (Ok true) header fills in
+    let field : c.read_u32-length.result ≡ length_field c.fill.new.self =
+    field-read c.octets-2.result.now c.fill.new.self c.read_u32-length.result c.read_u32-length.ensures c.octets-2.ensures.value in
+    let still : length_field c.fill-2.new.self ≡ length_field c.fill.new.self =
+    field-filled c.fill.new.self c.fill-2.new.self fills.piece long fills.filled in
     let wanted = c.read_u32-length.result - c.min-front.result in
     rw (p.1, p.2)
-    (short-skip R.gives R.failures c.args.inlet.now c.fill-2.new.inlet c.skip.new.self c.args.window.now c.fill-2.new.self wanted ReadFails c.in_err-skip.field-0.0
-    both (omega (arith, enough)) c.in_err-skip.ensures (omega (arith, field, still)) (λ some. omega (arith, field, still, c.min-front.ensures, c.fill-2.ensures.room)))
+    (short-skip R.gives R.failures c.args.inlet.now c.fill-2.new.inlet c.skip.new.self c.args.window.now c.fill-2.new.self wanted ReadFails
+    c.in_err-skip.field-0.0
+    both (omega (arith, enough)) c.in_err-skip.ensures (omega (arith, field, still))
+    (λ some. omega (arith, field, still, c.min-front.ensures, c.fill-2.ensures.room)))
 
 pub returns-then-not-branch-3-clause-finds : goal.returns-then-not-branch-3-clause-finds
 returns-then-not-branch-3-clause-finds g c =
@@ -53,13 +63,18 @@ returns-then-not-branch-3-clause-finds g c =
     let long = rw c.if-not-branch.false at c.in_ok-fill.ensures.enough in
     let fills = rw c.if-not-branch-2.false at c.in_ok-fill-2.ensures.fills in
     let enough = rw c.if-not-branch-2.false at c.in_ok-fill-2.ensures.enough in
-    let both = Fills-then R.gives R.failures c.args.inlet.now c.fill.new.inlet c.fill-2.new.inlet c.args.window.now c.fill.new.self c.fill-2.new.self (Ok true) header fills in
-    let field : c.read_u32-length.result ≡ length_field c.fill.new.self = field-read c.octets-2.result.now c.fill.new.self c.read_u32-length.result c.read_u32-length.ensures c.octets-2.ensures.value in
-    let still : length_field c.fill-2.new.self ≡ length_field c.fill.new.self = field-filled c.fill.new.self c.fill-2.new.self fills.piece long fills.filled in
+    let both = Fills-then R.gives R.failures c.args.inlet.now c.fill.new.inlet c.fill-2.new.inlet c.args.window.now c.fill.new.self
+    c.fill-2.new.self (Ok true) header fills in
+    let field : c.read_u32-length.result ≡ length_field c.fill.new.self =
+    field-read c.octets-2.result.now c.fill.new.self c.read_u32-length.result c.read_u32-length.ensures c.octets-2.ensures.value in
+    let still : length_field c.fill-2.new.self ≡ length_field c.fill.new.self =
+    field-filled c.fill.new.self c.fill-2.new.self fills.piece long fills.filled in
     let skips = rw c.if-not-branch-3.true at c.in_ok-skip.ensures in
     let wanted = c.read_u32-length.result - c.min-front.result in
-    short-skip R.gives R.failures c.args.inlet.now c.fill-2.new.inlet c.skip.new.self c.args.window.now c.fill-2.new.self wanted FileEnds (record {})
-    both (omega (arith, enough)) skips (omega (arith, field, still)) (λ some. omega (arith, field, still, c.min-front.ensures, c.fill-2.ensures.room))
+    short-skip R.gives R.failures c.args.inlet.now c.fill-2.new.inlet c.skip.new.self c.args.window.now c.fill-2.new.self wanted FileEnds
+    (record {})
+    both (omega (arith, enough)) skips (omega (arith, field, still))
+    (λ some. omega (arith, field, still, c.min-front.ensures, c.fill-2.ensures.room))
 
 pub returns-clause-finds : goal.returns-clause-finds
 returns-clause-finds g c =
@@ -68,11 +83,15 @@ returns-clause-finds g c =
     let long = rw c.if-not-branch.false at c.in_ok-fill.ensures.enough in
     let fills = rw c.if-not-branch-2.false at c.in_ok-fill-2.ensures.fills in
     let enough = rw c.if-not-branch-2.false at c.in_ok-fill-2.ensures.enough in
-    let both = Fills-then R.gives R.failures c.args.inlet.now c.fill.new.inlet c.fill-2.new.inlet c.args.window.now c.fill.new.self c.fill-2.new.self (Ok true) header fills in
-    let field : c.read_u32-length.result ≡ length_field c.fill.new.self = field-read c.octets-2.result.now c.fill.new.self c.read_u32-length.result c.read_u32-length.ensures c.octets-2.ensures.value in
-    let still : length_field c.fill-2.new.self ≡ length_field c.fill.new.self = field-filled c.fill.new.self c.fill-2.new.self fills.piece long fills.filled in
+    let both = Fills-then R.gives R.failures c.args.inlet.now c.fill.new.inlet c.fill-2.new.inlet c.args.window.now c.fill.new.self
+    c.fill-2.new.self (Ok true) header fills in
+    let field : c.read_u32-length.result ≡ length_field c.fill.new.self =
+    field-read c.octets-2.result.now c.fill.new.self c.read_u32-length.result c.read_u32-length.ensures c.octets-2.ensures.value in
+    let still : length_field c.fill-2.new.self ≡ length_field c.fill.new.self =
+    field-filled c.fill.new.self c.fill-2.new.self fills.piece long fills.filled in
     let skips = rw c.if-not-branch-3.false at c.in_ok-skip.ensures in
-    found-front R.gives R.failures c.args.inlet.now c.fill-2.new.inlet c.skip.new.self c.args.window.now c.fill-2.new.self c.read_u32-length.result c.min-front.result
+    found-front R.gives R.failures c.args.inlet.now c.fill-2.new.inlet c.skip.new.self c.args.window.now c.fill-2.new.self
+    c.read_u32-length.result c.min-front.result
     both skips (field ∙ sym still) c.min-front.ensures enough c.fill-2.ensures.room
 
 pub returns-then-is_empty-clause-finds : goal.returns-then-is_empty-clause-finds

@@ -7,7 +7,9 @@ pub returns-in-Ok-eq0-clause-err : goal.returns-in-Ok-eq0-clause-err
 returns-in-Ok-eq0-clause-err g c =
     let W = g.W.Write in
     let taken = rw c.in-Ok-eq0.field-0-test at c.in-Ok-eq0.ensures.taken in
-    Written-stopped (W.taken c.args.out.now) (W.taken c.loop-rest.out) (W.taken c.write.new.self) c.args.piece.now c.loop-rest.rest.now c.loop-rest.invariant.written (Keeps-from_nothing (W.taken c.loop-rest.out) (W.taken c.write.new.self) taken)
+    Written-stopped (W.taken c.args.out.now) (W.taken c.loop-rest.out) (W.taken c.write.new.self)
+    c.args.piece.now c.loop-rest.rest.now c.loop-rest.invariant.written
+    (Keeps-from_nothing (W.taken c.loop-rest.out) (W.taken c.write.new.self) taken)
 
 pub loop-rest-preserved : goal.loop-rest-preserved
 loop-rest-preserved g c =
@@ -15,14 +17,16 @@ loop-rest-preserved g c =
     let failures = c.in-Ok.ensures.failures in
     let none = took_some c.in-Ok.count c.loop-rest.rest.now c.in-Ok.count-test.1 in
     record {
-      written = Written-more (W.taken c.args.out.now) (W.taken c.loop-rest.out) (W.taken c.write.new.self) c.args.piece.now c.loop-rest.rest.now c.in-Ok.count c.loop-rest.invariant.written c.in-Ok.ensures.taken;
+      written = Written-more (W.taken c.args.out.now) (W.taken c.loop-rest.out) (W.taken c.write.new.self)
+          c.args.piece.now c.loop-rest.rest.now c.in-Ok.count c.loop-rest.invariant.written c.in-Ok.ensures.taken;
       failures = omega (arith, failures, none, c.loop-rest.invariant.failures);
     }
 
 pub returns-in-Err-clause-err : goal.returns-in-Err-clause-err
 returns-in-Err-clause-err g c =
     let W = g.W.Write in
-    Written-stopped (W.taken c.args.out.now) (W.taken c.loop-rest.out) (W.taken c.write.new.self) c.args.piece.now c.loop-rest.rest.now c.loop-rest.invariant.written c.in-Err.ensures.taken
+    Written-stopped (W.taken c.args.out.now) (W.taken c.loop-rest.out) (W.taken c.write.new.self)
+    c.args.piece.now c.loop-rest.rest.now c.loop-rest.invariant.written c.in-Err.ensures.taken
 
 pub returns-in-Ok-eq0-clause-ok : goal.returns-in-Ok-eq0-clause-ok
 returns-in-Ok-eq0-clause-ok g c = search

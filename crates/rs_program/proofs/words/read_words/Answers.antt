@@ -18,20 +18,25 @@ is_free_program = refl
 pub returns-in-Ok : goal.returns-in-Ok
 returns-in-Ok c =
     let known : app_of c.in_ok-program.field-0 ≡ program = search rules in
-    let words_are : map string_bytes c.as_slice.result.now ≡ map string_bytes c.args.words.items = ap (map string_bytes) c.as_slice.ensures.value in
+    let words_are : map string_bytes c.as_slice.result.now ≡ map string_bytes c.args.words.items =
+    ap (map string_bytes) c.as_slice.ensures.value in
     let found = c.in-Ok.ensures.matches (ap is_simple known ∙ is_simple_program) in
-    let rows : rows_of (found_of c.in-Ok.matches) ≡ matches_of program (map string_bytes c.args.words.items) = found.0 ∙ ap₂ matches_of known words_are in
+    let rows : rows_of (found_of c.in-Ok.matches) ≡ matches_of program (map string_bytes c.args.words.items) =
+    found.0 ∙ ap₂ matches_of known words_are in
     let kinds = c.in-Ok.ensures.kinds (ap is_simple_and_free known ∙ is_free_program) in
     let none : faults_in (map string_bytes c.args.words.items) ≡ [] = sym (ap₂ fault_of known words_are) ∙ kinds in
     record {
-      options = IfOk-weaker c.options_of.result _ _ (λ options held. subst (λ r. HoldOptions r options) rows held) c.options_of.ensures.options;
+      options = IfOk-weaker c.options_of.result _ _ (λ options held. subst (λ r. HoldOptions r options) rows held)
+          c.options_of.ensures.options;
       taken = at_success c.options_of.result none;
-      refused = IfErr-weaker c.options_of.result _ _ (λ fault why. subst (λ k. SaysWhy k fault) (sym none) why) c.options_of.ensures.refused;
+      refused = IfErr-weaker c.options_of.result _ _ (λ fault why. subst (λ k. SaysWhy k fault) (sym none) why)
+          c.options_of.ensures.refused;
     }
 
 pub returns-clause-refused : goal.returns-clause-refused
 returns-clause-refused c =
     let known : app_of c.in_ok-program.field-0 ≡ program = search rules in
-    let words_are : map string_bytes c.as_slice.result.now ≡ map string_bytes c.args.words.items = ap (map string_bytes) c.as_slice.ensures.value in
+    let words_are : map string_bytes c.as_slice.result.now ≡ map string_bytes c.args.words.items =
+    ap (map string_bytes) c.as_slice.ensures.value in
     let kinds = c.in-Err.ensures.kinds (ap is_simple_and_free known ∙ is_free_program) in
     told_as _ c.in-Err.error _ (subst (λ k. HasKind k c.in-Err.error) (ap₂ fault_of known words_are) kinds) c.fault_of.ensures

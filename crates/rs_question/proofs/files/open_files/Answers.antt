@@ -11,8 +11,14 @@ loop-path-preserved g c =
     let pushed : c.push.new.self.items ≡ c.loop-path.files.items ++ c.in-Ok.file ∷ [] = search rules in
     let fresh : c.in-Ok.file.failures < 2 ^ 64 - 1 = search rules in
     record {
-      one_for_each = omega (arith, ap length pushed, length-append c.loop-path.files.items (c.in-Ok.file ∷ []), c.loop-path.invariant.one_for_each);
-      no_failure = rw pushed (all-one_more c.loop-path.files.items c.in-Ok.file (λ file. file.failures < 2 ^ 64 - 1) c.loop-path.invariant.no_failure fresh);
+      one_for_each = omega (
+        arith,
+        ap length pushed,
+        length-append c.loop-path.files.items (c.in-Ok.file ∷ []),
+        c.loop-path.invariant.one_for_each,
+      );
+      no_failure = rw pushed (all-one_more c.loop-path.files.items c.in-Ok.file (λ file. file.failures < 2 ^ 64 - 1)
+          c.loop-path.invariant.no_failure fresh);
     }
 
 pub returns-clause-one_for_each : goal.returns-clause-one_for_each

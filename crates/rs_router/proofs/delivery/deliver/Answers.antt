@@ -28,7 +28,8 @@ returns-in-Announce-clause-sent g c =
     let count : length to ≡ length (sent_lists to) = sym (length-map to (λ (s : Sending Routed). s.sent)) in
     let told : Delivered c.args.peer c.args.word (sent_lists to) (slice_set (sent_lists to) at new.sent) =
     delivered_to_one (sent_lists to) c.args.peer c.args.word c.in-Announce.prefix at old.sent new.sent on
-    (c.shard_of-shard.ensures.shard ∙ ap (λ (n : ℕ). shard_of c.in-Announce.prefix n) count) (get-map (λ (s : Sending Routed). s.sent) to at old here) c.offer.ensures.sent in
+    (c.shard_of-shard.ensures.shard ∙ ap (λ (n : ℕ). shard_of c.in-Announce.prefix n) count)
+    (get-map (λ (s : Sending Routed). s.sent) to at old here) c.offer.ensures.sent in
     λ shard. ap (λ (lists : List (List Routed)). slice_get lists shard) (map-set (λ (s : Sending Routed). s.sent) to at new) ∙ told shard
 
 pub returns-in-Announce-clause-same : goal.returns-in-Announce-clause-same

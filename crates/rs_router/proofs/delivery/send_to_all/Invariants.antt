@@ -7,7 +7,8 @@ use Rattle.rs_router.proofs.delivery.send_to_all.Given as goal
 
 abbrev pub invariant-loop-sender : goal.invariant-loop-sender
 invariant-loop-sender g l = record {
-  sent : map_from (λ sent. sent ++ item_of l.fn.shared ∷ []) l.sender-index (sent_lists l.to) ≡ map (λ sent. sent ++ item_of l.fn.shared ∷ []) (sent_lists l.fn.to);
+  sent : map_from (λ sent. sent ++ item_of l.fn.shared ∷ []) l.sender-index (sent_lists l.to)
+      ≡ map (λ sent. sent ++ item_of l.fn.shared ∷ []) (sent_lists l.fn.to);
   rings : SameSenders l.fn.to l.to;
   later : (shard : ℕ) → l.sender-index ≤ shard → slice_get l.to shard ≡ slice_get l.fn.to shard;
 }

@@ -6,7 +6,8 @@ use Rattle.rs_router.proofs.RoutingLemmas.{are_closed, as_many_received, can_sen
 use Rattle.rs_router.proofs.router.route.Goals as goal
 
 pub route_until_closed-requires-clause-routed : goal.route_until_closed-requires-clause-routed
-route_until_closed-requires-clause-routed g c = routed_first c.args.from.now c.args.to.now c.requires.nothing_received c.requires.nothing_sent
+route_until_closed-requires-clause-routed g c =
+    routed_first c.args.from.now c.args.to.now c.requires.nothing_received c.requires.nothing_sent
 
 pub send_to_all-requires : goal.send_to_all-requires
 send_to_all-requires g c =
@@ -15,7 +16,8 @@ send_to_all-requires g c =
 
 pub returns-clause-closed : goal.returns-clause-closed
 returns-clause-closed g c =
-    are_closed c.route_until_closed.new.from (sent_lists c.route_until_closed.new.to) c.route_until_closed.ensures.routed c.route_until_closed.ensures.closed
+    are_closed c.route_until_closed.new.from (sent_lists c.route_until_closed.new.to)
+    c.route_until_closed.ensures.routed c.route_until_closed.ensures.closed
 
 pub returns-clause-cuts : goal.returns-clause-cuts
 returns-clause-cuts g c =
@@ -27,7 +29,8 @@ returns-clause-known g c =
     let known : AreKnown (length (received_lists c.route_until_closed.new.from)) (sent_lists c.send_to_all.new.to) =
     known_last (received_lists c.route_until_closed.new.from) (sent_lists c.route_until_closed.new.to) (sent_lists c.send_to_all.new.to)
     c.route_until_closed.ensures.routed c.send_to_all.ensures.sent in
-    subst (λ (n : ℕ). AreKnown n (sent_lists c.send_to_all.new.to)) (as_many_received c.args.from.now c.route_until_closed.new.from c.route_until_closed.ensures.receivers) known
+    subst (λ (n : ℕ). AreKnown n (sent_lists c.send_to_all.new.to))
+    (as_many_received c.args.from.now c.route_until_closed.new.from c.route_until_closed.ensures.receivers) known
 
 pub returns-clause-last : goal.returns-clause-last
 returns-clause-last g c =

@@ -13,7 +13,8 @@ use Rattle.rs_router.proofs.router.route_one.Goals as goal
 
 pub deliver-requires-clause-open : goal.deliver-requires-clause-open
 deliver-requires-clause-open g c =
-    can_send (received_lists c.args.from.now) c.args.to.now c.requires.routed (omega (arith, c.requires.peers, length-map c.args.from.now (λ (r : Receiving Word). r.received)))
+    can_send (received_lists c.args.from.now) c.args.to.now c.requires.routed
+    (omega (arith, c.requires.peers, length-map c.args.from.now (λ (r : Receiving Word). r.received)))
 
 pub returns-clause-routed : goal.returns-clause-routed
 returns-clause-routed g c =
@@ -22,8 +23,10 @@ returns-clause-routed g c =
     let here : slice_get from c.args.peer ≡ Some old = slice_get-get_or from c.args.peer c.index-from-peer.result c.requires.peer in
     let word : Word = c.in-Some.field-0.item in
     let more : IsRouted (slice_set (received_lists from) c.args.peer (old.received ++ word ∷ [])) (sent_lists c.deliver.new.to) =
-    routed_more (received_lists from) (sent_lists c.args.to.now) (sent_lists c.deliver.new.to) c.args.peer old.received word c.requires.routed
-    (get-map (λ (r : Receiving Word). r.received) from c.args.peer old here) (omega (arith, c.in-Some.ensures.number, c.in-Some.ensures.below)) c.in-Some.ensures.open c.deliver.ensures.sent
+    routed_more (received_lists from) (sent_lists c.args.to.now) (sent_lists c.deliver.new.to)
+    c.args.peer old.received word c.requires.routed
+    (get-map (λ (r : Receiving Word). r.received) from c.args.peer old here)
+    (omega (arith, c.in-Some.ensures.number, c.in-Some.ensures.below)) c.in-Some.ensures.open c.deliver.ensures.sent
     (as_many c.args.to.now c.deliver.new.to c.deliver.ensures.same) in
     subst (λ (lists : List (List Word)). IsRouted lists (sent_lists c.deliver.new.to))
     (sym (map-set (λ (r : Receiving Word). r.received) from c.args.peer c.try_receive.new.self

@@ -15,15 +15,21 @@ loop-number-preserved c =
     let number = c.loop-number.number in
     let end = c.end.result in
     let here = slice_get-zip peers ends number (peer_of c.peer.result.now) end c.peer.ensures c.end.ensures in
-    let added : string_bytes c.add_peer_line.new.report ≡ string_bytes c.loop-number.report ++ peer_line_of (peer_of c.peer.result.now, end) = c.in_ok-add_peer_line.ensures ∙ ap (λ (name : List ℕ). string_bytes c.loop-number.report ++ peer_line name end) c.deref.ensures in
-    lines-one_more (string_bytes c.args.report.now) (string_bytes c.loop-number.report) (string_bytes c.add_peer_line.new.report) (peer_line_of (peer_of c.peer.result.now, end))
-    (flat_map peer_line_of (take number (zip peers ends))) (flat_map peer_line_of (take (number + 1) (zip peers ends))) c.loop-number.invariant added (flat_map-one_more peer_line_of (zip peers ends) number (peer_of c.peer.result.now, end) here)
+    let added : string_bytes c.add_peer_line.new.report ≡ string_bytes c.loop-number.report
+    ++ peer_line_of (peer_of c.peer.result.now, end) =
+    c.in_ok-add_peer_line.ensures ∙ ap (λ (name : List ℕ). string_bytes c.loop-number.report ++ peer_line name end) c.deref.ensures in
+    lines-one_more (string_bytes c.args.report.now) (string_bytes c.loop-number.report) (string_bytes c.add_peer_line.new.report)
+    (peer_line_of (peer_of c.peer.result.now, end))
+    (flat_map peer_line_of (take number (zip peers ends))) (flat_map peer_line_of (take (number + 1) (zip peers ends)))
+    c.loop-number.invariant added (flat_map-one_more peer_line_of (zip peers ends) number (peer_of c.peer.result.now, end) here)
 
 pub returns : goal.returns
 returns c =
     let peers = c.args.plan.now.peers in
     let ends = c.args.served.now.ends in
-    let all : take c.loop-number.number (zip peers ends) ≡ zip peers ends = take_all c.loop-number.number (zip peers ends) (omega (arith, length-zip peers ends, c.requires.one_for_each, c.count-number-end.ensures.value)) in
+    let all : take c.loop-number.number (zip peers ends) ≡ zip peers ends =
+    take_all c.loop-number.number (zip peers ends) (omega
+    (arith, length-zip peers ends, c.requires.one_for_each, c.count-number-end.ensures.value)) in
     c.loop-number.invariant ∙ ap (λ lines. string_bytes c.args.report.now ++ flat_map peer_line_of lines) all
 
 pub loop-number-init : goal.loop-number-init

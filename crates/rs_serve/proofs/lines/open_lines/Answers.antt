@@ -9,25 +9,34 @@ use Rattle.rs_serve.proofs.lines.open_lines.Goals as goal
 
 pub loop-reader-preserved : goal.loop-reader-preserved
 loop-reader-preserved g c =
-    let steps : into_iter_items c.loop-reader.reader-iterator ≡ c.in-Some.reader ∷ into_iter_items c.next.new.self = c.in-Some.ensures.steps.0 in
+    let steps : into_iter_items c.loop-reader.reader-iterator ≡ c.in-Some.reader ∷ into_iter_items c.next.new.self =
+    c.in-Some.ensures.steps.0 in
     let so_far = rw steps at c.loop-reader.invariant.opening in
     let more = c.in_ok-open.ensures in
     let count : length c.loop-reader.lines.jobs.items ≡ c.len.result = omega (arith, c.len.ensures, c.loop-reader.lines.jobs.ok.0) in
-    let at : slice_get c.args.plan.now.peers (length c.loop-reader.lines.jobs.items) ≡ Some (peer_of c.peer-peer.result.now) = ap (λ (n : ℕ). slice_get c.args.plan.now.peers n) count ∙ c.peer-peer.ensures in
+    let at : slice_get c.args.plan.now.peers (length c.loop-reader.lines.jobs.items) ≡ Some (peer_of c.peer-peer.result.now) =
+    ap (λ (n : ℕ). slice_get c.args.plan.now.peers n) count ∙ c.peer-peer.ensures in
     record {
-      opening = rw (more.jobs_are, more.receivers_are) (opening-next g.R.Read.gives c.args.plan.now (into_iter_items c.into_iter-reader-iterator.result) (into_iter_items c.next.new.self) c.loop-reader.lines.jobs.items c.loop-reader.lines.from.items (peer_of c.peer-peer.result.now) c.in-Some.reader more.job more.receiver so_far at more.line);
+      opening = rw (more.jobs_are, more.receivers_are) (opening-next g.R.Read.gives c.args.plan.now
+          (into_iter_items c.into_iter-reader-iterator.result) (into_iter_items c.next.new.self)
+          c.loop-reader.lines.jobs.items c.loop-reader.lines.from.items (peer_of c.peer-peer.result.now)
+          c.in-Some.reader more.job more.receiver so_far at more.line);
       left = search rules;
     }
 
 pub returns : goal.returns
 returns g c =
-    let none : into_iter_items c.loop-reader.reader-iterator ≡ [] = nil_from_length (into_iter_items c.loop-reader.reader-iterator) (sym c.loop-reader.invariant.left ∙ c.in-None.ensures.steps.0) in
-    let readers : into_iter_items c.into_iter-reader-iterator.result ≡ c.args.readers.items = c.into_iter-reader-iterator.ensures.into_iter_gives.0 in
+    let none : into_iter_items c.loop-reader.reader-iterator ≡ [] =
+    nil_from_length (into_iter_items c.loop-reader.reader-iterator) (sym c.loop-reader.invariant.left ∙ c.in-None.ensures.steps.0) in
+    let readers : into_iter_items c.into_iter-reader-iterator.result ≡ c.args.readers.items =
+    c.into_iter-reader-iterator.ensures.into_iter_gives.0 in
     let so_far = rw (none, readers) at c.loop-reader.invariant.opening in
-    opening-all g.R.Read.gives c.args.plan.now c.args.readers.items c.loop-reader.lines.jobs.items c.loop-reader.lines.from.items so_far c.requires.as_many
+    opening-all g.R.Read.gives c.args.plan.now c.args.readers.items c.loop-reader.lines.jobs.items c.loop-reader.lines.from.items so_far
+    c.requires.as_many
 
 pub loop-reader-init : goal.loop-reader-init
 loop-reader-init g c = record {
-  opening = opening-none g.R.Read.gives c.args.plan.now (into_iter_items c.into_iter-reader-iterator.result) c.new.result.items c.new-2.result.items c.new.ensures.items c.new-2.ensures.items;
+  opening = opening-none g.R.Read.gives c.args.plan.now (into_iter_items c.into_iter-reader-iterator.result)
+      c.new.result.items c.new-2.result.items c.new.ensures.items c.new-2.ensures.items;
   left = search rules;
 }

@@ -6,6 +6,7 @@ use Rattle.rs_serve.proofs.lines.open_lines.Given as goal
 
 abbrev pub invariant-loop-reader : goal.invariant-loop-reader
 invariant-loop-reader g l = record {
-  opening : Opening g.R.Read.gives l.plan.peers (into_iter_items l.initial.reader-iterator) (into_iter_items l.reader-iterator) l.lines.jobs.items l.lines.from.items;
+  opening : Opening g.R.Read.gives l.plan.peers (into_iter_items l.initial.reader-iterator) (into_iter_items l.reader-iterator)
+      l.lines.jobs.items l.lines.from.items;
   left : into_iter_len l.reader-iterator ≡ length (into_iter_items l.reader-iterator);
 }

@@ -7,6 +7,8 @@ pub loop-shard-preserved : goal.loop-shard-preserved
 loop-shard-preserved c =
     let more = c.in_ok-open.ensures in
     record {
-      opening = rw (more.jobs_are, more.senders_are) (rings-next c.args.plan.now.value c.loop-shard.rings.jobs.items c.loop-shard.rings.to.items more.job more.sender c.loop-shard.invariant.opening more.ring);
-      counted = rw more.jobs_are (omega (arith, c.loop-shard.invariant.counted, length-append c.loop-shard.rings.jobs.items (more.job ∷ [])));
+      opening = rw (more.jobs_are, more.senders_are) (rings-next c.args.plan.now.value c.loop-shard.rings.jobs.items
+          c.loop-shard.rings.to.items more.job more.sender c.loop-shard.invariant.opening more.ring);
+      counted =
+          rw more.jobs_are (omega (arith, c.loop-shard.invariant.counted, length-append c.loop-shard.rings.jobs.items (more.job ∷ [])));
     }

@@ -14,7 +14,8 @@ merge-requires-clause-some c = (c.requires c.in_ok-judge.ensures.well.0).some
 pub new-requires : goal.new-requires
 new-requires c =
     ap length (c.in_ok-ends.ensures ∙ ap (map end_of) c.deref-2.ensures.value) ∙ length-map c.args.ran.ends.items end_of
-    ∙ sym (merged-counted (length c.args.ran.ends.items) c.args.ran.parts.items c.in_ok-tables.tables (c.requires c.in_ok-judge.ensures.well.0) c.in_ok-tables.ensures)
+    ∙ sym (merged-counted (length c.args.ran.ends.items) c.args.ran.parts.items c.in_ok-tables.tables
+    (c.requires c.in_ok-judge.ensures.well.0) c.in_ok-tables.ensures)
 
 pub returns-clause-served : goal.returns-clause-served
 returns-clause-served c =

@@ -6,4 +6,5 @@ use Rattle.rs_session.specs.UpdateChanges.{is_listed}
 use Rattle.rs_session.proofs.withdrawn.keep_unlisted_in_sorted.Goals as goal
 
 pub returns : goal.returns
-returns c = filter_same _ (λ prefix. not (is_multicast prefix) && not (is_listed c.args.sorted.now prefix)) _ (λ x b f' k. search rules) _ _ c.retain.ensures.filtered
+returns c = filter_same _ (λ prefix. not (is_multicast prefix) && not (is_listed c.args.sorted.now prefix)) _ (λ x b f' k. search rules)
+    _ _ c.retain.ensures.filtered

@@ -8,4 +8,5 @@ pub returns : goal.returns
 returns c =
     c.keep_unlisted_in_sorted.ensures
     ∙ ap (withdrawn_only c.args.withdrawn.now.items) c.deref.ensures.value
-    ∙ sym (withdrawn_only-IsPermutation c.args.withdrawn.now.items c.args.nlri.now c.sort_unstable.new.self.items (rw c.in_ok-sorted.ensures.items at c.sort_unstable.ensures.permutation))
+    ∙ sym (withdrawn_only-IsPermutation c.args.withdrawn.now.items c.args.nlri.now c.sort_unstable.new.self.items
+    (rw c.in_ok-sorted.ensures.items at c.sort_unstable.ensures.permutation))

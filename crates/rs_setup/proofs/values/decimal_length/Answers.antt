@@ -23,32 +23,56 @@ returns-in-49-to-57-clause-found c =
 
 pub returns-in_default-clause-none : goal.returns-in_default-clause-none
 returns-in_default-clause-none c = λ len small is.
-    elim (decimal_places c.args.text.now len small is) [ inl one ↦ omega (arith, one.0, one.1, one.2) | inr two ↦ omega (arith, two.0, two.1, two.2, two.3, two.4) ]
+    elim (decimal_places c.args.text.now len small is) [
+      | inl one ↦ omega (arith, one.0, one.1, one.2)
+      | inr two ↦ omega (arith, two.0, two.1, two.2, two.3, two.4)
+    ]
 
 pub returns-in_default-2-clause-none : goal.returns-in_default-2-clause-none
 returns-in_default-2-clause-none c = λ len small is.
-    elim (decimal_places c.args.text.now len small is) [ inl one ↦ omega (arith, one.0, one.1, one.2) | inr two ↦ omega (arith, two.0, two.1, two.2, two.3, two.4) ]
+    elim (decimal_places c.args.text.now len small is) [
+      | inl one ↦ omega (arith, one.0, one.1, one.2)
+      | inr two ↦ omega (arith, two.0, two.1, two.2, two.3, two.4)
+    ]
 
 pub returns-in_default-3-clause-none : goal.returns-in_default-3-clause-none
 returns-in_default-3-clause-none c = λ len small is.
-    elim (decimal_places c.args.text.now len small is) [ inl one ↦ omega (arith, one.0, one.1, one.2) | inr two ↦ omega (arith, two.0, two.1, two.2, two.3, two.4) ]
+    elim (decimal_places c.args.text.now len small is) [
+      | inl one ↦ omega (arith, one.0, one.1, one.2)
+      | inr two ↦ omega (arith, two.0, two.1, two.2, two.3, two.4)
+    ]
 
 pub returns-in_default-4-clause-none : goal.returns-in_default-4-clause-none
 returns-in_default-4-clause-none c = λ len small is.
-    elim (decimal_places c.args.text.now len small is) [ inl one ↦ omega (arith, one.0, one.1, one.2) | inr two ↦ omega (arith, two.0, two.1, two.2, two.3, two.4) ]
+    elim (decimal_places c.args.text.now len small is) [
+      | inl one ↦ omega (arith, one.0, one.1, one.2)
+      | inr two ↦ omega (arith, two.0, two.1, two.2, two.3, two.4)
+    ]
 
 pub returns-in_default-5-clause-none : goal.returns-in_default-5-clause-none
 returns-in_default-5-clause-none c = λ len small is.
-    elim (decimal_places c.args.text.now len small is) [ inl one ↦ omega (arith, one.0, one.1, one.2) | inr two ↦ omega (arith, two.0, two.1, two.2, two.3, two.4) ]
+    elim (decimal_places c.args.text.now len small is) [
+      | inl one ↦ omega (arith, one.0, one.1, one.2)
+      | inr two ↦ omega (arith, two.0, two.1, two.2, two.3, two.4)
+    ]
 
 pub returns-in_default-6-clause-none : goal.returns-in_default-6-clause-none
 returns-in_default-6-clause-none c = λ len small is.
-    elim (decimal_places c.args.text.now len small is) [ inl one ↦ omega (arith, one.0, one.1, one.2) | inr two ↦ omega (arith, two.0, two.1, two.2, two.3, two.4) ]
+    elim (decimal_places c.args.text.now len small is) [
+      | inl one ↦ omega (arith, one.0, one.1, one.2)
+      | inr two ↦ omega (arith, two.0, two.1, two.2, two.3, two.4)
+    ]
 
 pub returns-in_default-7-clause-none : goal.returns-in_default-7-clause-none
 returns-in_default-7-clause-none c = λ len small is.
-    elim (decimal_places c.args.text.now len small is) [ inl one ↦ omega (arith, one.0, one.1, one.2) | inr two ↦ omega (arith, two.0, two.1, two.2, two.3, two.4) ]
+    elim (decimal_places c.args.text.now len small is) [
+      | inl one ↦ omega (arith, one.0, one.1, one.2)
+      | inr two ↦ omega (arith, two.0, two.1, two.2, two.3, two.4)
+    ]
 
 pub returns-in_default-8-clause-none : goal.returns-in_default-8-clause-none
 returns-in_default-8-clause-none c = λ len small is.
-    elim (decimal_places c.args.text.now len small is) [ inl one ↦ omega (arith, one.0, one.1, one.2) | inr two ↦ omega (arith, two.0, two.1, two.2, two.3, two.4) ]
+    elim (decimal_places c.args.text.now len small is) [
+      | inl one ↦ omega (arith, one.0, one.1, one.2)
+      | inr two ↦ omega (arith, two.0, two.1, two.2, two.3, two.4)
+    ]

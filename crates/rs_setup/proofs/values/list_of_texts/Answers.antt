@@ -16,10 +16,14 @@ loop-value-preserved c =
     let value = c.value-item.result in
     let texts = map string_bytes c.loop-value.texts.items in
     let text = string_bytes c.in_ok-from_str.field-0 in
-    let more : take (index + 1) values ≡ take index values ++ value ∷ [] = take_more values index value c.loop-value-test.true ∙ ap (λ v. take index values ++ v ∷ []) (sym c.value-item.is) in
+    let more : take (index + 1) values ≡ take index values ++ value ∷ [] =
+    take_more values index value c.loop-value-test.true ∙ ap (λ v. take index values ++ v ∷ []) (sym c.value-item.is) in
     let seen : view value ≡ string text = as_str-string (view value) text (rw c.in_ok-from_str.ensures.ok (sym c.in-Some.ensures)) in
-    let written : map string_bytes c.push.new.self.items ≡ texts ++ text ∷ [] = ap (map string_bytes) c.in_ok-push.ensures.items ∙ map-append string_bytes c.loop-value.texts.items (c.in_ok-from_str.field-0 ∷ []) in
-    ap items_view more ∙ items_view-push (take index values) value ∙ rw (c.loop-value.invariant, seen, written) (sym (items_of-push texts text))
+    let written : map string_bytes c.push.new.self.items ≡ texts ++ text ∷ [] =
+    ap (map string_bytes) c.in_ok-push.ensures.items ∙ map-append string_bytes c.loop-value.texts.items (c.in_ok-from_str.field-0 ∷ [])
+    in
+    ap items_view more ∙ items_view-push (take index values) value
+    ∙ rw (c.loop-value.invariant, seen, written) (sym (items_of-push texts text))
 
 pub returns : goal.returns
 returns c = grind (arith, common_steps)

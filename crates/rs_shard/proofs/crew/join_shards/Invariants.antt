@@ -14,5 +14,6 @@ invariant-loop-handle g l = record {
   room : vec_len l.parts + into_iter_len l.handle-iterator ≤ vec_capacity l.parts;
   rings : map (λ sender. sender.ring) l.to ≡ map (λ sender. sender.ring) l.fn.to;
   sent : sent_lists l.to ≡ sent_lists l.fn.to;
-  parts : l.complete ≡ true → HoldSoFar l.shard (map (λ handle. charged handle.promise) l.fn.handles.items) (sent_lists l.fn.to) l.parts.items;
+  parts : l.complete ≡ true → HoldSoFar l.shard (map (λ handle. charged handle.promise) l.fn.handles.items) (sent_lists l.fn.to)
+      l.parts.items;
 }

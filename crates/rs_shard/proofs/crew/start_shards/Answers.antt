@@ -10,7 +10,10 @@ pub loop-job-preserved : goal.loop-job-preserved
 loop-job-preserved g c =
     let steps = c.in-Some.ensures.steps.0 in
     record {
-      tied = rw c.push_reserved.ensures.items (next-moves (λ handle. charged handle.promise) charge_of c.loop-job.handles.items c.in-Some-start_shard.handle (into_iter_items c.loop-job.job-iterator) (into_iter_items c.next.new.self) c.in-Some.job (map charge_of c.args.jobs.items) c.in-Some-start_shard.ensures steps c.loop-job.invariant.tied);
+      tied = rw c.push_reserved.ensures.items (next-moves (λ handle. charged handle.promise)
+          charge_of c.loop-job.handles.items c.in-Some-start_shard.handle (into_iter_items c.loop-job.job-iterator)
+          (into_iter_items c.next.new.self) c.in-Some.job (map charge_of c.args.jobs.items)
+          c.in-Some-start_shard.ensures steps c.loop-job.invariant.tied);
       ready = All-tail IsReady c.in-Some.job (into_iter_items c.next.new.self) (rw steps at c.loop-job.invariant.ready);
       count = search rules;
       all = search rules;

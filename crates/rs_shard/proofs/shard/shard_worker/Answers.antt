@@ -26,8 +26,10 @@ pub loop-init-derived : goal.loop-init-derived
 loop-init-derived g c = search rules
 
 -- once an item closes the ring, it is the last one
-ends-more : (items : List Routed) (item : Routed) → has_close is_last items ≡ false → has_close is_last (items ++ item ∷ []) ≡ true → EndsLast (items ++ item ∷ [])
-ends-more items (routed.Word peer word) open_yet closed = absurd (cc (sym (any-one_more is_last items (routed.Word peer word) open_yet) ∙ closed))
+ends-more : (items : List Routed) (item : Routed) → has_close is_last items ≡ false → has_close is_last (items ++ item ∷ []) ≡ true
+    → EndsLast (items ++ item ∷ [])
+ends-more items (routed.Word peer word) open_yet closed =
+    absurd (cc (sym (any-one_more is_last items (routed.Word peer word) open_yet) ∙ closed))
 ends-more items routed.Last open_yet closed = record { earlier = items; is = refl; until_then = open_yet }
 
 pub loop-preserved : goal.loop-preserved
@@ -38,8 +40,10 @@ loop-preserved g c =
       next = search rules;
       finite = search rules;
       ring = search rules;
-      gathered = subst Held (sym c.next_item-number.ensures.received) (c.after_item-gathered.ensures c.args.tables c.loop.from.received c.loop.invariant.gathered);
-      ended = subst Ended (sym c.next_item-number.ensures.received) (ends-more c.loop.from.received c.next_item-number.result.item c.next_item-number.ensures.open);
+      gathered = subst Held (sym c.next_item-number.ensures.received)
+          (c.after_item-gathered.ensures c.args.tables c.loop.from.received c.loop.invariant.gathered);
+      ended = subst Ended (sym c.next_item-number.ensures.received)
+          (ends-more c.loop.from.received c.next_item-number.result.item c.next_item-number.ensures.open);
     }
 
 pub loop-preserved-derived : goal.loop-preserved-derived

@@ -7,11 +7,13 @@ use Rattle.rs_shard.specs.Held.{HoldReceived}
 use Rattle.rs_shard.proofs.TakingLemmas.{held-nothing}
 use Rattle.rs_shard.proofs.taking.begun.Goals as goal
 
-held-begun : {E : Type 0} (new : TablesContent) (result : Result TablesContent E) → IfOk result (λ begun. begun.plan ≡ new.plan) → IfOk result (λ begun. length begun.ribs ≡ length new.ribs)
+held-begun : {E : Type 0} (new : TablesContent) (result : Result TablesContent E) → IfOk result (λ begun. begun.plan ≡ new.plan)
+    → IfOk result (λ begun. length begun.ribs ≡ length new.ribs)
     → IfOk result (λ begun. (peer : ℕ) → rib_of begun peer ≡ nothing_held) → IfSome (result_ok result) (HoldReceived new [])
 held-begun new (Ok begun) plan count empty = held-nothing new begun plan count empty
 held-begun new (Err fault) plan count empty = tt
 
 pub returns : goal.returns
 returns c =
-    subst (λ begun. IfSome begun (HoldReceived c.args.tables [])) (sym c.ok.ensures.value) (held-begun c.args.tables c.new.result c.new.ensures.plan c.new.ensures.count c.new.ensures.empty)
+    subst (λ begun. IfSome begun (HoldReceived c.args.tables [])) (sym c.ok.ensures.value)
+    (held-begun c.args.tables c.new.result c.new.ensures.plan c.new.ensures.count c.new.ensures.empty)

@@ -17,13 +17,19 @@ pub returns-then-peer-count : goal.returns-then-peer-count
 returns-then-peer-count c =
     let P : Routed → Type 0 = λ item. Takes item c.args.gathered.now c.args.gathered.now in
     subst P (sym c.in-Word.is) (elim c.then-peer-count.branch [
-      | then-peer-count-via-then-peer-count w ↦ took-unknown c.args.gathered.now c.in-Word.peer c.in-Word.word (omega (arith, w.if-peer-count.true, c.count.ensures.ribs))
-      | then-peer-count-via-else-peer-count+then-is_closed w ↦ took-closed c.args.gathered.now c.in-Word.peer c.in-Word.word (sym w.is_closed.ensures ∙ w.if-is_closed.true)
+      | then-peer-count-via-then-peer-count w ↦ took-unknown c.args.gathered.now c.in-Word.peer c.in-Word.word
+          (omega (arith, w.if-peer-count.true, c.count.ensures.ribs))
+      | then-peer-count-via-else-peer-count+then-is_closed w ↦ took-closed c.args.gathered.now c.in-Word.peer c.in-Word.word
+          (sym w.is_closed.ensures ∙ w.if-is_closed.true)
     ])
 
 pub returns : goal.returns
 returns c =
     let P : Routed → Type 0 = λ item. OnOk c.receive.result (Takes item c.args.gathered.now c.receive.new.self) in
-    let facts = ok-both c.receive.result _ _ c.receive.ensures.routes (ok-both c.receive.result _ _ c.receive.ensures.closed (ok-both c.receive.result _ _ c.receive.ensures.others (ok-both c.receive.result _ _ c.receive.ensures.plan c.receive.ensures.count))) in
+    let facts = ok-both c.receive.result _ _ c.receive.ensures.routes
+    (ok-both c.receive.result _ _ c.receive.ensures.closed
+    (ok-both c.receive.result _ _ c.receive.ensures.others
+    (ok-both c.receive.result _ _ c.receive.ensures.plan c.receive.ensures.count))) in
     subst P (sym c.in-Word.is) (on_ok_weaker c.receive.result (λ all.
-    took-change c.args.gathered.now c.receive.new.self c.in-Word.peer c.in-Word.word (sym c.is_closed.ensures ∙ c.if-is_closed.false) all.0 all.1.0 all.1.1.0 all.1.1.1.0 all.1.1.1.1) facts)
+    took-change c.args.gathered.now c.receive.new.self c.in-Word.peer c.in-Word.word (sym c.is_closed.ensures ∙ c.if-is_closed.false)
+    all.0 all.1.0 all.1.1.0 all.1.1.1.0 all.1.1.1.1) facts)

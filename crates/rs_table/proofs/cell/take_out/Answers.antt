@@ -11,15 +11,21 @@ pub returns-then-not-is_at-clause-held : goal.returns-then-not-is_at-clause-held
 returns-then-not-is_at-clause-held c =
     let held = c.args.held.now.items in
     let peer = c.args.peer in
-    let place : c.place-place.result ≡ place_of (λ (one : HeldRoute). one.peer) held peer = c.place-place.ensures.place ∙ ap (λ xs. place_of (λ (one : HeldRoute). one.peer) xs peer) c.deref.ensures.value in
+    let place : c.place-place.result ≡ place_of (λ (one : HeldRoute). one.peer) held peer =
+    c.place-place.ensures.place ∙ ap (λ xs. place_of (λ (one : HeldRoute). one.peer) xs peer) c.deref.ensures.value in
     without-none 0 c.requires.0 peer held c.requires.1 (λ at.
-    let is : IsTrue c.is_at.result = c.is_at.ensures.1 (subst (λ xs. IsAt xs c.place-place.result peer) (sym c.deref-2.ensures.value) (subst (λ k. IsAt held k peer) (sym place) at)) in
+    let is : IsTrue c.is_at.result =
+    c.is_at.ensures.1 (subst (λ xs. IsAt xs c.place-place.result peer) (sym c.deref-2.ensures.value)
+    (subst (λ k. IsAt held k peer) (sym place) at)) in
     absurd (cc (is, c.if-not-is_at.true)))
 
 pub returns-clause-held : goal.returns-clause-held
 returns-clause-held c =
     let held = c.args.held.now.items in
     let peer = c.args.peer in
-    let place : c.place-place.result ≡ place_of (λ (one : HeldRoute). one.peer) held peer = c.place-place.ensures.place ∙ ap (λ xs. place_of (λ (one : HeldRoute). one.peer) xs peer) c.deref.ensures.value in
-    let there : IsAt held c.place-place.result peer = subst (λ xs. IsAt xs c.place-place.result peer) c.deref-2.ensures.value (c.is_at.ensures.0 c.if-not-is_at.false) in
-    c.remove-old.ensures.items ∙ ap (remove held) place ∙ without-remove 0 c.requires.0 peer held c.requires.1 (subst (λ k. IsAt held k peer) place there)
+    let place : c.place-place.result ≡ place_of (λ (one : HeldRoute). one.peer) held peer =
+    c.place-place.ensures.place ∙ ap (λ xs. place_of (λ (one : HeldRoute). one.peer) xs peer) c.deref.ensures.value in
+    let there : IsAt held c.place-place.result peer =
+    subst (λ xs. IsAt xs c.place-place.result peer) c.deref-2.ensures.value (c.is_at.ensures.0 c.if-not-is_at.false) in
+    c.remove-old.ensures.items ∙ ap (remove held) place ∙ without-remove 0 c.requires.0 peer held c.requires.1
+    (subst (λ k. IsAt held k peer) place there)

@@ -11,7 +11,8 @@ use Rattle.rs_table.proofs.cells.CellsLemmas.{cell-IsCell, AreCells-set, AreCell
 use Rattle.rs_table.proofs.cells.announce.Goals as goal
 
 pub announce-requires-clause-cell : goal.announce-requires-clause-cell
-announce-requires-clause-cell c = cell-IsCell c.args.plan.now c.args.cells.now.entries c.args.prefix c.in-Some.cell.now c.requires.cells (sym c.in-Some.ensures.value)
+announce-requires-clause-cell c =
+    cell-IsCell c.args.plan.now c.args.cells.now.entries c.args.prefix c.in-Some.cell.now c.requires.cells (sym c.in-Some.ensures.value)
 
 pub returns-in-Some-clause-routes : goal.returns-in-Some-clause-routes
 returns-in-Some-clause-routes c =
@@ -25,7 +26,8 @@ returns-in-Some-clause-routes c =
 pub returns-in-Some-clause-cells : goal.returns-in-Some-clause-cells
 returns-in-Some-clause-cells c =
     subst (AreCells c.args.plan.now) (sym (c.get_mut.follows.holds c.announce.new.self).0)
-    (AreCells-set c.args.plan.now (is_at (prefix_cmp c.args.prefix)) c.args.cells.now.entries c.announce.new.self c.requires.cells c.announce.ensures.cell)
+    (AreCells-set c.args.plan.now (is_at (prefix_cmp c.args.prefix))
+    c.args.cells.now.entries c.announce.new.self c.requires.cells c.announce.ensures.cell)
 
 pub returns-clause-routes : goal.returns-clause-routes
 returns-clause-routes c =
@@ -33,10 +35,13 @@ returns-clause-routes c =
     let none : cell_at m.entries c.args.prefix ≡ None = sym c.get_mut.ensures.value ∙ ap option_copied_mut c.in_default.is in
     updated m c.insert.new.self c.args.prefix (λ routes. with_route routes (sent_of_held c.args.route)) (Some c.in_ok-cell.cell)
     (at-update m c.insert.new.self c.args.prefix (Some c.in_ok-cell.cell)
-    (subst (λ old. Updates prefix_cmp old c.insert.new.self c.args.prefix (Some c.in_ok-cell.cell)) c.get_mut.follows.holds-at-none c.in_ok-insert.ensures.updates))
+    (subst (λ old. Updates prefix_cmp old c.insert.new.self c.args.prefix (Some c.in_ok-cell.cell))
+    c.get_mut.follows.holds-at-none c.in_ok-insert.ensures.updates))
     (c.in_ok-cell.ensures.routes ∙ ap (λ cell. with_route (routes_of cell) (sent_of_held c.args.route)) (sym none))
 
 pub returns-clause-cells : goal.returns-clause-cells
 returns-clause-cells c =
-    subst (AreCells c.args.plan.now) (sym (c.in_ok-insert.ensures.entries ∙ ap (λ (m : BTreeMap IpPrefix CellContent). insert_entry prefix_cmp m.entries c.args.prefix c.in_ok-cell.cell) c.get_mut.follows.holds-at-none))
+    subst (AreCells c.args.plan.now) (sym (c.in_ok-insert.ensures.entries
+    ∙ ap (λ (m : BTreeMap IpPrefix CellContent). insert_entry prefix_cmp m.entries c.args.prefix c.in_ok-cell.cell)
+    c.get_mut.follows.holds-at-none))
     (AreCells-insert c.args.plan.now c.args.cells.now.entries c.args.prefix c.in_ok-cell.cell c.requires.cells c.in_ok-cell.ensures.cell)

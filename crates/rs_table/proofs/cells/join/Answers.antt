@@ -29,7 +29,8 @@ loop-prefix-preserved-in-Continue-branch-5 c =
     let other = c.args.others.entries in
     let after = c.next-in-Some.new.self in
     subst (λ (to_come : Entries). AreToCome to_come n.entries one other)
-    (sym (ap (λ (seconds : Entries). seconds ++ after) c.in_ok-push.ensures.items ∙ append_assoc seconds (c.in-Some-next.second ∷ []) after ∙ ap (λ (rest : Entries). seconds ++ rest) (sym c.in-Some-next.ensures.steps)))
+    (sym (ap (λ (seconds : Entries). seconds ++ after) c.in_ok-push.ensures.items ∙ append_assoc seconds (c.in-Some-next.second ∷ []) after
+    ∙ ap (λ (rest : Entries). seconds ++ rest) (sym c.in-Some-next.ensures.steps)))
     (written one other m n seconds c.next.new.self _
     (subst (λ (rest : Entries). AreToCome (seconds ++ rest) m.entries one other) c.in-Some.ensures.steps c.loop-prefix.invariant)
     c.in_ok-insert.ensures.updates)
@@ -41,7 +42,8 @@ loop-prefix-preserved c =
     let n = c.insert.new.self in
     let one = c.args.cells.entries in
     let other = c.args.others.entries in
-    subst (λ (rest : Entries). AreToCome (seconds ++ rest) n.entries one other) (c.in_default-next.ensures.steps.0 ∙ sym c.in_default-next.ensures.steps.1)
+    subst (λ (rest : Entries). AreToCome (seconds ++ rest) n.entries one other)
+    (c.in_default-next.ensures.steps.0 ∙ sym c.in_default-next.ensures.steps.1)
     (written one other m n seconds c.next.new.self _
     (subst (λ (rest : Entries). AreToCome (seconds ++ rest) m.entries one other) c.in-Some.ensures.steps c.loop-prefix.invariant)
     c.in_ok-insert.ensures.updates)
@@ -53,9 +55,12 @@ returns-clause-cells c = λ prefix.
     let to_come =
     subst (λ (to_come : Entries). AreToCome to_come cells c.args.cells.entries c.args.others.entries)
     (ap (λ (rest : Entries). seconds ++ rest) c.in_default.ensures.steps.0 ∙ append-nil seconds) c.loop-prefix.invariant in
-    fact_from_extend {E = AllocError} (λ x. x) (Ok tt) c.in_ok-extend.ensures.ran (λ it gives. YieldsList-from_vec {s = it} seconds gives.0 (gives.1 ∙ c.loop-prefix.seconds.ok.0))
+    fact_from_extend {E = AllocError} (λ x. x) (Ok tt) c.in_ok-extend.ensures.ran
+    (λ it gives. YieldsList-from_vec {s = it} seconds gives.0 (gives.1 ∙ c.loop-prefix.seconds.ok.0))
     (λ xs all inserts.
     inserts.0 prefix
-    ∙ subst (λ xs. update_all (eq_by_cmp prefix_cmp) (cell_at cells) xs prefix ≡ update_all (eq_by_cmp prefix_cmp) (cell_at cells) seconds prefix) (sym (sym (map-id xs) ∙ all)) refl
-    ∙ update_all_distinct (eq_by_cmp_equiv prefix_total) (eq_by_cmp prefix_cmp) (λ x y. refl) (cell_at cells) seconds prefix to_come.distinct
+    ∙ subst (λ xs. update_all (eq_by_cmp prefix_cmp) (cell_at cells) xs prefix
+    ≡ update_all (eq_by_cmp prefix_cmp) (cell_at cells) seconds prefix) (sym (sym (map-id xs) ∙ all)) refl
+    ∙ update_all_distinct (eq_by_cmp_equiv prefix_total) (eq_by_cmp prefix_cmp) (λ x y. refl) (cell_at cells)
+    seconds prefix to_come.distinct
     ∙ to_come.joined prefix)

@@ -9,7 +9,8 @@ use Rattle.rs_table.proofs.cells.CellsLemmas.{cell-IsCell, AreCells-set, AreCell
 use Rattle.rs_table.proofs.cells.withdraw.Goals as goal
 
 pub withdraw-requires : goal.withdraw-requires
-withdraw-requires c = cell-IsCell c.args.plan.now c.args.cells.now.entries c.args.prefix c.in-Some.cell.now c.requires (sym c.in-Some.ensures.value)
+withdraw-requires c =
+    cell-IsCell c.args.plan.now c.args.cells.now.entries c.args.prefix c.in-Some.cell.now c.requires (sym c.in-Some.ensures.value)
 
 pub returns-then-not-withdraw-clause-routes : goal.returns-then-not-withdraw-clause-routes
 returns-then-not-withdraw-clause-routes c =
@@ -19,7 +20,8 @@ returns-then-not-withdraw-clause-routes c =
     let found : cell_at m.entries c.args.prefix ≡ Some c.in-Some.cell.now = sym c.in-Some.ensures.value in
     updated m c.remove.new.self c.args.prefix (λ routes. without_route routes c.args.peer) None
     (removed_after m l c.remove.new.self c.args.prefix w ((c.get_mut.follows.holds w).3 (ap is_some found)) c.remove.ensures.updates)
-    (sym (c.if-not-withdraw.ensures.none refl) ∙ c.withdraw.ensures.routes ∙ ap (λ cell. without_route (routes_of cell) c.args.peer) (sym found))
+    (sym (c.if-not-withdraw.ensures.none refl) ∙ c.withdraw.ensures.routes
+    ∙ ap (λ cell. without_route (routes_of cell) c.args.peer) (sym found))
 
 pub returns-then-not-withdraw-clause-cells : goal.returns-then-not-withdraw-clause-cells
 returns-then-not-withdraw-clause-cells c =
@@ -42,4 +44,5 @@ pub returns-else-not-withdraw-clause-cells : goal.returns-else-not-withdraw-clau
 returns-else-not-withdraw-clause-cells c =
     let w = c.withdraw.new.self in
     subst (AreCells c.args.plan.now) (sym (c.get_mut.follows.holds w).0)
-    (AreCells-set c.args.plan.now (is_at (prefix_cmp c.args.prefix)) c.args.cells.now.entries w c.requires (c.if-not-withdraw.ensures.some refl))
+    (AreCells-set c.args.plan.now (is_at (prefix_cmp c.args.prefix)) c.args.cells.now.entries w c.requires
+    (c.if-not-withdraw.ensures.some refl))

@@ -6,7 +6,8 @@ use Rattle.rs_table.specs.declared.log.Log.{Log}
 use Rattle.rs_table.specs.Gathered.{lists_of}
 use Rattle.rs_table.proofs.gathering.empty_logs.Goals as goal
 
-empty-more : (lists : List (List Entry)) → ((octet : ℕ) → get_or lists octet [] ≡ []) → (octet : ℕ) → get_or (lists ++ [] ∷ []) octet [] ≡ []
+empty-more : (lists : List (List Entry)) → ((octet : ℕ) → get_or lists octet [] ≡ []) → (octet : ℕ)
+    → get_or (lists ++ [] ∷ []) octet [] ≡ []
 empty-more [] all zero = refl
 empty-more [] all (suc octet) = refl
 empty-more (list ∷ lists) all zero = all zero
@@ -23,7 +24,8 @@ loop-preserved c =
       count = length-append logs (log ∷ []) ∙ omega (arith, c.loop.invariant.count);
       empty = λ octet.
           ap (λ (lists : List (List Entry)). get_or lists octet [])
-          (map-append (λ (log : Log). log.entries.items) logs (log ∷ []) ∙ ap (λ (entries : List Entry). lists_of logs ++ entries ∷ []) c.new.ensures.items)
+          (map-append (λ (log : Log). log.entries.items) logs (log ∷ [])
+          ∙ ap (λ (entries : List Entry). lists_of logs ++ entries ∷ []) c.new.ensures.items)
           ∙ empty-more (lists_of logs) c.loop.invariant.empty octet;
     })
 

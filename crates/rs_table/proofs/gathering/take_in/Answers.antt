@@ -12,8 +12,10 @@ use Rattle.rs_table.proofs.gathering.take_in.Goals as goal
 
 pub returns-in-Down-clause-routes : goal.returns-in-Down-clause-routes
 returns-in-Down-clause-routes c =
-    let ends : (q : IpPrefix) (before : Option RouteLeft) → left_after (change_of c.args.word) q before ≡ None = λ q before. rw c.in-Down.is refl in
-    on_ok_weaker c.lose.result (λ later_is. lost c.args.losses.now c.args.peer c.requires.known.0 c.lose.new.losses later_is (change_of c.args.word) ends c.args.logs.now c.requires.logs)
+    let ends : (q : IpPrefix) (before : Option RouteLeft) → left_after (change_of c.args.word) q before ≡ None =
+    λ q before. rw c.in-Down.is refl in
+    on_ok_weaker c.lose.result (λ later_is. lost c.args.losses.now c.args.peer c.requires.known.0 c.lose.new.losses later_is
+    (change_of c.args.word) ends c.args.logs.now c.requires.logs)
     c.lose.ensures.lost
 
 drops : (reason : Reason) → (reason ≡ reasons.EndOfFile → true ≡ false) → reason_drops reason ≡ true
@@ -28,6 +30,8 @@ returns-else-eq-clause-routes c =
     let reason : Reason = c.in-Close.reason in
     let other : reason ≡ reasons.EndOfFile → true ≡ false = λ same. search rules in
     let falls : reason_drops reason ≡ true = drops reason other in
-    let ends : (q : IpPrefix) (before : Option RouteLeft) → left_after (change_of c.args.word) q before ≡ None = λ q before. rw (c.in-Close.is, falls) refl in
-    on_ok_weaker c.lose-in-Close.result (λ later_is. lost c.args.losses.now c.args.peer c.requires.known.0 c.lose-in-Close.new.losses later_is (change_of c.args.word) ends c.args.logs.now c.requires.logs)
+    let ends : (q : IpPrefix) (before : Option RouteLeft) → left_after (change_of c.args.word) q before ≡ None =
+    λ q before. rw (c.in-Close.is, falls) refl in
+    on_ok_weaker c.lose-in-Close.result (λ later_is. lost c.args.losses.now c.args.peer c.requires.known.0 c.lose-in-Close.new.losses
+    later_is (change_of c.args.word) ends c.args.logs.now c.requires.logs)
     c.lose-in-Close.ensures.lost

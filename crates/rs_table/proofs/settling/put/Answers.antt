@@ -11,7 +11,9 @@ use Rattle.rs_table.proofs.cells.CellsLemmas.{each-at, each-set, each-insert, at
 use Rattle.rs_table.proofs.settling.put.Goals as goal
 
 pub put-requires-clause-cell : goal.put-requires-clause-cell
-put-requires-clause-cell c = each-at (IsUndecided c.args.plan.now) c.args.cells.now.entries c.args.prefix c.in-Some.cell.now c.requires.cells (sym c.in-Some.ensures.value)
+put-requires-clause-cell c =
+    each-at (IsUndecided c.args.plan.now) c.args.cells.now.entries c.args.prefix c.in-Some.cell.now c.requires.cells
+    (sym c.in-Some.ensures.value)
 
 pub returns-in-Some-clause-routes : goal.returns-in-Some-clause-routes
 returns-in-Some-clause-routes c =
@@ -25,7 +27,8 @@ returns-in-Some-clause-routes c =
 pub returns-in-Some-clause-cells : goal.returns-in-Some-clause-cells
 returns-in-Some-clause-cells c =
     subst (AreUndecided c.args.plan.now) (sym (c.get_mut.follows.holds c.put.new.self).0)
-    (each-set (IsUndecided c.args.plan.now) (is_at (prefix_cmp c.args.prefix)) c.args.cells.now.entries c.put.new.self c.requires.cells c.put.ensures.cell)
+    (each-set (IsUndecided c.args.plan.now) (is_at (prefix_cmp c.args.prefix))
+    c.args.cells.now.entries c.put.new.self c.requires.cells c.put.ensures.cell)
 
 pub returns-clause-routes : goal.returns-clause-routes
 returns-clause-routes c =
@@ -33,10 +36,14 @@ returns-clause-routes c =
     let none : cell_at m.entries c.args.prefix ≡ None = sym c.get_mut.ensures.value ∙ ap option_copied_mut c.in_default.is in
     updated m c.insert.new.self c.args.prefix (λ routes. with_route routes (sent_of_held c.args.route)) (Some c.in_ok-cell.cell)
     (at-update m c.insert.new.self c.args.prefix (Some c.in_ok-cell.cell)
-    (subst (λ old. Updates prefix_cmp old c.insert.new.self c.args.prefix (Some c.in_ok-cell.cell)) c.get_mut.follows.holds-at-none c.in_ok-insert.ensures.updates))
+    (subst (λ old. Updates prefix_cmp old c.insert.new.self c.args.prefix (Some c.in_ok-cell.cell))
+    c.get_mut.follows.holds-at-none c.in_ok-insert.ensures.updates))
     (c.in_ok-cell.ensures.routes ∙ ap (λ cell. with_route (routes_of cell) (sent_of_held c.args.route)) (sym none))
 
 pub returns-clause-cells : goal.returns-clause-cells
 returns-clause-cells c =
-    subst (AreUndecided c.args.plan.now) (sym (c.in_ok-insert.ensures.entries ∙ ap (λ (m : BTreeMap IpPrefix CellContent). insert_entry prefix_cmp m.entries c.args.prefix c.in_ok-cell.cell) c.get_mut.follows.holds-at-none))
-    (each-insert (IsUndecided c.args.plan.now) c.args.cells.now.entries c.args.prefix c.in_ok-cell.cell c.requires.cells c.in_ok-cell.ensures.cell)
+    subst (AreUndecided c.args.plan.now) (sym (c.in_ok-insert.ensures.entries
+    ∙ ap (λ (m : BTreeMap IpPrefix CellContent). insert_entry prefix_cmp m.entries c.args.prefix c.in_ok-cell.cell)
+    c.get_mut.follows.holds-at-none))
+    (each-insert (IsUndecided c.args.plan.now) c.args.cells.now.entries c.args.prefix c.in_ok-cell.cell c.requires.cells
+    c.in_ok-cell.ensures.cell)

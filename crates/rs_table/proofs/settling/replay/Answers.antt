@@ -16,6 +16,7 @@ loop-entry-preserved c =
       routes = λ peer prefix.
           ap (left_over losses rest peer prefix) (c.in_ok-replay_one.ensures.routes peer prefix)
           ∙ sym (left-cons losses peer prefix c.in-Some.entry rest (route_at (routes_at c.loop-entry.cells.entries prefix) peer))
-          ∙ ap (λ entries. left_over losses entries peer prefix (route_at (routes_at c.loop-entry.cells.entries prefix) peer)) (sym c.in-Some.ensures.steps.0)
+          ∙ ap (λ entries. left_over losses entries peer prefix (route_at (routes_at c.loop-entry.cells.entries prefix) peer))
+          (sym c.in-Some.ensures.steps.0)
           ∙ c.loop-entry.invariant.routes peer prefix;
     }

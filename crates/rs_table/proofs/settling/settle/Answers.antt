@@ -23,16 +23,19 @@ loop-log-preserved c =
     let logs = c.args.logs.items in
     let gives = c.into_iter-log-iterator.ensures.into_iter_gives in
     let all = YieldsList-from_vec logs gives.0 (gives.1 ∙ c.args.logs.ok.0) in
-    let t = YieldsList-turn all c.loop-log.yielded c.loop-log.log-iterator c.loop-log.yielded_by c.next.result c.next.new.self c.in-Some.log c.in-Some.is c.next.ensures.steps in
+    let t = YieldsList-turn all c.loop-log.yielded c.loop-log.log-iterator c.loop-log.yielded_by c.next.result c.next.new.self c.in-Some.log
+    c.in-Some.is c.next.ensures.steps in
     let count = length c.loop-log.yielded in
-    let list : get_or (lists_of logs) count [] ≡ c.in-Some.log.entries.items = entered-list logs count c.in-Some.log t.0 ∙ ap (λ (log : Log). log.entries.items) (sym t.1) in
+    let list : get_or (lists_of logs) count [] ≡ c.in-Some.log.entries.items =
+    entered-list logs count c.in-Some.log t.0 ∙ ap (λ (log : Log). log.entries.items) (sym t.1) in
     let more : length (c.loop-log.yielded ++ c.in-Some.log ∷ []) ≡ count + 1 = length-append c.loop-log.yielded (c.in-Some.log ∷ []) in
     record {
       cells = c.in_ok-replay.ensures.cells;
       replayed = subst (λ (n : ℕ). IsReplayed losses logs n c.replay.new.cells.entries) (sym more)
           (replayed-more losses logs c.requires.logs count c.loop-log.cells.entries c.replay.new.cells.entries c.loop-log.invariant.replayed
           (λ peer prefix. c.in_ok-replay.ensures.routes peer prefix
-          ∙ ap (λ (entries : List Entry). left_over losses entries peer prefix (route_at (routes_at c.loop-log.cells.entries prefix) peer)) (sym list)));
+          ∙ ap (λ (entries : List Entry). left_over losses entries peer prefix (route_at (routes_at c.loop-log.cells.entries prefix) peer))
+          (sym list)));
     }
 
 pub returns-clause-routes : goal.returns-clause-routes
@@ -41,7 +44,8 @@ returns-clause-routes c = λ peer prefix.
     let logs = c.args.logs.items in
     let gives = c.into_iter-log-iterator.ensures.into_iter_gives in
     let all = YieldsList-from_vec logs gives.0 (gives.1 ∙ c.args.logs.ok.0) in
-    let t = YieldsList-end all c.loop-log.yielded c.loop-log.log-iterator c.loop-log.yielded_by c.next.result c.next.new.self c.in-None.is c.next.ensures.steps in
+    let t = YieldsList-end all c.loop-log.yielded c.loop-log.log-iterator c.loop-log.yielded_by c.next.result c.next.new.self c.in-None.is
+    c.next.ensures.steps in
     ap (λ routes. route_at routes peer) (c.decide_all.ensures.routes prefix)
     ∙ replayed-all losses logs c.requires.logs c.loop-log.cells.entries
     (subst (λ (n : ℕ). IsReplayed losses logs n c.loop-log.cells.entries) t.1 c.loop-log.invariant.replayed) peer prefix

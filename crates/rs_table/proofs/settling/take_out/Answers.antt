@@ -9,7 +9,8 @@ use Rattle.rs_table.proofs.cells.CellsLemmas.{each-at, each-set, at-update, upda
 use Rattle.rs_table.proofs.settling.take_out.Goals as goal
 
 pub take_out-requires : goal.take_out-requires
-take_out-requires c = each-at (IsUndecided c.args.plan.now) c.args.cells.now.entries c.args.prefix c.in-Some.cell.now c.requires (sym c.in-Some.ensures.value)
+take_out-requires c =
+    each-at (IsUndecided c.args.plan.now) c.args.cells.now.entries c.args.prefix c.in-Some.cell.now c.requires (sym c.in-Some.ensures.value)
 
 pub returns-in-Some-clause-routes : goal.returns-in-Some-clause-routes
 returns-in-Some-clause-routes c =
@@ -25,4 +26,5 @@ pub returns-in-Some-clause-cells : goal.returns-in-Some-clause-cells
 returns-in-Some-clause-cells c =
     let w = c.take_out.new.self in
     subst (AreUndecided c.args.plan.now) (sym (c.get_mut.follows.holds w).0)
-    (each-set (IsUndecided c.args.plan.now) (is_at (prefix_cmp c.args.prefix)) c.args.cells.now.entries w c.requires c.take_out.ensures.cell)
+    (each-set (IsUndecided c.args.plan.now) (is_at (prefix_cmp c.args.prefix))
+    c.args.cells.now.entries w c.requires c.take_out.ensures.cell)

@@ -13,12 +13,14 @@ returns-in_err-split_segment c =
 pub returns-in-Set : goal.returns-in-Set
 returns-in-Set c =
     let later = (segments_of c.in_ok-split_segment.field-0.1.now).0 in
-    sym (ap first_as_of (segments-step c.args.value.now (segment_split_of c.in_ok-split_segment.field-0) (sym c.in_ok-split_segment.ensures))
+    sym (ap first_as_of (segments-step c.args.value.now (segment_split_of c.in_ok-split_segment.field-0)
+    (sym c.in_ok-split_segment.ensures))
     ∙ ap (λ segment. first_as_of (segment_in segment ∷ later)) c.in-Set.is)
 
 pub returns-in-Sequence : goal.returns-in-Sequence
 returns-in-Sequence c =
     let later = (segments_of c.in_ok-split_segment.field-0.1.now).0 in
     first_as-is _ _ later c.next.result c.next.ensures.steps
-    ∙ sym (ap first_as_of (segments-step c.args.value.now (segment_split_of c.in_ok-split_segment.field-0) (sym c.in_ok-split_segment.ensures))
+    ∙ sym (ap first_as_of (segments-step c.args.value.now (segment_split_of c.in_ok-split_segment.field-0)
+    (sym c.in_ok-split_segment.ensures))
     ∙ ap (λ segment. first_as_of (segment_in segment ∷ later)) c.in-Sequence.is)

@@ -10,17 +10,22 @@ use Rattle.rs_update.proofs.as_path.holds_as.Goals as goal
 
 pub returns-then-holds : goal.returns-then-holds
 returns-then-holds c =
-    let step = ap (λ (path : List PathSegment). holds_as_in path c.args.asn) (segments-step c.loop-front.rest.now (segment_split_of c.in-Some.front) (sym c.in-Some.ensures)) in
-    ap (λ (held : Bool). held || holds_as_in (segments_of c.in-Some.front.1.now).0 c.args.asn) c.if-holds.ensures ∙ sym step ∙ c.loop-front.invariant
+    let step = ap (λ (path : List PathSegment). holds_as_in path c.args.asn)
+    (segments-step c.loop-front.rest.now (segment_split_of c.in-Some.front) (sym c.in-Some.ensures)) in
+    ap (λ (held : Bool). held || holds_as_in (segments_of c.in-Some.front.1.now).0 c.args.asn) c.if-holds.ensures ∙ sym step
+    ∙ c.loop-front.invariant
 
 pub loop-front-smaller : goal.loop-front-smaller
 loop-front-smaller c = segment_at-takes c.loop-front.rest.now (segment_split_of c.in-Some.front) (sym c.in-Some.ensures)
 
 pub loop-front-preserved : goal.loop-front-preserved
 loop-front-preserved c =
-    let step = ap (λ (path : List PathSegment). holds_as_in path c.args.asn) (segments-step c.loop-front.rest.now (segment_split_of c.in-Some.front) (sym c.in-Some.ensures)) in
-    ap (λ (held : Bool). held || holds_as_in (segments_of c.in-Some.front.1.now).0 c.args.asn) c.if-holds.ensures ∙ sym step ∙ c.loop-front.invariant
+    let step = ap (λ (path : List PathSegment). holds_as_in path c.args.asn)
+    (segments-step c.loop-front.rest.now (segment_split_of c.in-Some.front) (sym c.in-Some.ensures)) in
+    ap (λ (held : Bool). held || holds_as_in (segments_of c.in-Some.front.1.now).0 c.args.asn) c.if-holds.ensures ∙ sym step
+    ∙ c.loop-front.invariant
 
 pub returns : goal.returns
 returns c =
-    sym (ap (λ (path : List PathSegment). holds_as_in path c.args.asn) (segments-end c.loop-front.rest.now (sym c.in_default.ensures))) ∙ c.loop-front.invariant
+    sym (ap (λ (path : List PathSegment). holds_as_in path c.args.asn) (segments-end c.loop-front.rest.now (sym c.in_default.ensures)))
+    ∙ c.loop-front.invariant

@@ -16,7 +16,8 @@ returns-then-field_concerns c =
       | then-closes w ↦ rw (w.value-is, w.if-closes.true) refl
       | else-closes w ↦ rw (w.value-is, w.if-closes.false) w.field_concerns.ensures
     ] in
-    let whole = parts_of_update c.args.errors c.args.prefix c.args.body.now fields.withdrawn.now fields.section.now fields.nlri.now c.if-closes.value c.closes.result are.withdrawn are.section are.nlri are.lengths c.closes.ensures both in
+    let whole = parts_of_update c.args.errors c.args.prefix c.args.body.now fields.withdrawn.now fields.section.now fields.nlri.now
+    c.if-closes.value c.closes.result are.withdrawn are.section are.nlri are.lengths c.closes.ensures both in
     c.if-field_concerns.true ∙ sym (ap (λ (b : Bool). b || field_concerns c.args.prefix fields.nlri.now) c.if-field_concerns.true) ∙ whole
 
 pub returns-else-field_concerns : goal.returns-else-field_concerns
@@ -28,5 +29,7 @@ returns-else-field_concerns c =
       | then-closes w ↦ rw (w.value-is, w.if-closes.true) refl
       | else-closes w ↦ rw (w.value-is, w.if-closes.false) w.field_concerns.ensures
     ] in
-    let whole = parts_of_update c.args.errors c.args.prefix c.args.body.now fields.withdrawn.now fields.section.now fields.nlri.now c.if-closes.value c.closes.result are.withdrawn are.section are.nlri are.lengths c.closes.ensures both in
-    c.field_concerns-else-field_concerns.ensures ∙ sym (ap (λ (b : Bool). b || field_concerns c.args.prefix fields.nlri.now) c.if-field_concerns.false) ∙ whole
+    let whole = parts_of_update c.args.errors c.args.prefix c.args.body.now fields.withdrawn.now fields.section.now fields.nlri.now
+    c.if-closes.value c.closes.result are.withdrawn are.section are.nlri are.lengths c.closes.ensures both in
+    c.field_concerns-else-field_concerns.ensures ∙ sym (ap (λ (b : Bool). b || field_concerns c.args.prefix fields.nlri.now)
+    c.if-field_concerns.false) ∙ whole

@@ -8,7 +8,8 @@ use Rattle.rs_update.proofs.section.ItemLemmas.{item_at-takes}
 use Rattle.rs_update.proofs.found.find_items.Goals as goal
 
 pub loop-front-init : goal.loop-front-init
-loop-front-init c = rw c.requires.nowhere (finds_nothing c.args.section.now (λ place. omega (arith, c.type_inv.section place)) (omega (arith, c.requires.short)))
+loop-front-init c = rw c.requires.nowhere (finds_nothing c.args.section.now (λ place. omega (arith, c.type_inv.section place))
+    (omega (arith, c.requires.short)))
 
 pub loop-front-smaller : goal.loop-front-smaller
 loop-front-smaller c = item_at-takes c.loop-front.rest.now (split_of c.in-Some.front) (sym c.in-Some.ensures)
@@ -17,7 +18,9 @@ pub loop-front-preserved : goal.loop-front-preserved
 loop-front-preserved c =
     let end = c.end_with-end.ensures in
     let held = c.loop-front.invariant in
-    rw c.from-kind.ensures (finds_one c.args.section.now c.loop-front.rest.now c.loop-front.places c.loop-front.end c.end_with-end.result (split_of c.in-Some.front) c.requires.faultless (omega (arith, c.requires.short)) (sym c.in-Some.ensures) end.before end.behind (end.fits held.end_fits) held)
+    rw c.from-kind.ensures (finds_one c.args.section.now c.loop-front.rest.now c.loop-front.places c.loop-front.end c.end_with-end.result
+    (split_of c.in-Some.front) c.requires.faultless (omega (arith, c.requires.short)) (sym c.in-Some.ensures) end.before end.behind
+    (end.fits held.end_fits) held)
 
 pub returns : goal.returns
 returns c =

@@ -14,7 +14,8 @@ returns-in_default c =
 pub returns-in_default-get : goal.returns-in_default-get
 returns-in_default-get c =
     let items = items_of c.args.section.now in
-    sym (one_missing items (rw (not_there 2 items c.get-2.result c.get-2.ensures c.in_default-get.not-Some) (and_left _ _ (and_right (is_some (look 1 items)) _ refl))))
+    sym (one_missing items (rw (not_there 2 items c.get-2.result c.get-2.ensures c.in_default-get.not-Some)
+    (and_left _ _ (and_right (is_some (look 1 items)) _ refl))))
 
 pub returns-then-not-stands : goal.returns-then-not-stands
 returns-then-not-stands c =

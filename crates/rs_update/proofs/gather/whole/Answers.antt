@@ -17,7 +17,8 @@ use Rattle.rs_update.proofs.attributes.WholeLemmas.{there, found_short}
 use Rattle.rs_update.proofs.gather.whole.Goals as goal
 
 pub origin_of-requires : goal.origin_of-requires
-origin_of-requires c = omega (arith, look_exact c.args.section.now 1 1 (item_of c.args.origin) refl c.requires.faultless c.requires.origin_is)
+origin_of-requires c =
+    omega (arith, look_exact c.args.section.now 1 1 (item_of c.args.origin) refl c.requires.faultless c.requires.origin_is)
 
 pub med_of-requires : goal.med_of-requires
 med_of-requires c = λ x e.
@@ -30,7 +31,8 @@ place_of-requires c =
     let fit : AreOctets section = λ place. omega (arith, c.type_inv.section place) in
     let asked = c.requires in
     let octets = c.in_ok-spelling.spelling.items in
-    let says = (spelled-says section fit asked.faultless asked.short c.args.found.now (item_of c.args.origin) (item_of c.args.path) octets asked.are_found asked.origin_is asked.path_is asked.has_next_hop c.in_ok-spelling.ensures).1 in
+    let says = (spelled-says section fit asked.faultless asked.short c.args.found.now (item_of c.args.origin) (item_of c.args.path)
+    octets asked.are_found asked.origin_is asked.path_is asked.has_next_hop c.in_ok-spelling.ensures).1 in
     omega (arith, says.fits_a_message, ap length c.deref.ensures.value)
 
 pub invariant_of-result : goal.invariant_of-result
@@ -39,7 +41,8 @@ invariant_of-result c =
     let fit : AreOctets section = λ place. omega (arith, c.type_inv.section place) in
     let asked = c.requires in
     let octets = c.in_ok-spelling.spelling.items in
-    let says = (spelled-says section fit asked.faultless asked.short c.args.found.now (item_of c.args.origin) (item_of c.args.path) octets asked.are_found asked.origin_is asked.path_is asked.has_next_hop c.in_ok-spelling.ensures).1 in
+    let says = (spelled-says section fit asked.faultless asked.short c.args.found.now (item_of c.args.origin) (item_of c.args.path)
+    octets asked.are_found asked.origin_is asked.path_is asked.has_next_hop c.in_ok-spelling.ensures).1 in
     let is = sym says.is_looked_up in
     let sound = sound_section section fit asked.faultless in
     let path = look_sound (items_of section) 2 (item_of c.args.path) sound asked.path_is in
@@ -57,7 +60,8 @@ invariant_of-result c =
       origin_agrees = c.origin_of.ensures ∙ ap (λ (attributes : PathAttributes). attributes.origin) is;
       med_agrees =
           c.unwrap_or.ensures
-          ∙ ap (λ (med : Option ℕ). unwrap_or med 0) (c.med_of.ensures ∙ ap (option_map (λ (med : Item). big_number 4 med.value)) c.get.ensures)
+          ∙ ap (λ (med : Option ℕ). unwrap_or med 0) (c.med_of.ensures
+          ∙ ap (option_map (λ (med : Item). big_number 4 med.value)) c.get.ensures)
           ∙ ap (λ (attributes : PathAttributes). unwrap_or attributes.med 0) is;
       neighbour_agrees = c.first_as.ensures ∙ ap (λ (attributes : PathAttributes). first_as_of attributes.path) is;
       communities_stand_there =
@@ -72,5 +76,6 @@ returns c =
     let fit : AreOctets section = λ place. omega (arith, c.type_inv.section place) in
     let asked = c.requires in
     let octets = c.in_ok-spelling.spelling.items in
-    let says = (spelled-says section fit asked.faultless asked.short c.args.found.now (item_of c.args.origin) (item_of c.args.path) octets asked.are_found asked.origin_is asked.path_is asked.has_next_hop c.in_ok-spelling.ensures).1 in
+    let says = (spelled-says section fit asked.faultless asked.short c.args.found.now (item_of c.args.origin) (item_of c.args.path)
+    octets asked.are_found asked.origin_is asked.path_is asked.has_next_hop c.in_ok-spelling.ensures).1 in
     says.given ∙ ap (λ (attributes : PathAttributes). Some attributes) (sym says.is_looked_up)

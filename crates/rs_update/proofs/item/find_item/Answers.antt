@@ -9,11 +9,13 @@ loop-front-smaller c = item_at-takes c.loop-front.rest.now (split_of c.in-Some.f
 
 pub loop-front-preserved : goal.loop-front-preserved
 loop-front-preserved c =
-    sym (look-past c.args.kind c.loop-front.rest.now (split_of c.in-Some.front) (sym c.in-Some.ensures) c.if-front-kind.false) ∙ c.loop-front.invariant
+    sym (look-past c.args.kind c.loop-front.rest.now (split_of c.in-Some.front) (sym c.in-Some.ensures) c.if-front-kind.false)
+    ∙ c.loop-front.invariant
 
 pub returns-then-front-kind : goal.returns-then-front-kind
 returns-then-front-kind c =
-    sym (look-here c.args.kind c.loop-front.rest.now (split_of c.in-Some.front) (sym c.in-Some.ensures) c.if-front-kind.true) ∙ c.loop-front.invariant
+    sym (look-here c.args.kind c.loop-front.rest.now (split_of c.in-Some.front) (sym c.in-Some.ensures) c.if-front-kind.true)
+    ∙ c.loop-front.invariant
 
 pub returns : goal.returns
 returns c = sym (look-end c.args.kind c.loop-front.rest.now (sym c.in_default.ensures)) ∙ c.loop-front.invariant

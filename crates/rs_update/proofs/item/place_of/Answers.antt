@@ -32,6 +32,7 @@ pub returns : goal.returns
 returns c =
     let held = c.loop-front.invariant in
     elim c.match-split_item.branch [
-      | in-Some+then-front-kind w ↦ item_from-found held.1 c.args.section.now c.loop-front.rest.now c.args.kind held.2 held.4 (split_of w.in-Some.front) (sym w.in-Some.ensures) w.if-front-kind.true
+      | in-Some+then-front-kind w ↦ item_from-found held.1 c.args.section.now c.loop-front.rest.now c.args.kind held.2 held.4
+          (split_of w.in-Some.front) (sym w.in-Some.ensures) w.if-front-kind.true
       | in_default w ↦ item_from-none held.1 c.args.section.now c.loop-front.rest.now c.args.kind held.2 held.4 (sym w.in_default.ensures)
     ]

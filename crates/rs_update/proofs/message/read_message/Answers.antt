@@ -5,4 +5,5 @@ pub returns-clause-answer : goal.returns-clause-answer
 returns-clause-answer c = rw by_rfc_4271 at c.read_message_by.ensures.answer
 
 pub returns-clause-untreated : goal.returns-clause-untreated
-returns-clause-untreated c = untreated_answered c.args.octets.now c.read_message_by.result (rw by_rfc_4271 at c.read_message_by.ensures.answer)
+returns-clause-untreated c =
+    untreated_answered c.args.octets.now c.read_message_by.result (rw by_rfc_4271 at c.read_message_by.ensures.answer)

@@ -18,8 +18,10 @@ loop-split-preserved c =
 
 pub returns-then-is_empty : goal.returns-then-is_empty
 returns-then-is_empty c =
-    counted_all c.args.field.now c.loop-split.rest.now c.loop-split.count c.loop-split.invariant.counted c.loop-split.invariant.left_over c.in_default.ensures (eqb-true _ _ (sym c.if-is_empty.ensures))
+    counted_all c.args.field.now c.loop-split.rest.now c.loop-split.count c.loop-split.invariant.counted c.loop-split.invariant.left_over
+    c.in_default.ensures (eqb-true _ _ (sym c.if-is_empty.ensures))
 
 pub returns-else-is_empty : goal.returns-else-is_empty
 returns-else-is_empty c =
-    counted_none c.args.field.now c.loop-split.rest.now c.loop-split.invariant.left_over c.in_default.ensures (eqb-false _ _ (sym c.if-is_empty.ensures))
+    counted_none c.args.field.now c.loop-split.rest.now c.loop-split.invariant.left_over c.in_default.ensures
+    (eqb-false _ _ (sym c.if-is_empty.ensures))

@@ -17,7 +17,8 @@ push_kept-requires c = λ x e.
     let items = items_of c.args.section.now in
     let fit : AreOctets c.args.section.now = λ place. omega (arith, c.type_inv.section place) in
     let below : c.loop-kind.kind < 256 = omega (arith, c.loop-kind-test.true, c.requires.are_found.end_fits) in
-    let found = there c.loop-kind.kind items c.item_from.result x (c.item_from.ensures ∙ c.requires.are_found.at_place c.loop-kind.kind below) e in
+    let found = there c.loop-kind.kind items c.item_from.result x
+    (c.item_from.ensures ∙ c.requires.are_found.at_place c.loop-kind.kind below) e in
     found_short items c.loop-kind.kind (item_of x) (sound_section c.args.section.now fit c.requires.faultless) found
 
 pub loop-kind-preserved : goal.loop-kind-preserved
@@ -27,7 +28,8 @@ loop-kind-preserved c =
     let out = c.loop-kind.out.items in
     let below : kind < 256 = omega (arith, c.loop-kind-test.true, c.requires.are_found.end_fits) in
     let found : option_map item_of c.item_from.result ≡ look kind items = c.item_from.ensures ∙ c.requires.are_found.at_place kind below in
-    ap (λ (octets : List ℕ). octets ++ spelled_from items (kind + 1)) (c.in_ok-push_kept.ensures ∙ ap (λ (one : Option Item). out ++ spelled_kept (option_and_then kept_of one)) found)
+    ap (λ (octets : List ℕ). octets ++ spelled_from items (kind + 1))
+    (c.in_ok-push_kept.ensures ∙ ap (λ (one : Option Item). out ++ spelled_kept (option_and_then kept_of one)) found)
     ∙ append_assoc out (spelled_kept (kept_in items kind)) (spelled_from items (kind + 1))
     ∙ ap (λ (behind : List ℕ). out ++ behind) (sym (spelled_from-step items kind below))
     ∙ c.loop-kind.invariant
@@ -37,5 +39,6 @@ returns c =
     let items = items_of c.args.section.now in
     let kind = c.loop-kind.kind in
     let out = c.loop-kind.out.items in
-    let nothing = spelled_from-end items kind (omega (arith, c.loop-kind.auto.kind-end, c.requires.are_found.end_fits)) (λ k above. c.requires.are_found.none_behind k (omega (arith, above, c.loop-kind-test.false))) in
+    let nothing = spelled_from-end items kind (omega (arith, c.loop-kind.auto.kind-end, c.requires.are_found.end_fits))
+    (λ k above. c.requires.are_found.none_behind k (omega (arith, above, c.loop-kind-test.false))) in
     sym (append-nil out) ∙ ap (λ (behind : List ℕ). out ++ behind) (sym nothing) ∙ c.loop-kind.invariant

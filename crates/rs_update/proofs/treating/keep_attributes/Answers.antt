@@ -14,7 +14,8 @@ pub loop-split-init : goal.loop-split-init
 loop-split-init c = ([], none_seen, rw c.in_ok-kept.ensures.items refl, λ place. omega (arith, c.type_inv.section place))
 
 pub slice_bounds-extend_from_slice-count : goal.slice_bounds-extend_from_slice-count
-slice_bounds-extend_from_slice-count c = omega (arith, item_at-takes c.loop-split.rest.now (split_of c.in-Some.split) (sym c.in-Some.ensures))
+slice_bounds-extend_from_slice-count c =
+    omega (arith, item_at-takes c.loop-split.rest.now (split_of c.in-Some.split) (sym c.in-Some.ensures))
 
 pub loop-split-smaller : goal.loop-split-smaller
 loop-split-smaller c = item_at-takes c.loop-split.rest.now (split_of c.in-Some.split) (sym c.in-Some.ensures)
@@ -28,7 +29,8 @@ loop-split-preserved c =
     let item = item_of c.in-Some.split.0 in
     let kept = c.loop-split.kept.items in
     let is = c.is_keep.ensures ∙ ap is_kept c.item_handling.ensures in
-    let on = keeps_on c.loop-split.seen rest behind kept (kept_section c.args.section.now) item c.is_keep.result octet c.in-Some.ensures is held in
+    let on = keeps_on c.loop-split.seen rest behind kept (kept_section c.args.section.now)
+    item c.is_keep.result octet c.in-Some.ensures is held in
     rw c.from.ensures
     (elim c.if-is_keep.branch [
       | then-is_keep+in_ok-extend_from_slice w ↦
@@ -42,7 +44,8 @@ pub returns : goal.returns
 returns c =
     let section = c.args.section.now in
     let fit : AreOctets section = λ place. omega (arith, c.type_inv.section place) in
-    let is = keeps_end c.loop-split.seen c.loop-split.rest.now c.loop-split.kept.items (kept_section section) c.in_default.ensures c.loop-split.invariant in
+    let is = keeps_end c.loop-split.seen c.loop-split.rest.now c.loop-split.kept.items (kept_section section)
+    c.in_default.ensures c.loop-split.invariant in
     record {
       value = is;
       items = ap items_of is ∙ kept_items section fit;

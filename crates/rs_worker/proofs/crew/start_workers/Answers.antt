@@ -9,15 +9,21 @@ use Rattle.rs_worker.proofs.crew.start_workers.Goals as goal
 
 pub returns-in_default-clause-tied : goal.returns-in_default-clause-tied
 returns-in_default-clause-tied g c =
-    let jobs : into_iter_items c.into_iter-job-iterator.result ≡ c.args.jobs.items = c.into_iter-job-iterator.ensures.into_iter_gives.0 in
-    (map (charge_of c.args.errors) (into_iter_items c.loop-job.job-iterator), c.loop-job.invariant.tied ∙ ap (λ (jobs : List (Job g.row.S.Denot)). map (charge_of c.args.errors) jobs) jobs)
+    let jobs : into_iter_items c.into_iter-job-iterator.result ≡ c.args.jobs.items = c.into_iter-job-iterator.ensures.into_iter_gives.0 in (
+      map (charge_of c.args.errors) (into_iter_items c.loop-job.job-iterator),
+      c.loop-job.invariant.tied
+          ∙ ap (λ (jobs : List (Job g.row.S.Denot)). map (charge_of c.args.errors) jobs) jobs,
+    )
 
 pub loop-job-preserved : goal.loop-job-preserved
 loop-job-preserved g c =
     let steps : into_iter_items c.loop-job.job-iterator ≡ c.in-Some.job ∷ into_iter_items c.next.new.self = c.in-Some.ensures.steps.0 in
     let ready = rw steps at c.loop-job.invariant.ready in record {
       tied =
-          rw c.push_reserved.ensures.items (next-moves (λ handle. charged handle.promise) (charge_of c.args.errors) c.loop-job.handles.items c.in-Some-start_worker.handle (into_iter_items c.loop-job.job-iterator) (into_iter_items c.next.new.self) c.in-Some.job (map (charge_of c.args.errors) (into_iter_items c.into_iter-job-iterator.result))
+          rw c.push_reserved.ensures.items (next-moves (λ handle. charged handle.promise) (charge_of c.args.errors)
+          c.loop-job.handles.items c.in-Some-start_worker.handle (into_iter_items c.loop-job.job-iterator)
+          (into_iter_items c.next.new.self) c.in-Some.job
+          (map (charge_of c.args.errors) (into_iter_items c.into_iter-job-iterator.result))
           c.in-Some-start_worker.ensures steps c.loop-job.invariant.tied);
       ready = λ k d within. ready (suc k) d (omega (arith, within));
       counted = search rules;

@@ -7,7 +7,8 @@ use Rattle.rs_worker.proofs.crew.start_workers.Given as goal
 
 abbrev pub invariant-loop-job : goal.invariant-loop-job
 invariant-loop-job g l = record {
-  tied : map (λ handle. charged handle.promise) l.handles.items ++ map (charge_of l.errors) (into_iter_items l.job-iterator) ≡ map (charge_of l.errors) (into_iter_items l.initial.job-iterator);
+  tied : map (λ handle. charged handle.promise) l.handles.items ++ map (charge_of l.errors) (into_iter_items l.job-iterator)
+      ≡ map (charge_of l.errors) (into_iter_items l.initial.job-iterator);
   ready : All (λ job. (job.out.sent ≡ []) × (g.S.Source.room job.source ≤ 2 ^ 50)) (into_iter_items l.job-iterator);
   counted : vec_len l.handles + into_iter_len l.job-iterator ≡ into_iter_len l.initial.job-iterator;
   left : into_iter_len l.job-iterator ≡ length (into_iter_items l.job-iterator);

@@ -20,7 +20,8 @@ loop-number-preserved c =
     let place = c.place.result in
     let within = within_at held places c.requires.places i place c.place.ensures.value in
     let at : slice_get held place ≡ Some one = slice_get_read held (length held) place one (omega arith) within c.index-held-place.is in
-    let permitted : IsTrue (is_sent_to c.args.self.now c.args.client (sent_of_held one)) = sym c.permits_held.ensures ∙ c.if-not-permits_held.false in
+    let permitted : IsTrue (is_sent_to c.args.self.now c.args.client (sent_of_held one)) =
+    sym c.permits_held.ensures ∙ c.if-not-permits_held.false in
     let test = λ (sent : SentRoute). IsTrue (is_sent_to c.args.self.now c.args.client sent) in
     subst (All test) (sym (sents_more held places i place one c.place.ensures.value at))
     (All-push test (sents_at held (take i places)) (sent_of_held one) c.loop-number.invariant permitted)
@@ -28,8 +29,10 @@ loop-number-preserved c =
 pub returns : goal.returns
 returns c =
     let places = c.args.places.now in
-    let end : c.loop-number.number ≡ length places = omega (arith, c.loop-number.auto.number-end, c.loop-number-test.false, c.len-number-end.ensures.value) in
-    λ answered. subst (λ (list : List ℕ). All (λ sent. IsTrue (is_sent_to c.args.self.now c.args.client sent)) (sents_at c.args.held.now list))
+    let end : c.loop-number.number ≡ length places =
+    omega (arith, c.loop-number.auto.number-end, c.loop-number-test.false, c.len-number-end.ensures.value) in
+    λ answered. subst (λ (list : List ℕ). All (λ sent. IsTrue (is_sent_to c.args.self.now c.args.client sent))
+    (sents_at c.args.held.now list))
     (ap (λ n. take n places) end ∙ take-length places) c.loop-number.invariant
 
 pub loop-number-init : goal.loop-number-init

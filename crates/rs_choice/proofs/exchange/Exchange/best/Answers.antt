@@ -6,7 +6,10 @@ use Rattle.rs_choice.specs.Decision.{standing_of_candidate}
 use Rattle.rs_choice.specs.Scan.{HasLeastMed, GoesFirst, IsLeftByMed}
 use Rattle.rs_choice.proofs.decision.ScanLemmas.{level_has_none_ahead, none_ahead_is_level, best_skips, best_changes, best_stays}
 use Rattle.rs_choice.proofs.exchange.Exchange.best.Goals as goal
-use Rattle.rs_choice.proofs.exchange.Exchange.best.Goals.{then-is_level_with+then-has_least_med+then-goes_first, else-is_level_with, else-is_level_with-via-then-is_level_with+then-has_least_med+else-goes_first, else-is_level_with-via-then-is_level_with+else-has_least_med, else-is_level_with-via-else-is_level_with}
+use Rattle.rs_choice.proofs.exchange.Exchange.best.Goals.{then-is_level_with+then-has_least_med+then-goes_first, else-is_level_with}
+use Rattle.rs_choice.proofs.exchange.Exchange.best.Goals.{else-is_level_with-via-then-is_level_with+then-has_least_med+else-goes_first}
+use Rattle.rs_choice.proofs.exchange.Exchange.best.Goals.{else-is_level_with-via-then-is_level_with+else-has_least_med}
+use Rattle.rs_choice.proofs.exchange.Exchange.best.Goals.{else-is_level_with-via-else-is_level_with}
 
 pub loop-place-preserved : goal.loop-place-preserved
 loop-place-preserved c =
@@ -20,10 +23,13 @@ loop-place-preserved c =
     elim c.if-is_level_with.branch [
       | then-is_level_with+then-has_least_med+then-goes_first w ↦
           let level : IsLevel one leader = rw c.standing-standing.ensures at (c.is_level_with.ensures.0 w.if-is_level_with.true) in
-          let least : HasLeastMed plan candidates one = rw c.standing-standing.ensures at (w.has_least_med.ensures.0 w.if-has_least_med.true) in
+          let least : HasLeastMed plan candidates one =
+          rw c.standing-standing.ensures at (w.has_least_med.ensures.0 w.if-has_least_med.true) in
           let first : GoesFirst one c.loop-place.best = rw c.standing-standing.ensures at (w.goes_first.ensures.0 w.if-goes_first.true) in
-          let left : IsLeftByMed plan candidates one = (level_has_none_ahead plan candidates leader one c.in_ok-leader.ensures level, least) in
-          rw (w.best-is, c.standing-standing.ensures) (best_changes plan candidates i c.loop-place.best candidate at c.loop-place.invariant left first)
+          let left : IsLeftByMed plan candidates one =
+          (level_has_none_ahead plan candidates leader one c.in_ok-leader.ensures level, least) in
+          rw (w.best-is, c.standing-standing.ensures) (best_changes plan candidates i c.loop-place.best candidate at c.loop-place.invariant
+          left first)
       | else-is_level_with w ↦
           rw w.best-is (elim w.else-is_level_with.branch [
             | else-is_level_with-via-then-is_level_with+then-has_least_med+else-goes_first w' ↦

@@ -9,7 +9,8 @@ pub returns-then-are_permitted : goal.returns-then-are_permitted
 returns-then-are_permitted c =
     let permitted = is_sent_to c.args.self.now c.args.client in
     let stays = c.requires.shared.rests permitted (λ route found.
-    subst (λ (sent : SentRoute). IsTrue (permitted sent)) found.2 (c.are_permitted.ensures c.if-are_permitted.true found.0 route found.1)) in
+    subst (λ (sent : SentRoute). IsTrue (permitted sent)) found.2 (c.are_permitted.ensures c.if-are_permitted.true found.0 route found.1))
+    in
     c.number.ensures
     ∙ ap (λ peer. peer_or_own peer c.args.client) (c.requires.shared.peer ∙ sym (ap (option_map (λ (sent : SentRoute). sent.peer)) stays))
 

@@ -4,7 +4,8 @@ use Rattle.rs_choice.proofs.exchange.Exchange.choose_for_all.Goals as goal
 
 pub choose_for-requires-clause-candidates : goal.choose_for-requires-clause-candidates
 choose_for-requires-clause-candidates c =
-    eligible_hold c.args.self.now c.args.held.now c.eligible-eligible.result c.requires.judged c.eligible-eligible.ensures.places c.eligible-eligible.ensures.eligible c.loop-client.client
+    eligible_hold c.args.self.now c.args.held.now c.eligible-eligible.result c.requires.judged c.eligible-eligible.ensures.places
+    c.eligible-eligible.ensures.eligible c.loop-client.client
 
 pub loop-client-preserved : goal.loop-client-preserved
 loop-client-preserved c = search rules

@@ -9,9 +9,11 @@ group_all-requires c =
 
 pub first_peer-requires-clause-first : goal.first_peer-requires-clause-first
 first_peer-requires-clause-first c =
-    first_within c.args.self.now c.args.held.now c.args.places.now c.group_all.new.groups _ c.first_of-first.result c.requires.places c.group_all.ensures c.first_of-first.ensures
+    first_within c.args.self.now c.args.held.now c.args.places.now c.group_all.new.groups _ c.first_of-first.result c.requires.places
+    c.group_all.ensures c.first_of-first.ensures
 
 pub returns : goal.returns
 returns c =
     c.first_peer.ensures
-    ∙ chosen_is c.args.self.now c.args.held.now c.args.places.now c.group_all.new.groups c.first_of-first.result c.group_all.ensures c.first_of-first.ensures
+    ∙ chosen_is c.args.self.now c.args.held.now c.args.places.now c.group_all.new.groups c.first_of-first.result c.group_all.ensures
+    c.first_of-first.ensures

@@ -23,10 +23,12 @@ contends-requires-clause-eligible c =
     let places = c.args.places.now in
     let one = c.index-held-place.result in
     let place = c.place-place.result in
-    let within : place < length held = within_at held places c.requires.candidates.within c.loop-number.number place c.place-place.ensures.value in
+    let within : place < length held =
+    within_at held places c.requires.candidates.within c.loop-number.number place c.place-place.ensures.value in
     let at : slice_get held place ≡ Some one = slice_get_read held (length held) place one (omega arith) within c.index-held-place.is in
     let judged = subst (IsJudged plan) (sym c.index-held-place.is) (c.requires.judged place one within) in
-    judged.eligible ∙ eligible_at plan c.args.client held places c.requires.candidates c.loop-number.number place one c.place-place.ensures.value at
+    judged.eligible ∙ eligible_at plan c.args.client held places c.requires.candidates c.loop-number.number place one
+    c.place-place.ensures.value at
 
 pub loop-number-preserved : goal.loop-number-preserved
 loop-number-preserved c =
@@ -41,7 +43,8 @@ loop-number-preserved c =
     let routes = sents_at held (take i places) in
     let within : place < length held = within_at held places c.requires.candidates.within i place c.place-place.ensures.value in
     let at : slice_get held place ≡ Some one = slice_get_read held (length held) place one (omega arith) within c.index-held-place.is in
-    let more : sents_at held (take (i + 1) places) ≡ routes ++ sent_of_held one ∷ [] = sents_more held places i place one c.place-place.ensures.value at in
+    let more : sents_at held (take (i + 1) places) ≡ routes ++ sent_of_held one ∷ [] =
+    sents_more held places i place one c.place-place.ensures.value at in
     let eligible = eligible_at plan c.args.client held places c.requires.candidates i place one c.place-place.ensures.value at in
     elim c.match-contends.branch [
       | in-Some w ↦
@@ -51,9 +54,17 @@ loop-number-preserved c =
           rw (w.contenders-is, w.last-is, w.push.ensures) (record {
             few = omega (arith, length_push so_far place, c.loop-number.invariant.few);
             places = All-push (λ place. place < length held) so_far place c.loop-number.invariant.places within;
-            eligible = rw pushed (All-push (λ (sent : SentRoute). IsTrue (is_eligible plan sent.peer sent.attributes)) (sents_at held so_far) (sent_of_held one) c.loop-number.invariant.eligible eligible);
-            has_last = rw pushed (sent_of_held one, mem-append_right (sents_at held so_far) (sent_of_held one ∷ []) (sent_of_held one) (inl refl), contends.1);
-            same = rw (pushed, more) (with_one plan client routes (sent_of_held one) (sents_at held so_far) c.loop-number.invariant.same eligible contends.0);
+            eligible =
+                rw pushed (All-push (λ (sent : SentRoute). IsTrue (is_eligible plan sent.peer sent.attributes)) (sents_at held so_far)
+                (sent_of_held one) c.loop-number.invariant.eligible eligible);
+            has_last =
+                rw pushed (
+                  sent_of_held one,
+                  mem-append_right (sents_at held so_far) (sent_of_held one ∷ []) (sent_of_held one) (inl refl),
+                  contends.1,
+                );
+            same = rw (pushed, more) (with_one plan client routes (sent_of_held one) (sents_at held so_far)
+                c.loop-number.invariant.same eligible contends.0);
           })
       | in_default w ↦
           let contends_not : Contends plan client (sent_of_held one) c.loop-number.last None =
@@ -63,7 +74,8 @@ loop-number-preserved c =
             places = c.loop-number.invariant.places;
             eligible = c.loop-number.invariant.eligible;
             has_last = c.loop-number.invariant.has_last;
-            same = rw more (without_one plan client routes (sent_of_held one) (sents_at held so_far) c.loop-number.invariant.same c.loop-number.last c.loop-number.invariant.has_last contends_not);
+            same = rw more (without_one plan client routes (sent_of_held one) (sents_at held so_far)
+                c.loop-number.invariant.same c.loop-number.last c.loop-number.invariant.has_last contends_not);
           })
     ]
 
@@ -73,13 +85,16 @@ returns c =
     let held = c.args.held.now in
     let places = c.args.places.now in
     let chosen = sents_at held c.loop-number.contenders in
-    let end : c.loop-number.number ≡ length places = omega (arith, c.loop-number.auto.number-end, c.loop-number-test.false, c.len-number-end.ensures.value) in
+    let end : c.loop-number.number ≡ length places =
+    omega (arith, c.loop-number.auto.number-end, c.loop-number-test.false, c.len-number-end.ensures.value) in
     record {
       within = c.loop-number.invariant.places;
       eligible = c.loop-number.invariant.eligible;
       same = sym (ap (choice (standing_of plan)) (append-nil chosen))
           ∙ c.loop-number.invariant.same []
-          ∙ ap (choice (standing_of plan)) (append-nil (candidates_among plan c.args.client (sents_at held (take c.loop-number.number places))))
-          ∙ ap (λ list. choice (standing_of plan) (candidates_among plan c.args.client (sents_at held list))) (ap (λ n. take n places) end ∙ take-length places)
+          ∙ ap (choice (standing_of plan)) (append-nil (candidates_among plan c.args.client
+          (sents_at held (take c.loop-number.number places))))
+          ∙ ap (λ list. choice (standing_of plan) (candidates_among plan c.args.client (sents_at held list)))
+          (ap (λ n. take n places) end ∙ take-length places)
           ∙ ap (choice (standing_of plan)) c.requires.candidates.same;
     }

@@ -16,8 +16,10 @@ loop-candidate-preserved c =
     let at = slice_get_read candidates (length candidates) i candidate refl c.loop-candidate-test.true c.candidate-item.is in
     elim c.if-leads.branch [
       | then-leads w ↦
-          let leads : Leads (standing_of_candidate plan candidate) c.loop-candidate.leader = rw c.standing-standing.ensures at (c.leads.ensures.0 w.if-leads.true) in
-          rw (w.leader-is, c.standing-standing.ensures) (leader_more plan candidates i c.loop-candidate.leader candidate at c.loop-candidate.invariant leads)
+          let leads : Leads (standing_of_candidate plan candidate) c.loop-candidate.leader =
+          rw c.standing-standing.ensures at (c.leads.ensures.0 w.if-leads.true) in
+          rw (w.leader-is, c.standing-standing.ensures) (leader_more plan candidates i c.loop-candidate.leader candidate at
+          c.loop-candidate.invariant leads)
       | else-leads w ↦
           let leads_not : Leads (standing_of_candidate plan candidate) c.loop-candidate.leader → ⊥ =
           rw c.standing-standing.ensures at (iff_false c.leads.ensures w.if-leads.false) in

@@ -14,7 +14,8 @@ returns-then-not-refuses c =
       | then-client-peer w ↦
           let refuses_not : w.refuses.result ≡ false = grind (arith, w.value-is, c.if-not-refuses.true) in
           is_permitted-not-refused c.args.self.now c.args.client c.args.peer c.args.attributes.now (peer_of c.peer.result.now)
-          w.refuses.result c.permitted_by_communities.result c.peer.ensures c.requires.peer_known w.if-client-peer.true w.refuses.ensures refuses_not decided
+          w.refuses.result c.permitted_by_communities.result c.peer.ensures c.requires.peer_known w.if-client-peer.true w.refuses.ensures
+          refuses_not decided
       | else-client-peer w ↦ absurd (grind (arith, w.value-is, c.if-not-refuses.true))
     ]
 

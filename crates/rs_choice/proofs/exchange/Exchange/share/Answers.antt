@@ -3,7 +3,8 @@ use Rattle.std.specs.Option.{option_map}
 use Rattle.rs_choice.specs.Decision.{SentRoute, choice, standing_of}
 use Rattle.rs_choice.specs.Held.{sent_of_held, AreEligible}
 use Rattle.rs_choice.specs.Sharing.{sents_at, RestsOn}
-use Rattle.rs_choice.proofs.clients.ClientLemmas.{chosen_is, eligible_all, eligible_sents, first_within, groups_within, rests, view_length, weighing_places}
+use Rattle.rs_choice.proofs.clients.ClientLemmas.{chosen_is, eligible_all, eligible_sents, first_within, groups_within, rests, view_length}
+use Rattle.rs_choice.proofs.clients.ClientLemmas.{weighing_places}
 use Rattle.rs_choice.proofs.exchange.Exchange.share.Goals as goal
 
 pub invariant_of-entrants : goal.invariant_of-entrants
@@ -14,7 +15,8 @@ invariant_of-entrants c =
     record {
       within = c.requires.places;
       judged = c.requires.judged;
-      eligible = subst (AreEligible plan) (sym (eligible_sents plan held eligible c.requires.judged c.requires.eligible)) (eligible_all plan (map sent_of_held held));
+      eligible = subst (AreEligible plan) (sym (eligible_sents plan held eligible c.requires.judged c.requires.eligible))
+          (eligible_all plan (map sent_of_held held));
     }
 
 pub group_all-requires : goal.group_all-requires
@@ -39,7 +41,8 @@ returns c =
     let weighing = weighing_places held eligible c.weighing-weighing.result c.requires.places c.weighing-weighing.ensures.among in
     let same = eligible_sents plan held eligible c.requires.judged c.requires.eligible in
     record {
-      peer = c.first_peer-peer.ensures ∙ chosen_is plan held eligible c.group_all.new.groups c.first_of-first.result c.group_all.ensures c.first_of-first.ensures
+      peer = c.first_peer-peer.ensures ∙ chosen_is plan held eligible c.group_all.new.groups c.first_of-first.result c.group_all.ensures
+          c.first_of-first.ensures
           ∙ ap (λ list. option_map (λ (sent : SentRoute). sent.peer) (choice (standing_of plan) list)) same;
       weighing = weighing;
       rests = subst (λ list. RestsOn plan list (sents_at held c.weighing-weighing.result)) same

@@ -12,13 +12,15 @@ returns-then-found-neighbour c =
 pub returns-then-chain_of-chain : goal.returns-then-chain_of-chain
 returns-then-chain_of-chain c =
     found_nowhere c.self.inside c.args.self.now c.self.invariant c.self.view_is c.args.neighbour
-    (passed_all c.self.inside.neighbours c.self.inside.len c.args.neighbour c.loop-number.end c.loop-number.number c.loop-number.invariant.last c.loop-number.invariant.passed
+    (passed_all c.self.inside.neighbours c.self.inside.len c.args.neighbour c.loop-number.end c.loop-number.number
+    c.loop-number.invariant.last c.loop-number.invariant.passed
     (λ within same. c.if-chain_of-chain.true (c.chain_of.ensures ∙ same ∙ sym c.chain_of-chain.ensures)))
 
 pub returns : goal.returns
 returns c =
     found_nowhere c.self.inside c.args.self.now c.self.invariant c.self.view_is c.args.neighbour
-    (passed_all c.self.inside.neighbours c.self.inside.len c.args.neighbour c.loop-number.end c.loop-number.number c.loop-number.invariant.last c.loop-number.invariant.passed
+    (passed_all c.self.inside.neighbours c.self.inside.len c.args.neighbour c.loop-number.end c.loop-number.number
+    c.loop-number.invariant.last c.loop-number.invariant.passed
     (λ within same. omega (arith, within, c.loop-number-test.false)))
 
 pub loop-number-init : goal.loop-number-init

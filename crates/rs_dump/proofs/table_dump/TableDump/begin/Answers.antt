@@ -17,4 +17,5 @@ returns-clause-begun c =
     ∙ sym (dumped-rows c.plan.result.now client rows time)
     ∙ ap (λ plan. dumped plan client rows time) c.plan.ensures
     ∙ ap (λ rows. dumped plan client rows time) c.in-Some.ensures.rows in
-    ap (λ octets. begun octets (length rows)) octets ∙ ap (λ rows. begun (dumped plan client (table_of c.args.tables.now client) time) (length rows)) c.in-Some.ensures.rows
+    ap (λ octets. begun octets (length rows)) octets ∙ ap
+    (λ rows. begun (dumped plan client (table_of c.args.tables.now client) time) (length rows)) c.in-Some.ensures.rows

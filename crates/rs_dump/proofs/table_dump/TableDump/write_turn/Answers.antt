@@ -15,8 +15,13 @@ invariant_of-self-in_err-add_rows g c =
     let later = c.take_rows.new.rows in
     let turn = c.take_rows.new.turn.items in
     record {
-      numbered = omega (arith, same-count before.time before.spelled before.rows later turn c.take_rows.ensures.taken, c.self.invariant.numbered);
-      peers_known = known-later before.time before.spelled before.rows later turn c.take_rows.ensures.taken (λ row. row.route.peer < 65536) c.self.invariant.peers_known;
+      numbered = omega (
+        arith,
+        same-count before.time before.spelled before.rows later turn c.take_rows.ensures.taken,
+        c.self.invariant.numbered,
+      );
+      peers_known = known-later before.time before.spelled before.rows later turn c.take_rows.ensures.taken (λ row. row.route.peer < 65536)
+          c.self.invariant.peers_known;
       buffer = c.add_rows.ensures.capacity;
       turn = c.take_rows.ensures.capacity;
     }
@@ -29,10 +34,13 @@ returns-in_err-add_rows-clause-err g c =
     let later = c.take_rows.new.rows in
     let turn = c.take_rows.new.turn.items in
     let octets = before.buffer.items ++ spelled_rows before.time before.spelled (map row_of turn) in
-    let P : List Row → Type 0 = λ rows. AppendsBeginning old new (before.buffer.items ++ spelled_rows before.time before.spelled (map row_of rows)) in
-    OnErr-always c.from_residual.result (AppendsBeginning-front old new octets (spelled_rows before.time (before.spelled + length turn) later) c.args.self.now.octets
+    let P : List Row → Type 0 =
+    λ rows. AppendsBeginning old new (before.buffer.items ++ spelled_rows before.time before.spelled (map row_of rows)) in
+    OnErr-always c.from_residual.result (AppendsBeginning-front old new octets
+    (spelled_rows before.time (before.spelled + length turn) later) c.args.self.now.octets
     (subst P c.deref.ensures.value c.in_err-add_rows.ensures.err)
-    (turn-then-rest before.time before.spelled before.rows later turn c.take_rows.ensures.taken before.buffer.items ∙ ap (λ (view : ToWrite). view.octets) c.self.view_is))
+    (turn-then-rest before.time before.spelled before.rows later turn c.take_rows.ensures.taken before.buffer.items
+    ∙ ap (λ (view : ToWrite). view.octets) c.self.view_is))
 
 pub invariant_of-self-2 : goal.invariant_of-self-2
 invariant_of-self-2 g c =
@@ -40,8 +48,14 @@ invariant_of-self-2 g c =
     let later = c.take_rows.new.rows in
     let turn = c.take_rows.new.turn.items in
     record {
-      numbered = omega (arith, same-count before.time before.spelled before.rows later turn c.take_rows.ensures.taken, c.self.invariant.numbered, c.len.ensures);
-      peers_known = known-later before.time before.spelled before.rows later turn c.take_rows.ensures.taken (λ row. row.route.peer < 65536) c.self.invariant.peers_known;
+      numbered = omega (
+        arith,
+        same-count before.time before.spelled before.rows later turn c.take_rows.ensures.taken,
+        c.self.invariant.numbered,
+        c.len.ensures,
+      );
+      peers_known = known-later before.time before.spelled before.rows later turn c.take_rows.ensures.taken (λ row. row.route.peer < 65536)
+          c.self.invariant.peers_known;
       buffer = c.add_rows.ensures.capacity;
       turn = c.take_rows.ensures.capacity;
     }
@@ -56,10 +70,12 @@ returns-clause-ok g c =
     let waiting = c.add_rows.new.buffer.items in
     let octets = before.buffer.items ++ spelled_rows before.time before.spelled (map row_of turn) in
     let rest = λ (count : ℕ). spelled_rows before.time (before.spelled + count) later in
-    let P : List Row → Type 0 = λ rows. IsUnderWay old new waiting (before.buffer.items ++ spelled_rows before.time before.spelled (map row_of rows)) in
+    let P : List Row → Type 0 =
+    λ rows. IsUnderWay old new waiting (before.buffer.items ++ spelled_rows before.time before.spelled (map row_of rows)) in
     let Q : List ℕ → Type 0 = λ whole. IsUnderWay old new (waiting ++ rest (length turn)) whole in
     let R : ℕ → Type 0 = λ count. IsUnderWay old new (waiting ++ rest count) c.args.self.now.octets in
     let count : length turn ≡ c.len.result = omega (arith, c.len.ensures) in
     subst R count (subst Q
-    (turn-then-rest before.time before.spelled before.rows later turn c.take_rows.ensures.taken before.buffer.items ∙ ap (λ (view : ToWrite). view.octets) c.self.view_is)
+    (turn-then-rest before.time before.spelled before.rows later turn c.take_rows.ensures.taken before.buffer.items
+    ∙ ap (λ (view : ToWrite). view.octets) c.self.view_is)
     (IsUnderWay-more old new waiting (rest (length turn)) octets (subst P c.deref.ensures.value c.in_ok-add_rows.ensures.ok)))

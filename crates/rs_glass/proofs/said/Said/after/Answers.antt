@@ -10,5 +10,6 @@ use Rattle.rs_glass.proofs.said.Said.after.Goals as goal
 pub returns : goal.returns
 returns c = λ changes is. record {
   last = c.after-last.ensures changes is.last;
-  close = c.close_after.ensures ∙ ap (λ (before : Option Reason). close_after before (change_of c.args.word.now).body) is.close ∙ sym (close_in-more changes (change_of c.args.word.now));
+  close = c.close_after.ensures ∙ ap (λ (before : Option Reason). close_after before (change_of c.args.word.now).body) is.close
+      ∙ sym (close_in-more changes (change_of c.args.word.now));
 }

@@ -6,4 +6,5 @@ use Rattle.rs_inventory.proofs.sessions.Sessions.goes_down.Goals as goal
 pub returns : goal.returns
 returns c =
     c.in_ok-push-2.ensures.items ∙ ap (λ session. c.pop.new.self.items ++ session ∷ []) c.ended_at.ensures
-    ∙ sym (with_end-last c.args.time c.pop.new.self.items c.in-Some.last) ∙ ap (with_end c.args.time) (sym c.in-Some.ensures.items ∙ c.self.view_is)
+    ∙ sym (with_end-last c.args.time c.pop.new.self.items c.in-Some.last)
+    ∙ ap (with_end c.args.time) (sym c.in-Some.ensures.items ∙ c.self.view_is)

@@ -24,8 +24,10 @@ returns-clause-draws g c =
     let len : length part ≡ c.min-most.result = omega (arith, c.read.auto.into, length-take {A = ℕ}, c.min-most.ensures) in
     let fewer : c.min-most.result ≤ read_limit - c.self.inside.came = omega (arith, c.min-most.ensures) in
     let some : 0 < c.min-most.result = omega (arith, c.min-most.ensures, c.requires.some, c.if-left-eq0.false) in
-    subst (λ d. Draws R.gives R.failures d new (take c.in_ok-count.count (part ++ rest)) (gave_some (Ok c.in_ok-count.count))) c.self.view_is
-    (Draws-read R.gives R.failures old new c.in_ok-count.count part rest (omega arith) (omega arith) (omega (arith, same, c.requires.limit)) c.in_ok-count.ensures.bound refl
+    subst (λ d. Draws R.gives R.failures d new (take c.in_ok-count.count (part ++ rest)) (gave_some (Ok c.in_ok-count.count)))
+    c.self.view_is
+    (Draws-read R.gives R.failures old new c.in_ok-count.count part rest (omega arith) (omega arith) (omega (arith, same, c.requires.limit))
+    c.in_ok-count.ensures.bound refl
     (omega (arith, c.in_ok-count.ensures.failures)) c.in_ok-count.ensures.gives)
 
 pub returns-in_err-count-clause-draws : goal.returns-in_err-count-clause-draws

@@ -6,7 +6,8 @@ use Rattle.rs_mrt.proofs.reader.IoReaderRead.read.Goals as goal
 pub returns-in-Ok-clause-gives : goal.returns-in-Ok-clause-gives
 returns-in-Ok-clause-gives g c =
     let remaining = g.R.Read.remaining in
-    subst (λ d. ReadGives (MayBeLeft (remaining d.inner)) (MayBeLeft (remaining c.read.new.self)) (Ok c.in-Ok.count) c.read.new.buf) c.self.view_is
+    subst (λ d. ReadGives (MayBeLeft (remaining d.inner)) (MayBeLeft (remaining c.read.new.self)) (Ok c.in-Ok.count) c.read.new.buf)
+    c.self.view_is
     (given_by_std c.in-Ok.count c.read.new.buf (remaining c.self.inside.inner) (remaining c.read.new.self) c.in-Ok.ensures.bytes)
 
 pub returns-in-Err-clause-bound : goal.returns-in-Err-clause-bound

@@ -7,11 +7,13 @@ use Rattle.rs_mrt.proofs.record.Records.next.Goals as goal
 pub returns-in_err-record-clause-answer : goal.returns-in_err-record-clause-answer
 returns-in_err-record-clause-answer c =
     let p = err_from_is_err_and c.from_residual.result c.from_residual.ensures.1 in
-    rw (p.1, p.2, ← c.self.view_is) (taken_fault c.self.inside.left.now (option_map record_of c.self.inside.shown) c.in_err-record.field-0.0 c.in_err-record.ensures.value).0
+    rw (p.1, p.2, ← c.self.view_is) (taken_fault c.self.inside.left.now (option_map record_of c.self.inside.shown)
+    c.in_err-record.field-0.0 c.in_err-record.ensures.value).0
 
 pub returns-in_err-record-clause-left : goal.returns-in_err-record-clause-left
 returns-in_err-record-clause-left c =
-    rw (← c.self.view_is) (taken_fault c.self.inside.left.now (option_map record_of c.self.inside.shown) c.in_err-record.field-0.0 c.in_err-record.ensures.value).1
+    rw (← c.self.view_is) (taken_fault c.self.inside.left.now (option_map record_of c.self.inside.shown)
+    c.in_err-record.field-0.0 c.in_err-record.ensures.value).1
 
 pub returns-in_default-clause-answer : goal.returns-in_default-clause-answer
 returns-in_default-clause-answer c =
@@ -26,9 +28,11 @@ returns-in_default-clause-left c =
 pub returns-clause-answer : goal.returns-clause-answer
 returns-clause-answer c =
     let e = rw c.in-Some.is at c.in_ok-record.ensures.value in
-    rw (← c.self.view_is) (taken_some c.self.inside.left.now (option_map record_of c.self.inside.shown) (record_of c.in-Some.record) c.in-Some.left.now e).0
+    rw (← c.self.view_is) (taken_some c.self.inside.left.now (option_map record_of c.self.inside.shown) (record_of c.in-Some.record)
+    c.in-Some.left.now e).0
 
 pub returns-clause-left : goal.returns-clause-left
 returns-clause-left c =
     let e = rw c.in-Some.is at c.in_ok-record.ensures.value in
-    rw (← c.self.view_is) (taken_some c.self.inside.left.now (option_map record_of c.self.inside.shown) (record_of c.in-Some.record) c.in-Some.left.now e).1
+    rw (← c.self.view_is) (taken_some c.self.inside.left.now (option_map record_of c.self.inside.shown) (record_of c.in-Some.record)
+    c.in-Some.left.now e).1

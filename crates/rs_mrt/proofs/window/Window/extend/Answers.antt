@@ -13,7 +13,8 @@ returns-clause-fills g c =
     record {
       piece = piece;
       filled =
-          window-extended w.buffer c.copy_within.new.self c.read.new.into _ w.start w.end count (omega (arith, c.self.invariant)) (omega (arith, c.self.invariant, c.self.told)) c.copy_within.ensures.after c.in_ok-count.ensures.bound
+          window-extended w.buffer c.copy_within.new.self c.read.new.into _ w.start w.end count (omega (arith, c.self.invariant))
+          (omega (arith, c.self.invariant, c.self.told)) c.copy_within.ensures.after c.in_ok-count.ensures.bound
           ∙ ap (λ z. z ++ piece) c.self.view_is;
       drawn = subst (λ r. Draws R.gives R.failures c.args.inlet.now c.read.new.self piece r) (gave-lt count) c.in_ok-count.ensures.draws;
     }

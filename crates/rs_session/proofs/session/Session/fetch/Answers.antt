@@ -7,7 +7,8 @@ use Rattle.rs_session.proofs.session.Session.fetch.Goals as goal
 
 pub returns-in-Ok-true-clause-says : goal.returns-in-Ok-true-clause-says
 returns-in-Ok-true-clause-says g c =
-    rw (← c.self.view_is) (may_read-fetched _ _ _ _ c.if-self.false refl (rw (c.in-Ok-true.is, c.in-Ok-true.field-0-test) at c.advance.ensures.records))
+    rw (← c.self.view_is) (may_read-fetched _ _ _ _ c.if-self.false refl
+    (rw (c.in-Ok-true.is, c.in-Ok-true.field-0-test) at c.advance.ensures.records))
 
 pub returns-in-Ok-false-clause-says : goal.returns-in-Ok-false-clause-says
 returns-in-Ok-false-clause-says g c =

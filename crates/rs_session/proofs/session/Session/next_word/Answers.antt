@@ -18,4 +18,6 @@ pub returns-clause-more : goal.returns-clause-more
 returns-clause-more g c = something_comes _ _ c.loop-self.self (g.met.S.Source.may_come c.loop-self.self.source)
 
 pub returns-in-Some-clause-fewer : goal.returns-in-Some-clause-fewer
-returns-in-Some-clause-fewer g c = fewer-gives g.S.Source.room g.S.Source.shows c.args.self.now c.loop-self.self c.give_waiting.new.self c.in-Some.word c.loop-self.invariant.fewer (rw c.in-Some.is at c.in_ok-word.ensures.ok)
+returns-in-Some-clause-fewer g c =
+    fewer-gives g.S.Source.room g.S.Source.shows c.args.self.now c.loop-self.self c.give_waiting.new.self c.in-Some.word
+    c.loop-self.invariant.fewer (rw c.in-Some.is at c.in_ok-word.ensures.ok)

@@ -10,7 +10,8 @@ invariant-loop-self g l = record {
   keeps : Keeps g.S.Source.comes g.S.Source.shows l.initial.self l.self;
   passed : l.self.passed ≡ l.initial.self.passed;
   failures : g.S.Source.failures l.self.source ≡ g.S.Source.failures l.initial.self.source;
-  goes_on : (last : Result Bool SourceFault) → g.S.Source.stopped l.self.source ≡ Some last → g.S.Source.stopped l.initial.self.source ≡ Some last;
+  goes_on : (last : Result Bool SourceFault) → g.S.Source.stopped l.self.source ≡ Some last
+      → g.S.Source.stopped l.initial.self.source ≡ Some last;
   unread : l.self.closed ≡ true → l.self ≡ l.initial.self;
   closed : l.self.closed ≡ l.initial.self.closed;
   fewer : most_changes g.S.Source.room g.S.Source.shows l.self ≤ most_changes g.S.Source.room g.S.Source.shows l.initial.self;

@@ -11,10 +11,13 @@ returns-in_err-word-clause-more g c = something_comes _ _ c.give_waiting.new.sel
 
 pub returns-in-Some-clause-says : goal.returns-in-Some-clause-says
 returns-in-Some-clause-says g c =
-    says-given _ _ c.args.prefix c.args.until c.args.self.now c.loop-prefix.self c.give_waiting.new.self c.in-Some.word c.loop-prefix.invariant.behind (sym c.is_closed.ensures ∙ c.loop-prefix-test.true) (rw c.in-Some.is at c.in_ok-word.ensures.ok)
+    says-given _ _ c.args.prefix c.args.until c.args.self.now c.loop-prefix.self c.give_waiting.new.self c.in-Some.word
+    c.loop-prefix.invariant.behind (sym c.is_closed.ensures ∙ c.loop-prefix-test.true) (rw c.in-Some.is at c.in_ok-word.ensures.ok)
 
 pub returns-in-Some-clause-fewer : goal.returns-in-Some-clause-fewer
-returns-in-Some-clause-fewer g c = fewer-gives g.S.Source.room g.S.Source.shows c.args.self.now c.loop-prefix.self c.give_waiting.new.self c.in-Some.word c.loop-prefix.invariant.fewer (rw c.in-Some.is at c.in_ok-word.ensures.ok)
+returns-in-Some-clause-fewer g c =
+    fewer-gives g.S.Source.room g.S.Source.shows c.args.self.now c.loop-prefix.self c.give_waiting.new.self c.in-Some.word
+    c.loop-prefix.invariant.fewer (rw c.in-Some.is at c.in_ok-word.ensures.ok)
 
 pub returns-in-Some-clause-more : goal.returns-in-Some-clause-more
 returns-in-Some-clause-more g c = something_comes _ _ c.give_waiting.new.self (g.met.S.Source.may_come c.give_waiting.new.self.source)
@@ -25,7 +28,9 @@ returns-in_err-close-clause-says g c =
     let says = rw c.in_err-close.was at c.step_on.ensures.says in
     let idle = rw c.in_default.is at c.in_ok-word.ensures.ok in
     rw refused.1
-    (says-refused _ _ c.args.prefix c.args.until c.args.self.now c.give_waiting.new.self c.step_on.new.self refused.0 (rw idle.1 c.loop-prefix.invariant.behind) (ap (λ (stage : Stage g.row.S.Denot). stage.passed) idle.1 ∙ c.loop-prefix.invariant.passed) says)
+    (says-refused _ _ c.args.prefix c.args.until c.args.self.now c.give_waiting.new.self c.step_on.new.self refused.0
+    (rw idle.1 c.loop-prefix.invariant.behind) (ap (λ (stage : Stage g.row.S.Denot). stage.passed) idle.1
+    ∙ c.loop-prefix.invariant.passed) says)
 
 pub returns-in_err-close-clause-more : goal.returns-in_err-close-clause-more
 returns-in_err-close-clause-more g c = something_comes _ _ c.step_on.new.self (g.met.S.Source.may_come c.step_on.new.self.source)
@@ -34,7 +39,8 @@ pub returns-in-Some-2-clause-says : goal.returns-in-Some-2-clause-says
 returns-in-Some-2-clause-says g c =
     let says = rw c.in-Some-2.is at c.in_ok-close.ensures.says in
     let idle = rw c.in_default.is at c.in_ok-word.ensures.ok in
-    says-closed _ _ c.args.prefix c.args.until c.args.self.now c.give_waiting.new.self c.step_on.new.self c.in-Some-2.close (rw idle.1 c.loop-prefix.invariant.behind) says
+    says-closed _ _ c.args.prefix c.args.until c.args.self.now c.give_waiting.new.self c.step_on.new.self c.in-Some-2.close
+    (rw idle.1 c.loop-prefix.invariant.behind) says
 
 pub returns-in-Some-2-clause-more : goal.returns-in-Some-2-clause-more
 returns-in-Some-2-clause-more g c = something_comes _ _ c.step_on.new.self (g.met.S.Source.may_come c.step_on.new.self.source)
@@ -48,7 +54,8 @@ loop-prefix-preserved g c =
     let r = c.loop-prefix.invariant in
     let unclosed : c.args.self.now.closed ≡ false = sym r.closed ∙ sym c.is_closed.ensures ∙ c.loop-prefix-test.true in
     record {
-      behind = behind-step _ _ c.args.prefix c.args.until c.args.self.now c.give_waiting.new.self c.step_on.new.self (rw idle.1 r.behind) says;
+      behind = behind-step _ _ c.args.prefix c.args.until c.args.self.now c.give_waiting.new.self c.step_on.new.self (rw idle.1 r.behind)
+          says;
       passed = says.steps.2 ∙ ap (λ (stage : Stage g.row.S.Denot). stage.passed) idle.1 ∙ r.passed;
       failures = search rules;
       goes_on = search rules;
@@ -58,7 +65,10 @@ loop-prefix-preserved g c =
     }
 
 pub returns-clause-says : goal.returns-clause-says
-returns-clause-says g c = says-none _ _ c.args.prefix c.args.until c.args.self.now c.loop-prefix.self (c.loop-prefix.invariant.unread (sym c.is_closed.ensures ∙ c.loop-prefix-test.false)) (sym c.is_closed.ensures ∙ c.loop-prefix-test.false)
+returns-clause-says g c =
+    says-none _ _ c.args.prefix c.args.until c.args.self.now c.loop-prefix.self
+    (c.loop-prefix.invariant.unread (sym c.is_closed.ensures ∙ c.loop-prefix-test.false))
+    (sym c.is_closed.ensures ∙ c.loop-prefix-test.false)
 
 pub returns-clause-more : goal.returns-clause-more
 returns-clause-more g c = something_comes _ _ c.loop-prefix.self (g.met.S.Source.may_come c.loop-prefix.self.source)

@@ -10,4 +10,9 @@ put-requires-clause-cell c = record { held = c.requires.cell.held; count = c.req
 
 pub decide-requires-clause-some : goal.decide-requires-clause-some
 decide-requires-clause-some c =
-    omega (arith, with-some (λ one. one.peer) (routes_in c.args.self.now) (sent_of_held c.args.route), ap length c.put.ensures.routes, length-map c.put.new.self.held sent_of_held)
+    omega (
+      arith,
+      with-some (λ one. one.peer) (routes_in c.args.self.now) (sent_of_held c.args.route),
+      ap length c.put.ensures.routes,
+      length-map c.put.new.self.held sent_of_held,
+    )

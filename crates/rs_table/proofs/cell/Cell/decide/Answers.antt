@@ -11,5 +11,6 @@ choose_for_all-requires-clause-bound c =
 
 pub invariant_of-self : goal.invariant_of-self
 invariant_of-self c =
-    let count : length c.self.inside.bests.items ≡ length c.args.plan.now.peers = ap (λ cell. length cell.bests) c.self.view_is ∙ c.requires.count in
+    let count : length c.self.inside.bests.items ≡ length c.args.plan.now.peers =
+    ap (λ cell. length cell.bests) c.self.view_is ∙ c.requires.count in
     decided-kept c.self.inside c.choose_for_all.new.bests c.self.invariant (c.choose_for_all.ensures.count ∙ sym count)

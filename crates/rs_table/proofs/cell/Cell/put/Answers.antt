@@ -10,7 +10,12 @@ pub put-requires-clause-room : goal.put-requires-clause-room
 put-requires-clause-room c =
     let plan = c.args.plan.now in
     let cell : IsUndecided plan (cell_view c.self.inside) = subst (IsUndecided plan) (sym c.self.view_is) c.requires.cell in
-    omega (arith, few-held plan _ (held-with plan c.self.inside.held.items _ c.args.route cell.held c.requires.judged refl), c.self.invariant.room, cell.count)
+    omega (
+      arith,
+      few-held plan _ (held-with plan c.self.inside.held.items _ c.args.route cell.held c.requires.judged refl),
+      c.self.invariant.room,
+      cell.count,
+    )
 
 pub returns-clause-routes : goal.returns-clause-routes
 returns-clause-routes c =
@@ -21,7 +26,11 @@ pub returns-clause-cell : goal.returns-clause-cell
 returns-clause-cell c =
     let plan = c.args.plan.now in
     let cell : IsUndecided plan (cell_view c.self.inside) = subst (IsUndecided plan) (sym c.self.view_is) c.requires.cell in
-    record { held = held-with plan c.self.inside.held.items c.put.new.held.items c.args.route cell.held c.requires.judged c.put.ensures.held; count = cell.count }
+    record {
+      held = held-with plan c.self.inside.held.items c.put.new.held.items c.args.route cell.held c.requires.judged
+          c.put.ensures.held;
+      count = cell.count;
+    }
 
 pub invariant_of-self : goal.invariant_of-self
 invariant_of-self c =
@@ -29,5 +38,9 @@ invariant_of-self c =
     let cell : IsUndecided plan (cell_view c.self.inside) = subst (IsUndecided plan) (sym c.self.view_is) c.requires.cell in
     record {
       room = omega (arith, c.self.invariant.room, c.put.ensures.capacity);
-      ascending = (length plan.peers, (held-with plan c.self.inside.held.items c.put.new.held.items c.args.route cell.held c.requires.judged c.put.ensures.held).row);
+      ascending = (
+        length plan.peers,
+        (held-with plan c.self.inside.held.items c.put.new.held.items c.args.route cell.held c.requires.judged
+            c.put.ensures.held).row,
+      );
     }

@@ -15,7 +15,11 @@ pub returns-clause-cell : goal.returns-clause-cell
 returns-clause-cell c =
     let plan = c.args.plan.now in
     let cell : IsUndecided plan (cell_view c.self.inside) = subst (IsUndecided plan) (sym c.self.view_is) c.requires in
-    record { held = held-without plan c.self.inside.held.items c.take_out-had.new.held.items c.args.peer cell.held c.take_out-had.ensures.held; count = cell.count }
+    record {
+      held = held-without plan c.self.inside.held.items c.take_out-had.new.held.items c.args.peer cell.held
+          c.take_out-had.ensures.held;
+      count = cell.count;
+    }
 
 pub invariant_of-self : goal.invariant_of-self
 invariant_of-self c =
@@ -23,5 +27,9 @@ invariant_of-self c =
     let cell : IsUndecided plan (cell_view c.self.inside) = subst (IsUndecided plan) (sym c.self.view_is) c.requires in
     record {
       room = omega (arith, c.self.invariant.room, c.take_out-had.ensures.capacity);
-      ascending = (length plan.peers, (held-without plan c.self.inside.held.items c.take_out-had.new.held.items c.args.peer cell.held c.take_out-had.ensures.held).row);
+      ascending = (
+        length plan.peers,
+        (held-without plan c.self.inside.held.items c.take_out-had.new.held.items c.args.peer cell.held
+            c.take_out-had.ensures.held).row,
+      );
     }

@@ -17,7 +17,10 @@ pub settle-requires : goal.settle-requires
 settle-requires c =
     let plan = c.args.plan.now in
     let cell : IsCell plan (cell_view c.self.inside) = subst (IsCell plan) (sym c.self.view_is) c.requires in
-    record { held = held-without plan c.self.inside.held.items c.take_out.new.held.items c.args.peer cell.held c.take_out.ensures.held; count = cell.count }
+    record {
+      held = held-without plan c.self.inside.held.items c.take_out.new.held.items c.args.peer cell.held c.take_out.ensures.held;
+      count = cell.count;
+    }
 
 pub returns-then-not-take_out-clause-routes : goal.returns-then-not-take_out-clause-routes
 returns-then-not-take_out-clause-routes c =
@@ -43,5 +46,9 @@ invariant_of-self-2 c =
     let cell : IsCell plan (cell_view c.self.inside) = subst (IsCell plan) (sym c.self.view_is) c.requires in
     record {
       room = omega (arith, c.self.invariant.room, c.take_out.ensures.capacity);
-      ascending = (length plan.peers, (held-without plan c.self.inside.held.items c.take_out.new.held.items c.args.peer cell.held c.take_out.ensures.held).row);
+      ascending = (
+        length plan.peers,
+        (held-without plan c.self.inside.held.items c.take_out.new.held.items c.args.peer cell.held
+            c.take_out.ensures.held).row,
+      );
     }

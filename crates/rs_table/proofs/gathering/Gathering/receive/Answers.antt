@@ -12,19 +12,26 @@ pub returns-then-closes-clause-routes : goal.returns-then-closes-clause-routes
 returns-then-closes-clause-routes c =
     let inside = c.self.inside in
     let to : GathersTo c.args.peer (change_of c.args.word) inside.losses.items inside.logs.items c.take_in.new.losses c.take_in.new.logs =
-    subst (λ losses. GathersTo c.args.peer (change_of c.args.word) losses inside.logs.items c.take_in.new.losses c.take_in.new.logs) c.deref_mut-2.ensures.value
-    (subst (λ logs. GathersTo c.args.peer (change_of c.args.word) c.deref_mut-2.result.now logs c.take_in.new.losses c.take_in.new.logs) c.deref_mut.ensures.value c.in_ok-take_in.ensures.routes) in
-    let known : c.args.peer < length inside.closed.items = omega (arith, c.requires.known, c.self.invariant.peers, ap (λ tables. length tables.plan.peers) c.self.view_is) in
+    subst (λ losses. GathersTo c.args.peer (change_of c.args.word) losses inside.logs.items c.take_in.new.losses c.take_in.new.logs)
+    c.deref_mut-2.ensures.value
+    (subst (λ logs. GathersTo c.args.peer (change_of c.args.word) c.deref_mut-2.result.now logs c.take_in.new.losses c.take_in.new.logs)
+    c.deref_mut.ensures.value c.in_ok-take_in.ensures.routes) in
+    let known : c.args.peer < length inside.closed.items =
+    omega (arith, c.requires.known, c.self.invariant.peers, ap (λ tables. length tables.plan.peers) c.self.view_is) in
     λ changes unclosed left_is.
-    then-own inside c.self.invariant c.take_in.new.losses c.take_in.new.logs (c.take_in.ensures.count ∙ ap length c.deref_mut-2.ensures.value) c.take_in.ensures.logs c.args.peer (change_of c.args.word) to
+    then-own inside c.self.invariant c.take_in.new.losses c.take_in.new.logs
+    (c.take_in.ensures.count ∙ ap length c.deref_mut-2.ensures.value) c.take_in.ensures.logs c.args.peer (change_of c.args.word) to
     inside.closed.items (set inside.closed.items c.args.peer true) known (length-set inside.closed.items c.args.peer true)
     changes unclosed (left_is ∙ sym (ap (λ tables. (rib_of tables c.args.peer).routes) c.self.view_is))
 
 pub returns-then-closes-clause-closed : goal.returns-then-closes-clause-closed
 returns-then-closes-clause-closed c =
     let inside = c.self.inside in
-    let known : c.args.peer < length inside.closed.items = omega (arith, c.requires.known, c.self.invariant.peers, ap (λ tables. length tables.plan.peers) c.self.view_is) in
-    held-closed inside.plan.value (then-routes inside c.self.invariant c.take_in.new.losses c.take_in.new.logs (c.take_in.ensures.count ∙ ap length c.deref_mut-2.ensures.value) c.take_in.ensures.logs) (set inside.closed.items c.args.peer true) c.args.peer
+    let known : c.args.peer < length inside.closed.items =
+    omega (arith, c.requires.known, c.self.invariant.peers, ap (λ tables. length tables.plan.peers) c.self.view_is) in
+    held-closed inside.plan.value (then-routes inside c.self.invariant c.take_in.new.losses c.take_in.new.logs
+    (c.take_in.ensures.count ∙ ap length c.deref_mut-2.ensures.value) c.take_in.ensures.logs) (set inside.closed.items c.args.peer true)
+    c.args.peer
     ∙ get_or-set_same inside.closed.items c.args.peer true false known
     ∙ sym c.if-closes.true ∙ c.closes-closes.ensures
 
@@ -32,9 +39,12 @@ pub returns-then-closes-clause-others : goal.returns-then-closes-clause-others
 returns-then-closes-clause-others c = λ other apart.
     let inside = c.self.inside in
     let to : GathersTo c.args.peer (change_of c.args.word) inside.losses.items inside.logs.items c.take_in.new.losses c.take_in.new.logs =
-    subst (λ losses. GathersTo c.args.peer (change_of c.args.word) losses inside.logs.items c.take_in.new.losses c.take_in.new.logs) c.deref_mut-2.ensures.value
-    (subst (λ logs. GathersTo c.args.peer (change_of c.args.word) c.deref_mut-2.result.now logs c.take_in.new.losses c.take_in.new.logs) c.deref_mut.ensures.value c.in_ok-take_in.ensures.routes) in
-    then-others inside c.self.invariant c.take_in.new.losses c.take_in.new.logs (c.take_in.ensures.count ∙ ap length c.deref_mut-2.ensures.value) c.take_in.ensures.logs c.args.peer (change_of c.args.word) to
+    subst (λ losses. GathersTo c.args.peer (change_of c.args.word) losses inside.logs.items c.take_in.new.losses c.take_in.new.logs)
+    c.deref_mut-2.ensures.value
+    (subst (λ logs. GathersTo c.args.peer (change_of c.args.word) c.deref_mut-2.result.now logs c.take_in.new.losses c.take_in.new.logs)
+    c.deref_mut.ensures.value c.in_ok-take_in.ensures.routes) in
+    then-others inside c.self.invariant c.take_in.new.losses c.take_in.new.logs
+    (c.take_in.ensures.count ∙ ap length c.deref_mut-2.ensures.value) c.take_in.ensures.logs c.args.peer (change_of c.args.word) to
     inside.closed.items (set inside.closed.items c.args.peer true) (length-set inside.closed.items c.args.peer true) other apart
     (get_or-set_other inside.closed.items c.args.peer other true false apart)
     ∙ ap (λ tables. rib_of tables other) c.self.view_is
@@ -42,7 +52,9 @@ returns-then-closes-clause-others c = λ other apart.
 pub returns-then-closes-clause-count : goal.returns-then-closes-clause-count
 returns-then-closes-clause-count c =
     let inside = c.self.inside in
-    by-length (then-routes inside c.self.invariant c.take_in.new.losses c.take_in.new.logs (c.take_in.ensures.count ∙ ap length c.deref_mut-2.ensures.value) c.take_in.ensures.logs) 0 (set inside.closed.items c.args.peer true)
+    by-length (then-routes inside c.self.invariant c.take_in.new.losses c.take_in.new.logs
+    (c.take_in.ensures.count ∙ ap length c.deref_mut-2.ensures.value) c.take_in.ensures.logs) 0
+    (set inside.closed.items c.args.peer true)
     ∙ length-set inside.closed.items c.args.peer true
     ∙ sym (by-length (routes_gathered inside.losses.items inside.logs.items) 0 inside.closed.items)
     ∙ ap (λ tables. length tables.ribs) c.self.view_is
@@ -51,18 +63,23 @@ pub returns-else-closes-clause-routes : goal.returns-else-closes-clause-routes
 returns-else-closes-clause-routes c =
     let inside = c.self.inside in
     let to : GathersTo c.args.peer (change_of c.args.word) inside.losses.items inside.logs.items c.take_in.new.losses c.take_in.new.logs =
-    subst (λ losses. GathersTo c.args.peer (change_of c.args.word) losses inside.logs.items c.take_in.new.losses c.take_in.new.logs) c.deref_mut-2.ensures.value
-    (subst (λ logs. GathersTo c.args.peer (change_of c.args.word) c.deref_mut-2.result.now logs c.take_in.new.losses c.take_in.new.logs) c.deref_mut.ensures.value c.in_ok-take_in.ensures.routes) in
-    let known : c.args.peer < length inside.closed.items = omega (arith, c.requires.known, c.self.invariant.peers, ap (λ tables. length tables.plan.peers) c.self.view_is) in
+    subst (λ losses. GathersTo c.args.peer (change_of c.args.word) losses inside.logs.items c.take_in.new.losses c.take_in.new.logs)
+    c.deref_mut-2.ensures.value
+    (subst (λ logs. GathersTo c.args.peer (change_of c.args.word) c.deref_mut-2.result.now logs c.take_in.new.losses c.take_in.new.logs)
+    c.deref_mut.ensures.value c.in_ok-take_in.ensures.routes) in
+    let known : c.args.peer < length inside.closed.items =
+    omega (arith, c.requires.known, c.self.invariant.peers, ap (λ tables. length tables.plan.peers) c.self.view_is) in
     λ changes unclosed left_is.
-    then-own inside c.self.invariant c.take_in.new.losses c.take_in.new.logs (c.take_in.ensures.count ∙ ap length c.deref_mut-2.ensures.value) c.take_in.ensures.logs c.args.peer (change_of c.args.word) to
+    then-own inside c.self.invariant c.take_in.new.losses c.take_in.new.logs
+    (c.take_in.ensures.count ∙ ap length c.deref_mut-2.ensures.value) c.take_in.ensures.logs c.args.peer (change_of c.args.word) to
     inside.closed.items inside.closed.items known refl
     changes unclosed (left_is ∙ sym (ap (λ tables. (rib_of tables c.args.peer).routes) c.self.view_is))
 
 pub returns-else-closes-clause-closed : goal.returns-else-closes-clause-closed
 returns-else-closes-clause-closed c =
     let inside = c.self.inside in
-    held-closed inside.plan.value (then-routes inside c.self.invariant c.take_in.new.losses c.take_in.new.logs (c.take_in.ensures.count ∙ ap length c.deref_mut-2.ensures.value) c.take_in.ensures.logs) inside.closed.items c.args.peer
+    held-closed inside.plan.value (then-routes inside c.self.invariant c.take_in.new.losses c.take_in.new.logs
+    (c.take_in.ensures.count ∙ ap length c.deref_mut-2.ensures.value) c.take_in.ensures.logs) inside.closed.items c.args.peer
     ∙ sym (held-closed inside.plan.value (routes_gathered inside.losses.items inside.logs.items) inside.closed.items c.args.peer)
     ∙ ap (λ tables. (rib_of tables c.args.peer).closed) c.self.view_is
     ∙ c.requires.open ∙ sym c.if-closes.false ∙ c.closes-closes.ensures
@@ -71,8 +88,11 @@ pub returns-else-closes-clause-others : goal.returns-else-closes-clause-others
 returns-else-closes-clause-others c = λ other apart.
     let inside = c.self.inside in
     let to : GathersTo c.args.peer (change_of c.args.word) inside.losses.items inside.logs.items c.take_in.new.losses c.take_in.new.logs =
-    subst (λ losses. GathersTo c.args.peer (change_of c.args.word) losses inside.logs.items c.take_in.new.losses c.take_in.new.logs) c.deref_mut-2.ensures.value
-    (subst (λ logs. GathersTo c.args.peer (change_of c.args.word) c.deref_mut-2.result.now logs c.take_in.new.losses c.take_in.new.logs) c.deref_mut.ensures.value c.in_ok-take_in.ensures.routes) in
-    then-others inside c.self.invariant c.take_in.new.losses c.take_in.new.logs (c.take_in.ensures.count ∙ ap length c.deref_mut-2.ensures.value) c.take_in.ensures.logs c.args.peer (change_of c.args.word) to
+    subst (λ losses. GathersTo c.args.peer (change_of c.args.word) losses inside.logs.items c.take_in.new.losses c.take_in.new.logs)
+    c.deref_mut-2.ensures.value
+    (subst (λ logs. GathersTo c.args.peer (change_of c.args.word) c.deref_mut-2.result.now logs c.take_in.new.losses c.take_in.new.logs)
+    c.deref_mut.ensures.value c.in_ok-take_in.ensures.routes) in
+    then-others inside c.self.invariant c.take_in.new.losses c.take_in.new.logs
+    (c.take_in.ensures.count ∙ ap length c.deref_mut-2.ensures.value) c.take_in.ensures.logs c.args.peer (change_of c.args.word) to
     inside.closed.items inside.closed.items refl other apart refl
     ∙ ap (λ tables. rib_of tables other) c.self.view_is

@@ -14,5 +14,6 @@ returns c =
     let entries = c.in_ok-cells.cells.entries in
     c.of_cells.ensures
     ∙ ap (λ (ribs : List RibContent). let tables : TablesContent = record { plan = inside.plan.value; ribs = ribs } in tables)
-    (same-ribs (routes_from entries) (routes_gathered losses logs) (settled-routes losses logs entries (rw c.deref-2.ensures.value at c.in_ok-cells.ensures.routes)) 0 inside.closed.items)
+    (same-ribs (routes_from entries) (routes_gathered losses logs)
+    (settled-routes losses logs entries (rw c.deref-2.ensures.value at c.in_ok-cells.ensures.routes)) 0 inside.closed.items)
     ∙ c.self.view_is

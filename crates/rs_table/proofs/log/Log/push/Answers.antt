@@ -14,4 +14,5 @@ returns-in_err-push-clause-entries c = λ octet one all.
 pub returns-clause-entries : goal.returns-clause-entries
 returns-clause-entries c = λ octet one all.
     subst (All (IsEntryOf c.args.losses.now octet)) (sym c.in_ok-push.ensures.items)
-    (All-push (IsEntryOf c.args.losses.now octet) c.make_room.new.self.entries.items c.args.entry (c.make_room.ensures.entries octet all) one)
+    (All-push (IsEntryOf c.args.losses.now octet) c.make_room.new.self.entries.items c.args.entry (c.make_room.ensures.entries octet all)
+    one)

@@ -15,31 +15,39 @@ become before others change step changes unclosed is = left_more changes change 
 pub returns-in_err-change-clause-succeeds : goal.returns-in_err-change-clause-succeeds
 returns-in_err-change-clause-succeeds c =
     let inside = c.self.inside in
-    let known : c.args.peer < length inside.closed.items = omega (arith, c.requires.known, c.self.invariant.peers, ap (λ tables. length tables.plan.peers) c.self.view_is) in
-    let own = ap (λ rib. rib.routes) (sym (rib-of inside.plan.value inside.cells.entries inside.closed.items c.args.peer known)) ∙ ap (λ tables. (rib_of tables c.args.peer).routes) c.self.view_is in
+    let known : c.args.peer < length inside.closed.items =
+    omega (arith, c.requires.known, c.self.invariant.peers, ap (λ tables. length tables.plan.peers) c.self.view_is) in
+    let own = ap (λ rib. rib.routes) (sym (rib-of inside.plan.value inside.cells.entries inside.closed.items c.args.peer known))
+    ∙ ap (λ tables. (rib_of tables c.args.peer).routes) c.self.view_is in
     let new : IsNewAnnouncement (rib_of c.args.self.now c.args.peer).routes (change_of c.args.word) =
-    subst (λ routes. IsNewAnnouncement routes (change_of c.args.word)) own (first-new inside.cells.entries c.args.peer (change_of c.args.word).body c.in_err-change.ensures.first) in
+    subst (λ routes. IsNewAnnouncement routes (change_of c.args.word)) own
+    (first-new inside.cells.entries c.args.peer (change_of c.args.word).body c.in_err-change.ensures.first) in
     search rules
 
 pub returns-in_err-change-clause-first : goal.returns-in_err-change-clause-first
 returns-in_err-change-clause-first c =
     let inside = c.self.inside in
     let first : IsFirstAnnouncement c.args.self.now.ribs (change_of c.args.word) =
-    subst (λ tables. IsFirstAnnouncement tables.ribs (change_of c.args.word)) c.self.view_is (first-held inside.cells.entries inside.closed.items (change_of c.args.word).body c.in_err-change.ensures.first) in
+    subst (λ tables. IsFirstAnnouncement tables.ribs (change_of c.args.word)) c.self.view_is
+    (first-held inside.cells.entries inside.closed.items (change_of c.args.word).body c.in_err-change.ensures.first) in
     search rules
 
 pub returns-then-closes-clause-routes : goal.returns-then-closes-clause-routes
 returns-then-closes-clause-routes c =
     let inside = c.self.inside in
-    let known : c.args.peer < length inside.closed.items = omega (arith, c.requires.known, c.self.invariant.peers, ap (λ tables. length tables.plan.peers) c.self.view_is) in
+    let known : c.args.peer < length inside.closed.items =
+    omega (arith, c.requires.known, c.self.invariant.peers, ap (λ tables. length tables.plan.peers) c.self.view_is) in
     become _ _ (change_of c.args.word)
-    (applied-routes inside.plan.value inside.cells.entries c.change.new.cells.entries inside.closed.items (set inside.closed.items c.args.peer true) c.args.peer (change_of c.args.word) c.in_ok-change.ensures.routes (length-set inside.closed.items c.args.peer true) known
+    (applied-routes inside.plan.value inside.cells.entries c.change.new.cells.entries inside.closed.items
+    (set inside.closed.items c.args.peer true) c.args.peer (change_of c.args.word) c.in_ok-change.ensures.routes
+    (length-set inside.closed.items c.args.peer true) known
     ∙ ap (λ tables. after (rib_of tables c.args.peer).routes (change_of c.args.word)) c.self.view_is)
 
 pub returns-then-closes-clause-closed : goal.returns-then-closes-clause-closed
 returns-then-closes-clause-closed c =
     let inside = c.self.inside in
-    let known : c.args.peer < length inside.closed.items = omega (arith, c.requires.known, c.self.invariant.peers, ap (λ tables. length tables.plan.peers) c.self.view_is) in
+    let known : c.args.peer < length inside.closed.items =
+    omega (arith, c.requires.known, c.self.invariant.peers, ap (λ tables. length tables.plan.peers) c.self.view_is) in
     rib-closed inside.plan.value c.change.new.cells.entries (set inside.closed.items c.args.peer true) c.args.peer
     ∙ get_or-set_same inside.closed.items c.args.peer true false known
     ∙ sym c.if-closes.true ∙ c.closes-closes.ensures
@@ -47,7 +55,9 @@ returns-then-closes-clause-closed c =
 pub returns-then-closes-clause-others : goal.returns-then-closes-clause-others
 returns-then-closes-clause-others c = λ other apart.
     let inside = c.self.inside in
-    rib-other inside.cells.entries c.change.new.cells.entries c.args.peer (change_of c.args.word) c.in_ok-change.ensures.routes inside.closed.items (set inside.closed.items c.args.peer true) (length-set inside.closed.items c.args.peer true) other apart
+    rib-other inside.cells.entries c.change.new.cells.entries c.args.peer (change_of c.args.word)
+    c.in_ok-change.ensures.routes inside.closed.items (set inside.closed.items c.args.peer true)
+    (length-set inside.closed.items c.args.peer true) other apart
     (get_or-set_other inside.closed.items c.args.peer other true false apart)
     ∙ ap (λ tables. rib_of tables other) c.self.view_is
 
@@ -62,9 +72,11 @@ returns-then-closes-clause-count c =
 pub returns-else-closes-clause-routes : goal.returns-else-closes-clause-routes
 returns-else-closes-clause-routes c =
     let inside = c.self.inside in
-    let known : c.args.peer < length inside.closed.items = omega (arith, c.requires.known, c.self.invariant.peers, ap (λ tables. length tables.plan.peers) c.self.view_is) in
+    let known : c.args.peer < length inside.closed.items =
+    omega (arith, c.requires.known, c.self.invariant.peers, ap (λ tables. length tables.plan.peers) c.self.view_is) in
     become _ _ (change_of c.args.word)
-    (applied-routes inside.plan.value inside.cells.entries c.change.new.cells.entries inside.closed.items inside.closed.items c.args.peer (change_of c.args.word) c.in_ok-change.ensures.routes refl known
+    (applied-routes inside.plan.value inside.cells.entries c.change.new.cells.entries inside.closed.items inside.closed.items c.args.peer
+    (change_of c.args.word) c.in_ok-change.ensures.routes refl known
     ∙ ap (λ tables. after (rib_of tables c.args.peer).routes (change_of c.args.word)) c.self.view_is)
 
 pub returns-else-closes-clause-closed : goal.returns-else-closes-clause-closed
@@ -78,7 +90,8 @@ returns-else-closes-clause-closed c =
 pub returns-else-closes-clause-others : goal.returns-else-closes-clause-others
 returns-else-closes-clause-others c = λ other apart.
     let inside = c.self.inside in
-    rib-other inside.cells.entries c.change.new.cells.entries c.args.peer (change_of c.args.word) c.in_ok-change.ensures.routes inside.closed.items inside.closed.items refl other apart refl
+    rib-other inside.cells.entries c.change.new.cells.entries c.args.peer (change_of c.args.word)
+    c.in_ok-change.ensures.routes inside.closed.items inside.closed.items refl other apart refl
     ∙ ap (λ tables. rib_of tables other) c.self.view_is
 
 pub invariant_of-self : goal.invariant_of-self

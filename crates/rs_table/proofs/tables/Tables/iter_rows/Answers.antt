@@ -39,4 +39,5 @@ returns-clause-known c =
     stored_rows-listed client tables entries (λ k d below. c.cells-cells.ensures.bests client _ _ (c.iter.ensures.found k d below)) in
     let held : length tables.ribs ≡ length tables.plan.peers = sym c.count-peers.ensures.ribs ∙ c.count-peers.ensures.peers in
     subst (λ (n : ℕ). All (λ (row : TableRow). row.route.peer < n) (stored_rows client c.iter.result)) held
-    (subst (All (λ (row : TableRow). row.route.peer < length tables.ribs)) (sym (ap (stored_rows client) all ∙ listed)) (rows-known tables client (prefixes_of entries)))
+    (subst (All (λ (row : TableRow). row.route.peer < length tables.ribs)) (sym (ap (stored_rows client) all ∙ listed))
+    (rows-known tables client (prefixes_of entries)))

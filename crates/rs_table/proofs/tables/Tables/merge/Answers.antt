@@ -27,7 +27,8 @@ loop-part-init c =
 
 pub joined_with-requires : goal.joined_with-requires
 joined_with-requires c =
-    let way = subst (IsUnderWay (c.unwrap-merged.result ∷ into_iter_items c.into_iter-part-iterator.result) c.loop-part.merged) c.in-Some.ensures.steps.0 c.loop-part.invariant.0 in
+    let way = subst (IsUnderWay (c.unwrap-merged.result ∷ into_iter_items c.into_iter-part-iterator.result) c.loop-part.merged)
+    c.in-Some.ensures.steps.0 c.loop-part.invariant.0 in
     way.pairs.0.0
 
 pub loop-part-preserved : goal.loop-part-preserved
@@ -50,7 +51,8 @@ returns c =
     ap (λ i. first ∷ into_iter_items i) c.into_iter-part-iterator.ensures.into_iter_gives
     ∙ ap (λ o. option_to_list o ++ into_iter_items c.next.new.self) (sym c.unwrap-merged.ensures)
     ∙ sym c.next.ensures.items ∙ c.into_iter-parts.ensures.rest in
-    let none : into_iter_items c.loop-part.part-iterator ≡ [] = nothing_left (into_iter_items c.loop-part.part-iterator) (sym c.loop-part.invariant.1 ∙ c.in-None.ensures.steps.0) in
+    let none : into_iter_items c.loop-part.part-iterator ≡ [] =
+    nothing_left (into_iter_items c.loop-part.part-iterator) (sym c.loop-part.invariant.1 ∙ c.in-None.ensures.steps.0) in
     subst (λ parts. IsMerged parts c.loop-part.merged) all
     (way-ends (first ∷ later) c.loop-part.merged (subst (IsUnderWay (first ∷ later) c.loop-part.merged) none c.loop-part.invariant.0))
 

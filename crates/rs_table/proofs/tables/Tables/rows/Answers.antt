@@ -17,13 +17,15 @@ loop-row-preserved c =
 pub returns-clause-table : goal.returns-clause-table
 returns-clause-table c =
     let listed : map row_of c.loop-row.rows.items ≡ c.iter_rows-row-items.result =
-    sym (append-nil _) ∙ ap (λ later. map row_of c.loop-row.rows.items ++ later) (sym c.in-None.ensures.steps.0) ∙ c.loop-row.invariant ∙ c.into_iter-row-iterator.ensures.into_iter_gives in
+    sym (append-nil _) ∙ ap (λ later. map row_of c.loop-row.rows.items ++ later) (sym c.in-None.ensures.steps.0) ∙ c.loop-row.invariant
+    ∙ c.into_iter-row-iterator.ensures.into_iter_gives in
     subst (IsTable c.args.self.now c.args.client) (sym listed) c.iter_rows-row-items.ensures.table
 
 pub returns-clause-known : goal.returns-clause-known
 returns-clause-known c =
     let listed : map row_of c.loop-row.rows.items ≡ c.iter_rows-row-items.result =
-    sym (append-nil _) ∙ ap (λ later. map row_of c.loop-row.rows.items ++ later) (sym c.in-None.ensures.steps.0) ∙ c.loop-row.invariant ∙ c.into_iter-row-iterator.ensures.into_iter_gives in
+    sym (append-nil _) ∙ ap (λ later. map row_of c.loop-row.rows.items ++ later) (sym c.in-None.ensures.steps.0) ∙ c.loop-row.invariant
+    ∙ c.into_iter-row-iterator.ensures.into_iter_gives in
     subst (All (λ (row : TableRow). row.route.peer < length c.args.self.now.plan.peers)) (sym listed) c.iter_rows-row-items.ensures.known
 
 pub loop-row-init-derived : goal.loop-row-init-derived

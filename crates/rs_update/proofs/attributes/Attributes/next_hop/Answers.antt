@@ -8,7 +8,12 @@ use Rattle.rs_update.proofs.attributes.Attributes.next_hop.Goals as goal
 pub read_u32-requires : goal.read_u32-requires
 read_u32-requires c =
     let value = c.value_in.ensures ∙ ap (λ (os : List ℕ). value_of (look 3 (items_of os))) c.deref.ensures.value in
-    omega (arith, ap length value, next_hop-length c.self.inside.spelling.items (view_of c.self.inside) c.self.invariant.is_faultless c.self.invariant.says_the_attributes)
+    omega (
+      arith,
+      ap length value,
+      next_hop-length c.self.inside.spelling.items (view_of c.self.inside)
+          c.self.invariant.is_faultless c.self.invariant.says_the_attributes,
+    )
 
 pub returns : goal.returns
 returns c = search rules

@@ -8,7 +8,8 @@ use Rattle.rs_update.proofs.attributes.OthersIterator.next.Goals as goal
 
 pub returns-then-is_passed_on : goal.returns-then-is_passed_on
 returns-then-is_passed_on c =
-    let step = sym c.loop-front.invariant ∙ passed-step c.loop-front.self.octets.now (split_of c.in-Some.front) (sym c.in-Some.ensures) (sym c.if-is_passed_on.ensures) in
+    let step = sym c.loop-front.invariant ∙ passed-step c.loop-front.self.octets.now (split_of c.in-Some.front) (sym c.in-Some.ensures)
+    (sym c.if-is_passed_on.ensures) in
     record { steps = step; goes = one_less others_in _ _ _ _ step }
 
 pub loop-front-smaller : goal.loop-front-smaller
@@ -16,7 +17,8 @@ loop-front-smaller c = item_at-takes c.loop-front.self.octets.now (split_of c.in
 
 pub loop-front-preserved : goal.loop-front-preserved
 loop-front-preserved c =
-    sym (passed-skip c.loop-front.self.octets.now (split_of c.in-Some.front) (sym c.in-Some.ensures) (sym c.if-is_passed_on.ensures)) ∙ c.loop-front.invariant
+    sym (passed-skip c.loop-front.self.octets.now (split_of c.in-Some.front) (sym c.in-Some.ensures) (sym c.if-is_passed_on.ensures))
+    ∙ c.loop-front.invariant
 
 pub returns-clause-steps : goal.returns-clause-steps
 returns-clause-steps c =

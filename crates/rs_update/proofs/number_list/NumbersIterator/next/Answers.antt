@@ -17,7 +17,8 @@ returns c =
     let step =
     numbers_at-step c.args.self.now.count octets c.if-self-eq0.false
     ∙ ap (λ (number : ℕ). number ∷ numbers_at (c.args.self.now.count - 1) (drop 4 octets)) (sym c.number_at-number.ensures)
-    ∙ ap (λ (rest : List ℕ). c.number_at-number.result ∷ numbers_at (c.args.self.now.count - 1) rest) (sym (take_all (length octets - 4) (drop 4 octets) (omega (arith, length-drop 4 octets)))) in
+    ∙ ap (λ (rest : List ℕ). c.number_at-number.result ∷ numbers_at (c.args.self.now.count - 1) rest)
+    (sym (take_all (length octets - 4) (drop 4 octets) (omega (arith, length-drop 4 octets)))) in
     record { steps = step; goes = one_less numbers_in _ _ _ _ step }
 
 pub invariant_of-self : goal.invariant_of-self
