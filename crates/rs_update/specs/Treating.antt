@@ -9,8 +9,8 @@ use Rattle.rs_update.specs.declared.handling.Handling.{Handling}
 use Rattle.rs_update.specs.declared.handling.Handling.TheVariants.{TreatAsWithdraw, SessionReset}
 use Rattle.rs_update.specs.declared.header.MessageType.{MessageType}
 use Rattle.rs_update.specs.declared.header.MessageType.TheVariants as types
-use Rattle.rs_update.specs.declared.update.Standing.{Standing}
-use Rattle.rs_update.specs.declared.update.Standing.TheVariants.{Withdrawn, Stands}
+use Rattle.rs_update.specs.declared.update.Treatment.{Treatment}
+use Rattle.rs_update.specs.declared.update.Treatment.TheVariants.{Withdrawn, Stands}
 use Rattle.rs_update.specs.Fault.{first_fault, of_header, of_update}
 use Rattle.rs_update.specs.Gathered.{attributes_of}
 use Rattle.rs_update.specs.Handling.{kept_of, strongest_in}
@@ -38,7 +38,7 @@ abbrev pub standing_attributes : Handling → List ℕ → List ℕ → Option (
 standing_attributes TreatAsWithdraw section nlri = None
 standing_attributes handling section nlri = kept_attributes section nlri
 
-abbrev pub attributes_in : Standing → Option (Option PathAttributes)
+abbrev pub attributes_in : Treatment → Option (Option PathAttributes)
 attributes_in Withdrawn = None
 attributes_in (Stands attributes) = Some attributes
 

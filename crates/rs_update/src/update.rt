@@ -125,7 +125,7 @@ fn read_update(alloc: Global, body: &[u8]) -> Result<Update, MessageFault>
 
 // What becomes of the routes of an UPDATE by RFC 7606.
 #[derive(Drop)]
-enum Standing {
+enum Treatment {
     // They are treated as withdrawn.
     Withdrawn,
     // They stand, with attributes where any is announced.
@@ -137,7 +137,7 @@ fn standing_attributes(
     alloc: Global,
     fields: UpdateFields<'_>,
     handling: Handling,
-) -> Result<Standing, AllocError>
+) -> Result<Treatment, AllocError>
     requires handled { handling ≡ strongest_in fields.section.now }
     requires stands { reset_of handling ≡ None }
     requires short { length fields.section.now ≤ 4073 }
@@ -146,14 +146,14 @@ fn standing_attributes(
         ≡ standing_attributes_of handling fields.entry.section.now fields.entry.nlri.now) }
 {
     if let Handling::TreatAsWithdraw = handling {
-        return Ok(Standing::Withdrawn);
+        return Ok(Treatment::Withdrawn);
     }
     if fields.nlri.is_empty() {
-        return Ok(Standing::Stands(None));
+        return Ok(Treatment::Stands(None));
     }
     match kept_attributes(alloc, fields.section, handling)? {
-        None => Ok(Standing::Withdrawn),
-        Some(attributes) => Ok(Standing::Stands(Some(attributes))),
+        None => Ok(Treatment::Withdrawn),
+        Some(attributes) => Ok(Treatment::Stands(Some(attributes))),
     }
 }
 
@@ -193,8 +193,8 @@ fn read_treating(alloc: Global, body: &[u8]) -> Result<Message, MessageFault>
     let withdrawn = read_prefixes(alloc, fields.withdrawn, withdrawn_count)?;
     let nlri = read_prefixes(alloc, fields.nlri, nlri_count)?;
     match standing {
-        Standing::Withdrawn => Ok(Message::Treated { withdrawn, nlri }),
-        Standing::Stands(attributes) => Ok(Message::Update(Update {
+        Treatment::Withdrawn => Ok(Message::Treated { withdrawn, nlri }),
+        Treatment::Stands(attributes) => Ok(Message::Update(Update {
             withdrawn,
             attributes,
             nlri,
