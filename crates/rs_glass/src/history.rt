@@ -85,11 +85,11 @@ impl History {
     }
 }
 
-/// Replays what happened, one after another, and tells what the client gets after each. What happened before
+/// Goes through what happened, one after another, and tells what the client gets after each. What happened before
 /// `from` counts and isn't shown; nothing of a peer that isn't there, or behind its close, counts.
 ///
 /// Fails where memory is refused.
-pub fn replay(
+pub fn fill_history(
     alloc: Global,
     plan: &Arc<Exchange>,
     happenings: Vec<Happening>,

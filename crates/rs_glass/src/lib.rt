@@ -28,7 +28,7 @@ mod said;
 pub use answers::{Answer, Answers, LessSpecific, explain_all};
 pub use fault::GlassFault;
 pub use happened::{Happening, read_happenings};
-pub use history::{Event, Gets, History, replay};
+pub use history::{Event, Gets, History, fill_history};
 pub use loss::{Loss, loss_of};
 pub use question::Question;
 pub use reading::{Reading, read_sessions};

@@ -11,7 +11,9 @@ use crate::recorded_file::RecordedFile;
 use crate::why_lines::why_text;
 use crate::why_object::why_json;
 use crate::words::read_query;
-use rs_glass::{Answers, History, Question, explain_all, read_happenings, read_sessions, replay};
+use rs_glass::{
+    Answers, History, Question, explain_all, fill_history, read_happenings, read_sessions,
+};
 use rs_host::{first_unreadable, open_file};
 use rs_inventory::{InventoryFault, read_inventory};
 use rs_question::{
@@ -131,7 +133,7 @@ where
     match read_happenings(rt, alloc, &setup.plan, files, &question) {
         Ok(happenings) => {
             let asked = History::of(alloc, &question, client, query.from);
-            Ok(replay(alloc, &setup.plan, happenings, asked)?)
+            Ok(fill_history(alloc, &setup.plan, happenings, asked)?)
         }
         Err(fault) => Err(Ended::by_reading(alloc, fault, setup)),
     }

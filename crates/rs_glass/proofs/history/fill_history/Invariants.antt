@@ -1,6 +1,6 @@
 use Rattle.std.proofs.Common.{◌≡◌}
 use Rattle.rs_glass.specs.Histories.{Notes, all_gets, tables_after}
-use Rattle.rs_glass.proofs.history.replay.Given as goal
+use Rattle.rs_glass.proofs.history.fill_history.Given as goal
 
 abbrev pub invariant-loop-happening : goal.invariant-loop-happening
 invariant-loop-happening l = record {

@@ -8,7 +8,7 @@ use Rattle.rs_update.specs.IpPrefix.{IpPrefix}
 use Rattle.rs_glass.specs.Histories.{GetsContent, Notes, all_gets, gets_after, gets_by, is_open, tables_after}
 use Rattle.rs_glass.specs.declared.happened.Happening.{Happening}
 use Rattle.rs_glass.proofs.HistoryLemmas.{all_gets-more, gets-step, notes-more, notes-nothing, tables-fresh, tables-step}
-use Rattle.rs_glass.proofs.history.replay.Goals as goal
+use Rattle.rs_glass.proofs.history.fill_history.Goals as goal
 
 pub loop-happening-init : goal.loop-happening-init
 loop-happening-init c = record {
