@@ -20,7 +20,8 @@ ArePlaces held places = All (λ place. place < length held) places
 abbrev pub sents_at : List HeldRoute → List ℕ → List SentRoute
 sents_at held places = map sent_of_held (chosen_of held places)
 
--- a group has a weight in the choice where what stands for it is chosen, or keeps out another one of its neighbour AS
+-- A group of one neighbour AS weighs in the choice if its best route is chosen, or if that route removes another one of
+-- the group by MED.
 abbrev pub IsFirst : Group → Option Placed → Type 0
 IsFirst group None = ⊥
 IsFirst group (Some first) = group.place ≡ first.place
@@ -28,20 +29,22 @@ IsFirst group (Some first) = group.place ≡ first.place
 abbrev pub Weighs : Group → Option Placed → Type 0
 Weighs group first = IsTrue group.keeps_out ⊎ IsFirst group first
 
--- of the places of the eligible routes, those of all groups that have a weight are there
+-- These are places of eligible routes, and the best route of each group that weighs is among them.
 pub record AreWeighing (eligible : List ℕ) (groups : List Group) (first : Option Placed)
     (weighing : List ℕ) : Type 0 where
   pub among : All (λ place. Contains eligible place) weighing
   pub all : (i : ℕ) (group : Group) → slice_get groups i ≡ Some group → Weighs group first → (place : ℕ)
       → slice_get eligible group.place ≡ Some place → Contains weighing place
 
--- a choice among routes rests on some of them: while these stay it stays, whatever others go
+-- A choice among routes rests on some of them: as long as none of these is removed, the choice stays the same, whichever
+-- other routes are removed.
 abbrev pub RestsOn : Plan → List SentRoute → List SentRoute → Type 0
 RestsOn plan set weighing =
     (kept : SentRoute → Bool) → ((route : SentRoute) → Contains weighing route → IsTrue (kept route)) →
     choice (standing_of plan) (filter kept set) ≡ choice (standing_of plan) set
 
--- what is decided among all eligible routes
+-- What is decided once for all clients: the peer whose route is chosen among all eligible ones, and the places of the
+-- routes on which that choice rests.
 pub record IsShared (plan : Plan) (held : List HeldRoute) (shared : Shared) : Type 0 where
   pub peer : shared.peer
       ≡ option_map (λ sent. sent.peer) (choice (standing_of plan) (eligible_among plan (map sent_of_held held)))

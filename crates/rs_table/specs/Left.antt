@@ -76,9 +76,9 @@ is_on prefix change = option_map_or (same_prefix prefix) (body_prefix change.bod
 abbrev pub HasNoClose : List Change → Type 0
 HasNoClose changes = list_any is_close changes ≡ false
 
--- what it means: a list leaves a route on a prefix where the route is announced at some place of the list, no
--- later place has a change on that prefix or a loss of the session, and nowhere does the session close but at
--- the end of its file
+-- What it means that a list of changes leaves a route on a prefix. Somewhere in the list the route is announced. Behind
+-- that place there is no change on the prefix and no loss of the session. The session closes nowhere, or at the end of
+-- its file.
 pub record Leaves (changes : List Change) (prefix : IpPrefix) (route : RouteLeft) : Type 0 where
   pub earlier : List Change
   pub later : List Change
@@ -116,7 +116,7 @@ after_body routes time (Closed reason) = if reason_drops reason then empty else 
 abbrev pub after : Routes → Change → Routes
 after routes change = after_body routes change.time change.body
 
--- a change is new where it announces a prefix on which nothing is left: it alone can want memory
+-- A change is new if it announces a prefix on which the peer has no route. No other change needs memory.
 abbrev pub IsNewBody : Routes → ChangeBody → Type 0
 IsNewBody routes (Announced prefix attributes) = get routes prefix ≡ None
 IsNewBody routes (Withdrawn prefix) = ⊥
@@ -126,8 +126,8 @@ IsNewBody routes (Closed reason) = ⊥
 abbrev pub IsNewAnnouncement : Routes → Change → Type 0
 IsNewAnnouncement routes change = IsNewBody routes change.body
 
--- routes come to be others by a change: whatever list without a close has left the first, with the change it
--- leaves the others
+-- One more change turns the routes before it into the routes after it: every list without a close that leaves the
+-- former leaves the latter once the change is appended to it.
 abbrev pub BecomeBy : Routes → Change → Routes → Type 0
-BecomeBy before change others =
-    (changes : List Change) → HasNoClose changes → left changes ≡ before → left (changes ++ change ∷ []) ≡ others
+BecomeBy before change after_it =
+    (changes : List Change) → HasNoClose changes → left changes ≡ before → left (changes ++ change ∷ []) ≡ after_it
