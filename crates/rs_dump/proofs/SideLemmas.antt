@@ -30,9 +30,10 @@ module _ {X : Type 0} (R : X → X → Type 0) (old now : List X) (n : ℕ) (nex
       → get_or (set now n new) k d ≡ get_or old k d
   to_do-also to_do k d later = get_or-set_other now n k new d (λ same. omega (arith, same, later)) ∙ to_do k d (omega (arith, later))
 
-module _ {W : Type 0} (taken : W → Option (List ℕ)) (failures : W → ℕ) where
+module _ {W : Type 0} (taken : W → Option (List ℕ)) (failures : W → ℕ) (label : W → Option (List ℕ)) where
   -- a write of a dump fails of which some rows were written
-  lost-then : (a b c : Writing W) → GoesOn taken failures a b → IsFalse b.failed → IsLost taken failures b c → IsLost taken failures a c
+  lost-then : (a b c : Writing W) → GoesOn taken failures label a b → IsFalse b.failed → IsLost taken failures label b c
+      → IsLost taken failures label a c
   lost-then a b c before ok lost =
       record {
         beginning = AppendsBeginning-part (taken a.out) (taken b.out) (taken c.out) b.dump.octets a.dump.octets [] a.dump.octets
@@ -40,10 +41,10 @@ module _ {W : Type 0} (taken : W → Option (List ℕ)) (failures : W → ℕ) w
         failure = lost.failure ∙ ap (λ n. n + 1) (before.no_failure ok);
       }
 
-  pub on-then : (a b c : Writing W) → GoesOn taken failures a b → Goes taken failures b c → GoesOn taken failures a c
+  pub on-then : (a b c : Writing W) → GoesOn taken failures label a b → Goes taken failures label b c → GoesOn taken failures label a c
   on-then a b c before after = elim (cases_Bool b.failed) [
     | inl failed ↦
-        let P : Writing W → Type 0 = λ w. GoesOn taken failures a w in
+        let P : Writing W → Type 0 = λ w. GoesOn taken failures label a w in
         subst P (sym (after.not_on failed)) before
     | inr ok ↦
         let on = after.on ok in
@@ -53,18 +54,21 @@ module _ {W : Type 0} (taken : W → Option (List ℕ)) (failures : W → ℕ) w
           no_failure = λ written. on.no_failure written ∙ before.no_failure ok;
           rows = λ written. on.rows written ∙ before.rows ok;
           lost = λ failed. lost-then a b c before ok (on.lost failed);
+          label_stays = on.label_stays ∙ before.label_stays;
         }
   ]
 
-  pub written-then : (a b c : Writing W) → GoesOn taken failures a b → IsWrittenFrom taken failures b c → IsWritten taken failures a c
+  pub written-then : (a b c : Writing W) → GoesOn taken failures label a b → IsWrittenFrom taken failures label b c
+      → IsWritten taken failures label a c
   written-then a b c before after = elim (cases_Bool b.failed) [
     | inl failed ↦
-        let P : Writing W → Type 0 = λ w. IsWritten taken failures a w in
-        let stays : IsWritten taken failures a b = record {
+        let P : Writing W → Type 0 = λ w. IsWritten taken failures label a w in
+        let stays : IsWritten taken failures label a b = record {
           sent = λ ok. absurd (both_ways b.failed ok failed);
           no_failure = λ ok. absurd (both_ways b.failed ok failed);
           rows = λ ok. absurd (both_ways b.failed ok failed);
           lost = λ _. before.lost failed;
+          label_stays = before.label_stays;
         } in
         subst P (sym (after.not_on failed)) stays
     | inr ok ↦
@@ -75,5 +79,6 @@ module _ {W : Type 0} (taken : W → Option (List ℕ)) (failures : W → ℕ) w
           no_failure = λ written. on.no_failure written ∙ before.no_failure ok;
           rows = λ written. on.rows written ∙ before.rows ok;
           lost = λ failed. lost-then a b c before ok (on.lost failed);
+          label_stays = on.label_stays ∙ before.label_stays;
         }
   ]

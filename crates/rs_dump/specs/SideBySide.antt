@@ -13,7 +13,8 @@ CanGo failures writing = IsFalse writing.failed → failures writing.out < 18446
 abbrev pub CanBegin : {W : Type 0} → (W → ℕ) → Writing W → Type 0
 CanBegin failures writing = IsFalse writing.failed × (failures writing.out < 18446744073709551615)
 
-module _ {W : Type 0} (taken : W → Option (List ℕ)) (failures : W → ℕ) where
+module _ {W : Type 0} (taken : W → Option (List ℕ)) (failures : W → ℕ)
+    (label : W → Option (List ℕ)) where
   -- a write of a dump failed, and a beginning of it is out
   pub record IsLost (old new : Writing W) : Type 0 where
     pub beginning : AppendsBeginning (taken old.out) (taken new.out) old.dump.octets
@@ -25,6 +26,7 @@ module _ {W : Type 0} (taken : W → Option (List ℕ)) (failures : W → ℕ) w
     pub no_failure : IsFalse new.failed → failures new.out ≡ failures old.out
     pub rows : IsFalse new.failed → new.dump.spelled + new.dump.rows ≡ old.dump.spelled + old.dump.rows
     pub lost : IsTrue new.failed → IsLost old new
+    pub label_stays : label new.out ≡ label old.out
 
   -- all of a dump was written, unless a write of it failed
   pub record IsWritten (old new : Writing W) : Type 0 where
@@ -32,6 +34,7 @@ module _ {W : Type 0} (taken : W → Option (List ℕ)) (failures : W → ℕ) w
     pub no_failure : IsFalse new.failed → failures new.out ≡ failures old.out
     pub rows : IsFalse new.failed → new.dump.spelled ≡ old.dump.spelled + old.dump.rows
     pub lost : IsTrue new.failed → IsLost old new
+    pub label_stays : label new.out ≡ label old.out
 
   -- the same of a dump of which a write may have failed before, and then nothing was done
   pub record Goes (old new : Writing W) : Type 0 where

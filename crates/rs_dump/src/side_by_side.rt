@@ -34,13 +34,13 @@ pub fn write_side_by_side<T: Threads + Sync, W: Write + Send>(
 )
     requires { (k : ℕ) (d : Writing W) → k < length writings.old → CanBegin W.failures (slice_index_or writings.old k d) }
     ensures written { (k : ℕ) (d : Writing W) → k < length writings.old
-        → IsWritten W.taken W.failures (slice_index_or writings.old k d) (slice_index_or writings.new k d) }
+        → IsWritten W.taken W.failures W.label (slice_index_or writings.old k d) (slice_index_or writings.new k d) }
     ensures count { length writings.new ≡ length writings.old }
 {
     let write = |_first: usize, some: &mut [Writing<'_, W>]|
         requires { (k : ℕ) (d : Writing W) → k < length some.now → CanBegin W.failures (slice_index_or some.now k d) }
         ensures { (k : ℕ) (d : Writing W) → k < length some.entry.now
-            → IsWritten W.taken W.failures (slice_index_or some.entry.now k d) (slice_index_or some.exit.now k d) }
+            → IsWritten W.taken W.failures W.label (slice_index_or some.entry.now k d) (slice_index_or some.exit.now k d) }
     { write_in_turns(some) };
     for_each_chunk_mut(rt, writings, DUMPS_ON_A_THREAD, &write);
 }
@@ -49,7 +49,7 @@ pub fn write_side_by_side<T: Threads + Sync, W: Write + Send>(
 fn write_in_turns<W: Write>(writings: &mut [Writing<'_, W>])
     requires { (k : ℕ) (d : Writing W) → k < length writings.old → CanBegin W.failures (slice_index_or writings.old k d) }
     ensures written { (k : ℕ) (d : Writing W) → k < length writings.old
-        → IsWritten W.taken W.failures (slice_index_or writings.old k d) (slice_index_or writings.new k d) }
+        → IsWritten W.taken W.failures W.label (slice_index_or writings.old k d) (slice_index_or writings.new k d) }
     ensures count { length writings.new ≡ length writings.old }
 {
     for _turn in 0..most_turns(writings) {
@@ -72,7 +72,7 @@ fn most_turns<W>(writings: &[Writing<'_, W>]) -> usize {
 fn write_turns<W: Write>(writings: &mut [Writing<'_, W>])
     requires { (k : ℕ) (d : Writing W) → k < length writings.old → CanGo W.failures (slice_index_or writings.old k d) }
     ensures each { (k : ℕ) (d : Writing W) → k < length writings.old
-        → Goes W.taken W.failures (slice_index_or writings.old k d) (slice_index_or writings.new k d) }
+        → Goes W.taken W.failures W.label (slice_index_or writings.old k d) (slice_index_or writings.new k d) }
     ensures count { length writings.new ≡ length writings.old }
 {
     for number in 0..writings.len() {
@@ -84,7 +84,7 @@ fn write_turns<W: Write>(writings: &mut [Writing<'_, W>])
 fn write_rests<W: Write>(writings: &mut [Writing<'_, W>])
     requires { (k : ℕ) (d : Writing W) → k < length writings.old → CanGo W.failures (slice_index_or writings.old k d) }
     ensures each { (k : ℕ) (d : Writing W) → k < length writings.old
-        → IsWrittenFrom W.taken W.failures (slice_index_or writings.old k d) (slice_index_or writings.new k d) }
+        → IsWrittenFrom W.taken W.failures W.label (slice_index_or writings.old k d) (slice_index_or writings.new k d) }
     ensures count { length writings.new ≡ length writings.old }
 {
     for number in 0..writings.len() {
@@ -96,7 +96,7 @@ impl<'a, W: Write> Writing<'a, W> {
     // Writes a turn, unless a write failed.
     fn write_turn(&mut self)
         requires { CanGo W.failures self.old }
-        ensures { Goes W.taken W.failures self.old self.new }
+        ensures { Goes W.taken W.failures W.label self.old self.new }
     {
         if !self.failed {
             match self.dump.write_turn(&mut self.out) {
@@ -109,7 +109,7 @@ impl<'a, W: Write> Writing<'a, W> {
     // Writes what is left, unless a write failed.
     fn write_rest(&mut self)
         requires { CanGo W.failures self.old }
-        ensures { IsWrittenFrom W.taken W.failures self.old self.new }
+        ensures { IsWrittenFrom W.taken W.failures W.label self.old self.new }
     {
         if !self.failed {
             match self.dump.write_rest(&mut self.out) {

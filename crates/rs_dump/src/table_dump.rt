@@ -105,6 +105,7 @@ impl<'a> TableDump<'a> {
         ensures none { IfOk result (λ some. IsFalse some → self.new.rows ≡ 0) }
         ensures err { OnErr result (AppendsBeginning (W.taken out.old) (W.taken out.new) self.old.octets) }
         ensures err_failures { OnErr result (W.failures out.new ≡ W.failures out.old + 1) }
+        ensures label { W.label out.new ≡ W.label out.old }
     {
         if !take_rows(&mut self.rows, &mut self.turn) {
             return Ok(false);
@@ -122,6 +123,7 @@ impl<'a> TableDump<'a> {
         ensures rows { OnOk result (self.new.spelled ≡ self.old.spelled + self.old.rows) }
         ensures err { OnErr result (AppendsBeginning (W.taken out.old) (W.taken out.new) self.old.octets) }
         ensures err_failures { OnErr result (W.failures out.new ≡ W.failures out.old + 1) }
+        ensures label { W.label out.new ≡ W.label out.old }
     {
         let mut some = true;
         while some {

@@ -59,6 +59,7 @@ fn add_row<W: Write>(
     ensures ok_failures { OnOk result (W.failures out.new ≡ W.failures out.old) }
     ensures err { OnErr result (AppendsBeginning (W.taken out.old) (W.taken out.new) buffer.old.items) }
     ensures err_failures { OnErr result (W.failures out.new ≡ W.failures out.old + 1) }
+    ensures label { W.label out.new ≡ W.label out.old }
     ensures capacity { BUFFER_LEN ≤ vec_capacity buffer.new }
 {
     make_room(out, buffer)?;
@@ -84,6 +85,7 @@ pub(crate) fn add_rows<W: Write>(
     ensures err { OnErr result (AppendsBeginning (W.taken out.old) (W.taken out.new)
         (buffer.old.items ++ spelled_rows time first (map row_of rows.now))) }
     ensures err_failures { OnErr result (W.failures out.new ≡ W.failures out.old + 1) }
+    ensures label { W.label out.new ≡ W.label out.old }
     ensures capacity { BUFFER_LEN ≤ vec_capacity buffer.new }
 {
     for place in 0..rows.len() {
@@ -101,6 +103,7 @@ fn make_room<W: Write>(out: &mut W, buffer: &mut Vec<u8>) -> Result<(), Failed>
     ensures room { OnOk result (HasRoom buffer.new MAX_ROW_LEN) }
     ensures err { OnErr result (AppendsBeginning (W.taken out.old) (W.taken out.new) buffer.old.items) }
     ensures err_failures { OnErr result (W.failures out.new ≡ W.failures out.old + 1) }
+    ensures label { W.label out.new ≡ W.label out.old }
     ensures capacity { BUFFER_LEN ≤ vec_capacity buffer.new }
 {
     if buffer.len() >= PIECE_LEN {

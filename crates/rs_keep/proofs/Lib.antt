@@ -1,4 +1,5 @@
 pub mod KeepLemmas
 pub mod ListingLemmas
+pub mod NamesLemmas
 pub mod StartedLemmas
 pub mod WrittenLemmas

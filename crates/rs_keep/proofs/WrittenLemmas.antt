@@ -53,9 +53,10 @@ told-before (Some kept) (Some more) dumps taken octets grown told = told
 
 module _ {W : Type 0} (taken : W → Option (List ℕ)) (failures : W → ℕ) (tables : TablesContent) (time : ℕ) where
   -- a dump that was begun is written
-  pub written-of : (kept : Option (List KeptDump)) (client : ℕ) (old new : Writing W) → IsBegun taken failures kept tables time client old
-      → IsWritten taken failures old new → IsWrittenOf taken failures kept tables time client new
-  written-of kept client old new begun written =
+  pub written-of : (label : W → Option (List ℕ)) (kept : Option (List KeptDump)) (client : ℕ) (old new : Writing W)
+      → IsBegun taken failures kept tables time client old → IsWritten taken failures label old new
+      → IsWrittenOf taken failures kept tables time client new
+  written-of label kept client old new begun written =
       record {
         told = λ ok. tells kept (taken old.out) (taken new.out) old.dump.octets _ begun.nothing_taken begun.octets (written.sent ok);
         rows = λ ok. written.rows ok ∙ begun.rows;

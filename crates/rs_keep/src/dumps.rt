@@ -5,12 +5,13 @@
 //! of a run is the same: where a dump isn't kept, those behind it are lost. Memory for a dump is taken before it is
 //! started, so that each dump that is started is kept or lost.
 
-ghost use Rattle.std.specs.Prelude.{◌≡◌, ◌+◌, ◌-◌, ◌<◌, ◌≤◌, List, Option, ℕ, IfErr, IfOk, IfSome, OnErr, OnOk};
+ghost use Rattle.std.specs.Prelude.{◌≡◌, ◌+◌, ◌<◌, ◌≤◌, ◌∷◌, [], IfErr, IfNone, IfOk, IfSome, OnErr, OnOk};
 ghost use Rattle.std.specs.Prelude.{length, vec_capacity};
 ghost use Rattle.std.specs.Vec.Iter.{into_iter_items};
 ghost use Rattle.rs_table.specs.Table.{table_of};
+ghost use Rattle.rs_outlet.specs.Started.{Names};
 ghost use Rattle.rs_keep.specs.Kept.{IsFaultAt};
-ghost use Rattle.rs_keep.specs.StartedDumps.{AreOutToo, AreOutTooAhead, names_from};
+ghost use Rattle.rs_keep.specs.StartedDumps.{AreOutFrom};
 ghost use Rattle.rs_keep.specs.Written.{AreBegun, AreDumpFiles, AreWritten, IsBegun};
 
 use rs_choice::Exchange;
@@ -72,11 +73,10 @@ pub(crate) fn refill<'a, T: Threads + Sync, O: Outlet>(
     ensures written { length (into_iter_items written.old) ≡ 0 → OnOk result
         (AreWritten O.Out.taken O.Out.failures (O.kept outlet.old) dumping.now.tables.now dumping.now.time client
         (into_iter_items written.new)) }
-    ensures started { (before : Option (List (List ℕ)))
-        → AreOutToo before (O.started outlet.old)
-        (names_from dumping.now.files.now client (length (into_iter_items written.old)))
-        → OnOk result (AreOutToo before (O.started outlet.new)
-        (names_from dumping.now.files.now client (length (into_iter_items written.new)))) }
+    ensures started { (before : Names)
+        → AreOutFrom O.Out.label dumping.now.files.now client before (O.started outlet.old) (into_iter_items written.old)
+        → OnOk result (AreOutFrom O.Out.label dumping.now.files.now client before (O.started outlet.new)
+        (into_iter_items written.new)) }
     ensures refused { OnErr result ((length (into_iter_items written.old) ≡ 0)
         × (O.started outlet.new ≡ O.started outlet.old)) }
     ensures kept { O.kept outlet.new ≡ O.kept outlet.old }
@@ -104,8 +104,8 @@ fn write_some<'a, T: Threads + Sync, O: Outlet>(
     ensures some { IfOk result (λ some. 0 < length some.items) }
     ensures written { IfOk result (λ some. AreWritten O.Out.taken O.Out.failures (O.kept outlet.old)
         dumping.now.tables.now dumping.now.time client some.items) }
-    ensures started { IfOk result (λ some. AreOutToo (O.started outlet.old) (O.started outlet.new)
-        (names_from dumping.now.files.now client (length some.items))) }
+    ensures started { IfOk result (λ some. AreOutFrom O.Out.label dumping.now.files.now client
+        (O.started outlet.old) (O.started outlet.new) some.items) }
     ensures refused { OnErr result (O.started outlet.new ≡ O.started outlet.old) }
     ensures kept { O.kept outlet.new ≡ O.kept outlet.old }
     ensures no_failure { OnOk result (O.failures outlet.new ≡ O.failures outlet.old) }
@@ -146,8 +146,8 @@ fn begin<'a, O: Outlet>(
     requires failures { O.failures outlet.old < u64.MAX }
     ensures begun { IfOk result (IsBegun O.Out.taken O.Out.failures (O.kept outlet.old) dumping.now.tables.now
         dumping.now.time client) }
-    ensures started { OnOk result (AreOutToo (O.started outlet.old) (O.started outlet.new)
-        (names_from dumping.now.files.now client 1)) }
+    ensures started { IfOk result (λ writing. AreOutFrom O.Out.label dumping.now.files.now client
+        (O.started outlet.old) (O.started outlet.new) (writing ∷ [])) }
     ensures refused { OnErr result (O.started outlet.new ≡ O.started outlet.old) }
     ensures kept { O.kept outlet.new ≡ O.kept outlet.old }
     ensures no_failure { OnOk result (O.failures outlet.new ≡ O.failures outlet.old) }
@@ -188,8 +188,9 @@ fn begin_behind<'a, O: Outlet>(
     ensures begun { AreBegun O.Out.taken O.Out.failures (O.kept outlet.old) dumping.now.tables.now
         dumping.now.time client some.new.items }
     ensures some { (1 ≤ length some.new.items) × (length some.new.items ≤ most) }
-    ensures started { AreOutToo (O.started outlet.old) (O.started outlet.new)
-        (names_from dumping.now.files.now (client + 1) (length some.new.items - 1)) }
+    ensures started { (before : Names)
+        → AreOutFrom O.Out.label dumping.now.files.now client before (O.started outlet.old) some.old.items
+        → AreOutFrom O.Out.label dumping.now.files.now client before (O.started outlet.new) some.new.items }
     ensures kept { O.kept outlet.new ≡ O.kept outlet.old }
     ensures no_failure { O.failures outlet.new ≡ O.failures outlet.old }
 {
@@ -213,8 +214,9 @@ fn begin_ahead<'a, O: Outlet>(
     requires files { AreDumpFiles dumping.now.tables.now.plan dumping.now.files.now }
     ensures begun { IfSome result (IsBegun O.Out.taken O.Out.failures (O.kept outlet.old) dumping.now.tables.now
         dumping.now.time client) }
-    ensures started { AreOutTooAhead result (O.started outlet.old) (O.started outlet.new)
-        (names_from dumping.now.files.now client 1) }
+    ensures started { IfSome result (λ writing. AreOutFrom O.Out.label dumping.now.files.now client
+        (O.started outlet.old) (O.started outlet.new) (writing ∷ [])) }
+    ensures none { IfNone result (O.started outlet.new ≡ O.started outlet.old) }
     ensures kept { O.kept outlet.new ≡ O.kept outlet.old }
     ensures no_failure { O.failures outlet.new ≡ O.failures outlet.old }
 {

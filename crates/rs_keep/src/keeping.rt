@@ -4,9 +4,9 @@ ghost use Rattle.std.specs.Prelude.{◌≡◌, ◌+◌, ◌<◌, ◌≤◌, ◌+
 ghost use Rattle.std.specs.Prelude.{string_bytes};
 ghost use Rattle.std.specs.Vec.Iter.{into_iter_items};
 ghost use Rattle.rs_outlet.specs.Outlet.{Grows, KeepsTaken};
-ghost use Rattle.rs_outlet.specs.Started.{AreAsMany, ComesBack, IsOut, OneComesBack};
+ghost use Rattle.rs_outlet.specs.Started.{AreSameNames, ComesBack, IsOut, TellsName};
 ghost use Rattle.rs_keep.specs.Kept.{dumps_of, IsStop};
-ghost use Rattle.rs_keep.specs.StartedDumps.{AreBack, AreOut};
+ghost use Rattle.rs_keep.specs.StartedDumps.{AreAllBack, AreAllOut};
 ghost use Rattle.rs_keep.specs.TableLines.{row_counts, table_line, table_lines};
 ghost use Rattle.rs_keep.specs.Written.{AreDumpFiles};
 
@@ -40,7 +40,7 @@ pub fn keep_dumps<T: Threads + Sync, O: Outlet>(
     ensures no_failure { OnOk result (O.failures outlet.new ≡ O.failures outlet.old) }
     ensures fault { IfErr result (IsStop tables.now time (O.kept outlet.old) (O.kept outlet.new)
         (O.failures outlet.old) (O.failures outlet.new)) }
-    ensures back { AreAsMany (O.started outlet.old) (O.started outlet.new) }
+    ensures back { AreSameNames (O.started outlet.old) (O.started outlet.new) }
 {
     let plan = tables.plan();
     let files = dump_files(alloc, plan)?;
@@ -69,7 +69,7 @@ fn keep_all<T: Threads + Sync, O: Outlet>(
     ensures no_failure { OnOk result (O.failures outlet.new ≡ O.failures outlet.old) }
     ensures fault { IfErr result (IsStop dumping.now.tables.now dumping.now.time (O.kept outlet.old) (O.kept outlet.new)
         (O.failures outlet.old) (O.failures outlet.new)) }
-    ensures back { AreAsMany (O.started outlet.old) (O.started outlet.new) }
+    ensures back { AreSameNames (O.started outlet.old) (O.started outlet.new) }
 {
     let plan = dumping.tables.plan();
     let mut rows = Vec::with_capacity(dumping.alloc, plan.count())?;
@@ -93,9 +93,9 @@ fn keep_all<T: Threads + Sync, O: Outlet>(
 // Keeps a dump in this file and answers how many rows it has, unless a write of it failed or the outlet refuses.
 fn keep<O: Outlet>(outlet: &mut O, file: &str, writing: Writing<'_, O::Out>) -> Option<u32>
     requires failures { O.failures outlet.old < u64.MAX }
+    requires named { TellsName (O.started outlet.old) (O.Out.label writing.out) file.now }
     requires started { IsOut (O.started outlet.old) file.now }
-    ensures back { IfSome result (λ _. ComesBack (O.started outlet.old) (O.started outlet.new) file.now) }
-    ensures one_back { OneComesBack (O.started outlet.old) (O.started outlet.new) }
+    ensures back { ComesBack (O.started outlet.old) (O.started outlet.new) file.now }
     ensures whole { IfSome result (λ _. IsFalse writing.entry.failed) }
     ensures rows { IfSome result (λ rows. rows ≡ writing.entry.dump.spelled) }
     ensures kept { IfSome result (λ _. KeepsTaken (O.kept outlet.old) (O.kept outlet.new) file.now
@@ -117,8 +117,8 @@ fn keep<O: Outlet>(outlet: &mut O, file: &str, writing: Writing<'_, O::Out>) -> 
 
 // Loses the dumps that were written and are not to be kept.
 fn lose_all<O: Outlet>(outlet: &mut O, written: IntoIter<Writing<'_, O::Out>>)
-    requires { AreOut (O.started outlet.old) (length (into_iter_items written)) }
-    ensures back { AreBack (O.started outlet.old) (O.started outlet.new) (length (into_iter_items written.entry)) }
+    requires { AreAllOut O.Out.label (O.started outlet.old) (into_iter_items written) }
+    ensures back { AreAllBack O.Out.label (O.started outlet.old) (O.started outlet.new) (into_iter_items written.entry) }
     ensures kept { O.kept outlet.new ≡ O.kept outlet.old }
     ensures no_fewer { O.failures outlet.old ≤ O.failures outlet.new }
 {

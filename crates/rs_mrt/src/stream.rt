@@ -1,8 +1,9 @@
 //! What takes octets: a trait over std's, whose contract names the octets that were taken and counts the failed calls.
 //!
-//! Our choice: a value may tell which octets it has taken, as one over memory does, or tell nothing, as a device does.
+//! Our choices: a value may tell which octets it has taken, as one over memory does, or tell nothing, as a device does.
+//! It may have a label, which tells for what it was given.
 
-ghost use Rattle.std.specs.Prelude.{◌≡◌, ◌+◌, ◌<◌, ◌≤◌, ℕ, List, Option, length, IfOk, OnOk, OnErr};
+ghost use Rattle.std.specs.Prelude.{◌≡◌, ◌+◌, ◌<◌, ◌≤◌, ℕ, List, None, Option, length, IfOk, OnOk, OnErr};
 ghost use Rattle.std.specs.Io.KnownBytes.{Appends, WriteAppends};
 ghost use Rattle.rs_mrt.specs.Stream.{failed_calls, AppendsBeginning};
 
@@ -27,6 +28,9 @@ pub trait Write {
     // The octets that it has taken, where it tells them.
     ghost taken: { Self → Option (List ℕ) };
 
+    // The name for which it was given, where it tells it. No write changes it.
+    ghost label: { Self → Option (List ℕ) } = { λ _. None };
+
     // How many calls failed: answered an error, or took nothing of a piece that isn't empty.
     ghost failures: { Self → ℕ };
 
@@ -35,6 +39,7 @@ pub trait Write {
         requires { failures self.old < u64.MAX }
         ensures bound { IfOk result (λ n. n ≤ length piece.now) }
         ensures taken { WriteAppends (taken self.old) (taken self.new) result piece.now }
+        ensures label { label self.new ≡ label self.old }
         ensures failures { failures self.new ≡ failures self.old + failed_calls result piece.now };
 }
 
@@ -45,6 +50,7 @@ pub fn write_all<W: Write>(out: &mut W, piece: &[u8]) -> Result<(), Failed>
     ensures ok_failures { OnOk result (W.failures out.new ≡ W.failures out.old) }
     ensures err { OnErr result (AppendsBeginning (W.taken out.old) (W.taken out.new) piece.now) }
     ensures err_failures { OnErr result (W.failures out.new ≡ W.failures out.old + 1) }
+    ensures label { W.label out.new ≡ W.label out.old }
 {
     let mut rest = piece;
     while !rest.is_empty() {

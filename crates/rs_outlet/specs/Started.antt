@@ -1,5 +1,5 @@
 -- For which dumps a writer of an outlet is out. Nothing here is of a standard: all of it is our choice.
-use Rattle.std.specs.Prelude.{◌≡◌, ◌<◌, ℕ, ⊤, List, ◌∷◌, Option, None, Some, length}
+use Rattle.std.specs.Prelude.{◌≡◌, ℕ, ⊤, List, ◌∷◌, Option, None, Some}
 use Rattle.std.specs.List.{Contains}
 use Rattle.std.specs.Prelude.{IsPermutation}
 
@@ -7,15 +7,17 @@ use Rattle.std.specs.Prelude.{IsPermutation}
 abbrev pub Names : Type 0
 Names = Option (List (List ℕ))
 
+-- a writer is out for the same names, in whatever order
+abbrev pub AreSameNames : Names → Names → Type 0
+AreSameNames None None = ⊤
+AreSameNames None (Some later) = ⊥
+AreSameNames (Some names) None = ⊥
+AreSameNames (Some names) (Some later) = IsPermutation names later
+
 -- a writer of this name is out
 abbrev pub IsOut : Names → List ℕ → Type 0
 IsOut None name = ⊤
 IsOut (Some names) name = Contains names name
-
--- some writer is out
-abbrev pub IsSomeOut : Names → Type 0
-IsSomeOut None = ⊤
-IsSomeOut (Some names) = 0 < length names
 
 -- one more writer is out, of this name
 abbrev pub GoesOut : Names → Names → List ℕ → Type 0
@@ -36,13 +38,15 @@ ComesBack None (Some later) name = ⊥
 ComesBack (Some names) None name = ⊥
 ComesBack (Some names) (Some later) name = IsPermutation names (name ∷ later)
 
--- one of the writers is back
-abbrev pub OneComesBack : Names → Names → Type 0
-OneComesBack names later = (name : List ℕ) × ComesBack names later name
+-- beside names that are told, a writer tells by its label that it was given for this one
+abbrev pub TellsName : Names → Option (List ℕ) → List ℕ → Type 0
+TellsName None label name = ⊤
+TellsName (Some names) label name = label ≡ Some name
 
--- as many writers are out
-abbrev pub AreAsMany : Names → Names → Type 0
-AreAsMany None None = ⊤
-AreAsMany None (Some later) = ⊥
-AreAsMany (Some names) None = ⊥
-AreAsMany (Some names) (Some later) = length later ≡ length names
+-- a writer of the name that the label tells is out
+abbrev pub IsLabelOut : Names → Option (List ℕ) → Type 0
+IsLabelOut names label = (name : List ℕ) × TellsName names label name × IsOut names name
+
+-- it is back
+abbrev pub LabelComesBack : Names → Names → Option (List ℕ) → Type 0
+LabelComesBack names later label = (name : List ℕ) → TellsName names label name → ComesBack names later name

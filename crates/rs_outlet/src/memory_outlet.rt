@@ -2,15 +2,16 @@
 //! tests of those who write dumps.
 
 ghost use Rattle.std.specs.Prelude.{◌≡◌, ◌+◌, ◌<◌, ◌∷◌, ◌++◌, [], Some, None, length, map, slice_index_or};
-ghost use Rattle.std.specs.Prelude.{string_bytes, OnOk, OnErr};
+ghost use Rattle.std.specs.Prelude.{string_bytes, IfOk, OnOk, OnErr};
 ghost use Rattle.std.specs.List.{Contains};
 ghost use Rattle.rs_mrt.specs.Memory.{limits_of};
 ghost use Rattle.rs_outlet.specs.Outlet.{InMemory, dump_of};
 ghost use Rattle.rs_outlet.specs.Started.{ComesBack};
 
+use crate::named_writer::NamedWriter;
 use crate::outlet::{Outlet, Unopened};
 use rs_mrt::{Limits, MemoryWriter};
-use std::alloc::Global;
+use std::alloc::{AllocError, Global};
 use std::marker::Model;
 
 /// A dump that was kept.
@@ -112,8 +113,29 @@ impl MemoryOutlet {
         }
     }
 
-    // Adds this name to those for which a writer is out, unless the call is to be refused or there is no memory.
-    fn try_start(&mut self, name: &str) -> Result<(), Unopened>
+    // The writer of the next dump, which has this name.
+    fn writer(&self, name: &str) -> Result<NamedWriter, AllocError>
+        ensures named { IfOk result (λ out. string_bytes out.name ≡ name.now) }
+        ensures fresh { IfOk result (λ out. out.inner.failures ≡ 0) }
+        ensures nothing_taken { IfOk result (λ out. out.inner.taken ≡ []) }
+    {
+        let limits = if self.kept.len() == self.limits.dumps_before_limits {
+            self.limits.writer
+        } else {
+            Limits::none()
+        };
+        Ok(NamedWriter {
+            name: String::from_str(self.alloc, name)?,
+            inner: MemoryWriter::new(self.alloc, limits),
+        })
+    }
+
+    // Gives a writer and adds its name to those for which one is out, unless the call is to be refused or there is no
+    // memory.
+    fn try_start(&mut self, name: &str) -> Result<NamedWriter, Unopened>
+        ensures named { IfOk result (λ out. string_bytes out.name ≡ name.now) }
+        ensures fresh { IfOk result (λ out. out.inner.failures ≡ 0) }
+        ensures nothing_taken { IfOk result (λ out. out.inner.taken ≡ []) }
         ensures ok { OnOk result (self.new.started ≡ name.now ∷ self.old.started) }
         ensures err { OnErr result (self.new.started ≡ self.old.started) }
         ensures kept { self.new.kept ≡ self.old.kept }
@@ -122,11 +144,14 @@ impl MemoryOutlet {
         if self.is_refused() {
             return Err(Unopened);
         }
+        let Ok(out) = self.writer(name) else {
+            return Err(Unopened);
+        };
         let Ok(name) = String::from_str(self.alloc, name) else {
             return Err(Unopened);
         };
         match self.started.insert(0, name) {
-            Ok(()) => Ok(()),
+            Ok(()) => Ok(out),
             Err(_) => Err(Unopened),
         }
     }
@@ -180,7 +205,7 @@ fn place_of(names: &[String], name: &str) -> usize
 }
 
 impl Outlet for MemoryOutlet {
-    type Out = MemoryWriter;
+    type Out = NamedWriter;
 
     ghost kept = { λ outlet. Some outlet.kept };
 
@@ -188,31 +213,27 @@ impl Outlet for MemoryOutlet {
 
     ghost failures = { λ outlet. outlet.failures };
 
-    fn start(&mut self, name: &str) -> Result<MemoryWriter, Unopened> {
-        if let Err(refused) = self.try_start(name) {
-            self.failures += 1;
-            return Err(refused);
+    fn start(&mut self, name: &str) -> Result<NamedWriter, Unopened> {
+        match self.try_start(name) {
+            Ok(out) => Ok(out),
+            Err(refused) => {
+                self.failures += 1;
+                Err(refused)
+            }
         }
-        let limits = if self.kept.len() == self.limits.dumps_before_limits {
-            self.limits.writer
-        } else {
-            Limits::none()
-        };
-        Ok(MemoryWriter::new(self.alloc, limits))
     }
 
-    fn keep(&mut self, name: &str, out: MemoryWriter) -> Result<(), Unopened> {
+    fn keep(&mut self, name: &str, out: NamedWriter) -> Result<(), Unopened> {
         let name = self.take_back(name);
-        let answer = self.try_keep(name, out);
+        let answer = self.try_keep(name, out.inner);
         if answer.is_err() {
             self.failures += 1;
         }
         answer
     }
 
-    fn lost(&mut self, _out: MemoryWriter) {
-        // The writer doesn't tell its name.
-        let _name = self.started.remove(0);
+    fn lost(&mut self, out: NamedWriter) {
+        let _name = self.take_back(&out.name);
         self.failures = self.failures.saturating_add(1);
     }
 }

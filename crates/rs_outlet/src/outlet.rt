@@ -6,7 +6,8 @@
 
 ghost use Rattle.std.specs.Prelude.{◌≡◌, ◌+◌, ◌<◌, ◌≤◌, ℕ, List, Option, IfOk, IfSome, OnOk, OnErr};
 ghost use Rattle.rs_outlet.specs.Outlet.{KeptDump, KeepsTaken, TellsNothingTaken};
-ghost use Rattle.rs_outlet.specs.Started.{GoesOut, GoesOutAhead, IsOut, IsSomeOut, ComesBack, OneComesBack};
+ghost use Rattle.rs_outlet.specs.Started.{GoesOut, GoesOutAhead, IsOut, IsLabelOut, ComesBack, LabelComesBack};
+ghost use Rattle.rs_outlet.specs.Started.{TellsName};
 
 use rs_mrt::Write;
 
@@ -23,7 +24,7 @@ pub trait Outlet {
     // The dumps that it has kept, in order, where it tells them.
     ghost kept: { Self → Option (List KeptDump) };
 
-    // The names of the dumps for which a writer is out, where it tells them.
+    // The names of the dumps for which a writer is out, where it tells them. Then each writer has its name as label.
     ghost started: { Self → Option (List (List ℕ)) };
 
     // How many failures it has counted: each refusal is one, and each writer that is lost.
@@ -34,6 +35,7 @@ pub trait Outlet {
         requires { failures self.old < u64.MAX }
         ensures fresh { IfOk result (λ out. Self.Out.failures out ≡ 0) }
         ensures nothing_taken { IfOk result (λ out. TellsNothingTaken (kept self.old) (Self.Out.taken out)) }
+        ensures named { IfOk result (λ out. TellsName (started self.old) (Self.Out.label out) name.now) }
         ensures ok_started { OnOk result (GoesOut (started self.old) (started self.new) name.now) }
         ensures ok_failures { OnOk result (failures self.new ≡ failures self.old) }
         ensures err_started { OnErr result (started self.new ≡ started self.old) }
@@ -46,6 +48,7 @@ pub trait Outlet {
     fn start_ahead(&mut self, _name: &str) -> Option<Self::Out>
         ensures fresh { IfSome result (λ out. Self.Out.failures out ≡ 0) }
         ensures nothing_taken { IfSome result (λ out. TellsNothingTaken (kept self.old) (Self.Out.taken out)) }
+        ensures named { IfSome result (λ out. TellsName (started self.old) (Self.Out.label out) _name.now) }
         ensures started { GoesOutAhead result (started self.old) (started self.new) _name.now }
         ensures failures { failures self.new ≡ failures self.old }
         ensures kept { kept self.new ≡ kept self.old }
@@ -56,6 +59,7 @@ pub trait Outlet {
     /// Keeps what a writer has taken under the name for which it was given, once the dump is written whole. Refused, it
     /// keeps nothing and counts one failure.
     fn keep(&mut self, name: &str, out: Self::Out) -> Result<(), Unopened>
+        requires named { TellsName (started self.old) (Self.Out.label out) name.now }
         requires started { IsOut (started self.old) name.now }
         requires failures { failures self.old < u64.MAX }
         ensures back { ComesBack (started self.old) (started self.new) name.now }
@@ -67,8 +71,8 @@ pub trait Outlet {
     /// Takes back a writer of a dump that isn't to be kept: it failed, or one before it. Nothing of that dump is to
     /// stay. It counts one failure, while it can count on.
     fn lost(&mut self, out: Self::Out)
-        requires started { IsSomeOut (started self.old) }
-        ensures back { OneComesBack (started self.old) (started self.new) }
+        requires started { IsLabelOut (started self.old) (Self.Out.label out) }
+        ensures back { LabelComesBack (started self.old) (started self.new) (Self.Out.label out) }
         ensures kept { kept self.new ≡ kept self.old }
         ensures failures { failures self.old < u64.MAX → failures self.new ≡ failures self.old + 1 }
         ensures no_fewer { failures self.old ≤ failures self.new };

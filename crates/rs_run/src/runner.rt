@@ -7,7 +7,7 @@
 ghost use Rattle.std.specs.Prelude.{◌≡◌, ◌<◌, ◌≤◌, All, IfOk, IfErr, OnOk, length, string_bytes};
 ghost use Rattle.rs_keep.specs.Kept.{dumps_of, IsStop};
 ghost use Rattle.rs_outlet.specs.Outlet.{Grows};
-ghost use Rattle.rs_outlet.specs.Started.{AreAsMany};
+ghost use Rattle.rs_outlet.specs.Started.{AreSameNames};
 ghost use Rattle.rs_run.specs.Recorded.{OverFiles, tables_of_files};
 ghost use Rattle.rs_run.specs.Report.{report_of};
 ghost use Rattle.rs_run.specs.Run.{IsReadStop};
@@ -63,7 +63,7 @@ pub fn run<T: Threads + Wait + Sync, O: Outlet, W: Write, R: Read + Send + Drop>
     ensures answer { RunAnswer R.gives O.kept O.failures W.taken W.failures
         options.now.errors setup.now.plan.value options.now.time readers.items
         outlet.old outlet.new report.old report.new result }
-    ensures back { AreAsMany (O.started outlet.old) (O.started outlet.new) }
+    ensures back { AreSameNames (O.started outlet.old) (O.started outlet.new) }
 {
     match run_with_ends(rt, alloc, setup, readers, options, outlet, report) {
         Ok(_) => Ok(()),
@@ -93,7 +93,7 @@ pub fn run_with_ends<T: Threads + Wait + Sync, O: Outlet, W: Write, R: Read + Se
     ensures ends { IfOk result (λ ends.
         OverFiles R.gives options.now.errors setup.now.plan.value readers.items (λ files.
         ends.items ≡ ends_of_files options.now.errors setup.now.plan.value files)) }
-    ensures back { AreAsMany (O.started outlet.old) (O.started outlet.new) }
+    ensures back { AreSameNames (O.started outlet.old) (O.started outlet.new) }
 {
     let served = serve_files(rt, alloc, &setup.plan, readers, options)?;
     let ends = ends_of(alloc, &setup.plan, &served)?;
@@ -181,7 +181,7 @@ fn keep_and_report<T: Threads + Sync, O: Outlet>(
     ensures no_failure { OnOk result (O.failures outlet.new ≡ O.failures outlet.old) }
     ensures fault { IfErr result (IsStop served.now.tables time (O.kept outlet.old) (O.kept outlet.new)
         (O.failures outlet.old) (O.failures outlet.new)) }
-    ensures back { AreAsMany (O.started outlet.old) (O.started outlet.new) }
+    ensures back { AreSameNames (O.started outlet.old) (O.started outlet.new) }
 {
     let mut text = String::with_capacity(alloc, plan.count() * LINES_LEN)?;
     add_peer_lines(&mut text, plan, served)?;

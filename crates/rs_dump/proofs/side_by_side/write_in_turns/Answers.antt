@@ -12,8 +12,8 @@ loop-turn-preserved g c =
       count = c.write_turns.ensures.count ∙ so_far.count;
       each = λ k d below.
           let within : k < length now = omega (arith, below, so_far.count) in
-          on-then W.taken W.failures (slice_index_or old k d) (slice_index_or now k d) (slice_index_or c.write_turns.new.writings k d)
-          (so_far.each k d below) (c.write_turns.ensures.each k d within);
+          on-then W.taken W.failures W.label (slice_index_or old k d) (slice_index_or now k d)
+          (slice_index_or c.write_turns.new.writings k d) (so_far.each k d below) (c.write_turns.ensures.each k d within);
     }
 
 pub returns-clause-written : goal.returns-clause-written
@@ -23,5 +23,5 @@ returns-clause-written g c = λ k d below.
     let now = c.loop-turn.writings in
     let so_far = c.loop-turn.invariant in
     let within : k < length now = omega (arith, below, so_far.count) in
-    written-then W.taken W.failures (slice_index_or old k d) (slice_index_or now k d) (slice_index_or c.write_rests.new.writings k d)
-    (so_far.each k d below) (c.write_rests.ensures.each k d within)
+    written-then W.taken W.failures W.label (slice_index_or old k d) (slice_index_or now k d)
+    (slice_index_or c.write_rests.new.writings k d) (so_far.each k d below) (c.write_rests.ensures.each k d within)

@@ -10,5 +10,5 @@ invariant-loop-turn g l =
     record {
       count : length l.writings ≡ length l.fn.writings;
       each : (k : ℕ) (d : Writing g.row.W.Denot) → k < length l.fn.writings
-          → GoesOn W.taken W.failures (slice_index_or l.fn.writings k d) (slice_index_or l.writings k d);
+          → GoesOn W.taken W.failures W.label (slice_index_or l.fn.writings k d) (slice_index_or l.writings k d);
     }

@@ -16,7 +16,7 @@ loop-number-preserved g c =
     let within : number < length now = omega arith in
     record {
       count = length-set now number new ∙ so_far.count;
-      done = done-also (IsWrittenFrom W.taken W.failures)
+      done = done-also (IsWrittenFrom W.taken W.failures W.label)
           old now number next new so_far.count within so_far.done so_far.to_do c.write_rest.ensures;
-      to_do = to_do-also (IsWrittenFrom W.taken W.failures) old now number next new so_far.count within so_far.to_do;
+      to_do = to_do-also (IsWrittenFrom W.taken W.failures W.label) old now number next new so_far.count within so_far.to_do;
     }

@@ -10,6 +10,6 @@ invariant-loop-number g l =
     record {
       count : length l.writings ≡ length l.fn.writings;
       done : (k : ℕ) (d : Writing g.row.W.Denot) → k < l.number → k < length l.fn.writings
-          → IsWrittenFrom W.taken W.failures (slice_index_or l.fn.writings k d) (slice_index_or l.writings k d);
+          → IsWrittenFrom W.taken W.failures W.label (slice_index_or l.fn.writings k d) (slice_index_or l.writings k d);
       to_do : (k : ℕ) (d : Writing g.row.W.Denot) → l.number ≤ k → slice_index_or l.writings k d ≡ slice_index_or l.fn.writings k d;
     }

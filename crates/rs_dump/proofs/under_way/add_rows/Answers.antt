@@ -58,5 +58,6 @@ loop-place-preserved g c =
       under_way = subst P (append_assoc waited before more
           ∙ ap (λ octets. waited ++ octets) (sym (spelled-next time first rows place row within c.index-rows-place.is))) sent;
       failures = c.in_ok-add_row.ensures.ok_failures ∙ c.loop-place.invariant.failures;
+      label = c.add_row.ensures.label ∙ c.loop-place.invariant.label;
       capacity = c.add_row.ensures.capacity;
     }

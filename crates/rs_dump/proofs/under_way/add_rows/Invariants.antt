@@ -13,5 +13,6 @@ invariant-loop-place g l =
       under_way : IsUnderWay (W.taken l.fn.out) (W.taken l.out) l.buffer.items
           (l.fn.buffer.items ++ spelled_rows l.time l.first (map row_of (take l.place l.rows)));
       failures : W.failures l.out ≡ W.failures l.fn.out;
+      label : W.label l.out ≡ W.label l.fn.out;
       capacity : BUFFER_LEN ≤ vec_capacity l.buffer;
     }

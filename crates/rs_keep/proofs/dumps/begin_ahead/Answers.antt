@@ -1,7 +1,7 @@
 -- A writer is out for the client's file.
 use Rattle.std.proofs.Common.{◌≡◌, ◌∙◌, ◌<◌, ap, arith, get_or, length, rules, sym}
 use Rattle.rs_keep.specs.Written.{file_name}
-use Rattle.rs_keep.proofs.StartedLemmas.{goes-out}
+use Rattle.rs_keep.proofs.StartedLemmas.{goes-from}
 use Rattle.rs_keep.proofs.WrittenLemmas.{files-count}
 use Rattle.rs_keep.proofs.dumps.begin_ahead.Goals as goal
 
@@ -14,5 +14,6 @@ returns-clause-started g c =
     let below : client < length files =
     omega (arith, c.requires.client_known, files-count c.args.dumping.now.tables.now.plan files c.requires.files) in
     let is : file ≡ get_or files client file = search rules in
-    goes-out (O.started c.args.outlet.now) (O.started c.start_ahead.new.self) files client file c.as_str.result.now below is
-    (c.as_str.ensures.value ∙ ap file_name (sym is)) c.in_ok-out.ensures.started
+    goes-from g.O.Out.Write.label files client file c.as_str.result.now (O.started c.args.outlet.now) (O.started c.start_ahead.new.self)
+    _ below is (c.as_str.ensures.value ∙ ap file_name (sym is))
+    c.in_ok-out.ensures.started c.in_ok-out.ensures.named

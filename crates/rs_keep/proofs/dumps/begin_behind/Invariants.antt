@@ -1,5 +1,6 @@
-use Rattle.std.proofs.Common.{◌≡◌, ◌≤◌, ◌+◌, ◌-◌, length, vec_capacity}
-use Rattle.rs_keep.specs.StartedDumps.{AreOutToo, names_from}
+use Rattle.std.proofs.Common.{◌≡◌, ◌≤◌, ◌-◌, length, vec_capacity}
+use Rattle.rs_outlet.specs.Started.{Names}
+use Rattle.rs_keep.specs.StartedDumps.{AreOutFrom}
 use Rattle.rs_keep.specs.Written.{AreBegun}
 use Rattle.rs_keep.proofs.dumps.begin_behind.Given as goal
 
@@ -13,8 +14,9 @@ invariant-loop-some g l =
       some : 1 ≤ length l.some.items;
       most : length l.some.items ≤ l.most;
       capacity : l.most ≤ vec_capacity l.some;
-      started : AreOutToo (O.started l.fn.outlet) (O.started l.outlet)
-          (names_from l.dumping.files.now (l.client + 1) (length l.some.items - 1));
+      started : (before : Names) → AreOutFrom g.O.Out.Write.label l.dumping.files.now l.client before (O.started l.fn.outlet)
+          l.fn.some.items
+          → AreOutFrom g.O.Out.Write.label l.dumping.files.now l.client before (O.started l.outlet) l.some.items;
       kept : O.kept l.outlet ≡ O.kept l.fn.outlet;
       failures : O.failures l.outlet ≡ O.failures l.fn.outlet;
     }

@@ -1,9 +1,10 @@
-use Rattle.std.proofs.Common.{◌≡◌, ◌∙◌, ◌<◌, ◌+◌, ◌-◌, ◌++◌, take, List, Option, ap, arith, drop, length, slice_index_or, subst, sym}
+use Rattle.std.proofs.Common.{◌≡◌, ◌∙◌, ◌<◌, ◌+◌, List, [], ◌∷◌, ◌++◌, Option, ap, rules, arith, drop, length, slice_index_or, subst, sym}
 use Rattle.std.proofs.lemmas.List.{take_at}
 use Rattle.rs_dump.specs.declared.side_by_side.Writing.{Writing}
 use Rattle.rs_outlet.specs.Outlet.{KeptDump}
+use Rattle.rs_keep.specs.StartedDumps.{AreOutFrom}
 use Rattle.rs_keep.specs.Written.{AreBegun, AreWritten}
-use Rattle.rs_keep.proofs.StartedLemmas.{too-more}
+use Rattle.rs_keep.proofs.StartedLemmas.{stay-from}
 use Rattle.rs_keep.proofs.WrittenLemmas.{written-of}
 use Rattle.rs_keep.proofs.dumps.write_some.Goals as goal
 
@@ -28,7 +29,7 @@ returns-clause-written g c =
     record {
       each = λ k d below.
           let within : k < length begun = omega (arith, below, count, ap length c.deref_mut.ensures.value) in
-          written-of Out.taken Out.failures tables time kept (client + k) (slice_index_or begun k d) (slice_index_or new k d)
+          written-of Out.taken Out.failures tables time Out.label kept (client + k) (slice_index_or begun k d) (slice_index_or new k d)
           (all k d within) (c.write_side_by_side.ensures.written k d within);
       known = omega (arith, count, c.begin_behind.ensures.some.1, c.most_at_once-most.ensures.known);
     }
@@ -36,13 +37,23 @@ returns-clause-written g c =
 pub returns-clause-started : goal.returns-clause-started
 returns-clause-started g c =
     let O = g.O.Outlet in
+    let label = g.O.Out.Write.label in
+    let files = c.args.dumping.now.files.now in
     let client = c.args.client in
-    let begun = c.begin_behind.new.some.items in
+    let old = O.started c.args.outlet.now in
+    let now = O.started c.begin_behind.new.outlet in
+    let behind = c.begin_behind.new.some.items in
+    let begun = c.deref_mut.result.now in
     let new = c.write_side_by_side.new.writings in
-    let count : length new ≡ length begun = c.write_side_by_side.ensures.count ∙ ap length c.deref_mut.ensures.value in
-    let all = take c.begin_behind.new.some.len (new ++ drop (length new) begun) in
-    let whole : length all ≡ length new =
-    ap length (take_at new (drop (length new) begun) c.begin_behind.new.some.len (omega (arith, count))) in
-    too-more (O.started c.args.outlet.now) (O.started c.begin.new.outlet) (O.started c.begin_behind.new.outlet)
-    c.args.dumping.now.files.now client 1 (client + 1) (length begun - 1) (length all) (omega arith)
-    (omega (arith, whole, count, c.begin_behind.ensures.some.0)) c.in_ok-first.ensures.started c.begin_behind.ensures.started
+    let count : length new ≡ length behind = c.write_side_by_side.ensures.count ∙ ap length c.deref_mut.ensures.value in
+    let none : c.in_ok-some.some.items ≡ [] = search rules in
+    let P : List (Writing g.row.O-Out.Denot) → Type 0 = λ some. AreOutFrom label files client old now some in
+    let Q : List (Writing g.row.O-Out.Denot) → Type 0 = λ some. AreOutFrom label files client old (O.started c.begin.new.outlet) some in
+    let first : AreOutFrom label files client old (O.started c.begin.new.outlet) c.push.new.self.items =
+    subst Q (sym (c.in-Ok.ensures.items ∙ ap (λ (none : List (Writing g.row.O-Out.Denot)). none ++ c.in_ok-first.first ∷ []) none))
+    c.in_ok-first.ensures.started in
+    let all : AreOutFrom label files client old now begun =
+    subst P (sym c.deref_mut.ensures.value) (c.begin_behind.ensures.started old first) in
+    subst P (sym (take_at new (drop (length new) behind) c.begin_behind.new.some.len (omega (arith, count))))
+    (stay-from label files client old now begun new c.write_side_by_side.ensures.count
+    (λ k d below. (c.write_side_by_side.ensures.written k d below).label_stays) all)

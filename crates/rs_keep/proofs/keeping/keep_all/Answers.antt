@@ -6,14 +6,15 @@ use Rattle.rs_choice.specs.Plan.{Plan}
 use Rattle.rs_dump.specs.Dump.{dumped}
 use Rattle.rs_table.specs.Table.{table_of}
 use Rattle.rs_outlet.specs.Outlet.{KeptDump, Grows}
-use Rattle.rs_outlet.specs.Started.{AreAsMany, Names}
+use Rattle.rs_outlet.specs.Started.{AreSameNames, Names}
 use Rattle.rs_keep.specs.Kept.{dumps_of, IsFaultAt}
-use Rattle.rs_keep.specs.StartedDumps.{AreOutToo, names_from}
+use Rattle.rs_keep.specs.StartedDumps.{names_from}
 use Rattle.rs_keep.specs.TableLines.{row_counts}
 use Rattle.rs_keep.specs.Written.{file_name}
 use Rattle.rs_keep.proofs.KeepLemmas.{counts-all, kept-one_more, kept-all, peer-at, row_count-at, Grows-none, stop-client, stop-memory}
 use Rattle.rs_keep.proofs.ListingLemmas.{take-one_more}
-use Rattle.rs_keep.proofs.StartedLemmas.{all-kept, as-many-same, comes-back, first-out, is_out, none-from, others-back, others-out}
+use Rattle.rs_keep.proofs.NamesLemmas.{same-names}
+use Rattle.rs_keep.proofs.StartedLemmas.{from-first, none-from, none-out, out-back, out-first}
 use Rattle.rs_keep.proofs.WrittenLemmas.{file-at, files-count, first-of, none-of, others-of, some-left}
 use Rattle.rs_keep.proofs.keeping.keep_all.Goals as goal
 
@@ -23,7 +24,7 @@ returns-in_err-rows-clause-fault g c =
     (0, Grows-none (g.O.Outlet.kept c.args.outlet.now)) refl
 
 pub returns-in_err-rows-clause-back : goal.returns-in_err-rows-clause-back
-returns-in_err-rows-clause-back g c = as-many-same (g.O.Outlet.started c.args.outlet.now)
+returns-in_err-rows-clause-back g c = same-names (g.O.Outlet.started c.args.outlet.now)
 
 pub returns-clause-kept : goal.returns-clause-kept
 returns-clause-kept g c =
@@ -48,8 +49,8 @@ returns-clause-back g c =
     let past : length tables.plan.peers ≤ c.loop-client.client =
     omega (arith, c.count-client-end.ensures.value, ap (λ (of : Plan). length of.peers) c.plan-plan.ensures) in
     let none : length (into_iter_items c.loop-client.written) ≡ 0 = omega (arith, past, c.loop-client.invariant.written.known) in
-    all-kept (O.started c.args.outlet.now) (O.started c.loop-client.outlet) c.args.dumping.now.files.now c.loop-client.client
-    (length (into_iter_items c.loop-client.written)) none c.loop-client.invariant.started
+    none-out g.O.Out.Write.label (O.started c.args.outlet.now) (O.started c.loop-client.outlet) (into_iter_items c.loop-client.written)
+    _ none c.loop-client.invariant.started
 
 pub loop-client-init : goal.loop-client-init
 loop-client-init g c =
@@ -65,8 +66,8 @@ loop-client-init g c =
       room = search rules;
       written = none-of Out.taken Out.failures c.args.dumping.now.tables.now c.args.dumping.now.time kept 0
           (into_iter_items c.into_iter-written.result) none (omega arith);
-      started = none-from (O.started c.args.outlet.now) c.args.dumping.now.files.now 0 (length (into_iter_items c.into_iter-written.result))
-          none;
+      started = none-from Out.label c.args.dumping.now.files.now 0 (O.started c.args.outlet.now)
+          (into_iter_items c.into_iter-written.result) none;
     }
 
 pub returns-in_err-refill-clause-fault : goal.returns-in_err-refill-clause-fault
@@ -89,96 +90,103 @@ pub returns-in_err-refill-clause-back : goal.returns-in_err-refill-clause-back
 returns-in_err-refill-clause-back g c =
     let O = g.O.Outlet in
     let refused = c.in_err-refill.ensures.refused in
-    let P : Names → Type 0 = λ now. AreAsMany (O.started c.args.outlet.now) now in
+    let P : Names → Type 0 = λ now. AreSameNames (O.started c.args.outlet.now) now in
     subst P (sym refused.1)
-    (all-kept (O.started c.args.outlet.now) (O.started c.loop-client.outlet) c.args.dumping.now.files.now c.loop-client.client
-    (length (into_iter_items c.loop-client.written)) refused.0 c.loop-client.invariant.started)
+    (none-out g.O.Out.Write.label (O.started c.args.outlet.now) (O.started c.loop-client.outlet) (into_iter_items c.loop-client.written)
+    _ refused.0 c.loop-client.invariant.started)
+
+pub keep-requires-clause-named : goal.keep-requires-clause-named
+keep-requires-clause-named g c =
+    λ _ _.
+    let O = g.O.Outlet in
+    let Out = g.O.Out.Write in
+    let client = c.loop-client.client in
+    let tables = c.args.dumping.now.tables.now in
+    let files = c.args.dumping.now.files.now in
+    let file = c.index-dumping-client.result in
+    let name = c.as_str.result.now in
+    let written = into_iter_items c.refill.new.written in
+    let others = into_iter_items c.next.new.self in
+    let known : client < length tables.plan.peers =
+    omega (arith, c.count-client-end.ensures.value, ap (λ (of : Plan). length of.peers) c.plan-plan.ensures) in
+    let below : client < length files = omega (arith, known, files-count tables.plan files c.requires.files) in
+    let is : file ≡ get_or files client file = search rules in
+    let named : name ≡ file_name file = c.as_str.ensures.value ∙ ap file_name (sym is) in
+    let out = from-first Out.label files client file name (O.started c.args.outlet.now) (O.started c.refill.new.outlet)
+    written c.in-Some.writing others c.in-Some.ensures.cases.0 below is named
+    (c.in_ok-refill.ensures.started (O.started c.args.outlet.now) c.loop-client.invariant.started) in
+    (out-first Out.label (O.started c.args.outlet.now) (O.started c.refill.new.outlet) c.in-Some.writing others name
+    (names_from files (client + 1) (length others)) out).0
 
 pub keep-requires-clause-started : goal.keep-requires-clause-started
 keep-requires-clause-started g c =
     λ _ _.
     let O = g.O.Outlet in
     let Out = g.O.Out.Write in
-    let time = c.args.dumping.now.time in
     let client = c.loop-client.client in
     let tables = c.args.dumping.now.tables.now in
     let files = c.args.dumping.now.files.now in
     let file = c.index-dumping-client.result in
     let name = c.as_str.result.now in
+    let written = into_iter_items c.refill.new.written in
     let others = into_iter_items c.next.new.self in
-    let left = some-left Out.taken Out.failures tables time (O.kept c.args.outlet.now) (O.kept c.loop-client.outlet)
-    (take client (dumps_of tables time)) client (into_iter_items c.loop-client.written) (into_iter_items c.refill.new.written)
-    c.in-Some.writing
-    others c.loop-client.invariant.kept c.loop-client.invariant.written (λ some. ap into_iter_items (c.refill.ensures.left some))
-    (λ none. c.in_ok-refill.ensures.written none) c.in-Some.ensures.cases.0 in
-    let within : client + 1 + length others ≤ length files = omega (arith, left.known, files-count tables.plan files c.requires.files) in
+    let known : client < length tables.plan.peers =
+    omega (arith, c.count-client-end.ensures.value, ap (λ (of : Plan). length of.peers) c.plan-plan.ensures) in
+    let below : client < length files = omega (arith, known, files-count tables.plan files c.requires.files) in
     let is : file ≡ get_or files client file = search rules in
     let named : name ≡ file_name file = c.as_str.ensures.value ∙ ap file_name (sym is) in
-    let long : length (into_iter_items c.refill.new.written) ≡ 1 + length others = omega (arith, ap length c.in-Some.ensures.cases.0) in
-    let out : AreOutToo (O.started c.args.outlet.now) (O.started c.refill.new.outlet)
-    (name ∷ names_from files (client + 1) (length others)) =
-    first-out (O.started c.args.outlet.now) (O.started c.refill.new.outlet) files client (length (into_iter_items c.refill.new.written))
-    (length others) file name (omega (arith, within)) is named long
+    let out = from-first Out.label files client file name (O.started c.args.outlet.now) (O.started c.refill.new.outlet)
+    written c.in-Some.writing others c.in-Some.ensures.cases.0 below is named
     (c.in_ok-refill.ensures.started (O.started c.args.outlet.now) c.loop-client.invariant.started) in
-    is_out (O.started c.args.outlet.now) (O.started c.refill.new.outlet) name (names_from files (client + 1) (length others)) out
+    (out-first Out.label (O.started c.args.outlet.now) (O.started c.refill.new.outlet) c.in-Some.writing others name
+    (names_from files (client + 1) (length others)) out).1
 
 pub lose_all-requires-after_bounds : goal.lose_all-requires-after_bounds
 lose_all-requires-after_bounds g c =
     λ _ _.
     let O = g.O.Outlet in
     let Out = g.O.Out.Write in
-    let time = c.args.dumping.now.time in
     let client = c.loop-client.client in
     let tables = c.args.dumping.now.tables.now in
     let files = c.args.dumping.now.files.now in
     let file = c.index-dumping-client.result in
     let name = c.as_str.result.now in
+    let written = into_iter_items c.refill.new.written in
     let others = into_iter_items c.next.new.self in
-    let left = some-left Out.taken Out.failures tables time (O.kept c.args.outlet.now) (O.kept c.loop-client.outlet)
-    (take client (dumps_of tables time)) client (into_iter_items c.loop-client.written) (into_iter_items c.refill.new.written)
-    c.in-Some.writing
-    others c.loop-client.invariant.kept c.loop-client.invariant.written (λ some. ap into_iter_items (c.refill.ensures.left some))
-    (λ none. c.in_ok-refill.ensures.written none) c.in-Some.ensures.cases.0 in
-    let within : client + 1 + length others ≤ length files = omega (arith, left.known, files-count tables.plan files c.requires.files) in
+    let known : client < length tables.plan.peers =
+    omega (arith, c.count-client-end.ensures.value, ap (λ (of : Plan). length of.peers) c.plan-plan.ensures) in
+    let below : client < length files = omega (arith, known, files-count tables.plan files c.requires.files) in
     let is : file ≡ get_or files client file = search rules in
     let named : name ≡ file_name file = c.as_str.ensures.value ∙ ap file_name (sym is) in
-    let long : length (into_iter_items c.refill.new.written) ≡ 1 + length others = omega (arith, ap length c.in-Some.ensures.cases.0) in
-    let out : AreOutToo (O.started c.args.outlet.now) (O.started c.refill.new.outlet)
-    (name ∷ names_from files (client + 1) (length others)) =
-    first-out (O.started c.args.outlet.now) (O.started c.refill.new.outlet) files client (length (into_iter_items c.refill.new.written))
-    (length others) file name (omega (arith, within)) is named long
+    let out = from-first Out.label files client file name (O.started c.args.outlet.now) (O.started c.refill.new.outlet)
+    written c.in-Some.writing others c.in-Some.ensures.cases.0 below is named
     (c.in_ok-refill.ensures.started (O.started c.args.outlet.now) c.loop-client.invariant.started) in
-    others-out (O.started c.args.outlet.now) (O.started c.refill.new.outlet) (O.started c.keep.new.outlet) files (client + 1)
-    (length others) name within out c.keep.ensures.one_back
+    let left = out-back Out.label (O.started c.args.outlet.now) (O.started c.refill.new.outlet) (O.started c.keep.new.outlet)
+    c.in-Some.writing others name (names_from files (client + 1) (length others)) out c.keep.ensures.back in
+    (O.started c.args.outlet.now, names_from files (client + 1) (length others), left)
 
 pub returns-in_default-keep-clause-back : goal.returns-in_default-keep-clause-back
 returns-in_default-keep-clause-back g c =
     let O = g.O.Outlet in
     let Out = g.O.Out.Write in
-    let time = c.args.dumping.now.time in
     let client = c.loop-client.client in
     let tables = c.args.dumping.now.tables.now in
     let files = c.args.dumping.now.files.now in
     let file = c.index-dumping-client.result in
     let name = c.as_str.result.now in
+    let written = into_iter_items c.refill.new.written in
     let others = into_iter_items c.next.new.self in
-    let left = some-left Out.taken Out.failures tables time (O.kept c.args.outlet.now) (O.kept c.loop-client.outlet)
-    (take client (dumps_of tables time)) client (into_iter_items c.loop-client.written) (into_iter_items c.refill.new.written)
-    c.in-Some.writing
-    others c.loop-client.invariant.kept c.loop-client.invariant.written (λ some. ap into_iter_items (c.refill.ensures.left some))
-    (λ none. c.in_ok-refill.ensures.written none) c.in-Some.ensures.cases.0 in
-    let within : client + 1 + length others ≤ length files = omega (arith, left.known, files-count tables.plan files c.requires.files) in
+    let known : client < length tables.plan.peers =
+    omega (arith, c.count-client-end.ensures.value, ap (λ (of : Plan). length of.peers) c.plan-plan.ensures) in
+    let below : client < length files = omega (arith, known, files-count tables.plan files c.requires.files) in
     let is : file ≡ get_or files client file = search rules in
     let named : name ≡ file_name file = c.as_str.ensures.value ∙ ap file_name (sym is) in
-    let long : length (into_iter_items c.refill.new.written) ≡ 1 + length others = omega (arith, ap length c.in-Some.ensures.cases.0) in
-    let out : AreOutToo (O.started c.args.outlet.now) (O.started c.refill.new.outlet)
-    (name ∷ names_from files (client + 1) (length others)) =
-    first-out (O.started c.args.outlet.now) (O.started c.refill.new.outlet) files client (length (into_iter_items c.refill.new.written))
-    (length others) file name (omega (arith, within)) is named long
+    let out = from-first Out.label files client file name (O.started c.args.outlet.now) (O.started c.refill.new.outlet)
+    written c.in-Some.writing others c.in-Some.ensures.cases.0 below is named
     (c.in_ok-refill.ensures.started (O.started c.args.outlet.now) c.loop-client.invariant.started) in
-    others-back (O.started c.args.outlet.now) (O.started c.refill.new.outlet) (O.started c.keep.new.outlet)
-    (O.started c.lose_all.new.outlet) files (client + 1) (length others) name within out c.keep.ensures.one_back
-    c.lose_all.ensures.back
+    let left = out-back Out.label (O.started c.args.outlet.now) (O.started c.refill.new.outlet) (O.started c.keep.new.outlet)
+    c.in-Some.writing others name (names_from files (client + 1) (length others)) out c.keep.ensures.back in
+    c.lose_all.ensures.back (O.started c.args.outlet.now) (names_from files (client + 1) (length others)) left
 
 pub loop-client-preserved : goal.loop-client-preserved
 loop-client-preserved g c =
@@ -196,14 +204,12 @@ loop-client-preserved g c =
     c.in-Some.writing
     others c.loop-client.invariant.kept c.loop-client.invariant.written (λ some. ap into_iter_items (c.refill.ensures.left some))
     (λ none. c.in_ok-refill.ensures.written none) c.in-Some.ensures.cases.0 in
-    let within : client + 1 + length others ≤ length files = omega (arith, left.known, files-count tables.plan files c.requires.files) in
+    let written = into_iter_items c.refill.new.written in
+    let below : client < length files = omega (arith, left.known, files-count tables.plan files c.requires.files) in
     let is : file ≡ get_or files client file = search rules in
     let named : name ≡ file_name file = c.as_str.ensures.value ∙ ap file_name (sym is) in
-    let long : length (into_iter_items c.refill.new.written) ≡ 1 + length others = omega (arith, ap length c.in-Some.ensures.cases.0) in
-    let out : AreOutToo (O.started c.args.outlet.now) (O.started c.refill.new.outlet)
-    (name ∷ names_from files (client + 1) (length others)) =
-    first-out (O.started c.args.outlet.now) (O.started c.refill.new.outlet) files client (length (into_iter_items c.refill.new.written))
-    (length others) file name (omega (arith, within)) is named long
+    let out = from-first Out.label files client file name (O.started c.args.outlet.now) (O.started c.refill.new.outlet)
+    written c.in-Some.writing others c.in-Some.ensures.cases.0 below is named
     (c.in_ok-refill.ensures.started (O.started c.args.outlet.now) c.loop-client.invariant.started) in
     let writing = c.in-Some.writing in
     let count = c.in-Some-keep.count in
@@ -229,6 +235,6 @@ loop-client-preserved g c =
       );
       room = search rules;
       written = others-of Out.taken Out.failures tables time (O.kept c.args.outlet.now) client writing others left;
-      started = comes-back (O.started c.args.outlet.now) (O.started c.refill.new.outlet) (O.started c.keep.new.outlet) name
-          (names_from files (client + 1) (length others)) out c.in-Some-keep.ensures.back;
+      started = out-back Out.label (O.started c.args.outlet.now) (O.started c.refill.new.outlet) (O.started c.keep.new.outlet)
+          writing others name (names_from files (client + 1) (length others)) out c.keep.ensures.back;
     }

@@ -2,7 +2,7 @@ use Rattle.std.proofs.Common.{◌≡◌, ◌≤◌, length, take, vec_capacity}
 use Rattle.std.specs.Vec.Iter.{into_iter_items}
 use Rattle.rs_outlet.specs.Outlet.{Grows}
 use Rattle.rs_keep.specs.Kept.{dumps_of}
-use Rattle.rs_keep.specs.StartedDumps.{AreOutToo, names_from}
+use Rattle.rs_keep.specs.StartedDumps.{AreOutFrom}
 use Rattle.rs_keep.specs.TableLines.{row_counts}
 use Rattle.rs_keep.specs.Written.{AreWritten}
 use Rattle.rs_keep.proofs.keeping.keep_all.Given as goal
@@ -20,6 +20,5 @@ invariant-loop-client g l =
       room : length l.dumping.tables.now.plan.peers ≤ vec_capacity l.rows;
       written : AreWritten Out.taken Out.failures (O.kept l.fn.outlet) l.dumping.tables.now l.dumping.time l.client
           (into_iter_items l.written);
-      started : AreOutToo (O.started l.fn.outlet) (O.started l.outlet)
-          (names_from l.dumping.files.now l.client (length (into_iter_items l.written)));
+      started : AreOutFrom Out.label l.dumping.files.now l.client (O.started l.fn.outlet) (O.started l.outlet) (into_iter_items l.written);
     }

@@ -1,7 +1,7 @@
 -- Refused memory before the first dump, nothing was kept; behind the last one, all was.
 use Rattle.std.proofs.Common.{refl}
 use Rattle.rs_keep.proofs.KeepLemmas.{Grows-none, stop-memory}
-use Rattle.rs_keep.proofs.StartedLemmas.{as-many-same}
+use Rattle.rs_keep.proofs.NamesLemmas.{same-names}
 use Rattle.rs_keep.proofs.keeping.keep_dumps.Goals as goal
 
 pub returns-in_err-files-clause-fault : goal.returns-in_err-files-clause-fault
@@ -10,4 +10,4 @@ returns-in_err-files-clause-fault g c =
     (0, Grows-none (g.O.Outlet.kept c.args.outlet.now)) refl
 
 pub returns-in_err-files-clause-back : goal.returns-in_err-files-clause-back
-returns-in_err-files-clause-back g c = as-many-same (g.O.Outlet.started c.args.outlet.now)
+returns-in_err-files-clause-back g c = same-names (g.O.Outlet.started c.args.outlet.now)

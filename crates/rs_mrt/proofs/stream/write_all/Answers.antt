@@ -1,4 +1,4 @@
-use Rattle.std.proofs.Common.{arith, rules}
+use Rattle.std.proofs.Common.{◌∙◌, arith, rules}
 use Rattle.std.proofs.lemmas.Grind.{common_steps}
 use Rattle.rs_mrt.proofs.stream.StreamLemmas.{Written-more, Written-stopped, Keeps-from_nothing, took_some}
 use Rattle.rs_mrt.proofs.stream.write_all.Goals as goal
@@ -20,6 +20,7 @@ loop-rest-preserved g c =
       written = Written-more (W.taken c.args.out.now) (W.taken c.loop-rest.out) (W.taken c.write.new.self)
           c.args.piece.now c.loop-rest.rest.now c.in-Ok.count c.loop-rest.invariant.written c.in-Ok.ensures.taken;
       failures = omega (arith, failures, none, c.loop-rest.invariant.failures);
+      label = c.in-Ok.ensures.label ∙ c.loop-rest.invariant.label;
     }
 
 pub returns-in-Err-clause-err : goal.returns-in-Err-clause-err

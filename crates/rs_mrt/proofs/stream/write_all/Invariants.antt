@@ -8,6 +8,7 @@ invariant-loop-rest g l =
     record {
       written : Written (W.taken l.fn.out) (W.taken l.out) l.piece l.rest;
       failures : W.failures l.out ≡ W.failures l.fn.out;
+      label : W.label l.out ≡ W.label l.fn.out;
     }
 
 abbrev pub decreases-loop-rest : goal.decreases-loop-rest

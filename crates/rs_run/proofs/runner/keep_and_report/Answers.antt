@@ -1,7 +1,7 @@
 -- Refused memory before the first dump, nothing was kept.
 use Rattle.std.proofs.Common.{refl}
 use Rattle.rs_keep.proofs.KeepLemmas.{Grows-none, stop-memory}
-use Rattle.rs_keep.proofs.StartedLemmas.{as-many-same}
+use Rattle.rs_keep.proofs.NamesLemmas.{same-names}
 use Rattle.rs_run.proofs.runner.keep_and_report.Goals as goal
 
 pub returns-in_err-text-clause-fault : goal.returns-in_err-text-clause-fault
@@ -15,7 +15,7 @@ returns-in_err-add_peer_lines-clause-fault g c =
     c.from_residual-in_err-add_peer_lines.ensures.1 (0, Grows-none (g.O.Outlet.kept c.args.outlet.now)) refl
 
 pub returns-in_err-text-clause-back : goal.returns-in_err-text-clause-back
-returns-in_err-text-clause-back g c = as-many-same (g.O.Outlet.started c.args.outlet.now)
+returns-in_err-text-clause-back g c = same-names (g.O.Outlet.started c.args.outlet.now)
 
 pub returns-in_err-add_peer_lines-clause-back : goal.returns-in_err-add_peer_lines-clause-back
-returns-in_err-add_peer_lines-clause-back g c = as-many-same (g.O.Outlet.started c.args.outlet.now)
+returns-in_err-add_peer_lines-clause-back g c = same-names (g.O.Outlet.started c.args.outlet.now)

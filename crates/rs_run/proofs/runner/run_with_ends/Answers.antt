@@ -2,7 +2,7 @@
 use Rattle.std.proofs.Common.{List, length, sym, ap, ◌∙◌}
 use Rattle.rs_choice.specs.Plan.{Plan}
 use Rattle.rs_serve.specs.declared.ended.PeerEnd.{PeerEnd}
-use Rattle.rs_keep.proofs.StartedLemmas.{as-many-same}
+use Rattle.rs_keep.proofs.NamesLemmas.{same-names}
 use Rattle.rs_run.proofs.RunLemmas.{keep-stop-answers, length-ends}
 use Rattle.rs_run.proofs.runner.run_with_ends.Goals as goal
 
@@ -31,7 +31,7 @@ returns-in_err-text-clause-answer g c =
     c.from_residual-in_err-text.result c.from_residual-in_err-text.ensures.1 c.in_err-text.ensures.fault
 
 pub returns-in_err-served-clause-back : goal.returns-in_err-served-clause-back
-returns-in_err-served-clause-back g c = as-many-same (g.O.Outlet.started c.args.outlet.now)
+returns-in_err-served-clause-back g c = same-names (g.O.Outlet.started c.args.outlet.now)
 
 pub returns-in_err-ends-clause-back : goal.returns-in_err-ends-clause-back
-returns-in_err-ends-clause-back g c = as-many-same (g.O.Outlet.started c.args.outlet.now)
+returns-in_err-ends-clause-back g c = same-names (g.O.Outlet.started c.args.outlet.now)

@@ -22,6 +22,7 @@ loop-some-preserved g c =
           c.loop-some.self.octets c.write_turn.new.self.octets c.args.self.now.octets
           c.loop-some.invariant.under_way c.in_ok-some.ensures.ok;
       failures = c.in_ok-some.ensures.ok_failures ∙ c.loop-some.invariant.failures;
+      label = c.write_turn.ensures.label ∙ c.loop-some.invariant.label;
       rows = c.in_ok-some.ensures.rows ∙ c.loop-some.invariant.rows;
       none = c.in_ok-some.ensures.none;
     }

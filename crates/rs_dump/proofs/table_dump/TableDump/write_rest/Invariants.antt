@@ -9,6 +9,7 @@ invariant-loop-some g l =
     record {
       under_way : IsUnderWay (W.taken l.fn.out) (W.taken l.out) l.self.octets l.fn.self.octets;
       failures : W.failures l.out ≡ W.failures l.fn.out;
+      label : W.label l.out ≡ W.label l.fn.out;
       rows : l.self.spelled + l.self.rows ≡ l.fn.self.spelled + l.fn.self.rows;
       none : IsFalse l.some → l.self.rows ≡ 0;
     }
