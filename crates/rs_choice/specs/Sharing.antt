@@ -36,8 +36,8 @@ pub record AreWeighing (eligible : List ℕ) (groups : List Group) (first : Opti
   pub all : (i : ℕ) (group : Group) → slice_get groups i ≡ Some group → Weighs group first → (place : ℕ)
       → slice_get eligible group.place ≡ Some place → Contains weighing place
 
--- A choice among routes rests on some of them: as long as none of these is removed, the choice stays the same, whichever
--- other routes are removed.
+-- A choice among routes rests on some of them: as long as none of these is removed, the choice stays the same,
+-- whichever other routes are removed.
 abbrev pub RestsOn : Plan → List SentRoute → List SentRoute → Type 0
 RestsOn plan set weighing =
     (kept : SentRoute → Bool) → ((route : SentRoute) → Contains weighing route → IsTrue (kept route)) →

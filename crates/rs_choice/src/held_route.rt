@@ -1,8 +1,9 @@
-//! Routes as they are held for decisions: what most decisions ask of a route by itself is found once, when
-//! the route comes, and stands beside it. A decision among held routes looks at no attributes but those of a
-//! route that export policy refuses to someone, and of those among which MED may decide: routes that
-//! preference, path length and origin leave, and whose neighbour AS is another than the sender's or whose MED
-//! isn't 0.
+//! Routes as they are stored for decisions. What most decisions ask of a route by itself is found once, when the
+//! route comes, and stored beside it.
+//!
+//! So a decision reads the attributes of two kinds of routes alone. One kind is refused to some client by export
+//! policy. The other kind ties in preference, path length and origin, and has a MED or another neighbour AS than
+//! its sender.
 
 ghost use Rattle.std.specs.Prelude.{◌≡◌, ◌<◌, ◌↔◌, IsTrue, length};
 ghost use Rattle.rs_update.specs.AsPath.{path_length_of};

@@ -28,20 +28,17 @@ pub fn an_open_policy_shares_the_choice()
     ensures { OpenPolicySharesChoice }
 {}
 
-/// Members that go without the choice leave it as it is, unless they kept out one that stays: as long as each
-/// one that stays and that the step by MED removes is still removed by one that stays (RFC 4271, section
-/// 9.1.2.2, c). So clients that lack nothing else share a choice.
+/// The choice stays the same when other candidates go, with one exception: a candidate that goes may have
+/// removed one that stays, by MED. So each remaining candidate that the step by MED removed must still be
+/// removed by a remaining one (RFC 4271, section 9.1.2.2, c). So many clients can share one choice.
 pub fn the_choice_stays_without_those_of_no_weight()
     ensures { ChoiceStays }
 {}
 
-/// A candidate that the first three steps of the decision process remove is of no matter to the choice,
-/// wherever it stands: the step by MED never sees it (RFC 4271, section 9.1.2.2). So it is with each one that
-/// another candidate is ahead of by these steps, and with each one that another candidate of its neighbour
-/// AS, level with it by these steps, goes before by MED, identifier and address. A client gets the same with
-/// such a route and without it, and with a route and without it that isn't eligible or isn't permitted to the
-/// client: a change of one route can be looked at by itself, and only a client that the old route or the new
-/// one may matter to is decided anew.
+/// Some routes do not matter to a client: it gets the same with them and without them (RFC 4271, section
+/// 9.1.2.2). One kind is not eligible or not permitted to the client. One kind is beaten by another candidate
+/// in the first three steps of the decision process, so that the step by MED never sees it. One kind ties in
+/// these steps with a candidate of the same neighbour AS that goes before it by MED, identifier and address.
 pub fn those_behind_are_no_matter()
     ensures removed { RemovedIsNoMatter }
     ensures behind { BehindIsNoMatter }

@@ -32,7 +32,8 @@ pub fn write_side_by_side<T: Threads + Sync, W: Write + Send>(
     rt: &T,
     writings: &mut [Writing<'_, W>],
 )
-    requires { (k : ℕ) (d : Writing W) → k < length writings.old → CanBegin W.failures (slice_index_or writings.old k d) }
+    requires { (k : ℕ) (d : Writing W) → k < length writings.old
+        → CanBegin W.failures (slice_index_or writings.old k d) }
     ensures written { (k : ℕ) (d : Writing W) → k < length writings.old
         → IsWritten W.taken W.failures W.label (slice_index_or writings.old k d) (slice_index_or writings.new k d) }
     ensures count { length writings.new ≡ length writings.old }
@@ -40,14 +41,16 @@ pub fn write_side_by_side<T: Threads + Sync, W: Write + Send>(
     let write = |_first: usize, some: &mut [Writing<'_, W>]|
         requires { (k : ℕ) (d : Writing W) → k < length some.now → CanBegin W.failures (slice_index_or some.now k d) }
         ensures { (k : ℕ) (d : Writing W) → k < length some.entry.now
-            → IsWritten W.taken W.failures W.label (slice_index_or some.entry.now k d) (slice_index_or some.exit.now k d) }
+            → IsWritten W.taken W.failures W.label (slice_index_or some.entry.now k d)
+            (slice_index_or some.exit.now k d) }
     { write_in_turns(some) };
     for_each_chunk_mut(rt, writings, DUMPS_ON_A_THREAD, &write);
 }
 
 // Writes dumps, some rows of each in turn.
 fn write_in_turns<W: Write>(writings: &mut [Writing<'_, W>])
-    requires { (k : ℕ) (d : Writing W) → k < length writings.old → CanBegin W.failures (slice_index_or writings.old k d) }
+    requires { (k : ℕ) (d : Writing W) → k < length writings.old
+        → CanBegin W.failures (slice_index_or writings.old k d) }
     ensures written { (k : ℕ) (d : Writing W) → k < length writings.old
         → IsWritten W.taken W.failures W.label (slice_index_or writings.old k d) (slice_index_or writings.new k d) }
     ensures count { length writings.new ≡ length writings.old }

@@ -15,16 +15,15 @@ pub fn the_rival_is_a_candidate()
     ensures { RivalIsCandidate }
 {}
 
-/// What a list of changes says last of a prefix agrees with the routes that it leaves: what is announced is
-/// left, unless the session closes but at the end of its file; what was never announced, or was taken away
-/// since, is not.
+/// The last state of a prefix agrees with the routes that the changes leave. An announced route is left, unless
+/// the session closed by a fault. A route that was never announced, or was taken away since, is not left.
 pub fn what_is_said_last_agrees_with_the_routes_left()
     ensures announced { AnnouncedIsLeft }
     ensures never { NeverAnnouncedIsNotLeft }
     ensures ended { EndedIsNotLeft }
 {}
 
-/// What is taken of a list of changes up to a time is its longest beginning none of whose changes is later.
+/// Changes are taken up to a time: those before the first change that is later.
 pub fn what_is_taken_is_the_longest_beginning()
     ensures { TakenIsCut }
 {}

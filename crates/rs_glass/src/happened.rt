@@ -26,8 +26,8 @@ use std::thread::Threads;
 pub struct Happening {
     /// The number of the peer.
     pub peer: usize,
-    /// When it counts, in seconds since 1970: at its own time, or at the latest time before it in its file
-    /// where that is later, as a close at the end of a file does, which has no time of its own.
+    /// When it counts, in seconds since 1970: its own time, but no earlier than anything before it in its file.
+    /// A close at the end of a file has no time of its own, and counts at the latest time before it.
     pub time: u32,
     /// What changed.
     pub word: Word,

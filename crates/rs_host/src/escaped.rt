@@ -20,7 +20,8 @@ pub fn on_one_line(alloc: Global, text: &str) -> Result<String, AllocError>
 
 /// Each of some texts as `on_one_line` shows it, in their order. Fails where memory is refused.
 pub fn each_on_one_line(alloc: Global, texts: &[String]) -> Result<Vec<String>, AllocError>
-    ensures { IfOk result (λ lines. map string_bytes lines.items ≡ map (λ text. one_line (string_bytes text)) texts.now) }
+    ensures { IfOk result (λ lines.
+        map string_bytes lines.items ≡ map (λ text. one_line (string_bytes text)) texts.now) }
 {
     let mut lines = Vec::with_capacity(alloc, texts.len())?;
     for text in texts {

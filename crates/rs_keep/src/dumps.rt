@@ -74,7 +74,8 @@ pub(crate) fn refill<'a, T: Threads + Sync, O: Outlet>(
         (AreWritten O.Out.taken O.Out.failures (O.kept outlet.old) dumping.now.tables.now dumping.now.time client
         (into_iter_items written.new)) }
     ensures started { (before : Names)
-        → AreOutFrom O.Out.label dumping.now.files.now client before (O.started outlet.old) (into_iter_items written.old)
+        → AreOutFrom O.Out.label dumping.now.files.now client before (O.started outlet.old)
+        (into_iter_items written.old)
         → OnOk result (AreOutFrom O.Out.label dumping.now.files.now client before (O.started outlet.new)
         (into_iter_items written.new)) }
     ensures refused { OnErr result ((length (into_iter_items written.old) ≡ 0)

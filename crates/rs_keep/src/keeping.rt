@@ -118,7 +118,8 @@ fn keep<O: Outlet>(outlet: &mut O, file: &str, writing: Writing<'_, O::Out>) -> 
 // Loses the dumps that were written and are not to be kept.
 fn lose_all<O: Outlet>(outlet: &mut O, written: IntoIter<Writing<'_, O::Out>>)
     requires { AreAllOut O.Out.label (O.started outlet.old) (into_iter_items written) }
-    ensures back { AreAllBack O.Out.label (O.started outlet.old) (O.started outlet.new) (into_iter_items written.entry) }
+    ensures back { AreAllBack O.Out.label (O.started outlet.old) (O.started outlet.new)
+        (into_iter_items written.entry) }
     ensures kept { O.kept outlet.new ≡ O.kept outlet.old }
     ensures no_fewer { O.failures outlet.old ≤ O.failures outlet.new }
 {

@@ -1,9 +1,9 @@
 //! What a record of Type BGP4MP or BGP4MP_ET says (RFC 6396, sections 4.4 and 4.5).
 //!
-//! Our choices: only the Subtypes for AS numbers of four octets and only IPv4 peers are read; a record of another
-//! Subtype is not tested for its length, but for the microseconds of BGP4MP_ET, nor is one of another Address
-//! Family beyond that field; microseconds, Local AS, Interface Index and Local IP Address have no effect, nor
-//! have octets after the New State.
+//! Our choices: only the Subtypes for AS numbers of four octets are read, and only IPv4 peers. The length of a
+//! record of another Subtype is not tested, except for the microseconds of BGP4MP_ET. A record of another Address
+//! Family is tested only up to that field. Microseconds, Local AS, Interface Index, Local IP Address and octets
+//! after the New State have no effect.
 
 ghost use Rattle.std.specs.Prelude.{◌≡◌};
 ghost use Rattle.rs_mrt.specs.Record.{record_of};

@@ -26,8 +26,8 @@ pub fn front_of_a_record_says_the_same()
     ensures same { FrontSaysTheSame }
 {}
 
-/// Of a reader that gives just these octets, fewer than 2^50, just the front of each of their records is
-/// shown, and then the end or the fault that their rest says: what `Records` gives, but for long bodies.
+/// A reader of known octets, fewer than 2^50, gives the front of each of their records. Then it gives the end
+/// or the fault of the rest. `Records` gives the same, with whole bodies.
 pub fn known_octets_are_shown<R: Read>(_reader: &R, _file: &[u8])
     requires known { (octets : List ℕ) (end : ReadEnd) → R.gives _reader.now octets end
         → (octets ≡ _file.now) × (end ≡ FileEnds) }

@@ -1,7 +1,7 @@
 //! What gives octets: a trait over std's, whose contract names the octets that may come and counts the failed calls.
 //!
-//! Our choices: what may come is a relation, so that it also has a meaning where nobody knows the octets, as those of a
-//! file; every error is a failed call, also one of which std says that the call may be tried again.
+//! Our choices: what may come is a relation. So it has a meaning for a file too, whose octets nobody knows before.
+//! Every error is a failed call, also one after which std would let the caller try again.
 
 ghost use Rattle.std.specs.Prelude.{◌≡◌, ◌+◌, ◌<◌, ◌≤◌, ℕ, List, length, IfOk};
 ghost use Rattle.rs_mrt.specs.Reader.{ReadEnd, ReadGives, SomethingIsGiven, MayBeLeft, failed_reads, may_be_left};

@@ -1,7 +1,8 @@
-//! What is noted of a recorded file of which a run kept nothing.
+//! What a note says of a recorded file that gave no change but the close.
 //!
-//! Our choices: a compressed file is noted whatever its octets would be as records, another format only where no record
-//! is of a known kind, and a file without a record of its peer only where one is, and there is room for its fields.
+//! Our choices: a compressed file is noted whatever its octets would be as records. Another format is noted only if
+//! no record is of a known kind. A file without a record of its peer is noted only if some record is of a known
+//! kind and long enough for its fields.
 
 ghost use Rattle.std.specs.Prelude.{◌≡◌};
 ghost use Rattle.rs_program.specs.Hint.{has_bodies, hint_of, is_all, is_known, only_kind, records_of};
@@ -29,8 +30,8 @@ const HEADER_LEN: u64 = 12;
 
 const FIELDS_LEN: u64 = 16;
 
-/// What is noted of a peer's recorded file, of which a run kept nothing: by what the file holds, and its first octets,
-/// `FRONT_LEN` of them where there are as many. None where it may well be meant so.
+/// What is noted of a peer's recorded file that gave no change but the close. `front` has the first `FRONT_LEN`
+/// octets of the file, or all if there are fewer. The answer is none if nothing looks wrong.
 pub fn hint_on(held: &Inventory, front: &[u8], peer: Peer) -> Option<Hint>
     ensures { result ≡ hint_of held.now front.now peer }
 {

@@ -1,5 +1,5 @@
-//! The program's own: its command line, the files that it opens and the folder that takes its dumps, how far a run
-//! is, what is noted of a run that was surely not meant so, and how the program ends where it stops short.
+//! What the route server does beside the run itself: it reads the command line, opens files, keeps dumps in a
+//! folder, shows progress, notes files that are probably the wrong ones, and ends with a status.
 //!
 //! Reading order: `start` (what the program does before the run, and how it ends); `words` (the command line);
 //! `ended` (the ways to stop short, and their statuses), `texts` (their lines), `paths` (the path of a dump); `amount`

@@ -1,7 +1,7 @@
-//! Notes on standard error, where a run was surely not meant so: on peers of whose recorded files it kept nothing.
+//! Notes on standard error: one for each peer whose recorded file gave no change but the close.
 //!
-//! Our choices: only such a file is read again, and only one that gives its octets each time it is read; of peers that
-//! name one file, one after another, it is read for the first. A note that can't be made or written is left out.
+//! Our choices: the file is read a second time, so a pipe gets no note. If neighbouring peers name one file, it is
+//! read once, for the first of them. A note that can't be made or written is left out.
 
 ghost use Rattle.std.specs.Prelude.{◌≡◌, ◌<◌, length};
 

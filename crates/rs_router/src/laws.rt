@@ -4,8 +4,8 @@ ghost use Rattle.rs_router.specs.Laws.{CutByShards};
 
 use rs_table::{left_by_last_changes, left_by_part};
 
-/// What a list of changes leaves on a prefix is what its cut leaves there that the prefix's shard gets, and
-/// the cut of no other shard leaves a route there. Each cut has a loss and a close where the list has one.
+/// Each shard gets a part of a list of changes. On each prefix the part of its own shard leaves what the whole
+/// list leaves, and the parts of other shards leave nothing. Each part has every loss and close of the list.
 pub fn cut_by_shards()
     ensures { CutByShards }
 {

@@ -32,10 +32,10 @@ use std::thread::Threads;
 /// each shard holds the tables of its prefixes. `readers` has the reader of each peer's file, in the order of
 /// the peers. Faults in messages are handled by one of the standards.
 ///
-/// Fails with `Capacity` where the capacity isn't from 1 to 65,536, then with `Shards` where the number of
-/// shards isn't from 1 to 16, then with `Memory` where memory or a thread is refused, then with `Read` of the
-/// least peer of which a read failed, then with `Unsettled` of the least peer of which not all that was sent
-/// is known to have been received. All threads are joined before any answer.
+/// Fails with the first of these: `Capacity` if the capacity isn't from 1 to 65,536; `Shards` if the number of
+/// shards isn't from 1 to 16; `Memory` if memory or a thread is refused; `Read` of the least peer with a failed
+/// read; `Unsettled` of the least peer of which perhaps not all that was sent was received. All threads are
+/// joined before any answer.
 pub fn serve_by<T: Threads + Wait + Sync, R: Read + Send + Drop, G: Gate>(
     rt: &T,
     alloc: Global,

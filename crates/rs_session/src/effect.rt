@@ -1,9 +1,9 @@
 //! What a record says to the session of one peer (RFC 6396, sections 4.4.3 and 4.4.4; RFC 4271, sections 4.2
 //! to 4.5 and 6).
 //!
-//! Our choices: a record of another kind or of another peer is passed over; only the loss of Established
-//! counts among changes of state; after a loss and after a NOTIFICATION reading goes on, whatever the
-//! recorded state is; a fault of the recording or of a message ends the session.
+//! Our choices: a record of another kind or of another peer is passed over. Of the changes of state only one from
+//! Established to another state counts. After a loss and after a NOTIFICATION reading goes on, whatever the
+//! recorded state is. A fault of the recording or of a message closes the session.
 
 ghost use Rattle.std.specs.Prelude.{◌≡◌, IfOk};
 ghost use Rattle.rs_mrt.specs.Record.{record_of};

@@ -86,14 +86,12 @@ impl Tables {
         }
     }
 
-    /// Takes the next change of the peer of number `peer`: an announcement replaces the peer's route on that
-    /// prefix, a withdrawal removes it, a loss of the session removes all of the peer's routes and leaves it
-    /// open, a close at the end of the file leaves the peer's routes, and any other close drops them (our
-    /// choice).
+    /// Takes the next change of the peer of number `peer`. An announcement replaces the peer's route on that
+    /// prefix, and a withdrawal removes it. A loss of the session removes all of the peer's routes. A close at
+    /// the end of the file leaves them, and any other close removes them (our choice).
     ///
-    /// Refused memory, which only an announcement of a prefix on which no peer has a route can be, nothing
-    /// changed, and the change is dropped. An announcement of a prefix on which some peer has a route left,
-    /// eligible or not, takes no memory and succeeds.
+    /// Only the first announcement of a prefix takes memory. If that is refused, nothing changed, and the
+    /// change is dropped. An announcement of a prefix on which some peer has a route, eligible or not, succeeds.
     pub fn apply(&mut self, peer: usize, word: Word) -> Result<(), AllocError>
         requires known { peer < length self.old.plan.peers }
         requires open { (rib_of self.old peer).closed ≡ false }

@@ -43,9 +43,8 @@ pub(crate) enum AttributeType {
     Unrecognized,
 }
 
-/// What the flags of an attribute must say, and so what a route keeps of it: what is well-known,
-/// non-transitive or transitive is kept and written as such, what is optional of either kind is passed on
-/// where it is transitive, and what isn't looked at is dropped.
+/// What the flags of an attribute must be, and so whether a route keeps it. The first three are kept, and written
+/// with these flags. `Optional` is passed on if it is transitive. `Any` is dropped.
 #[derive(Clone, Copy, Debug, PartialEq, Eq)]
 pub(crate) enum WantedFlags {
     /// Well-known: Optional 0, Transitive 1.

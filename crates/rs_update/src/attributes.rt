@@ -96,10 +96,9 @@ impl<'a> Iterator for Others<'a> {
     }
 }
 
-/// The path attributes of one UPDATE, as read: made by `read_message` and `read_message_by` alone. Their written
-/// form is all that they keep in memory of their own, and all is read from it when it is asked for, but for what
-/// is asked for again and again: beside it stand ORIGIN, MED and neighbour AS for decisions, and where
-/// COMMUNITIES begins.
+/// The path attributes of one UPDATE. Only `read_message` and `read_message_by` make them. They are stored as one
+/// block of memory, their written form, and are read from it when they are asked for. Four things are stored
+/// beside it, since each decision needs them: ORIGIN, MED, neighbour AS, and where COMMUNITIES begins.
 #[derive(Debug, Drop)]
 pub struct Attributes {
     pub(crate) spelling: Vec<u8>,

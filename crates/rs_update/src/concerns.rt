@@ -18,10 +18,9 @@ use crate::section::{TYPES, find_fault};
 use crate::treating::section_handling;
 use crate::update::split_fields;
 
-/// Whether a message, the octets of which are `octets`, may concern a prefix: whether it is anything but an
-/// UPDATE that `read_message_by` reads and whose withdrawn routes and NLRI list no prefix that covers it.
-///
-/// So each fault may concern it, and each message of another type. It takes no memory.
+/// Whether a message with these octets may concern a prefix. An UPDATE without fault concerns it only if a
+/// withdrawn route or NLRI covers it. Each faulty message and each message of another type may concern it.
+/// It takes no memory.
 pub fn concerns_prefix(errors: Errors, octets: &[u8], prefix: Prefix) -> bool
     ensures { result ≡ message_concerns prefix (message_by errors octets.now) }
 {

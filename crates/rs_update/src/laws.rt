@@ -75,9 +75,8 @@ pub fn without_a_fault_both_standards_agree()
     ensures { StandardsAgree }
 {}
 
-/// By RFC 7606 the strongest of what is found counts, wherever it stands in a section: nothing in it asks for
-/// more than is done, and what is done is what the first asks for that asks for as much (RFC 7606, sections 2
-/// and 3).
+/// By RFC 7606 the strongest handling that any attribute of a section asks for is applied, wherever the
+/// attribute stands (RFC 7606, sections 2 and 3). If several ask for equally strong handlings, the first counts.
 pub fn the_strongest_that_is_found_counts()
     ensures { StrongestIsFound }
 {}
