@@ -10,7 +10,8 @@ ghost use Rattle.rs_table.specs.Gathered.{AreLogs, counts, entry_change, entry_r
 ghost use Rattle.rs_table.specs.Left.{same_prefix};
 
 use crate::cell::Cell;
-use crate::log::{Entry, Log};
+use crate::log::Log;
+use crate::logged::LoggedChange;
 use rs_choice::{Exchange, HeldRoute};
 use rs_update::Prefix;
 use std::alloc::{AllocError, Global};
@@ -43,7 +44,7 @@ fn replay(
     cells: &mut BTreeMap<Prefix, Cell>,
     plan: &Exchange,
     losses: &[u32],
-    entries: Vec<Entry>,
+    entries: Vec<LoggedChange>,
 ) -> Result<(), AllocError>
     requires cells { AreUndecided plan.now cells.old.entries }
     requires count { length losses.now ≡ length plan.now.peers }
@@ -64,7 +65,7 @@ fn replay_one(
     cells: &mut BTreeMap<Prefix, Cell>,
     plan: &Exchange,
     losses: &[u32],
-    entry: Entry,
+    entry: LoggedChange,
 ) -> Result<(), AllocError>
     requires cells { AreUndecided plan.now cells.old.entries }
     requires count { length losses.now ≡ length plan.now.peers }
@@ -85,7 +86,7 @@ fn make(
     alloc: Global,
     cells: &mut BTreeMap<Prefix, Cell>,
     plan: &Exchange,
-    entry: Entry,
+    entry: LoggedChange,
 ) -> Result<(), AllocError>
     requires known { entry.peer < length plan.now.peers }
     requires cells { AreUndecided plan.now cells.old.entries }
@@ -94,13 +95,8 @@ fn make(
         else routes_at cells.old.entries prefix)) }
     ensures cells { OnOk result (AreUndecided plan.now cells.new.entries) }
 {
-    let Entry {
-        prefix,
-        time,
-        losses: _,
-        peer,
-        attributes,
-    } = entry;
+    let prefix = entry.prefix();
+    let (peer, time, attributes) = entry.into_parts();
     match attributes {
         Some(attributes) => {
             let route = plan.hold(usize::from(peer), time, attributes);

@@ -8,7 +8,7 @@ use Rattle.std.proofs.lemmas.List.Elements.{All-weaker}
 use Rattle.std.proofs.lemmas.Option.{slice_get_past}
 use Rattle.rs_update.specs.IpPrefix.{IpPrefix}
 use Rattle.rs_choice.specs.Decision.{SentRoute}
-use Rattle.rs_table.specs.declared.log.Entry.{Entry}
+use Rattle.rs_table.specs.Logged.{Logged}
 use Rattle.rs_table.specs.declared.log.Log.{Log}
 use Rattle.rs_table.specs.ByPeer.{route_at}
 use Rattle.rs_table.specs.Cells.{Entries, routes_at}
@@ -27,7 +27,7 @@ changed-at p (Some route) routes peer = route_at-with routes (sent_by p route) p
 changed-at p None routes peer = route_at-without routes p peer
 
 -- a change that is current is made
-pub made : (losses : List ℕ) (before later : Entries) (entry : Entry) → is_current losses entry ≡ true
+pub made : (losses : List ℕ) (before later : Entries) (entry : Logged) → is_current losses entry ≡ true
     → ((q : IpPrefix) → routes_at later q ≡ cond (same_prefix q entry.prefix) (entry_change entry (routes_at before q))
     (routes_at before q))
     → (peer : ℕ) (q : IpPrefix) → route_at (routes_at later q) peer
@@ -54,7 +54,7 @@ made losses before later entry current changed peer q =
         by_peer false = refl
 
 -- its peer is known
-pub known-current : (losses : List ℕ) (entry : Entry) → is_current losses entry ≡ true → entry.peer < length losses
+pub known-current : (losses : List ℕ) (entry : Logged) → is_current losses entry ≡ true → entry.peer < length losses
 known-current losses entry current =
     elim (cases_lt entry.peer (length losses)) [
       | inl known ↦ known
@@ -109,7 +109,7 @@ module _ (losses : List ℕ) (logs : List Log) (are : AreLogs losses logs) where
         | inl within ↦ replayed.done peer prefix within
         | inr past ↦
             replayed.none peer prefix past
-            ∙ ap (λ (entries : List Entry). left_in losses entries peer prefix)
+            ∙ ap (λ (entries : List Logged). left_in losses entries peer prefix)
             (sym (get_or_past (lists_of logs) (first_octet prefix) []
             (omega (arith, past, length-map logs (λ (log : Log). log.entries.items)))))
       ]

@@ -2,7 +2,7 @@
 use Rattle.std.proofs.Common.{◌≡◌, ◌∙◌, ◌+◌, ◌∷◌, ◌++◌, [], ℕ, List, length, length-append, get_or, ap, sym, subst}
 use Rattle.std.proofs.lemmas.Iterator.Adapters.{YieldsList-from_vec}
 use Rattle.std.proofs.lemmas.Iterator.Consumers.{YieldsList-turn, YieldsList-end}
-use Rattle.rs_table.specs.declared.log.Entry.{Entry}
+use Rattle.rs_table.specs.Logged.{Logged}
 use Rattle.rs_table.specs.declared.log.Log.{Log}
 use Rattle.rs_table.specs.ByPeer.{route_at}
 use Rattle.rs_table.specs.Cells.{AreUndecided, routes_at}
@@ -34,7 +34,7 @@ loop-log-preserved c =
       replayed = subst (λ (n : ℕ). IsReplayed losses logs n c.replay.new.cells.entries) (sym more)
           (replayed-more losses logs c.requires.logs count c.loop-log.cells.entries c.replay.new.cells.entries c.loop-log.invariant.replayed
           (λ peer prefix. c.in_ok-replay.ensures.routes peer prefix
-          ∙ ap (λ (entries : List Entry). left_over losses entries peer prefix (route_at (routes_at c.loop-log.cells.entries prefix) peer))
+          ∙ ap (λ (entries : List Logged). left_over losses entries peer prefix (route_at (routes_at c.loop-log.cells.entries prefix) peer))
           (sym list)));
     }
 
