@@ -1,17 +1,17 @@
 -- Changes gathered in lists, one for each first octet of a prefix, and the routes that they leave (our choice).
-use Rattle.std.specs.Prelude.{◌≡◌, ◌≤◌, ◌/◌, ◌^◌, ℕ, ◌==◌, Bool, false, ◌&&◌, if◌then◌else◌, List, [], All}
-use Rattle.std.specs.Prelude.{Option, Some, None, length, map, reverse, slice_get, slice_index_or}
+use Rattle.std.specs.Prelude.{◌≡◌, ◌≤◌, ◌/◌, ◌^◌, ℕ, ◌==◌, Bool, true, false, ◌&&◌, if◌then◌else◌, List, [], All}
+use Rattle.std.specs.Prelude.{Option, None, length, map, reverse, slice_get, slice_index_or}
 use Rattle.std.specs.List.{find, filter_map, flat_map}
-use Rattle.std.specs.Option.{option_map, option_map_or}
+use Rattle.std.specs.Option.{is_some, option_map, option_map_or}
+use Rattle.std.specs.Ordering.{nat_cmp, ordering_then}
+use Rattle.std.specs.declared.cmp.Ordering.{Ordering}
 use Rattle.std.specs.FinMap.{from_entries}
 use Rattle.rs_update.specs.IpPrefix.{IpPrefix}
+use Rattle.rs_update.specs.PrefixOrder.{prefix_cmp}
 use Rattle.rs_session.specs.Change.{Change}
-use Rattle.rs_choice.specs.Decision.{SentRoute}
 use Rattle.rs_table.specs.Logged.{Logged}
 use Rattle.rs_table.specs.declared.log.Log.{Log}
-use Rattle.rs_table.specs.ByPeer.{with_route, without_route}
 use Rattle.rs_table.specs.Left.{RouteLeft, Routes, bears_on, body_route, drops_routes, same_prefix}
-use Rattle.rs_table.specs.Table.{sent_by}
 
 -- the first octet of a prefix
 abbrev pub first_octet : IpPrefix → ℕ
@@ -31,6 +31,17 @@ counts losses peer prefix entry = is_of peer prefix entry && is_current losses e
 -- the route that an entry announces; none where it is a withdrawal
 abbrev pub entry_route : Logged → Option RouteLeft
 entry_route entry = option_map (λ attributes. record { time = entry.time; attributes = attributes }) entry.attributes
+
+abbrev pub announces : Logged → Bool
+announces entry = is_some entry.attributes
+
+-- a route that its peer has left by an entry
+abbrev pub IsAnnounced : List ℕ → Logged → Type 0
+IsAnnounced losses entry = (is_current losses entry ≡ true) × (announces entry ≡ true)
+
+-- the order of a compacted list: by prefix, then by peer
+abbrev pub logged_cmp : Logged → Logged → Ordering
+logged_cmp one other = ordering_then (prefix_cmp one.prefix other.prefix) (nat_cmp one.peer other.peer)
 
 -- what a list leaves a peer on a prefix is what the last of its entries says that is of both and not void; where there
 -- is no such entry, it is what was left before
@@ -84,11 +95,3 @@ abbrev pub IsAdded : List ℕ → Logged → List Log → List Log → Type 0
 IsAdded losses entry logs logs_then =
     (peer : ℕ) (prefix : IpPrefix) → left_at losses logs_then peer prefix
     ≡ (if counts losses peer prefix entry then entry_route entry else left_at losses logs peer prefix)
-
--- what an entry makes of the routes on its prefix
-abbrev pub changed_by : ℕ → Option RouteLeft → List SentRoute → List SentRoute
-changed_by peer (Some route) routes = with_route routes (sent_by peer route)
-changed_by peer None routes = without_route routes peer
-
-abbrev pub entry_change : Logged → List SentRoute → List SentRoute
-entry_change entry routes = changed_by entry.peer (entry_route entry) routes

@@ -1,8 +1,10 @@
 //! The changes on the prefixes of one first octet, in the order in which they came (our choice).
 
 ghost use Rattle.std.specs.Prelude.{◌≡◌, ◌/◌, ◌^◌, ◌<◌, ℕ, All, OnOk, if◌then◌else◌};
+ghost use Rattle.std.specs.List.Sorted.{IsStrictlySortedBy};
 ghost use Rattle.rs_update.specs.IpPrefix.{IpPrefix};
 ghost use Rattle.rs_table.specs.Gathered.{IsEntryOf, counts, entry_route, first_octet, left_in};
+ghost use Rattle.rs_table.specs.Gathered.{logged_cmp, IsAnnounced};
 
 use crate::logged::LoggedChange;
 use rs_update::Prefix;
@@ -57,12 +59,14 @@ impl Log {
 }
 
 // Leaves of a list the last entry of each peer and prefix, unless its peer has lost a session since or it is a
-// withdrawal.
-fn compact(entries: &mut Vec<LoggedChange>, losses: &[u32]) -> Result<(), AllocError>
+// withdrawal; in ascending order of prefix, and then of peer.
+pub(crate) fn compact(entries: &mut Vec<LoggedChange>, losses: &[u32]) -> Result<(), AllocError>
     ensures left { OnOk result ((peer : ℕ) → (prefix : IpPrefix)
         → left_in losses.now entries.new.items peer prefix ≡ left_in losses.now entries.old.items peer prefix) }
     ensures entries { (octet : ℕ) → All (IsEntryOf losses.now octet) entries.old.items
         → All (IsEntryOf losses.now octet) entries.new.items }
+    ensures ascending { OnOk result (IsStrictlySortedBy logged_cmp entries.new.items) }
+    ensures announced { OnOk result (All (IsAnnounced losses.now) entries.new.items) }
 {
     entries.retain(|entry| entry.is_current(losses));
     // Later entries come first, so the first of equal ones is the last that came.

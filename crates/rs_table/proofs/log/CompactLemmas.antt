@@ -12,18 +12,17 @@ use Rattle.std.specs.declared.cmp.Ordering.TheVariants.{Less, Equal, Greater}
 use Rattle.std.proofs.lemmas.Bool.{cases_Bool, and_right, eq-eqb, or_parts}
 use Rattle.std.proofs.lemmas.Bool.Decides.{eqb_tells}
 use Rattle.std.proofs.lemmas.List.{reverse-append}
-use Rattle.std.proofs.lemmas.List.Elements.{All-filter, All-from_recursion, All-head, All-tail, All-weaker, filter-append}
-use Rattle.std.proofs.lemmas.List.Kept.{IsStrictlySortedBy-dedup}
+use Rattle.std.proofs.lemmas.List.Elements.{All-filter, All-head, All-tail, All-weaker, filter-append, filter_passes}
+use Rattle.std.proofs.lemmas.List.Kept.{IsStrictlySortedBy-dedup, IsStrictlySortedBy-filter}
 use Rattle.std.proofs.lemmas.List.Filters.{All-dedup}
 use Rattle.std.proofs.lemmas.List.Sorted.{All-permutation, IsPermutation-reverse}
 use Rattle.rs_update.specs.IpPrefix.{IpPrefix}
 use Rattle.rs_update.specs.PrefixOrder.{prefix_cmp}
 use Rattle.rs_table.specs.Logged.{Logged}
 use Rattle.rs_table.specs.Left.{RouteLeft, same_prefix}
-use Rattle.rs_table.specs.Gathered.{counts, entry_route, is_current, is_of, left_in}
+use Rattle.rs_table.specs.Gathered.{announces, counts, entry_route, is_current, is_of, left_in, logged_cmp, IsAnnounced}
 use Rattle.rs_table.proofs.LeftLemmas.{find_last_more, find_none, list_any-reverse, or_none}
 use Rattle.rs_table.proofs.PrefixLemmas.{prefix_total}
-use Rattle.rs_table.proofs.tables.StoredLemmas.{filter_passes}
 
 -- ---- searches and filters
 
@@ -96,8 +95,8 @@ key entry = ((entry.prefix.address, entry.prefix.len), entry.peer)
 abbrev pub key_cmp : (ℕ × ℕ) × ℕ → (ℕ × ℕ) × ℕ → Ordering
 key_cmp one other = ordering_then (ordering_then (nat_cmp one.0.0 other.0.0) (nat_cmp one.0.1 other.0.1)) (nat_cmp one.1 other.1)
 
-abbrev pub entry_cmp : Logged → Logged → Ordering
-entry_cmp one other = key_cmp (key one) (key other)
+abbrev entry_cmp : Logged → Logged → Ordering
+entry_cmp = logged_cmp
 
 entry_total : IsTotalOrder entry_cmp
 entry_total = then_total (on_total (λ (e : Logged). e.prefix) prefix_total) (on_total (λ (e : Logged). e.peer) nat_cmp_total)
@@ -212,9 +211,6 @@ any-filtered p keeps (x ∷ xs) none =
       | inr goes ↦ rw goes (any-filtered p keeps xs parts.1)
     ]
 
-abbrev pub announces : Logged → Bool
-announces entry = is_some entry.attributes
-
 none-mapped : {A B : Type 0} (f : A → B) (o : Option A) → is_some o ≡ false → option_map f o ≡ None
 none-mapped f None e = refl
 none-mapped f (Some a) e = absurd (cc e)
@@ -275,10 +271,22 @@ module _ (losses : List ℕ) (old current turned sorted short new : List Logged)
 
   all-current : All (λ entry. is_current losses entry ≡ true) new
   all-current =
-      kept-new (λ entry. is_current losses entry ≡ true)
-      (subst (All (λ entry. is_current losses entry ≡ true)) (sym current_is)
-      (All-from_recursion (λ entry. is_current losses entry ≡ true) (filter (is_current losses) old)
-      (filter_passes (is_current losses) old)))
+      kept-new (λ entry. is_current losses entry ≡ true) (subst (All (λ entry. is_current losses entry ≡ true)) (sym current_is)
+      (filter_passes (is_current losses) old))
+
+  -- what stays is announced
+  pub all-announced : All (IsAnnounced losses) new
+  all-announced k d within =
+      let announced : All (λ entry. announces entry ≡ true) new =
+      subst (All (λ entry. announces entry ≡ true)) (sym new_is) (filter_passes announces short) in
+      (all-current k d within, announced k d within)
+
+  -- and ascends
+  pub ascending : IsSortedByKey key key_cmp sorted → IsStrictlySortedBy logged_cmp new
+  ascending up =
+      subst (IsStrictlySortedBy logged_cmp) (sym new_is)
+      (IsStrictlySortedBy-filter logged_cmp announces short
+      (subst (IsStrictlySortedBy logged_cmp) (sym short_is) (IsStrictlySortedBy-dedup entry_total tells sorted up)))
 
   module _ (stable : IsStableByKey key key_cmp turned sorted) (up : IsSortedByKey key key_cmp sorted) where
     pub compacted : (peer : ℕ) (prefix : IpPrefix) → left_in losses new peer prefix ≡ left_in losses old peer prefix
