@@ -1,3 +1,3 @@
--- Cells of which nothing is decided yet, and the changes that are made in them.
-pub mod UndecidedLemmas
+-- The cells of a list, and of one list after another.
+pub mod MakingLemmas
 pub mod SettlingLemmas

@@ -12,7 +12,7 @@ use Rattle.rs_choice.specs.Plan.{Plan}
 use Rattle.rs_table.specs.Left.{same_prefix, reason_drops, Routes}
 use Rattle.rs_choice.specs.Decision.{SentRoute}
 use Rattle.rs_table.specs.ByPeer.{route_at, with_route, without_route}
-use Rattle.rs_table.specs.Cell.{CellContent, IsCell, IsUndecided, routes_in}
+use Rattle.rs_table.specs.Cell.{CellContent, IsCell, routes_in}
 
 abbrev pub Entries : Type 0
 Entries = List (IpPrefix × CellContent)
@@ -39,10 +39,6 @@ routes_from entries peer =
 -- each one is a cell of the plan
 abbrev pub AreCells : Plan → Entries → Type 0
 AreCells plan entries = AllByRecursion (λ (entry : IpPrefix × CellContent). IsCell plan entry.1) entries
-
--- of each one nothing is decided yet
-abbrev pub AreUndecided : Plan → Entries → Type 0
-AreUndecided plan entries = AllByRecursion (λ (entry : IpPrefix × CellContent). IsUndecided plan entry.1) entries
 
 -- what a peer's change makes of the routes on a prefix
 abbrev pub changed_routes_body : ℕ → ℕ → ChangeBody → IpPrefix → List SentRoute → List SentRoute

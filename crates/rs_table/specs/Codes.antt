@@ -1,6 +1,6 @@
 -- Codes of what tables hold, by which a proof tells values apart.
-use Rattle.std.specs.Prelude.{ℕ, Bool, List, refl}
-use Rattle.std.specs.Coded.{Coded, code_by, coded×, coded_ℕ, coded_bool, coded_list}
+use Rattle.std.specs.Prelude.{ℕ, Bool, List, Option, refl}
+use Rattle.std.specs.Coded.{Coded, code_by, coded×, coded_ℕ, coded_bool, coded_list, coded_option}
 use Rattle.std.specs.FinMap as map
 use Rattle.rs_update.specs.IpPrefix.{IpPrefix}
 use Rattle.rs_update.specs.PathAttributes.{PathAttributes}
@@ -9,6 +9,7 @@ use Rattle.rs_choice.specs.contracts.exchange.Exchange as exchange
 use Rattle.rs_choice.specs.Plan.{Plan}
 use Rattle.rs_table.specs.Left.{Routes, RouteLeft}
 use Rattle.rs_table.specs.Content.{RibContent, TablesContent}
+use Rattle.rs_table.specs.Logged.{Logged}
 use Rattle.rs_table.specs.Table.{TableRow}
 use Rattle.rs_choice.specs.Decision.{SentRoute}
 
@@ -47,3 +48,10 @@ row_code =
 
 abbrev pub rows_code : Coded (List TableRow)
 rows_code = coded_list row_code
+
+abbrev pub logged_code : Coded Logged
+logged_code =
+    code_by ((IpPrefix × (ℕ × ℕ)) × (ℕ × Option PathAttributes))
+    (coded× (coded× prefix_code (coded× coded_ℕ coded_ℕ)) (coded× coded_ℕ (coded_option attributes.the_row.coded)))
+    (λ c. ((c.prefix, (c.time, c.losses)), (c.peer, c.attributes)))
+    (λ p. record { prefix = p.0.0; time = p.0.1.0; losses = p.0.1.1; peer = p.1.0; attributes = p.1.1 }) (λ _. refl)

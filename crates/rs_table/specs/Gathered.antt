@@ -1,56 +1,66 @@
 -- Changes gathered in lists, one for each first octet of a prefix, and the routes that they leave (our choice).
-use Rattle.std.specs.Prelude.{◌≡◌, ◌≤◌, ◌/◌, ◌^◌, ℕ, ◌==◌, Bool, false, ◌&&◌, if◌then◌else◌, List, [], All}
-use Rattle.std.specs.Prelude.{Option, Some, None, length, map, reverse, slice_get, slice_index_or}
+use Rattle.std.specs.Prelude.{◌≡◌, ◌≤◌, ◌/◌, ◌^◌, ℕ, ◌==◌, Bool, true, false, ◌&&◌, if◌then◌else◌, List, [], All}
+use Rattle.std.specs.Prelude.{Option, None, length, map, reverse, slice_get, slice_index_or}
 use Rattle.std.specs.List.{find, filter_map, flat_map}
-use Rattle.std.specs.Option.{option_map, option_map_or}
+use Rattle.std.specs.Option.{is_some, option_map, option_map_or}
+use Rattle.std.specs.Ordering.{nat_cmp, ordering_then}
+use Rattle.std.specs.declared.cmp.Ordering.{Ordering}
 use Rattle.std.specs.FinMap.{from_entries}
 use Rattle.rs_update.specs.IpPrefix.{IpPrefix}
+use Rattle.rs_update.specs.PrefixOrder.{prefix_cmp}
 use Rattle.rs_session.specs.Change.{Change}
-use Rattle.rs_choice.specs.Decision.{SentRoute}
-use Rattle.rs_table.specs.declared.log.Entry.{Entry}
+use Rattle.rs_table.specs.Logged.{Logged}
 use Rattle.rs_table.specs.declared.log.Log.{Log}
-use Rattle.rs_table.specs.ByPeer.{with_route, without_route}
 use Rattle.rs_table.specs.Left.{RouteLeft, Routes, bears_on, body_route, drops_routes, same_prefix}
-use Rattle.rs_table.specs.Table.{sent_by}
 
 -- the first octet of a prefix
 abbrev pub first_octet : IpPrefix → ℕ
 first_octet prefix = prefix.address / 2 ^ 24
 
 -- an entry is of a peer, and on a prefix
-abbrev pub is_of : ℕ → IpPrefix → Entry → Bool
+abbrev pub is_of : ℕ → IpPrefix → Logged → Bool
 is_of peer prefix entry = entry.peer == peer && same_prefix prefix entry.prefix
 
 -- its peer has lost as many sessions as when it came: else it is void
-abbrev pub is_current : List ℕ → Entry → Bool
+abbrev pub is_current : List ℕ → Logged → Bool
 is_current losses entry = option_map_or (λ lost. lost == entry.losses) (slice_get losses entry.peer) false
 
-abbrev pub counts : List ℕ → ℕ → IpPrefix → Entry → Bool
+abbrev pub counts : List ℕ → ℕ → IpPrefix → Logged → Bool
 counts losses peer prefix entry = is_of peer prefix entry && is_current losses entry
 
 -- the route that an entry announces; none where it is a withdrawal
-abbrev pub entry_route : Entry → Option RouteLeft
-entry_route entry =
-    option_map (λ attributes. record { time = entry.time; attributes = attributes.value }) entry.attributes
+abbrev pub entry_route : Logged → Option RouteLeft
+entry_route entry = option_map (λ attributes. record { time = entry.time; attributes = attributes }) entry.attributes
+
+abbrev pub announces : Logged → Bool
+announces entry = is_some entry.attributes
+
+-- a route that its peer has left by an entry
+abbrev pub IsAnnounced : List ℕ → Logged → Type 0
+IsAnnounced losses entry = (is_current losses entry ≡ true) × (announces entry ≡ true)
+
+-- the order of a compacted list: by prefix, then by peer
+abbrev pub logged_cmp : Logged → Logged → Ordering
+logged_cmp one other = ordering_then (prefix_cmp one.prefix other.prefix) (nat_cmp one.peer other.peer)
 
 -- what a list leaves a peer on a prefix is what the last of its entries says that is of both and not void; where there
 -- is no such entry, it is what was left before
-abbrev pub left_over : List ℕ → List Entry → ℕ → IpPrefix → Option RouteLeft → Option RouteLeft
+abbrev pub left_over : List ℕ → List Logged → ℕ → IpPrefix → Option RouteLeft → Option RouteLeft
 left_over losses entries peer prefix before =
     option_map_or entry_route (find (counts losses peer prefix) (reverse entries)) before
 
-abbrev pub left_in : List ℕ → List Entry → ℕ → IpPrefix → Option RouteLeft
+abbrev pub left_in : List ℕ → List Logged → ℕ → IpPrefix → Option RouteLeft
 left_in losses entries peer prefix = left_over losses entries peer prefix None
 
 -- what the lists leave: a prefix has one list, that of its first octet
-abbrev pub lists_of : List Log → List (List Entry)
+abbrev pub lists_of : List Log → List (List Logged)
 lists_of logs = map (λ log. log.entries.items) logs
 
 abbrev pub left_at : List ℕ → List Log → ℕ → IpPrefix → Option RouteLeft
 left_at losses logs peer prefix = left_in losses (slice_index_or (lists_of logs) (first_octet prefix) []) peer prefix
 
 -- the same of all prefixes that the lists name
-abbrev pub prefixes_in : List (List Entry) → List IpPrefix
+abbrev pub prefixes_in : List (List Logged) → List IpPrefix
 prefixes_in lists = flat_map (λ entries. map (λ entry. entry.prefix) entries) lists
 
 unfoldable pub routes_gathered : List ℕ → List Log → ℕ → Routes
@@ -59,7 +69,7 @@ routes_gathered losses logs peer =
     (prefixes_in (lists_of logs)))
 
 -- an entry of a list is on prefixes of its first octet, and came after no more losses than its peer has now
-pub record IsEntryOf (losses : List ℕ) (octet : ℕ) (entry : Entry) : Type 0 where
+pub record IsEntryOf (losses : List ℕ) (octet : ℕ) (entry : Logged) : Type 0 where
   pub octet_is : first_octet entry.prefix ≡ octet
   pub losses_are : entry.losses ≤ slice_index_or losses entry.peer 0
 
@@ -81,15 +91,7 @@ GathersTo peer change losses logs losses_then logs_then =
     else left_at losses logs other prefix)
 
 -- lists became others by an entry
-abbrev pub IsAdded : List ℕ → Entry → List Log → List Log → Type 0
+abbrev pub IsAdded : List ℕ → Logged → List Log → List Log → Type 0
 IsAdded losses entry logs logs_then =
     (peer : ℕ) (prefix : IpPrefix) → left_at losses logs_then peer prefix
     ≡ (if counts losses peer prefix entry then entry_route entry else left_at losses logs peer prefix)
-
--- what an entry makes of the routes on its prefix
-abbrev pub changed_by : ℕ → Option RouteLeft → List SentRoute → List SentRoute
-changed_by peer (Some route) routes = with_route routes (sent_by peer route)
-changed_by peer None routes = without_route routes peer
-
-abbrev pub entry_change : Entry → List SentRoute → List SentRoute
-entry_change entry routes = changed_by entry.peer (entry_route entry) routes

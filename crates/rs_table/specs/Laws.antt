@@ -5,7 +5,7 @@ use Rattle.std.specs.List.{list_any}
 use Rattle.rs_update.specs.IpPrefix.{IpPrefix}
 use Rattle.rs_session.specs.Change.{Change}
 use Rattle.rs_table.specs.Left.{RouteLeft, Leaves, HasNoClose, body_prefix, is_on, left, after}
-use Rattle.rs_table.specs.declared.log.Entry.{Entry}
+use Rattle.rs_table.specs.Logged.{Logged}
 use Rattle.rs_table.specs.Content.{TablesContent}
 use Rattle.rs_table.specs.Gathered.{counts, entry_route, left_in}
 use Rattle.rs_table.specs.Table.{TableRow, IsTable, table_of}
@@ -43,8 +43,8 @@ TableIsComputed =
 abbrev pub LeftByLastEntries : Type 0
 LeftByLastEntries =
     (losses : List ℕ) (peer : ℕ) (prefix : IpPrefix)
-    → ((earlier later : List Entry) (entry : Entry) → counts losses peer prefix entry ≡ true
+    → ((earlier later : List Logged) (entry : Logged) → counts losses peer prefix entry ≡ true
     → list_any (counts losses peer prefix) later ≡ false
     → left_in losses (earlier ++ entry ∷ later) peer prefix ≡ entry_route entry)
-    × ((entries : List Entry) → list_any (counts losses peer prefix) entries ≡ false
+    × ((entries : List Logged) → list_any (counts losses peer prefix) entries ≡ false
     → left_in losses entries peer prefix ≡ None)

@@ -10,7 +10,10 @@ pub mod Examples  -- worked examples
 pub mod ByPeer  -- routes on one prefix, by their peers
 pub mod Cell  -- what is kept of one prefix
 pub mod Cells  -- the cells of all prefixes
+pub mod Logged  -- a change in a list
+pub mod LoggedView  -- the same by its fields
 pub mod Gathered  -- changes in lists, and what they leave
+pub mod Making  -- cells of a list under way
 pub mod GatheringView  -- what was gathered by its fields
 pub mod ClientRowsView  -- the rows of a client still to come, by their fields
 pub mod CellView  -- a cell by its fields

@@ -3,7 +3,7 @@
 //!
 //! A cell is made whole, with room for a route of every peer, so that no later change of it takes memory.
 
-ghost use Rattle.std.specs.Prelude.{◌≡◌, ◌<◌, ◌≤◌, ◌∷◌, [], IfOk, IsTrue, IsFalse, length, vec_capacity};
+ghost use Rattle.std.specs.Prelude.{◌≡◌, ◌<◌, ◌≤◌, ◌∷◌, [], IfOk, IsTrue, IsFalse, OnOk, length, map, vec_capacity};
 ghost use Rattle.std.specs.Option.{option_map};
 ghost use Rattle.rs_choice.specs.Held.{sent_of_held, IsJudged};
 ghost use Rattle.rs_table.specs.ByPeer.{place_of, route_at, with_one, with_route, without_one, without_route};
@@ -51,26 +51,40 @@ impl Cell {
         ensures routes { IfOk result (λ cell. routes_in cell ≡ sent_of_held route ∷ []) }
         ensures cell { IfOk result (λ cell. IsCell plan.now cell) }
     {
-        let mut cell = Cell::undecided(alloc, plan, route)?;
-        cell.decide(plan);
-        Ok(cell)
+        let mut held = Vec::with_capacity(alloc, plan.count())?;
+        held.push(route)?;
+        Cell::decided(alloc, plan, held)
     }
 
-    // A cell of one route, of which nothing is decided yet. Refused memory, there is none.
-    pub(crate) fn undecided(
+    // A cell of some routes, which are moved. Refused memory, there is none.
+    pub(crate) fn of(
         alloc: Global,
         plan: &Exchange,
-        route: HeldRoute,
+        routes: &mut Vec<HeldRoute>,
     ) -> Result<Cell, AllocError>
-        requires { IsJudged plan.now route }
-        ensures routes { IfOk result (λ cell. routes_in cell ≡ sent_of_held route ∷ []) }
-        ensures cell { IfOk result (λ cell. IsUndecided plan.now cell) }
+        requires held { AreHeld plan.now routes.old.items }
+        requires some { 0 < length routes.old.items }
+        ensures routes { IfOk result (λ cell. routes_in cell ≡ map sent_of_held routes.old.items) }
+        ensures cell { IfOk result (λ cell. IsCell plan.now cell) }
+        ensures moved { OnOk result (routes.new.items ≡ []) }
     {
-        let count = plan.count();
-        let bests = SmallVec::from_elem(alloc, 0, count)?;
-        let mut held = Vec::with_capacity(alloc, count)?;
-        held.push(route)?;
-        Ok(Cell { held, bests })
+        let mut held = Vec::with_capacity(alloc, plan.count())?;
+        held.append(routes)?;
+        Cell::decided(alloc, plan, held)
+    }
+
+    // A cell of some routes, with room for one of every peer, and what each client gets of them.
+    fn decided(alloc: Global, plan: &Exchange, held: Vec<HeldRoute>) -> Result<Cell, AllocError>
+        requires held { AreHeld plan.now held.items }
+        requires some { 0 < length held.items }
+        requires room { length plan.now.peers ≤ vec_capacity held }
+        ensures routes { IfOk result (λ cell. routes_in cell ≡ map sent_of_held held.items) }
+        ensures cell { IfOk result (λ cell. IsCell plan.now cell) }
+    {
+        let bests = SmallVec::from_elem(alloc, 0, plan.count())?;
+        let mut cell = Cell { held, bests };
+        cell.decide(plan);
+        Ok(cell)
     }
 
     // Puts a route in the place of any that its peer has, and decides nothing. It takes no memory.
@@ -81,15 +95,6 @@ impl Cell {
         ensures cell { IsUndecided plan.now self.new }
     {
         put(&mut self.held, route);
-    }
-
-    // Removes a peer's route, if it has one, and decides nothing.
-    pub(crate) fn take_out(&mut self, plan: &Exchange, peer: usize)
-        requires { IsUndecided plan.now self.old }
-        ensures routes { routes_in self.new ≡ without_route (routes_in self.old) peer }
-        ensures cell { IsUndecided plan.now self.new }
-    {
-        let _had = take_out(&mut self.held, peer);
     }
 
     // Decides for every client, where there is a route. Answers whether there is one.

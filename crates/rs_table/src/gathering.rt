@@ -5,12 +5,14 @@
 
 ghost use Rattle.std.specs.Prelude.{◌≡◌, ◌≢◌, ◌+◌, ◌<◌, ◌≤◌, ℕ, false, [], IfOk, OnOk, OnErr, length};
 ghost use Rattle.std.specs.Prelude.{slice_index_or, slice_set};
+ghost use Rattle.std.specs.Option.{option_map};
 ghost use Rattle.rs_session.specs.Change.{change_of, is_close};
 ghost use Rattle.rs_table.specs.Content.{nothing_held, rib_of};
 ghost use Rattle.rs_table.specs.Gathered.{AreLogs, GathersTo, IsAdded, lists_of};
 ghost use Rattle.rs_table.specs.Left.{BecomeBy};
 
-use crate::log::{Entry, Log, first_octet};
+use crate::log::{Log, first_octet};
+use crate::logged::LoggedChange;
 use crate::settling::settle;
 use crate::tables::{Tables, closes};
 use rs_choice::{Exchange, MAX_PEERS};
@@ -194,17 +196,11 @@ fn enter(
       time = time;
       losses = slice_index_or losses.now peer 0;
       peer = peer;
-      attributes = attributes;
+      attributes = option_map (λ attributes. attributes.value) attributes;
     }) logs.old logs.new) }
     ensures logs { AreLogs losses.now logs.new }
 {
-    let entry = Entry {
-        prefix,
-        time,
-        losses: losses[peer],
-        peer: peer as u8,
-        attributes,
-    };
+    let entry = LoggedChange::new(prefix, time, losses[peer], peer as u8, attributes);
     logs[first_octet(prefix)].push(entry, losses)
 }
 

@@ -6,8 +6,8 @@
 //! Reading order: `tables` (what each peer has left, and what a client gets on a prefix), `route` (what is
 //! answered), `client_rows` and `listing` (a client's whole table), `why` (and why not), `merge` (parts made
 //! one), `gathering` (changes before tables are made of them), `laws` (of the definitions). Below them `cells`
-//! (of all prefixes), `cell` (of one; who gets which route on it is decided in `rs_choice`), `log` (changes in a
-//! list) and `settling` (the cells of such lists).
+//! (of all prefixes), `cell` (of one; who gets which route on it is decided in `rs_choice`), `logged` (a change
+//! in a list), `log` (a list) and `settling` (the cells of such lists).
 #![tactic(auto)]
 
 mod cell;
@@ -17,6 +17,7 @@ mod gathering;
 mod laws;
 mod listing;
 mod log;
+mod logged;
 mod merge;
 mod route;
 mod settling;

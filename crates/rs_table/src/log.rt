@@ -1,39 +1,14 @@
 //! The changes on the prefixes of one first octet, in the order in which they came (our choice).
 
 ghost use Rattle.std.specs.Prelude.{◌≡◌, ◌/◌, ◌^◌, ◌<◌, ℕ, All, OnOk, if◌then◌else◌};
+ghost use Rattle.std.specs.List.Sorted.{IsStrictlySortedBy};
 ghost use Rattle.rs_update.specs.IpPrefix.{IpPrefix};
-ghost use Rattle.rs_table.specs.Gathered.{IsEntryOf, counts, entry_route, first_octet, is_current, left_in};
+ghost use Rattle.rs_table.specs.Gathered.{IsEntryOf, counts, entry_route, first_octet, left_in};
+ghost use Rattle.rs_table.specs.Gathered.{logged_cmp, IsAnnounced};
 
-use rs_update::{Attributes, Prefix};
+use crate::logged::LoggedChange;
+use rs_update::Prefix;
 use std::alloc::{AllocError, Global};
-use std::mem::size_of;
-use std::sync::Arc;
-
-// One change of a peer on a prefix.
-#[derive(Drop)]
-pub(crate) struct Entry {
-    pub(crate) prefix: Prefix,
-    pub(crate) time: u32,
-    // How many sessions its peer had lost when it came.
-    pub(crate) losses: u32,
-    pub(crate) peer: u8,
-    // The attributes of an announcement, none of a withdrawal.
-    pub(crate) attributes: Option<Arc<Attributes>>,
-}
-
-const _: () = prove!(size_of::<Entry>() <= 40);
-
-impl Entry {
-    // Whether its peer has lost no session since it came, by how many each peer has lost.
-    pub(crate) fn is_current(&self, losses: &[u32]) -> bool
-        ensures { result ≡ is_current losses.now self.now }
-    {
-        match losses.get(usize::from(self.peer)) {
-            Some(lost) => *lost == self.losses,
-            None => false,
-        }
-    }
-}
 
 // The first octet of a prefix.
 pub(crate) fn first_octet(prefix: Prefix) -> usize
@@ -46,14 +21,14 @@ pub(crate) fn first_octet(prefix: Prefix) -> usize
 // The changes on the prefixes of one first octet.
 #[derive(Drop)]
 pub(crate) struct Log {
-    pub(crate) entries: Vec<Entry>,
+    pub(crate) entries: Vec<LoggedChange>,
     // So many entries are compacted before another one comes.
     pub(crate) limit: usize,
 }
 
 impl Log {
     // Takes one change more. Refused memory, nothing that counts is lost but the change.
-    pub(crate) fn push(&mut self, entry: Entry, losses: &[u32]) -> Result<(), AllocError>
+    pub(crate) fn push(&mut self, entry: LoggedChange, losses: &[u32]) -> Result<(), AllocError>
         ensures left { OnOk result ((peer : ℕ) → (prefix : IpPrefix)
             → left_in losses.now self.new.entries.items peer prefix
             ≡ (if counts losses.now peer prefix entry then entry_route entry
@@ -84,18 +59,20 @@ impl Log {
 }
 
 // Leaves of a list the last entry of each peer and prefix, unless its peer has lost a session since or it is a
-// withdrawal.
-fn compact(entries: &mut Vec<Entry>, losses: &[u32]) -> Result<(), AllocError>
+// withdrawal; in ascending order of prefix, and then of peer.
+pub(crate) fn compact(entries: &mut Vec<LoggedChange>, losses: &[u32]) -> Result<(), AllocError>
     ensures left { OnOk result ((peer : ℕ) → (prefix : IpPrefix)
         → left_in losses.now entries.new.items peer prefix ≡ left_in losses.now entries.old.items peer prefix) }
     ensures entries { (octet : ℕ) → All (IsEntryOf losses.now octet) entries.old.items
         → All (IsEntryOf losses.now octet) entries.new.items }
+    ensures ascending { OnOk result (IsStrictlySortedBy logged_cmp entries.new.items) }
+    ensures announced { OnOk result (All (IsAnnounced losses.now) entries.new.items) }
 {
     entries.retain(|entry| entry.is_current(losses));
     // Later entries come first, so the first of equal ones is the last that came.
     entries.reverse();
-    entries.sort_by_key(|entry| (entry.prefix, entry.peer))?;
-    entries.dedup_by_key(|entry| (entry.prefix, entry.peer));
-    entries.retain(|entry| entry.attributes.is_some());
+    entries.sort_by_key(|entry| entry.key())?;
+    entries.dedup_by_key(|entry| entry.key());
+    entries.retain(|entry| entry.announces());
     Ok(())
 }

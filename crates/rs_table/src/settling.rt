@@ -1,22 +1,27 @@
-//! The cells of what was gathered (RFC 4271, section 9.1): each prefix's routes are put into its cell, and each
-//! cell is decided once.
+//! The cells of what was gathered (RFC 4271, section 9.1): of each prefix the routes that are left become a cell,
+//! which is decided once. Lists, and prefixes in them, come in ascending order.
 
-ghost use Rattle.std.specs.Prelude.{◌≡◌, ◌<◌, ℕ, IfOk, OnOk, if◌then◌else◌, length};
+ghost use Rattle.std.specs.Prelude.{◌≡◌, ◌<◌, ◌≢◌, ℕ, [], true, IfOk, OnOk, if◌then◌else◌, length};
+ghost use Rattle.std.specs.Option.{is_some};
+ghost use Rattle.std.specs.declared.cmp.Ordering.TheVariants.{Less};
 ghost use Rattle.rs_update.specs.IpPrefix.{IpPrefix};
-ghost use Rattle.rs_choice.specs.Held.{sent_of_held, IsJudged};
-ghost use Rattle.rs_table.specs.ByPeer.{route_at, with_route, without_route};
-ghost use Rattle.rs_table.specs.Cells.{routes_at, AreCells, AreUndecided};
-ghost use Rattle.rs_table.specs.Gathered.{AreLogs, counts, entry_change, entry_route, left_at, left_over};
-ghost use Rattle.rs_table.specs.Left.{same_prefix};
+ghost use Rattle.rs_update.specs.PrefixOrder.{prefix_cmp};
+ghost use Rattle.rs_table.specs.ByPeer.{route_at};
+ghost use Rattle.rs_table.specs.Cells.{routes_at, AreCells};
+ghost use Rattle.rs_table.specs.Gathered.{AreLogs, entry_route, is_of, left_at, left_in};
+ghost use Rattle.rs_table.specs.Logged.{Logged};
+ghost use Rattle.rs_table.specs.Making.{routes_so_far, IsBefore, IsMaking, IsNext, StaysAbove};
 
 use crate::cell::Cell;
-use crate::log::{Entry, Log};
+use crate::cells::join;
+use crate::log::{Log, compact};
+use crate::logged::LoggedChange;
 use rs_choice::{Exchange, HeldRoute};
 use rs_update::Prefix;
 use std::alloc::{AllocError, Global};
 use std::collections::BTreeMap;
 
-// The cells of what lists of changes leave.
+// The cells of what lists of changes leave. Each list is freed once its cells are made.
 pub(crate) fn settle(
     alloc: Global,
     plan: &Exchange,
@@ -31,130 +36,106 @@ pub(crate) fn settle(
 {
     let mut cells = BTreeMap::new(alloc);
     for log in logs {
-        replay(alloc, &mut cells, plan, losses, log.entries)?;
+        let more = cells_of(alloc, plan, losses, log.entries)?;
+        cells = join(alloc, cells, more)?;
     }
-    decide_all(&mut cells, plan);
     Ok(cells)
 }
 
-// Makes in the cells, in their order, the changes that count.
-fn replay(
+// The cells of what a list leaves.
+fn cells_of(
     alloc: Global,
-    cells: &mut BTreeMap<Prefix, Cell>,
     plan: &Exchange,
     losses: &[u32],
-    entries: Vec<Entry>,
-) -> Result<(), AllocError>
-    requires cells { AreUndecided plan.now cells.old.entries }
-    requires count { length losses.now ≡ length plan.now.peers }
-    ensures routes { OnOk result ((peer : ℕ) → (prefix : IpPrefix)
-        → route_at (routes_at cells.new.entries prefix) peer
-        ≡ left_over losses.now entries.items peer prefix (route_at (routes_at cells.old.entries prefix) peer)) }
-    ensures cells { OnOk result (AreUndecided plan.now cells.new.entries) }
+    entries: Vec<LoggedChange>,
+) -> Result<BTreeMap<Prefix, Cell>, AllocError>
+    requires { length losses.now ≡ length plan.now.peers }
+    ensures routes { IfOk result (λ cells. (peer : ℕ) → (prefix : IpPrefix)
+        → route_at (routes_at cells.entries prefix) peer ≡ left_in losses.now entries.items peer prefix) }
+    ensures cells { IfOk result (λ cells. AreCells plan.now cells.entries) }
 {
+    let mut entries = entries;
+    compact(&mut entries, losses)?;
+    let Some(first) = entries.first() else {
+        return Ok(BTreeMap::new(alloc));
+    };
+    let mut making = Making {
+        prefix: first.prefix(),
+        held: Vec::with_capacity(alloc, plan.count())?,
+        cells: BTreeMap::new(alloc),
+    };
     for entry in entries {
-        replay_one(alloc, cells, plan, losses, entry)?;
+        making.add(alloc, plan, entry)?;
     }
-    Ok(())
+    making.close(alloc, plan)?;
+    Ok(making.cells)
 }
 
-// Makes one change in the cells, if it counts.
-fn replay_one(
-    alloc: Global,
-    cells: &mut BTreeMap<Prefix, Cell>,
-    plan: &Exchange,
-    losses: &[u32],
-    entry: Entry,
-) -> Result<(), AllocError>
-    requires cells { AreUndecided plan.now cells.old.entries }
-    requires count { length losses.now ≡ length plan.now.peers }
-    ensures routes { OnOk result ((peer : ℕ) → (prefix : IpPrefix)
-        → route_at (routes_at cells.new.entries prefix) peer
-        ≡ (if counts losses.now peer prefix entry then entry_route entry
-        else route_at (routes_at cells.old.entries prefix) peer)) }
-    ensures cells { OnOk result (AreUndecided plan.now cells.new.entries) }
-{
-    if !entry.is_current(losses) {
-        return Ok(());
-    }
-    make(alloc, cells, plan, entry)
-}
-
-// Makes one change in the cells.
-fn make(
-    alloc: Global,
-    cells: &mut BTreeMap<Prefix, Cell>,
-    plan: &Exchange,
-    entry: Entry,
-) -> Result<(), AllocError>
-    requires known { entry.peer < length plan.now.peers }
-    requires cells { AreUndecided plan.now cells.old.entries }
-    ensures routes { OnOk result ((prefix : IpPrefix) → routes_at cells.new.entries prefix
-        ≡ (if same_prefix prefix entry.prefix then entry_change entry (routes_at cells.old.entries prefix)
-        else routes_at cells.old.entries prefix)) }
-    ensures cells { OnOk result (AreUndecided plan.now cells.new.entries) }
-{
-    let Entry {
-        prefix,
-        time,
-        losses: _,
-        peer,
-        attributes,
-    } = entry;
-    match attributes {
-        Some(attributes) => {
-            let route = plan.hold(usize::from(peer), time, attributes);
-            put(alloc, cells, plan, prefix, route)
-        }
-        None => {
-            take_out(cells, plan, prefix, usize::from(peer));
-            Ok(())
-        }
-    }
-}
-
-// Puts a route into the cell of a prefix, which is made where there is none. Nothing is decided.
-fn put(
-    alloc: Global,
-    cells: &mut BTreeMap<Prefix, Cell>,
-    plan: &Exchange,
+// The cells of a list under way.
+#[derive(Drop)]
+struct Making {
+    // The cells of the prefixes before this one.
+    cells: BTreeMap<Prefix, Cell>,
     prefix: Prefix,
-    route: HeldRoute,
-) -> Result<(), AllocError>
-    requires judged { IsJudged plan.now route }
-    requires cells { AreUndecided plan.now cells.old.entries }
-    ensures routes { OnOk result ((q : IpPrefix) → routes_at cells.new.entries q
-        ≡ (if same_prefix q prefix then with_route (routes_at cells.old.entries q) (sent_of_held route)
-        else routes_at cells.old.entries q)) }
-    ensures cells { OnOk result (AreUndecided plan.now cells.new.entries) }
-{
-    if let Some(cell) = cells.get_mut(&prefix) {
-        cell.put(plan, route);
-        return Ok(());
-    }
-    let cell = Cell::undecided(alloc, plan, route)?;
-    cells.insert(prefix, cell)?;
-    Ok(())
+    // The routes on it so far.
+    held: Vec<HeldRoute>,
 }
 
-// Takes a peer's route out of the cell of a prefix. Nothing is decided, and a cell may be left without a route.
-fn take_out(cells: &mut BTreeMap<Prefix, Cell>, plan: &Exchange, prefix: Prefix, peer: usize)
-    requires { AreUndecided plan.now cells.old.entries }
-    ensures routes { (q : IpPrefix) → routes_at cells.new.entries q
-        ≡ (if same_prefix q prefix then without_route (routes_at cells.old.entries q) peer
-        else routes_at cells.old.entries q) }
-    ensures cells { AreUndecided plan.now cells.new.entries }
-{
-    if let Some(cell) = cells.get_mut(&prefix) {
-        cell.take_out(plan, peer);
+impl Making {
+    // Takes the route of the next announcement.
+    fn add(&mut self, alloc: Global, plan: &Exchange, entry: LoggedChange) -> Result<(), AllocError>
+        requires making { IsMaking plan.now self.old }
+        requires next { IsNext self.old entry }
+        requires known { entry.peer < length plan.now.peers }
+        requires announced { is_some entry.attributes ≡ true }
+        ensures making { OnOk result (IsMaking plan.now self.new) }
+        ensures routes { OnOk result ((peer : ℕ) → (prefix : IpPrefix)
+            → route_at (routes_so_far self.new prefix) peer
+            ≡ (if is_of peer prefix entry then entry_route entry
+            else route_at (routes_so_far self.old prefix) peer)) }
+        ensures next { OnOk result ((later : Logged) → IsBefore entry later → IsNext self.new later) }
+    {
+        self.turn_to(alloc, plan, entry.prefix())?;
+        let (peer, time, attributes) = entry.into_parts();
+        let Some(attributes) = attributes else {
+            unreachable!();
+        };
+        let route = plan.hold(usize::from(peer), time, attributes);
+        self.held.push(route)?;
+        Ok(())
     }
-}
 
-// Decides each cell, and drops those without a route.
-fn decide_all(cells: &mut BTreeMap<Prefix, Cell>, plan: &Exchange)
-    requires { AreUndecided plan.now cells.old.entries }
-    ensures routes { (prefix : IpPrefix) → routes_at cells.new.entries prefix ≡ routes_at cells.old.entries prefix }
-    ensures cells { AreCells plan.now cells.new.entries }
-{
-    cells.retain(|_, cell| cell.settle(plan));
+    // Goes on to a prefix, if it isn't there yet.
+    fn turn_to(&mut self, alloc: Global, plan: &Exchange, prefix: Prefix) -> Result<(), AllocError>
+        requires making { IsMaking plan.now self.old }
+        requires ascends { prefix_cmp prefix self.old.prefix ≢ Less }
+        ensures making { OnOk result (IsMaking plan.now self.new) }
+        ensures routes { OnOk result ((q : IpPrefix) → routes_so_far self.new q ≡ routes_so_far self.old q) }
+        ensures prefix { OnOk result (self.new.prefix ≡ prefix) }
+        ensures above { OnOk result (StaysAbove prefix self.old self.new) }
+    {
+        if prefix == self.prefix {
+            return Ok(());
+        }
+        self.close(alloc, plan)?;
+        self.prefix = prefix;
+        Ok(())
+    }
+
+    // Makes the cell of the prefix, if there is a route on it.
+    fn close(&mut self, alloc: Global, plan: &Exchange) -> Result<(), AllocError>
+        requires { IsMaking plan.now self.old }
+        ensures routes { OnOk result ((q : IpPrefix)
+            → routes_at self.new.cells.entries q ≡ routes_so_far self.old q) }
+        ensures cells { OnOk result (AreCells plan.now self.new.cells.entries) }
+        ensures empty { OnOk result (self.new.held.items ≡ []) }
+        ensures prefix { self.new.prefix ≡ self.old.prefix }
+    {
+        if self.held.is_empty() {
+            return Ok(());
+        }
+        let cell = Cell::of(alloc, plan, &mut self.held)?;
+        self.cells.insert(self.prefix, cell)?;
+        Ok(())
+    }
 }

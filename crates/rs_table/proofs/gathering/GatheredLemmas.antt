@@ -13,7 +13,7 @@ use Rattle.std.proofs.lemmas.List.Folds.{list_any-append}
 use Rattle.std.proofs.lemmas.Option.{slice_get-get_or, slice_get_past}
 use Rattle.rs_update.specs.IpPrefix.{IpPrefix}
 use Rattle.rs_session.specs.Change.{Change}
-use Rattle.rs_table.specs.declared.log.Entry.{Entry}
+use Rattle.rs_table.specs.Logged.{Logged}
 use Rattle.rs_table.specs.declared.log.Log.{Log}
 use Rattle.rs_table.specs.Left.{RouteLeft, same_prefix}
 use Rattle.rs_table.specs.Gathered.{AreLogs, GathersTo, IsAdded, IsEntryOf, counts, entry_route, first_octet, is_current, is_of, left_after}
@@ -23,7 +23,7 @@ use Rattle.rs_table.proofs.log.ListLemmas.{find-agree, left-none, none-any, unco
 
 -- ---- the routes of one peer
 
-named-not : (q : IpPrefix) (entries : List Entry) (rest : List (List Entry))
+named-not : (q : IpPrefix) (entries : List Logged) (rest : List (List Logged))
     → list_any (same_prefix q) (prefixes_in (entries ∷ rest)) ≡ false
     → (list_any (same_prefix q) (map (λ entry. entry.prefix) entries) ≡ false) × (list_any (same_prefix q) (prefixes_in rest) ≡ false)
 named-not q entries rest none =
@@ -32,13 +32,13 @@ named-not q entries rest none =
     (sym (list_any-append (same_prefix q) here (prefixes_in rest)) ∙ none)
 
 -- lists that don't name a prefix have no entry that counts there
-unnamed : (q : IpPrefix) (lists : List (List Entry)) (octet : ℕ) → list_any (same_prefix q) (prefixes_in lists) ≡ false
+unnamed : (q : IpPrefix) (lists : List (List Logged)) (octet : ℕ) → list_any (same_prefix q) (prefixes_in lists) ≡ false
     → list_any (same_prefix q) (map (λ entry. entry.prefix) (get_or lists octet [])) ≡ false
 unnamed q [] octet none = refl
 unnamed q (entries ∷ rest) zero none = (named-not q entries rest none).0
 unnamed q (entries ∷ rest) (suc octet) none = unnamed q rest octet (named-not q entries rest none).1
 
-uncounted : (losses : List ℕ) (peer : ℕ) (q : IpPrefix) (entries : List Entry)
+uncounted : (losses : List ℕ) (peer : ℕ) (q : IpPrefix) (entries : List Logged)
     → list_any (same_prefix q) (map (λ entry. entry.prefix) entries) ≡ false
     → list_any (counts losses peer q) entries ≡ false
 uncounted losses peer q [] none = refl
@@ -67,16 +67,16 @@ entered-list logs octet log within = get_or-map (λ (log : Log). log.entries.ite
 module _ (losses : List ℕ) (logs : List Log) (octet : ℕ) (log : Log) (within : octet < length logs) where
   list-same : get_or (lists_of (set logs octet log)) octet [] ≡ log.entries.items
   list-same =
-      ap (λ (lists : List (List Entry)). get_or lists octet []) (map-set (λ (log : Log). log.entries.items) logs octet log)
+      ap (λ (lists : List (List Logged)). get_or lists octet []) (map-set (λ (log : Log). log.entries.items) logs octet log)
       ∙ get_or-set_same (lists_of logs) octet log.entries.items []
       (omega (arith, within, length-map logs (λ (log : Log). log.entries.items)))
 
   list-other : (other : ℕ) → other ≢ octet → get_or (lists_of (set logs octet log)) other [] ≡ get_or (lists_of logs) other []
   list-other other apart =
-      ap (λ (lists : List (List Entry)). get_or lists other []) (map-set (λ (log : Log). log.entries.items) logs octet log)
+      ap (λ (lists : List (List Logged)). get_or lists other []) (map-set (λ (log : Log). log.entries.items) logs octet log)
       ∙ get_or-set_other (lists_of logs) octet other log.entries.items [] apart
 
-  pub added : (entry : Entry) → first_octet entry.prefix ≡ octet
+  pub added : (entry : Logged) → first_octet entry.prefix ≡ octet
       → ((peer : ℕ) (prefix : IpPrefix) → left_in losses log.entries.items peer prefix
       ≡ cond (counts losses peer prefix entry) (entry_route entry) (left_in losses (get_or (lists_of logs) octet []) peer prefix))
       → IsAdded losses entry logs (set logs octet log)
@@ -84,12 +84,12 @@ module _ (losses : List ℕ) (logs : List Log) (octet : ℕ) (log : Log) (within
       elim (cases_eq (first_octet prefix) octet) [
         | inl here ↦
             ap (λ (k : ℕ). left_in losses (get_or (lists_of (set logs octet log)) k []) peer prefix) here
-            ∙ ap (λ (entries : List Entry). left_in losses entries peer prefix) list-same
+            ∙ ap (λ (entries : List Logged). left_in losses entries peer prefix) list-same
             ∙ left peer prefix
             ∙ ap (λ (k : ℕ). cond (counts losses peer prefix entry) (entry_route entry)
             (left_in losses (get_or (lists_of logs) k []) peer prefix)) (sym here)
         | inr there ↦
-            ap (λ (entries : List Entry). left_in losses entries peer prefix) (list-other (first_octet prefix) there)
+            ap (λ (entries : List Logged). left_in losses entries peer prefix) (list-other (first_octet prefix) there)
             ∙ ap (λ (b : Bool). cond b (entry_route entry) (left_at losses logs peer prefix))
             (sym (uncounted-octet losses peer prefix entry octet octet_is there))
       ]
@@ -127,7 +127,7 @@ module _ (losses : List ℕ) (peer : ℕ) (known : peer < length losses) (later 
         | inr past ↦ slice_get_past later other (omega (arith, past, as_many)) ∙ sym (slice_get_past losses other past)
       ]
 
-  void : (entry : Entry) → entry.peer ≡ peer → entry.losses ≤ get_or losses entry.peer 0 → is_current later entry ≡ false
+  void : (entry : Logged) → entry.peer ≡ peer → entry.losses ≤ get_or losses entry.peer 0 → is_current later entry ≡ false
   void entry own few =
       let few_own : entry.losses ≤ get_or losses peer 0 = subst (λ (p : ℕ). entry.losses ≤ get_or losses p 0) own few in
       ap (λ (p : ℕ). option_map_or (λ lost. lost == entry.losses) (slice_get later p) false) own
@@ -139,7 +139,7 @@ module _ (losses : List ℕ) (peer : ℕ) (known : peer < length losses) (later 
       ]
 
   -- after it none of the peer's entries counts
-  none-own : (prefix : IpPrefix) (octet : ℕ) (entry : Entry) → IsEntryOf losses octet entry → counts later peer prefix entry ≡ false
+  none-own : (prefix : IpPrefix) (octet : ℕ) (entry : Logged) → IsEntryOf losses octet entry → counts later peer prefix entry ≡ false
   none-own prefix octet entry is =
       elim (eqb_tells entry.peer peer) [
         | inl own ↦ uncounted-void later peer prefix entry (void entry own.1 is.losses_are)
@@ -147,7 +147,7 @@ module _ (losses : List ℕ) (peer : ℕ) (known : peer < length losses) (later 
       ]
 
   -- and those of other peers as before
-  others-same : (other : ℕ) → other ≢ peer → (prefix : IpPrefix) (entry : Entry)
+  others-same : (other : ℕ) → other ≢ peer → (prefix : IpPrefix) (entry : Logged)
       → counts later other prefix entry ≡ counts losses other prefix entry
   others-same other apart prefix entry =
       elim (eqb_tells entry.peer other) [
@@ -188,20 +188,20 @@ module _ (losses : List ℕ) (peer : ℕ) (known : peer < length losses) (later 
             (none-own prefix (first_octet prefix)) entries (are.entries (first_octet prefix))))
             ∙ sym (ends prefix (left_at losses logs other prefix)))
         | inr apart ↦
-            rw apart.0 (ap (λ (o : Option Entry). option_map_or entry_route o None)
+            rw apart.0 (ap (λ (o : Option Logged). option_map_or entry_route o None)
             (find-agree (counts later other prefix) (counts losses other prefix) (others-same other (λ e. apart.1 (sym e)) prefix)
             (reverse entries)))
       ]
 
 -- ---- an entry is a change of its peer
 
-current-now : (losses : List ℕ) (entry : Entry) → entry.peer < length losses → entry.losses ≡ get_or losses entry.peer 0
+current-now : (losses : List ℕ) (entry : Logged) → entry.peer < length losses → entry.losses ≡ get_or losses entry.peer 0
     → is_current losses entry ≡ true
 current-now losses entry known now =
     ap (λ (o : Option ℕ). option_map_or (λ lost. lost == entry.losses) o false) (slice_get-get_or losses entry.peer 0 known)
     ∙ elim (eqb_tells (get_or losses entry.peer 0) entry.losses) [ inl same ↦ same.0 | inr apart ↦ absurd (apart.1 (sym now)) ]
 
-pub entered : (losses : List ℕ) (entry : Entry) (change : Change) (logs later : List Log) → entry.peer < length losses
+pub entered : (losses : List ℕ) (entry : Logged) (change : Change) (logs later : List Log) → entry.peer < length losses
     → entry.losses ≡ get_or losses entry.peer 0
     → ((q : IpPrefix) (before : Option RouteLeft) → left_after change q before
     ≡ cond (same_prefix q entry.prefix) (entry_route entry) before)

@@ -8,7 +8,7 @@ use Rattle.std.proofs.lemmas.List.{get_or_past}
 use Rattle.rs_update.specs.IpPrefix.{IpPrefix}
 use Rattle.rs_session.specs.Change.{Change}
 use Rattle.rs_choice.specs.Plan.{Plan}
-use Rattle.rs_table.specs.declared.log.Entry.{Entry}
+use Rattle.rs_table.specs.Logged.{Logged}
 use Rattle.rs_table.specs.declared.log.Log.{Log}
 use Rattle.std.specs.Vec.{with_items}
 use Rattle.std.proofs.Common.{Vec, Global}
@@ -158,7 +158,7 @@ module _ (losses : List ℕ) (logs : List Log) (empty : (octet : ℕ) → get_or
             held-rib plan (routes_gathered losses logs) closed peer known
             ∙ (λ i. record {
               routes = gathered-none losses logs
-                  (λ p q. ap (λ (entries : List Entry). left_in losses entries p q) (empty (first_octet q))) peer i;
+                  (λ p q. ap (λ (entries : List Logged). left_in losses entries p q) (empty (first_octet q))) peer i;
               closed =
                   open_all peer i;
             })

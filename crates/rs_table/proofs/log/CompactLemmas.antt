@@ -12,18 +12,17 @@ use Rattle.std.specs.declared.cmp.Ordering.TheVariants.{Less, Equal, Greater}
 use Rattle.std.proofs.lemmas.Bool.{cases_Bool, and_right, eq-eqb, or_parts}
 use Rattle.std.proofs.lemmas.Bool.Decides.{eqb_tells}
 use Rattle.std.proofs.lemmas.List.{reverse-append}
-use Rattle.std.proofs.lemmas.List.Elements.{All-filter, All-from_recursion, All-head, All-tail, All-weaker, filter-append}
-use Rattle.std.proofs.lemmas.List.Kept.{IsStrictlySortedBy-dedup}
+use Rattle.std.proofs.lemmas.List.Elements.{All-filter, All-head, All-tail, All-weaker, filter-append, filter_passes}
+use Rattle.std.proofs.lemmas.List.Kept.{IsStrictlySortedBy-dedup, IsStrictlySortedBy-filter}
 use Rattle.std.proofs.lemmas.List.Filters.{All-dedup}
 use Rattle.std.proofs.lemmas.List.Sorted.{All-permutation, IsPermutation-reverse}
 use Rattle.rs_update.specs.IpPrefix.{IpPrefix}
 use Rattle.rs_update.specs.PrefixOrder.{prefix_cmp}
-use Rattle.rs_table.specs.declared.log.Entry.{Entry}
+use Rattle.rs_table.specs.Logged.{Logged}
 use Rattle.rs_table.specs.Left.{RouteLeft, same_prefix}
-use Rattle.rs_table.specs.Gathered.{counts, entry_route, is_current, is_of, left_in}
+use Rattle.rs_table.specs.Gathered.{announces, counts, entry_route, is_current, is_of, left_in, logged_cmp, IsAnnounced}
 use Rattle.rs_table.proofs.LeftLemmas.{find_last_more, find_none, list_any-reverse, or_none}
 use Rattle.rs_table.proofs.PrefixLemmas.{prefix_total}
-use Rattle.rs_table.proofs.tables.StoredLemmas.{filter_passes}
 
 -- ---- searches and filters
 
@@ -90,17 +89,17 @@ module _ {X : Type 0} (p : X → Bool) (same : X → X → Bool) (agree : (x y :
 
 -- ---- the keys of entries
 
-abbrev pub key : Entry → IpPrefix × ℕ
-key entry = (entry.prefix, entry.peer)
+abbrev pub key : Logged → (ℕ × ℕ) × ℕ
+key entry = ((entry.prefix.address, entry.prefix.len), entry.peer)
 
-abbrev pub key_cmp : IpPrefix × ℕ → IpPrefix × ℕ → Ordering
-key_cmp one other = ordering_then (prefix_cmp one.0 other.0) (nat_cmp one.1 other.1)
+abbrev pub key_cmp : (ℕ × ℕ) × ℕ → (ℕ × ℕ) × ℕ → Ordering
+key_cmp one other = ordering_then (ordering_then (nat_cmp one.0.0 other.0.0) (nat_cmp one.0.1 other.0.1)) (nat_cmp one.1 other.1)
 
-abbrev pub entry_cmp : Entry → Entry → Ordering
-entry_cmp one other = key_cmp (key one) (key other)
+abbrev entry_cmp : Logged → Logged → Ordering
+entry_cmp = logged_cmp
 
 entry_total : IsTotalOrder entry_cmp
-entry_total = then_total (on_total (λ (e : Entry). e.prefix) prefix_total) (on_total (λ (e : Entry). e.peer) nat_cmp_total)
+entry_total = then_total (on_total (λ (e : Logged). e.prefix) prefix_total) (on_total (λ (e : Logged). e.peer) nat_cmp_total)
 
 eq-then : (r s : Ordering) → is_eq (ordering_then r s) ≡ (is_eq r && is_eq s)
 eq-then Less s = refl
@@ -124,17 +123,17 @@ swap-and false true = refl
 swap-and false false = refl
 
 -- an entry of a peer and a prefix, for the search of others
-abbrev of : ℕ → IpPrefix → Entry
+abbrev of : ℕ → IpPrefix → Logged
 of peer prefix = record { prefix = prefix; time = 0; losses = 0; peer = peer; attributes = None }
 
-eq-of : (peer : ℕ) (prefix : IpPrefix) (entry : Entry) → is_eq (entry_cmp (of peer prefix) entry) ≡ is_of peer prefix entry
+eq-of : (peer : ℕ) (prefix : IpPrefix) (entry : Logged) → is_eq (entry_cmp (of peer prefix) entry) ≡ is_of peer prefix entry
 eq-of peer prefix entry =
     eq-then (prefix_cmp prefix entry.prefix) (nat_cmp peer entry.peer)
     ∙ ap (λ b. same_prefix prefix entry.prefix && b) (eq-nat peer entry.peer)
     ∙ swap-and (same_prefix prefix entry.prefix) (entry.peer == peer)
 
 -- entries that tie are those of one peer and prefix
-tie-is : (x y : Entry) → ties (λ x y. is_lt (entry_cmp x y)) x y ≡ is_eq (entry_cmp x y)
+tie-is : (x y : Logged) → ties (λ x y. is_lt (entry_cmp x y)) x y ≡ is_eq (entry_cmp x y)
 tie-is x y = by_both (entry_cmp x y) (entry_cmp y x) (entry_total.antisymm x y)
   where
     by_both : (r s : Ordering) → r ≡ ordering_reverse s → (not (is_lt r) && not (is_lt s)) ≡ is_eq r
@@ -147,20 +146,20 @@ tie-is x y = by_both (entry_cmp x y) (entry_cmp y x) (entry_total.antisymm x y)
     by_both Greater Greater e = absurd (cc e)
 
 -- entries that are equal by their keys are of the same peers and prefixes
-alike : (peer : ℕ) (prefix : IpPrefix) (x y : Entry) → is_eq (entry_cmp x y) ≡ true → is_of peer prefix x ≡ is_of peer prefix y
+alike : (peer : ℕ) (prefix : IpPrefix) (x y : Logged) → is_eq (entry_cmp x y) ≡ true → is_of peer prefix x ≡ is_of peer prefix y
 alike peer prefix x y tied =
     let tie = (Equal-is (entry_cmp x y)).0 tied in
     sym (eq-of peer prefix x) ∙ ap is_eq (back (of peer prefix) x y tie) ∙ eq-of peer prefix y
   where
-    back : (z x y : Entry) → entry_cmp x y ≡ Equal → entry_cmp z x ≡ entry_cmp z y
+    back : (z x y : Logged) → entry_cmp x y ≡ Equal → entry_cmp z x ≡ entry_cmp z y
     back z x y tie =
         entry_total.antisymm z x ∙ ap ordering_reverse (entry_total.congr x y z tie) ∙ sym (entry_total.antisymm z y)
 
 -- two entries are of one peer and prefix
-abbrev pub same_key : Entry → Entry → Bool
+abbrev pub same_key : Logged → Logged → Bool
 same_key x y = same_prefix x.prefix y.prefix && (x.peer == y.peer)
 
-pub same_key-tells : (x y : Entry) → same_key x y ≡ is_eq (entry_cmp x y)
+pub same_key-tells : (x y : Logged) → same_key x y ≡ is_eq (entry_cmp x y)
 same_key-tells x y =
     sym (eq-then (prefix_cmp x.prefix y.prefix) (nat_cmp x.peer y.peer)
     ∙ ap (λ b. same_prefix x.prefix y.prefix && b) (eq-nat x.peer y.peer ∙ turned x.peer y.peer))
@@ -175,26 +174,26 @@ same_key-tells x y =
 -- ---- step by step
 
 -- after a stable sort by key a search finds the same
-find-sorted : (xs ys : List Entry) → IsStableByKey key key_cmp xs ys → (peer : ℕ) (prefix : IpPrefix)
+find-sorted : (xs ys : List Logged) → IsStableByKey key key_cmp xs ys → (peer : ℕ) (prefix : IpPrefix)
     → find (is_of peer prefix) ys ≡ find (is_of peer prefix) xs
 find-sorted xs ys stable peer prefix =
-    let one : Entry = of peer prefix in
-    let test : Entry → Bool = ties (λ x y. is_lt (entry_cmp x y)) one in
-    let agree : (y : Entry) → test y ≡ is_of peer prefix y = λ y. tie-is one y ∙ eq-of peer prefix y in
+    let one : Logged = of peer prefix in
+    let test : Logged → Bool = ties (λ x y. is_lt (entry_cmp x y)) one in
+    let agree : (y : Logged) → test y ≡ is_of peer prefix y = λ y. tie-is one y ∙ eq-of peer prefix y in
     sym (find-first (is_of peer prefix) ys)
     ∙ ap (find (is_of peer prefix)) (sym (filter-agree test (is_of peer prefix) agree ys) ∙ stable one
     ∙ filter-agree test (is_of peer prefix) agree xs)
     ∙ find-first (is_of peer prefix) xs
 
 -- behind an entry of a lower key stands none of its peer and prefix
-none-behind : (peer : ℕ) (prefix : IpPrefix) (x : Entry) (rest : List Entry) → is_of peer prefix x ≡ true
+none-behind : (peer : ℕ) (prefix : IpPrefix) (x : Logged) (rest : List Logged) → is_of peer prefix x ≡ true
     → AllByRecursion (λ y. entry_cmp x y ≡ Less) rest
     → list_any (is_of peer prefix) rest ≡ false
 none-behind peer prefix x [] is below = refl
 none-behind peer prefix x (y ∷ ys) is below =
     elim (cases_Bool (is_of peer prefix y)) [
       | inl too ↦
-          let one : Entry = of peer prefix in
+          let one : Logged = of peer prefix in
           let tie_x : entry_cmp one x ≡ Equal = (Equal-is (entry_cmp one x)).0 (eq-of peer prefix x ∙ is) in
           let tie_y : entry_cmp one y ≡ Equal = (Equal-is (entry_cmp one y)).0 (eq-of peer prefix y ∙ too) in
           let tied : entry_cmp x y ≡ Equal = sym (entry_total.congr one x y tie_x) ∙ tie_y in
@@ -212,25 +211,22 @@ any-filtered p keeps (x ∷ xs) none =
       | inr goes ↦ rw goes (any-filtered p keeps xs parts.1)
     ]
 
-abbrev pub announces : Entry → Bool
-announces entry = is_some entry.attributes
-
 none-mapped : {A B : Type 0} (f : A → B) (o : Option A) → is_some o ≡ false → option_map f o ≡ None
 none-mapped f None e = refl
 none-mapped f (Some a) e = absurd (cc e)
 
-no-route : (entry : Entry) → announces entry ≡ false → entry_route entry ≡ None
+no-route : (entry : Logged) → announces entry ≡ false → entry_route entry ≡ None
 no-route entry e = none-mapped _ entry.attributes e
 
 -- among entries that ascend strictly by key, withdrawals may go
-announced-left : (peer : ℕ) (prefix : IpPrefix) (entries : List Entry) → IsStrictlySortedBy entry_cmp entries →
+announced-left : (peer : ℕ) (prefix : IpPrefix) (entries : List Logged) → IsStrictlySortedBy entry_cmp entries →
     option_map_or entry_route (find (is_of peer prefix) (reverse (filter announces entries))) None
     ≡ option_map_or entry_route (find (is_of peer prefix) entries) None
 unfolding IsStrictlySortedBy
 announced-left peer prefix [] sorted = refl
 announced-left peer prefix (x ∷ rest) sorted =
-    let p : Entry → Bool = is_of peer prefix in
-    let route : Option Entry → Option RouteLeft = λ o. option_map_or entry_route o None in
+    let p : Logged → Bool = is_of peer prefix in
+    let route : Option Logged → Option RouteLeft = λ o. option_map_or entry_route o None in
     let later = filter announces rest in
     elim (cases_Bool (p x)) [
       | inl here ↦
@@ -239,7 +235,7 @@ announced-left peer prefix (x ∷ rest) sorted =
           (any-filtered p announces rest (none-behind peer prefix x rest here sorted.0))) in
           let only : find p (x ∷ []) ≡ Some x = rw here refl in
           let found : find p (reverse (x ∷ later)) ≡ Some x =
-          find_last_more p x later ∙ ap (λ (o : Option Entry). option_or o (find p (x ∷ []))) none ∙ only in
+          find_last_more p x later ∙ ap (λ (o : Option Logged). option_or o (find p (x ∷ []))) none ∙ only in
           elim (cases_Bool (announces x)) [
             | inl stays ↦ rw (stays, here) (ap route found)
             | inr goes ↦ rw (goes, here) (ap route none ∙ sym (no-route x goes))
@@ -256,35 +252,47 @@ announced-left peer prefix (x ∷ rest) sorted =
 
 -- ---- the whole
 
-module _ (losses : List ℕ) (old current turned sorted short new : List Entry)
+module _ (losses : List ℕ) (old current turned sorted short new : List Logged)
     (current_is : current ≡ filter (is_current losses) old) (turned_is : turned ≡ reverse current) (moved : IsPermutation turned sorted)
-    (same : Entry → Entry → Bool) (tells : (x y : Entry) → same x y ≡ is_eq (entry_cmp x y)) (short_is : short ≡ dedup same sorted)
+    (same : Logged → Logged → Bool) (tells : (x y : Logged) → same x y ≡ is_eq (entry_cmp x y)) (short_is : short ≡ dedup same sorted)
     (new_is : new ≡ filter announces short) where
-  kept-sorted : (P : Entry → Type 0) → All P current → All P sorted
+  kept-sorted : (P : Logged → Type 0) → All P current → All P sorted
   kept-sorted P all =
       All-permutation P turned sorted moved (subst (All P) (sym turned_is)
       (All-permutation P current (reverse current) (IsPermutation-reverse current) all))
 
-  kept-new : (P : Entry → Type 0) → All P current → All P new
+  kept-new : (P : Logged → Type 0) → All P current → All P new
   kept-new P all = subst (All P) (sym new_is) (All-filter announces P short
       (subst (All P) (sym short_is) (All-dedup same P sorted (kept-sorted P all))))
 
   -- no entry is made up
-  pub kept : (P : Entry → Type 0) → All P old → All P new
+  pub kept : (P : Logged → Type 0) → All P old → All P new
   kept P all = kept-new P (subst (All P) (sym current_is) (All-filter (is_current losses) P old all))
 
   all-current : All (λ entry. is_current losses entry ≡ true) new
   all-current =
-      kept-new (λ entry. is_current losses entry ≡ true)
-      (subst (All (λ entry. is_current losses entry ≡ true)) (sym current_is)
-      (All-from_recursion (λ entry. is_current losses entry ≡ true) (filter (is_current losses) old)
-      (filter_passes (is_current losses) old)))
+      kept-new (λ entry. is_current losses entry ≡ true) (subst (All (λ entry. is_current losses entry ≡ true)) (sym current_is)
+      (filter_passes (is_current losses) old))
+
+  -- what stays is announced
+  pub all-announced : All (IsAnnounced losses) new
+  all-announced k d within =
+      let announced : All (λ entry. announces entry ≡ true) new =
+      subst (All (λ entry. announces entry ≡ true)) (sym new_is) (filter_passes announces short) in
+      (all-current k d within, announced k d within)
+
+  -- and ascends
+  pub ascending : IsSortedByKey key key_cmp sorted → IsStrictlySortedBy logged_cmp new
+  ascending up =
+      subst (IsStrictlySortedBy logged_cmp) (sym new_is)
+      (IsStrictlySortedBy-filter logged_cmp announces short
+      (subst (IsStrictlySortedBy logged_cmp) (sym short_is) (IsStrictlySortedBy-dedup entry_total tells sorted up)))
 
   module _ (stable : IsStableByKey key key_cmp turned sorted) (up : IsSortedByKey key key_cmp sorted) where
     pub compacted : (peer : ℕ) (prefix : IpPrefix) → left_in losses new peer prefix ≡ left_in losses old peer prefix
     compacted peer prefix =
-        let p : Entry → Bool = is_of peer prefix in
-        let route : Option Entry → Option RouteLeft = λ o. option_map_or entry_route o None in
+        let p : Logged → Bool = is_of peer prefix in
+        let route : Option Logged → Option RouteLeft = λ o. option_map_or entry_route o None in
         let reversed_current : All (λ entry. is_current losses entry ≡ true) (reverse new) =
         All-permutation (λ entry. is_current losses entry ≡ true) new (reverse new) (IsPermutation-reverse new) all-current in
         let counting : find (counts losses peer prefix) (reverse new) ≡ find p (reverse new) =
@@ -294,7 +302,7 @@ module _ (losses : List ℕ) (old current turned sorted short new : List Entry)
         let strict : IsStrictlySortedBy entry_cmp short =
         subst (IsStrictlySortedBy entry_cmp) (sym short_is) (IsStrictlySortedBy-dedup entry_total tells sorted up) in
         ap route counting
-        ∙ ap (λ (list : List Entry). route (find p (reverse list))) new_is
+        ∙ ap (λ (list : List Logged). route (find p (reverse list))) new_is
         ∙ announced-left peer prefix short strict
         ∙ ap route (ap (find p) short_is ∙ find-dedup p same (λ x y e. alike peer prefix x y (sym (tells x y) ∙ e)) sorted
         ∙ find-sorted turned sorted stable peer prefix

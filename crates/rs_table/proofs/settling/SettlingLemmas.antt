@@ -1,60 +1,27 @@
--- Changes that are made in cells one after another, and lists of them: for `replay` and `settle` of settling.rt.
-use Rattle.std.proofs.Common.{◌≡◌, ℕ, ◌+◌, ◌<◌, ◌≤◌, Bool, true, false, cond, ◌&&◌, ◌==◌, List, [], length, get_or, Option, Some, None}
-use Rattle.std.proofs.Common.{refl, sym, ap, ◌∙◌, arith, inl, inr}
-use Rattle.std.specs.Option.{option_map_or}
-use Rattle.std.proofs.lemmas.Bool.{cases_lt, cases_eq}
+-- Lists whose cells are made one after another: for `settle` of settling.rt.
+use Rattle.std.proofs.Common.{◌≡◌, ℕ, ◌+◌, ◌<◌, ◌≤◌, true, false, ◌==◌, List, [], ◌∷◌, length, map, get_or, Option, Some, None, refl, sym}
+use Rattle.std.proofs.Common.{ap, ◌∙◌, arith, inl, inr}
+use Rattle.std.specs.Option.{option_map_or, option_or}
+use Rattle.std.proofs.lemmas.Bool.{cases_lt, cases_eq, eq-eqb}
 use Rattle.std.proofs.lemmas.List.{length-map, get_or_past}
 use Rattle.std.proofs.lemmas.List.Elements.{All-weaker}
 use Rattle.std.proofs.lemmas.Option.{slice_get_past}
 use Rattle.rs_update.specs.IpPrefix.{IpPrefix}
 use Rattle.rs_choice.specs.Decision.{SentRoute}
-use Rattle.rs_table.specs.declared.log.Entry.{Entry}
+use Rattle.rs_choice.specs.Held.{sent_of_held}
+use Rattle.rs_choice.specs.Plan.{Plan}
+use Rattle.rs_table.specs.Logged.{Logged}
 use Rattle.rs_table.specs.declared.log.Log.{Log}
 use Rattle.rs_table.specs.ByPeer.{route_at}
-use Rattle.rs_table.specs.Cells.{Entries, routes_at}
-use Rattle.rs_table.specs.Left.{RouteLeft, same_prefix}
-use Rattle.rs_table.specs.Table.{sent_by}
-use Rattle.rs_table.specs.Gathered.{AreLogs, IsEntryOf, changed_by, counts, entry_change, entry_route, first_octet, is_current, left_at}
-use Rattle.rs_table.specs.Gathered.{left_in, left_over, lists_of}
-use Rattle.rs_table.proofs.cell.RowLemmas.{route_at-with, route_at-without}
+use Rattle.rs_table.specs.Cell.{CellContent}
+use Rattle.rs_table.specs.Cells.{Entries, cell_at, routes_at, routes_of, AreCells, AreJoined}
+use Rattle.rs_table.specs.Left.{RouteLeft}
+use Rattle.rs_table.specs.Gathered.{AreLogs, IsEntryOf, counts, first_octet, is_current, left_at, left_in, left_over, lists_of}
+use Rattle.rs_table.proofs.cells.CellsLemmas.{cell-IsCell}
 use Rattle.rs_table.proofs.log.ListLemmas.{left-none, none-any, uncounted-octet}
 
--- ---- one change
-
-changed-at : (p : ℕ) (o : Option RouteLeft) (routes : List SentRoute) (peer : ℕ)
-    → route_at (changed_by p o routes) peer ≡ cond (p == peer) o (route_at routes peer)
-changed-at p (Some route) routes peer = route_at-with routes (sent_by p route) peer
-changed-at p None routes peer = route_at-without routes p peer
-
--- a change that is current is made
-pub made : (losses : List ℕ) (before later : Entries) (entry : Entry) → is_current losses entry ≡ true
-    → ((q : IpPrefix) → routes_at later q ≡ cond (same_prefix q entry.prefix) (entry_change entry (routes_at before q))
-    (routes_at before q))
-    → (peer : ℕ) (q : IpPrefix) → route_at (routes_at later q) peer
-    ≡ cond (counts losses peer q entry) (entry_route entry) (route_at (routes_at before q) peer)
-made losses before later entry current changed peer q =
-    let old = routes_at before q in
-    ap (λ routes. route_at routes peer) (changed q)
-    ∙ by_place (same_prefix q entry.prefix)
-    ∙ ap (λ b. cond ((entry.peer == peer && same_prefix q entry.prefix) && b) (entry_route entry) (route_at old peer)) (sym current)
-  where
-    by_place : (b : Bool) → route_at (cond b (entry_change entry (routes_at before q)) (routes_at before q)) peer
-        ≡ cond ((entry.peer == peer && b) && true) (entry_route entry) (route_at (routes_at before q) peer)
-    by_place true = changed-at entry.peer (entry_route entry) (routes_at before q) peer ∙ by_peer (entry.peer == peer)
-      where
-        by_peer : (a : Bool) → cond a (entry_route entry) (route_at (routes_at before q) peer)
-            ≡ cond ((a && true) && true) (entry_route entry) (route_at (routes_at before q) peer)
-        by_peer true = refl
-        by_peer false = refl
-    by_place false = by_peer (entry.peer == peer)
-      where
-        by_peer : (a : Bool) → route_at (routes_at before q) peer
-            ≡ cond ((a && false) && true) (entry_route entry) (route_at (routes_at before q) peer)
-        by_peer true = refl
-        by_peer false = refl
-
 -- its peer is known
-pub known-current : (losses : List ℕ) (entry : Entry) → is_current losses entry ≡ true → entry.peer < length losses
+pub known-current : (losses : List ℕ) (entry : Logged) → is_current losses entry ≡ true → entry.peer < length losses
 known-current losses entry current =
     elim (cases_lt entry.peer (length losses)) [
       | inl known ↦ known
@@ -63,6 +30,27 @@ known-current losses entry current =
           ap (λ (o : Option ℕ). option_map_or (λ lost. lost == entry.losses) o false) (slice_get_past losses entry.peer past) in
           absurd (cc (sym none ∙ current))
     ]
+
+-- ---- a cell has a route
+
+no-routes : (routes : List SentRoute) → ((peer : ℕ) → route_at routes peer ≡ None) → routes ≡ []
+no-routes [] none = refl
+no-routes (route ∷ later) none = absurd (cc (rw (eq-eqb route.peer route.peer refl) at (none route.peer)))
+
+no-cell : (plan : Plan) (entries : Entries) → AreCells plan entries → (prefix : IpPrefix)
+    → ((peer : ℕ) → route_at (routes_at entries prefix) peer ≡ None) → cell_at entries prefix ≡ None
+no-cell plan entries all prefix none = by_cell (cell_at entries prefix) refl none
+  where
+    by_cell : (o : Option CellContent) → cell_at entries prefix ≡ o → ((peer : ℕ) → route_at (routes_of o) peer ≡ None) → o ≡ None
+    by_cell None is none = refl
+    by_cell (Some cell) is none =
+        let empty : map sent_of_held cell.held ≡ [] = no-routes (map sent_of_held cell.held) none in
+        absurd (omega (
+          arith,
+          (cell-IsCell plan entries prefix cell all is).some,
+          length-map cell.held sent_of_held,
+          ap (λ (routes : List SentRoute). length routes) empty,
+        ))
 
 -- ---- list after list
 
@@ -83,23 +71,41 @@ module _ (losses : List ℕ) (logs : List Log) (are : AreLogs losses logs) where
       (λ entry is. uncounted-octet losses peer prefix entry octet is.octet_is apart)
       (get_or (lists_of logs) octet []) (are.entries octet)))
 
-  pub replayed-more : (count : ℕ) (cells later : Entries) → IsReplayed losses logs count cells
-      → ((peer : ℕ) (prefix : IpPrefix) → route_at (routes_at later prefix) peer
-      ≡ left_over losses (get_or (lists_of logs) count []) peer prefix (route_at (routes_at cells prefix) peer))
-      → IsReplayed losses logs (count + 1) later
-  replayed-more count cells later replayed replay = record {
-    done = λ peer prefix within. replay peer prefix ∙ elim (cases_eq (first_octet prefix) count) [
-      | inl here ↦
-          ap (left_over losses (get_or (lists_of logs) count []) peer prefix) (replayed.none peer prefix (omega (arith, here)))
-          ∙ ap (λ (k : ℕ). left_in losses (get_or (lists_of logs) k []) peer prefix) (sym here)
-      | inr before ↦ elsewhere count peer prefix (route_at (routes_at cells prefix) peer) before
-          ∙ replayed.done peer prefix (omega (arith, within, before))
-    ];
-    none = λ peer prefix past.
-        replay peer prefix
-        ∙ elsewhere count peer prefix (route_at (routes_at cells prefix) peer) (λ e. absurd (omega (arith, past, e)))
-        ∙ replayed.none peer prefix (omega (arith, past));
-  }
+  -- the cells of the next list come to those of the lists before
+  module _ (plan : Plan) (count : ℕ) (cells more joined : Entries) (replayed : IsReplayed losses logs count cells)
+      (all : AreCells plan more) (join : AreJoined cells more joined)
+      (leaves : (peer : ℕ) (prefix : IpPrefix) → route_at (routes_at more prefix) peer
+      ≡ left_in losses (get_or (lists_of logs) count []) peer prefix) where
+    joined-at : (prefix : IpPrefix) → routes_at joined prefix ≡ routes_of (option_or (cell_at more prefix) (cell_at cells prefix))
+    joined-at prefix = ap routes_of (join prefix)
+
+    here : (peer : ℕ) (prefix : IpPrefix) → route_at (routes_at cells prefix) peer ≡ None
+        → route_at (routes_at joined prefix) peer ≡ route_at (routes_at more prefix) peer
+    here peer prefix none = ap (λ routes. route_at routes peer) (joined-at prefix) ∙ by_cell (cell_at more prefix)
+      where
+        by_cell : (o : Option CellContent) → route_at (routes_of (option_or o (cell_at cells prefix))) peer ≡ route_at (routes_of o) peer
+        by_cell (Some cell) = refl
+        by_cell None = none
+
+    there : (prefix : IpPrefix) → (first_octet prefix ≡ count → ⊥) → routes_at joined prefix ≡ routes_at cells prefix
+    there prefix apart =
+        joined-at prefix
+        ∙ ap (λ (o : Option CellContent). routes_of (option_or o (cell_at cells prefix)))
+        (no-cell plan more all prefix (λ peer. leaves peer prefix ∙ elsewhere count peer prefix None apart))
+
+    pub replayed-more : IsReplayed losses logs (count + 1) joined
+    replayed-more = record {
+      done = λ peer prefix within. elim (cases_eq (first_octet prefix) count) [
+        | inl now ↦
+            here peer prefix (replayed.none peer prefix (omega (arith, now)))
+            ∙ leaves peer prefix
+            ∙ ap (λ (k : ℕ). left_in losses (get_or (lists_of logs) k []) peer prefix) (sym now)
+        | inr before ↦ ap (λ routes. route_at routes peer) (there prefix before) ∙ replayed.done peer prefix (omega (arith, within, before))
+      ];
+      none = λ peer prefix past.
+          ap (λ routes. route_at routes peer) (there prefix (λ e. absurd (omega (arith, past, e))))
+          ∙ replayed.none peer prefix (omega (arith, past));
+    }
 
   -- all were
   pub replayed-all : (cells : Entries) → IsReplayed losses logs (length logs) cells → (peer : ℕ) (prefix : IpPrefix)
@@ -109,7 +115,7 @@ module _ (losses : List ℕ) (logs : List Log) (are : AreLogs losses logs) where
         | inl within ↦ replayed.done peer prefix within
         | inr past ↦
             replayed.none peer prefix past
-            ∙ ap (λ (entries : List Entry). left_in losses entries peer prefix)
+            ∙ ap (λ (entries : List Logged). left_in losses entries peer prefix)
             (sym (get_or_past (lists_of logs) (first_octet prefix) []
             (omega (arith, past, length-map logs (λ (log : Log). log.entries.items)))))
       ]

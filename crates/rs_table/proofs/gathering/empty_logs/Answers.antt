@@ -1,12 +1,12 @@
 -- One list more is empty too.
 use Rattle.std.proofs.Common.{◌≡◌, ◌∙◌, ℕ, zero, suc, ap, arith, refl, List, [], ◌∷◌, ◌++◌, get_or, length-append}
 use Rattle.std.proofs.lemmas.List.{map-append}
-use Rattle.rs_table.specs.declared.log.Entry.{Entry}
+use Rattle.rs_table.specs.Logged.{Logged}
 use Rattle.rs_table.specs.declared.log.Log.{Log}
 use Rattle.rs_table.specs.Gathered.{lists_of}
 use Rattle.rs_table.proofs.gathering.empty_logs.Goals as goal
 
-empty-more : (lists : List (List Entry)) → ((octet : ℕ) → get_or lists octet [] ≡ []) → (octet : ℕ)
+empty-more : (lists : List (List Logged)) → ((octet : ℕ) → get_or lists octet [] ≡ []) → (octet : ℕ)
     → get_or (lists ++ [] ∷ []) octet [] ≡ []
 empty-more [] all zero = refl
 empty-more [] all (suc octet) = refl
@@ -23,9 +23,9 @@ loop-preserved c =
     rw c.in_ok-push.ensures.items (record {
       count = length-append logs (log ∷ []) ∙ omega (arith, c.loop.invariant.count);
       empty = λ octet.
-          ap (λ (lists : List (List Entry)). get_or lists octet [])
+          ap (λ (lists : List (List Logged)). get_or lists octet [])
           (map-append (λ (log : Log). log.entries.items) logs (log ∷ [])
-          ∙ ap (λ (entries : List Entry). lists_of logs ++ entries ∷ []) c.new.ensures.items)
+          ∙ ap (λ (entries : List Logged). lists_of logs ++ entries ∷ []) c.new.ensures.items)
           ∙ empty-more (lists_of logs) c.loop.invariant.empty octet;
     })
 

@@ -1,24 +1,25 @@
--- One list more is replayed; in the end all were.
+-- The cells of one list more come to the others; in the end all lists have theirs.
 use Rattle.std.proofs.Common.{◌≡◌, ◌∙◌, ◌+◌, ◌∷◌, ◌++◌, [], ℕ, List, length, length-append, get_or, ap, sym, subst}
 use Rattle.std.proofs.lemmas.Iterator.Adapters.{YieldsList-from_vec}
 use Rattle.std.proofs.lemmas.Iterator.Consumers.{YieldsList-turn, YieldsList-end}
-use Rattle.rs_table.specs.declared.log.Entry.{Entry}
+use Rattle.rs_table.specs.Logged.{Logged}
 use Rattle.rs_table.specs.declared.log.Log.{Log}
-use Rattle.rs_table.specs.ByPeer.{route_at}
-use Rattle.rs_table.specs.Cells.{AreUndecided, routes_at}
-use Rattle.rs_table.specs.Gathered.{left_over, lists_of}
+use Rattle.rs_table.specs.Cells.{AreCells}
+use Rattle.rs_table.specs.Gathered.{left_in, lists_of}
+use Rattle.rs_table.proofs.MergeLemmas.{AreCells-joined}
 use Rattle.rs_table.proofs.gathering.GatheredLemmas.{entered-list}
 use Rattle.rs_table.proofs.settling.SettlingLemmas.{IsReplayed, replayed-all, replayed-more, replayed-none}
 use Rattle.rs_table.proofs.settling.settle.Goals as goal
 
 pub loop-log-init : goal.loop-log-init
 loop-log-init c = record {
-  cells = subst (AreUndecided c.args.plan.now) (sym c.new-cells.ensures.empty) tt;
+  cells = subst (AreCells c.args.plan.now) (sym c.new-cells.ensures.empty) tt;
   replayed = replayed-none c.args.losses.now c.args.logs.items c.new-cells.result.entries c.new-cells.ensures.empty;
 }
 
 pub loop-log-preserved : goal.loop-log-preserved
 loop-log-preserved c =
+    let plan = c.args.plan.now in
     let losses = c.args.losses.now in
     let logs = c.args.logs.items in
     let gives = c.into_iter-log-iterator.ensures.into_iter_gives in
@@ -29,13 +30,17 @@ loop-log-preserved c =
     let list : get_or (lists_of logs) count [] ≡ c.in-Some.log.entries.items =
     entered-list logs count c.in-Some.log t.0 ∙ ap (λ (log : Log). log.entries.items) (sym t.1) in
     let more : length (c.loop-log.yielded ++ c.in-Some.log ∷ []) ≡ count + 1 = length-append c.loop-log.yielded (c.in-Some.log ∷ []) in
+    let before = c.loop-log.cells.entries in
+    let others = c.in_ok-more.more.entries in
+    let joined = c.in_ok-cells.cells.entries in
     record {
-      cells = c.in_ok-replay.ensures.cells;
-      replayed = subst (λ (n : ℕ). IsReplayed losses logs n c.replay.new.cells.entries) (sym more)
-          (replayed-more losses logs c.requires.logs count c.loop-log.cells.entries c.replay.new.cells.entries c.loop-log.invariant.replayed
-          (λ peer prefix. c.in_ok-replay.ensures.routes peer prefix
-          ∙ ap (λ (entries : List Entry). left_over losses entries peer prefix (route_at (routes_at c.loop-log.cells.entries prefix) peer))
-          (sym list)));
+      cells = AreCells-joined plan before others joined c.loop-log.invariant.cells c.in_ok-more.ensures.cells c.in_ok-cells.ensures.cells
+          c.in_ok-cells.ensures.ordered;
+      replayed = subst (λ (n : ℕ). IsReplayed losses logs n joined) (sym more)
+          (replayed-more losses logs c.requires.logs plan count before others joined c.loop-log.invariant.replayed
+          c.in_ok-more.ensures.cells c.in_ok-cells.ensures.cells
+          (λ peer prefix. c.in_ok-more.ensures.routes peer prefix
+          ∙ ap (λ (entries : List Logged). left_in losses entries peer prefix) (sym list)));
     }
 
 pub returns-clause-routes : goal.returns-clause-routes
@@ -46,6 +51,5 @@ returns-clause-routes c = λ peer prefix.
     let all = YieldsList-from_vec logs gives.0 (gives.1 ∙ c.args.logs.ok.0) in
     let t = YieldsList-end all c.loop-log.yielded c.loop-log.log-iterator c.loop-log.yielded_by c.next.result c.next.new.self c.in-None.is
     c.next.ensures.steps in
-    ap (λ routes. route_at routes peer) (c.decide_all.ensures.routes prefix)
-    ∙ replayed-all losses logs c.requires.logs c.loop-log.cells.entries
+    replayed-all losses logs c.requires.logs c.loop-log.cells.entries
     (subst (λ (n : ℕ). IsReplayed losses logs n c.loop-log.cells.entries) t.1 c.loop-log.invariant.replayed) peer prefix

@@ -1,0 +1,20 @@
+use Rattle.std.proofs.Common.{◌≡◌, ℕ, All}
+use Rattle.std.specs.List.Sorted.{IsStrictlySortedBy}
+use Rattle.std.specs.Vec.Iter.{into_iter_items}
+use Rattle.rs_update.specs.IpPrefix.{IpPrefix}
+use Rattle.rs_table.specs.ByPeer.{route_at}
+use Rattle.rs_table.specs.Gathered.{left_in, left_over, logged_cmp, IsAnnounced}
+use Rattle.rs_table.specs.Making.{routes_so_far, IsMaking, IsNext}
+use Rattle.rs_table.proofs.settling.cells_of.Given as goal
+
+-- the routes so far, and the changes that are left over them, are what the list leaves
+abbrev pub invariant-loop-entry : goal.invariant-loop-entry
+invariant-loop-entry l = record {
+  making : IsMaking l.plan l.making;
+  next : All (IsNext l.making) (into_iter_items l.entry-iterator);
+  sorted : IsStrictlySortedBy logged_cmp (into_iter_items l.entry-iterator);
+  announced : All (IsAnnounced l.losses) (into_iter_items l.entry-iterator);
+  routes : (peer : ℕ) (prefix : IpPrefix)
+      → left_over l.losses (into_iter_items l.entry-iterator) peer prefix (route_at (routes_so_far l.making prefix) peer)
+      ≡ left_in l.fn.losses l.fn.entries.items peer prefix;
+}

@@ -1,0 +1,32 @@
+-- A change in a list by its fields.
+use Rattle.std.specs.Prelude.{◌≡◌, ◌≤◌, Some, None}
+use Rattle.rs_update.specs.Prefix.{network_of}
+use Rattle.rs_table.specs.declared.logged.LoggedChange.TheInside.{Inside}
+use Rattle.rs_table.specs.declared.logged.Packed.{Packed}
+use Rattle.rs_table.specs.declared.logged.Packed.TheVariants.{Announced, Withdrawn}
+use Rattle.rs_table.specs.Logged.{Logged}
+
+abbrev pub unpacked : Packed → Logged
+unpacked (Announced len peer address time losses attributes) = record {
+  prefix = record { address = address; len = len };
+  time = time;
+  losses = losses;
+  peer = peer;
+  attributes = Some attributes.value;
+}
+unpacked (Withdrawn len peer address time losses) = record {
+  prefix = record { address = address; len = len };
+  time = time;
+  losses = losses;
+  peer = peer;
+  attributes = None;
+}
+
+abbrev pub logged_view : Inside → Logged
+logged_view fields = unpacked fields.change
+
+-- the bits of its address past the length are clear
+pub record IsLogged (fields : Inside) : Type 0 where
+  pub bound : (logged_view fields).prefix.len ≤ 32
+  pub clear : network_of (logged_view fields).prefix.address (logged_view fields).prefix.len
+      ≡ (logged_view fields).prefix

@@ -1,0 +1,45 @@
+-- The cells of a compacted list under way (our choice).
+use Rattle.std.specs.Prelude.{◌≡◌, ◌≢◌, ℕ, true, if◌then◌else◌, List, [], map}
+use Rattle.std.specs.declared.cmp.Ordering.TheVariants.{Less}
+use Rattle.rs_update.specs.IpPrefix.{IpPrefix}
+use Rattle.rs_update.specs.PrefixOrder.{prefix_cmp}
+use Rattle.rs_choice.specs.Decision.{SentRoute}
+use Rattle.rs_choice.specs.Held.{sent_of_held}
+use Rattle.rs_choice.specs.Plan.{Plan}
+use Rattle.rs_table.specs.declared.settling.Making.{Making}
+use Rattle.rs_table.specs.ByPeer.{IsRow}
+use Rattle.rs_table.specs.Cell.{AreHeld}
+use Rattle.rs_table.specs.Cells.{routes_at, AreCells}
+use Rattle.rs_table.specs.Gathered.{logged_cmp}
+use Rattle.rs_table.specs.Left.{same_prefix}
+use Rattle.rs_table.specs.Logged.{Logged}
+
+-- the routes on the prefix under way
+abbrev pub routes_here : Making → List SentRoute
+routes_here making = map sent_of_held making.held.items
+
+-- the routes on each prefix so far
+abbrev pub routes_so_far : Making → IpPrefix → List SentRoute
+routes_so_far making prefix =
+    if same_prefix prefix making.prefix then routes_here making else routes_at making.cells.entries prefix
+
+-- the prefixes before the one under way have cells, and no other one has
+pub record IsMaking (plan : Plan) (making : Making) : Type 0 where
+  pub held : AreHeld plan making.held.items
+  pub cells : AreCells plan making.cells.entries
+  pub none : (prefix : IpPrefix) → prefix_cmp prefix making.prefix ≢ Less → routes_at making.cells.entries prefix ≡ []
+
+-- one change comes before another, by their prefixes and then by their peers
+abbrev pub IsBefore : Logged → Logged → Type 0
+IsBefore one later = logged_cmp one later ≡ Less
+
+-- a change may come next: it is on no prefix before the one under way, and on that one of a later peer than all so far
+pub record IsNext (making : Making) (entry : Logged) : Type 0 where
+  pub ascends : prefix_cmp entry.prefix making.prefix ≢ Less
+  pub above : same_prefix entry.prefix making.prefix ≡ true → IsRow 0 entry.peer (routes_here making)
+
+-- a peer that is above those of the routes on a prefix stays above them
+abbrev pub StaysAbove : IpPrefix → Making → Making → Type 0
+StaysAbove prefix making later =
+    (peer : ℕ) → (same_prefix prefix making.prefix ≡ true → IsRow 0 peer (routes_here making))
+    → IsRow 0 peer (routes_here later)
