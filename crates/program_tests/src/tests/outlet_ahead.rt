@@ -1,10 +1,10 @@
 //! An outlet over memory that gives writers ahead of their turn, and shows what was asked of it. It can be made to fail
 //! at the dumps of some clients.
 
-ghost use Rattle.std.specs.Prelude.{◌≡◌, IfSome, None, Some};
+ghost use Rattle.std.specs.Prelude.{◌≡◌, IfSome, None};
 
-use rs_mrt::{Failed, Limits, MemoryWriter, Write};
-use rs_outlet::{Kept, Outlet, Unopened};
+use rs_mrt::{Limits, MemoryWriter};
+use rs_outlet::{Kept, NamedWriter, Outlet, Unopened};
 use std::alloc::Global;
 
 /// Where the outlet fails: at the dumps of the clients of these names, which are letters.
@@ -26,23 +26,6 @@ impl Faults {
             not_kept: "",
             not_ahead: "",
         }
-    }
-}
-
-/// A writer over memory, and the name for which it was given.
-#[derive(Drop)]
-pub struct NamedWriter {
-    name: String,
-    inner: MemoryWriter,
-}
-
-impl Write for NamedWriter {
-    ghost taken = { λ writer. Some writer.inner.taken };
-
-    ghost failures = { λ writer. writer.inner.failures };
-
-    fn write(&mut self, piece: &[u8]) -> Result<usize, Failed> {
-        self.inner.write(piece)
     }
 }
 
