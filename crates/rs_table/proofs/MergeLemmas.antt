@@ -22,7 +22,7 @@ use Rattle.rs_table.specs.Listing.{is_held}
 use Rattle.rs_table.specs.Merge.{AreParts, IsJoined, IsMerged, IsOfPart}
 use Rattle.rs_choice.specs.Decision.{SentRoute}
 use Rattle.rs_table.specs.TablesView.{ribs_from}
-use Rattle.rs_table.proofs.cells.CellsLemmas.{absent, cell-IsCell, get-routes_from, rib-at, rib-past}
+use Rattle.rs_table.proofs.cells.CellsLemmas.{Each, absent, cell-IsCell, each-at, get-routes_from, rib-at, rib-past}
 use Rattle.rs_table.proofs.cells.CloseLemmas.{Below, none_below}
 use Rattle.rs_table.proofs.PrefixLemmas.{same_prefix-true, same_prefix-itself}
 use Rattle.rs_table.proofs.tables.TablesLemmas.{tables, rib-closed}
@@ -98,35 +98,36 @@ module _ (plan : Plan) (entries : Entries) (closed : List Bool) (peers : length 
             let is : IsCell plan cell = cell-IsCell plan entries q cell cells e in
             by_held cell e cell.held refl is.some
 
--- cells that are found are all there are
-pub AreCells-found : (plan : Plan) (entries : Entries) → IsStrictlySortedBy prefix_cmp (map (λ entry. entry.0) entries) →
-    ((q : IpPrefix) (cell : CellContent) → cell_at entries q ≡ Some cell → IsCell plan cell) → AreCells plan entries
-unfolding IsStrictlySortedBy
-AreCells-found plan [] sorted given = tt
-AreCells-found plan (e ∷ es) sorted given =
-    let here : cell_at (e ∷ es) e.0 ≡ Some e.1 = rw (same_prefix-itself e.0) refl in (
-      given e.0 e.1 here,
-      AreCells-found plan es sorted.1 (λ q cell found.
-          elim (cases_Bool (same_prefix q e.0)) [
-            | inl same ↦
-                let gone : cell_at es q ≡ None = none_below q es (subst (λ p. Below p es) (sym (same_prefix-true q e.0 same)) sorted.0) in
-                absurd (cc (sym found ∙ gone))
-            | inr apart ↦ given q cell (past q cell apart found)
-          ]),
-    )
-  where
-    past : (q : IpPrefix) (cell : CellContent) → same_prefix q e.0 ≡ false → cell_at es q ≡ Some cell → cell_at (e ∷ es) q ≡ Some cell
-    past q cell apart found = rw apart found
+-- what holds of the cells that are found holds of all
+module _ (P : CellContent → Type 0) where
+  each-found : (entries : Entries) → IsStrictlySortedBy prefix_cmp (map (λ entry. entry.0) entries)
+      → ((q : IpPrefix) (cell : CellContent) → cell_at entries q ≡ Some cell → P cell) → Each P entries
+  unfolding IsStrictlySortedBy
+  each-found [] sorted given = tt
+  each-found (e ∷ es) sorted given =
+      let here : cell_at (e ∷ es) e.0 ≡ Some e.1 = rw (same_prefix-itself e.0) refl in (
+        given e.0 e.1 here,
+        each-found es sorted.1 (λ q cell found.
+            elim (cases_Bool (same_prefix q e.0)) [
+              | inl same ↦
+                  let gone : cell_at es q ≡ None = none_below q es (subst (λ p. Below p es) (sym (same_prefix-true q e.0 same)) sorted.0) in
+                  absurd (cc (sym found ∙ gone))
+              | inr apart ↦ given q cell (past q cell apart found)
+            ]),
+      )
+    where
+      past : (q : IpPrefix) (cell : CellContent) → same_prefix q e.0 ≡ false → cell_at es q ≡ Some cell → cell_at (e ∷ es) q ≡ Some cell
+      past q cell apart found = rw apart found
 
-pub AreCells-joined : (plan : Plan) (one other joined : Entries) → AreCells plan one → AreCells plan other → AreJoined one other joined →
-    IsStrictlySortedBy prefix_cmp (map (λ entry. entry.0) joined) → AreCells plan joined
-AreCells-joined plan one other joined all others is sorted =
-    AreCells-found plan joined sorted (λ q cell found. by_other q cell (cell_at other q) refl (sym (is q) ∙ found))
-  where
-    by_other : (q : IpPrefix) (cell : CellContent) (o : Option CellContent) → cell_at other q ≡ o → option_or o (cell_at one q) ≡ Some cell
-        → IsCell plan cell
-    by_other q cell None e found = cell-IsCell plan one q cell all found
-    by_other q cell (Some c) e found = cell-IsCell plan other q cell others (e ∙ found)
+  pub each-joined : (one other joined : Entries) → Each P one → Each P other → AreJoined one other joined
+      → IsStrictlySortedBy prefix_cmp (map (λ entry. entry.0) joined) → Each P joined
+  each-joined one other joined all others is sorted =
+      each-found joined sorted (λ q cell found. by_other q cell (cell_at other q) refl (sym (is q) ∙ found))
+    where
+      by_other : (q : IpPrefix) (cell : CellContent) (o : Option CellContent) → cell_at other q ≡ o
+          → option_or o (cell_at one q) ≡ Some cell → P cell
+      by_other q cell None e found = each-at P one q cell all found
+      by_other q cell (Some c) e found = each-at P other q cell others (e ∙ found)
 
 -- ---- two made one
 
@@ -159,7 +160,7 @@ pub joined-IsJoined : (plan : Plan) (one other joined : Entries) (closed later :
     AreCells plan one → AreCells plan other → AreJoined one other joined → IsStrictlySortedBy prefix_cmp (map (λ entry. entry.0) joined) →
     IsJoined (tables plan one closed) (tables plan other later) (tables plan joined closed)
 joined-IsJoined plan one other joined closed later peers others cells other_cells is sorted =
-    let joined_cells : AreCells plan joined = AreCells-joined plan one other joined cells other_cells is sorted in
+    let joined_cells : AreCells plan joined = each-joined (IsCell plan) one other joined cells other_cells is sorted in
     record {
       plan = refl;
       closed = λ peer. rib-closed plan joined closed peer ∙ sym (rib-closed plan one closed peer);

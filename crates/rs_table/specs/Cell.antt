@@ -1,5 +1,6 @@
 -- What is kept of one prefix: the routes that peers have left there, and what each client gets of them.
-use Rattle.std.specs.Prelude.{◌≡◌, ◌<◌, ℕ, ◌==◌, if◌then◌else◌, List, length, map, Option, None, slice_get, refl}
+use Rattle.std.specs.Prelude.{◌≡◌, ◌<◌, ◌≤◌, ℕ, ◌==◌, Bool, true, if◌then◌else◌, List, length, map, Option, None}
+use Rattle.std.specs.Prelude.{slice_get, refl}
 use Rattle.std.specs.Coded.{Coded, code_by, coded×, coded_ℕ, coded_list}
 use Rattle.std.specs.List.{All}
 use Rattle.std.specs.Option.{option_map, option_and_then}
@@ -13,15 +14,17 @@ use Rattle.rs_table.specs.ByPeer.{route_at, IsRow}
 use Rattle.rs_table.specs.Table.{sent_by}
 
 -- the routes as they are held, and for each client the number of the peer whose route it gets: its own number
--- where it gets none
+-- where it gets none; and how many routes the cell has room for
 pub record CellContent : Type 0 where
   pub held : List HeldRoute
   pub bests : List ℕ
+  pub room : ℕ
 
 abbrev pub cell_code : Coded CellContent
 cell_code =
-    code_by (List HeldRoute × List ℕ) (coded× (coded_list held_route.the_row.coded) (coded_list coded_ℕ))
-    (λ c. (c.held, c.bests)) (λ p. record { held = p.0; bests = p.1 }) (λ _. refl)
+    code_by (List HeldRoute × (List ℕ × ℕ))
+    (coded× (coded_list held_route.the_row.coded) (coded× (coded_list coded_ℕ) coded_ℕ))
+    (λ c. (c.held, (c.bests, c.room))) (λ p. record { held = p.0; bests = p.1.0; room = p.1.1 }) (λ _. refl)
 
 -- the routes without what decisions ask of them
 abbrev pub routes_in : CellContent → List SentRoute
@@ -40,10 +43,11 @@ pub record AreHeld (plan : Plan) (held : List HeldRoute) : Type 0 where
   pub row : IsRow 0 (length plan.peers) (map sent_of_held held)
   pub judged : All (IsJudged plan) held
 
--- a cell of which nothing is decided yet: it may have no route
+-- a cell of which nothing is decided yet, with room for a route of every peer: it may have no route
 pub record IsUndecided (plan : Plan) (cell : CellContent) : Type 0 where
   pub held : AreHeld plan cell.held
   pub count : length cell.bests ≡ length plan.peers
+  pub room : length plan.peers ≤ cell.room
 
 -- what they keep of a prefix: some route, and for each client the number of the peer whose route it gets
 pub record IsCell (plan : Plan) (cell : CellContent) : Type 0 where
@@ -51,3 +55,8 @@ pub record IsCell (plan : Plan) (cell : CellContent) : Type 0 where
   pub some : 0 < length cell.held
   pub count : length cell.bests ≡ length plan.peers
   pub best : AreBest plan (map sent_of_held cell.held) cell.bests
+
+-- the same; where it keeps room, it has room for a route of every peer
+pub record IsKeptCell (keeps_room : Bool) (plan : Plan) (cell : CellContent) : Type 0 where
+  pub is_cell : IsCell plan cell
+  pub room : keeps_room ≡ true → length plan.peers ≤ cell.room

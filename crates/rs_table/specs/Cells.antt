@@ -1,5 +1,5 @@
 -- The cells of all prefixes.
-use Rattle.std.specs.Prelude.{◌≡◌, ℕ, if◌then◌else◌, List, [], map, Option, None, Some}
+use Rattle.std.specs.Prelude.{◌≡◌, ℕ, Bool, if◌then◌else◌, List, [], map, Option, None, Some}
 use Rattle.std.specs.BTreeMap.{is_at}
 use Rattle.std.specs.FinMap.{from_entries}
 use Rattle.std.specs.List.{AllByRecursion, filter_map}
@@ -12,7 +12,7 @@ use Rattle.rs_choice.specs.Plan.{Plan}
 use Rattle.rs_table.specs.Left.{same_prefix, reason_drops, Routes}
 use Rattle.rs_choice.specs.Decision.{SentRoute}
 use Rattle.rs_table.specs.ByPeer.{route_at, with_route, without_route}
-use Rattle.rs_table.specs.Cell.{CellContent, IsCell, routes_in}
+use Rattle.rs_table.specs.Cell.{CellContent, IsCell, IsKeptCell, routes_in}
 
 abbrev pub Entries : Type 0
 Entries = List (IpPrefix × CellContent)
@@ -39,6 +39,11 @@ routes_from entries peer =
 -- each one is a cell of the plan
 abbrev pub AreCells : Plan → Entries → Type 0
 AreCells plan entries = AllByRecursion (λ (entry : IpPrefix × CellContent). IsCell plan entry.1) entries
+
+-- and where they keep room, each one has room for a route of every peer
+abbrev pub AreKeptCells : Bool → Plan → Entries → Type 0
+AreKeptCells keeps_room plan entries =
+    AllByRecursion (λ (entry : IpPrefix × CellContent). IsKeptCell keeps_room plan entry.1) entries
 
 -- what a peer's change makes of the routes on a prefix
 abbrev pub changed_routes_body : ℕ → ℕ → ChangeBody → IpPrefix → List SentRoute → List SentRoute

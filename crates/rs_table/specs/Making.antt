@@ -1,5 +1,5 @@
 -- The cells of a compacted list under way (our choice).
-use Rattle.std.specs.Prelude.{◌≡◌, ◌≢◌, ℕ, true, if◌then◌else◌, List, [], map}
+use Rattle.std.specs.Prelude.{◌≡◌, ◌≢◌, ℕ, Bool, true, if◌then◌else◌, List, [], map}
 use Rattle.std.specs.declared.cmp.Ordering.TheVariants.{Less}
 use Rattle.rs_update.specs.IpPrefix.{IpPrefix}
 use Rattle.rs_update.specs.PrefixOrder.{prefix_cmp}
@@ -9,7 +9,7 @@ use Rattle.rs_choice.specs.Plan.{Plan}
 use Rattle.rs_table.specs.declared.settling.Making.{Making}
 use Rattle.rs_table.specs.ByPeer.{IsRow}
 use Rattle.rs_table.specs.Cell.{AreHeld}
-use Rattle.rs_table.specs.Cells.{routes_at, AreCells}
+use Rattle.rs_table.specs.Cells.{routes_at, AreKeptCells}
 use Rattle.rs_table.specs.Gathered.{logged_cmp}
 use Rattle.rs_table.specs.Left.{same_prefix}
 use Rattle.rs_table.specs.Logged.{Logged}
@@ -24,9 +24,9 @@ routes_so_far making prefix =
     if same_prefix prefix making.prefix then routes_here making else routes_at making.cells.entries prefix
 
 -- the prefixes before the one under way have cells, and no other one has
-pub record IsMaking (plan : Plan) (making : Making) : Type 0 where
+pub record IsMaking (keeps_room : Bool) (plan : Plan) (making : Making) : Type 0 where
   pub held : AreHeld plan making.held.items
-  pub cells : AreCells plan making.cells.entries
+  pub cells : AreKeptCells keeps_room plan making.cells.entries
   pub none : (prefix : IpPrefix) → prefix_cmp prefix making.prefix ≢ Less → routes_at making.cells.entries prefix ≡ []
 
 -- one change comes before another, by their prefixes and then by their peers

@@ -1,9 +1,9 @@
 -- The tables by their fields.
-use Rattle.std.specs.Prelude.{◌≡◌, ℕ, Bool, List, map, length}
+use Rattle.std.specs.Prelude.{◌≡◌, ◌⊎◌, ℕ, Bool, true, List, All, map, length}
 use Rattle.std.specs.List.{enumerate_from}
 use Rattle.rs_table.specs.declared.tables.Tables.TheInside.{Inside}
 use Rattle.rs_table.specs.Content.{RibContent, TablesContent}
-use Rattle.rs_table.specs.Cells.{Entries, AreCells, routes_from}
+use Rattle.rs_table.specs.Cells.{Entries, AreCells, AreKeptCells, routes_from}
 use Rattle.rs_table.specs.Left.{Routes}
 
 -- what is held of each peer, from one number on, by each peer's routes
@@ -17,7 +17,12 @@ ribs_from entries first closed = ribs_by (routes_from entries) first closed
 abbrev pub tables_view : Inside → TablesContent
 tables_view fields = record { plan = fields.plan.value; ribs = ribs_from fields.cells.entries 0 fields.closed.items }
 
--- each peer of the plan is open or closed, and the cells are the plan's
+-- no session is open any more, so that no change can come
+abbrev pub AllClosed : List Bool → Type 0
+AllClosed closed = All (λ is_closed. is_closed ≡ true) closed
+
+-- each peer of the plan is open or closed, and the cells are the plan's, with room for every change that can come
 pub record AreTables (fields : Inside) : Type 0 where
   pub peers : length fields.closed.items ≡ length fields.plan.value.peers
   pub cells : AreCells fields.plan.value fields.cells.entries
+  pub room : AllClosed fields.closed.items ⊎ AreKeptCells true fields.plan.value fields.cells.entries

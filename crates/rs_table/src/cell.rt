@@ -1,14 +1,16 @@
 //! What is kept of one prefix: each peer's route there, and for each client the one that it gets (RFC 7947,
 //! section 2.3.2.1).
 //!
-//! A cell is made whole, with room for a route of every peer, so that no later change of it takes memory.
+//! A cell that may change is made whole, with room for a route of every peer, so that no later change of it takes
+//! memory. One that can't change has room for its own routes alone.
 
-ghost use Rattle.std.specs.Prelude.{◌≡◌, ◌<◌, ◌≤◌, ◌∷◌, [], IfOk, IsTrue, IsFalse, OnOk, length, map, vec_capacity};
+ghost use Rattle.std.specs.Prelude.{◌≡◌, ◌<◌, ◌≤◌, ◌∷◌, [], true, IfOk, IsTrue, IsFalse, OnOk, length, map};
+ghost use Rattle.std.specs.Prelude.{vec_capacity};
 ghost use Rattle.std.specs.Option.{option_map};
 ghost use Rattle.rs_choice.specs.Held.{sent_of_held, IsJudged};
 ghost use Rattle.rs_table.specs.ByPeer.{place_of, route_at, with_one, with_route, without_one, without_route};
 ghost use Rattle.rs_table.specs.ByPeer.{IsAscending};
-ghost use Rattle.rs_table.specs.Cell.{routes_in, stored_best, AreHeld, IsCell, IsUndecided};
+ghost use Rattle.rs_table.specs.Cell.{routes_in, stored_best, AreHeld, IsCell, IsKeptCell, IsUndecided};
 ghost use Rattle.rs_table.specs.RouteView.{sent_route_of};
 ghost use Rattle.rs_table.specs.Table.{sent_by};
 
@@ -45,41 +47,48 @@ impl Model for Cell {
 }
 
 impl Cell {
-    // A cell of one route. Refused memory, there is none.
+    // A cell of one route, with room for one of every peer. Refused memory, there is none.
     pub(crate) fn new(alloc: Global, plan: &Exchange, route: HeldRoute) -> Result<Cell, AllocError>
         requires { IsJudged plan.now route }
         ensures routes { IfOk result (λ cell. routes_in cell ≡ sent_of_held route ∷ []) }
-        ensures cell { IfOk result (λ cell. IsCell plan.now cell) }
+        ensures cell { IfOk result (λ cell. IsKeptCell true plan.now cell) }
     {
         let mut held = Vec::with_capacity(alloc, plan.count())?;
         held.push(route)?;
         Cell::decided(alloc, plan, held)
     }
 
-    // A cell of some routes, which are moved. Refused memory, there is none.
+    // A cell of some routes, which are moved. Unless it keeps room for one of every peer, it has room for these
+    // alone. Refused memory, there is none.
     pub(crate) fn of(
         alloc: Global,
         plan: &Exchange,
         routes: &mut Vec<HeldRoute>,
+        keeps_room: bool,
     ) -> Result<Cell, AllocError>
         requires held { AreHeld plan.now routes.old.items }
         requires some { 0 < length routes.old.items }
         ensures routes { IfOk result (λ cell. routes_in cell ≡ map sent_of_held routes.old.items) }
-        ensures cell { IfOk result (λ cell. IsCell plan.now cell) }
+        ensures cell { IfOk result (λ cell. IsKeptCell keeps_room plan.now cell) }
         ensures moved { OnOk result (routes.new.items ≡ []) }
     {
-        let mut held = Vec::with_capacity(alloc, plan.count())?;
+        let room = if keeps_room {
+            plan.count()
+        } else {
+            routes.len()
+        };
+        let mut held = Vec::with_capacity(alloc, room)?;
         held.append(routes)?;
         Cell::decided(alloc, plan, held)
     }
 
-    // A cell of some routes, with room for one of every peer, and what each client gets of them.
+    // A cell of some routes, and what each client gets of them.
     fn decided(alloc: Global, plan: &Exchange, held: Vec<HeldRoute>) -> Result<Cell, AllocError>
         requires held { AreHeld plan.now held.items }
         requires some { 0 < length held.items }
-        requires room { length plan.now.peers ≤ vec_capacity held }
         ensures routes { IfOk result (λ cell. routes_in cell ≡ map sent_of_held held.items) }
         ensures cell { IfOk result (λ cell. IsCell plan.now cell) }
+        ensures room { IfOk result (λ cell. cell.room ≡ vec_capacity held) }
     {
         let bests = SmallVec::from_elem(alloc, 0, plan.count())?;
         let mut cell = Cell { held, bests };
@@ -101,7 +110,7 @@ impl Cell {
     pub(crate) fn settle(&mut self, plan: &Exchange) -> bool
         requires { IsUndecided plan.now self.old }
         ensures routes { routes_in self.new ≡ routes_in self.old }
-        ensures some { IsTrue result → IsCell plan.now self.new }
+        ensures some { IsTrue result → IsKeptCell true plan.now self.new }
         ensures none { IsFalse result → routes_in self.new ≡ [] }
     {
         if self.held.is_empty() {
@@ -114,9 +123,9 @@ impl Cell {
     // Puts a route in the place of any that its peer has. It takes no memory.
     pub(crate) fn announce(&mut self, plan: &Exchange, route: HeldRoute)
         requires judged { IsJudged plan.now route }
-        requires cell { IsCell plan.now self.old }
+        requires cell { IsKeptCell true plan.now self.old }
         ensures routes { routes_in self.new ≡ with_route (routes_in self.old) (sent_of_held route) }
-        ensures cell { IsCell plan.now self.new }
+        ensures cell { IsKeptCell true plan.now self.new }
     {
         self.put(plan, route);
         self.decide(plan);
@@ -125,9 +134,9 @@ impl Cell {
     // Removes a peer's route, if it has one; answers whether a route is left. Where the peer has none, nothing is
     // decided.
     pub(crate) fn withdraw(&mut self, plan: &Exchange, peer: usize) -> bool
-        requires { IsCell plan.now self.old }
+        requires { IsKeptCell true plan.now self.old }
         ensures routes { routes_in self.new ≡ without_route (routes_in self.old) peer }
-        ensures some { IsTrue result → IsCell plan.now self.new }
+        ensures some { IsTrue result → IsKeptCell true plan.now self.new }
         ensures none { IsFalse result → routes_in self.new ≡ [] }
     {
         if !take_out(&mut self.held, peer) {
@@ -142,6 +151,7 @@ impl Cell {
         requires some { 0 < length self.old.held }
         requires count { length self.old.bests ≡ length plan.now.peers }
         ensures held { self.new.held ≡ self.old.held }
+        ensures room { self.new.room ≡ self.old.room }
         ensures cell { IsCell plan.now self.new }
     {
         let _peers = plan.count();

@@ -1,13 +1,13 @@
 //! The cells of all prefixes, and what a change of a peer makes of them (RFC 4271, section 3.2).
 
-ghost use Rattle.std.specs.Prelude.{◌≡◌, ◌<◌, if◌then◌else◌, None, IfOk, OnOk, OnErr, length};
+ghost use Rattle.std.specs.Prelude.{◌≡◌, ◌<◌, if◌then◌else◌, true, None, IfOk, OnOk, OnErr, length};
 ghost use Rattle.std.specs.BTreeMap.{IsOrdered};
 ghost use Rattle.rs_session.specs.Change.{change_of};
 ghost use Rattle.rs_update.specs.IpPrefix.{IpPrefix};
 ghost use Rattle.rs_update.specs.PrefixOrder.{prefix_cmp};
 ghost use Rattle.rs_choice.specs.Held.{sent_of_held, IsJudged};
 ghost use Rattle.rs_table.specs.ByPeer.{with_route, without_route};
-ghost use Rattle.rs_table.specs.Cells.{cell_at, routes_at, AreCells, AreJoined, ChangeTo, IsFirstOn};
+ghost use Rattle.rs_table.specs.Cells.{cell_at, routes_at, AreJoined, AreKeptCells, ChangeTo, IsFirstOn};
 ghost use Rattle.rs_table.specs.Left.{same_prefix};
 
 use crate::cell::Cell;
@@ -26,11 +26,11 @@ pub(crate) fn change(
     word: Word,
 ) -> Result<(), AllocError>
     requires known { peer < length plan.now.peers }
-    requires cells { AreCells plan.now cells.old.entries }
+    requires cells { AreKeptCells true plan.now cells.old.entries }
     ensures routes { OnOk result (ChangeTo peer (change_of word) cells.old.entries cells.new.entries) }
     ensures err { OnErr result (cells.new.entries ≡ cells.old.entries) }
     ensures first { OnErr result (IsFirstOn cells.old.entries (change_of word).body) }
-    ensures cells { AreCells plan.now cells.new.entries }
+    ensures cells { AreKeptCells true plan.now cells.new.entries }
 {
     let Word { time, body } = word;
     match body {
@@ -64,14 +64,14 @@ fn announce(
     route: HeldRoute,
 ) -> Result<(), AllocError>
     requires judged { IsJudged plan.now route }
-    requires cells { AreCells plan.now cells.old.entries }
+    requires cells { AreKeptCells true plan.now cells.old.entries }
     ensures routes { OnOk result ((q : IpPrefix)
         → routes_at cells.new.entries q
         ≡ (if same_prefix q prefix then with_route (routes_at cells.old.entries q) (sent_of_held route)
         else routes_at cells.old.entries q)) }
     ensures err { OnErr result (cells.new.entries ≡ cells.old.entries) }
     ensures first { OnErr result (cell_at cells.old.entries prefix ≡ None) }
-    ensures cells { AreCells plan.now cells.new.entries }
+    ensures cells { AreKeptCells true plan.now cells.new.entries }
 {
     if let Some(cell) = cells.get_mut(&prefix) {
         cell.announce(plan, route);
@@ -84,11 +84,11 @@ fn announce(
 
 // Removes a peer's route on a prefix, if there is one, and the cell with its last route.
 fn withdraw(cells: &mut BTreeMap<Prefix, Cell>, plan: &Exchange, peer: usize, prefix: Prefix)
-    requires { AreCells plan.now cells.old.entries }
+    requires { AreKeptCells true plan.now cells.old.entries }
     ensures routes { (q : IpPrefix) → routes_at cells.new.entries q
         ≡ (if same_prefix q prefix then without_route (routes_at cells.old.entries q) peer
         else routes_at cells.old.entries q) }
-    ensures cells { AreCells plan.now cells.new.entries }
+    ensures cells { AreKeptCells true plan.now cells.new.entries }
 {
     let Some(cell) = cells.get_mut(&prefix) else {
         return;
@@ -123,10 +123,10 @@ pub(crate) fn join(
 
 // Removes all routes of a peer, and each cell with its last route.
 fn withdraw_all(cells: &mut BTreeMap<Prefix, Cell>, plan: &Exchange, peer: usize)
-    requires { AreCells plan.now cells.old.entries }
+    requires { AreKeptCells true plan.now cells.old.entries }
     ensures routes { (q : IpPrefix) → routes_at cells.new.entries q
         ≡ without_route (routes_at cells.old.entries q) peer }
-    ensures cells { AreCells plan.now cells.new.entries }
+    ensures cells { AreKeptCells true plan.now cells.new.entries }
 {
     cells.retain(|_, cell| cell.withdraw(plan, peer));
 }

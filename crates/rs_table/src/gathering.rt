@@ -3,13 +3,14 @@
 //! A change is appended to the list of its prefix's first octet, and a loss of a session is counted: what each
 //! peer has left, and what each client gets, is found once, when all changes came (our choice).
 
-ghost use Rattle.std.specs.Prelude.{◌≡◌, ◌≢◌, ◌+◌, ◌<◌, ◌≤◌, ℕ, false, [], IfOk, OnOk, OnErr, length};
+ghost use Rattle.std.specs.Prelude.{◌≡◌, ◌≢◌, ◌+◌, ◌<◌, ◌≤◌, ℕ, false, [], IfOk, IsFalse, OnOk, OnErr, length};
 ghost use Rattle.std.specs.Prelude.{slice_index_or, slice_set};
 ghost use Rattle.std.specs.Option.{option_map};
 ghost use Rattle.rs_session.specs.Change.{change_of, is_close};
 ghost use Rattle.rs_table.specs.Content.{nothing_held, rib_of};
 ghost use Rattle.rs_table.specs.Gathered.{AreLogs, GathersTo, IsAdded, lists_of};
 ghost use Rattle.rs_table.specs.Left.{BecomeBy};
+ghost use Rattle.rs_table.specs.TablesView.{AllClosed};
 
 use crate::log::{Log, first_octet};
 use crate::logged::LoggedChange;
@@ -124,7 +125,8 @@ impl Gathering {
         Ok(())
     }
 
-    /// The tables of what was gathered. Each client's choice on each prefix is made here, once.
+    /// The tables of what was gathered. Each client's choice on each prefix is made here, once. Where no session is
+    /// open any more, a prefix takes no more room than its routes.
     ///
     /// Fails where memory is refused.
     pub fn settle(self) -> Result<Tables, AllocError>
@@ -136,9 +138,17 @@ impl Gathering {
             losses,
             logs,
         } = self;
-        let cells = settle(*closed.allocator(), &plan, &losses, logs)?;
+        let keeps_room = is_some_open(&closed);
+        let cells = settle(*closed.allocator(), &plan, &losses, logs, keeps_room)?;
         Ok(Tables::of_cells(plan, closed, cells))
     }
+}
+
+// Whether some session is open, so that changes may come.
+fn is_some_open(closed: &[bool]) -> bool
+    ensures { IsFalse result → AllClosed closed.now }
+{
+    closed.iter().any(|closed| !*closed)
 }
 
 // A list without entries for each first octet.

@@ -4,20 +4,20 @@
 //! They are kept by prefix: a cell has the routes of all peers on one prefix, and what each client gets of
 //! them, decided anew with each change.
 
-ghost use Rattle.std.specs.Prelude.{◌≡◌, ◌≢◌, ◌<◌, ◌≤◌, ℕ, false, IfOk, OnOk, OnErr, None, Some};
+ghost use Rattle.std.specs.Prelude.{◌≡◌, ◌≢◌, ◌<◌, ◌≤◌, ◌⊎◌, ℕ, true, false, IfOk, OnOk, OnErr, None, Some};
 ghost use Rattle.std.specs.Prelude.{length, slice_index_or};
 ghost use Rattle.std.specs.Option.{option_map};
 ghost use Rattle.rs_update.specs.IpPrefix.{IpPrefix};
 ghost use Rattle.rs_session.specs.Change.{change_of, is_close};
 ghost use Rattle.rs_table.specs.Cell.{CellContent, stored_best};
-ghost use Rattle.rs_table.specs.Cells.{cell_at, AreCells};
+ghost use Rattle.rs_table.specs.Cells.{cell_at, AreCells, AreKeptCells};
 ghost use Rattle.rs_table.specs.Content.{nothing_held, rib_of};
 ghost use Rattle.rs_table.specs.Left.{BecomeBy, IsNewAnnouncement};
 ghost use Rattle.rs_table.specs.Listing.{is_held, IsFirstAnnouncement};
 ghost use Rattle.rs_table.specs.Merge.{AreParts, IsJoined};
 ghost use Rattle.rs_table.specs.RouteView.{sent_route_of};
 ghost use Rattle.rs_table.specs.Table.{best_of, route_from};
-ghost use Rattle.rs_table.specs.TablesView.{ribs_from};
+ghost use Rattle.rs_table.specs.TablesView.{ribs_from, AllClosed};
 
 use crate::cell::Cell;
 use crate::cells::{change, join};
@@ -184,6 +184,7 @@ impl Tables {
     ) -> Tables
         requires peers { length closed.items ≡ length plan.value.peers }
         requires cells { AreCells plan.value cells.entries }
+        requires room { AllClosed closed.items ⊎ AreKeptCells true plan.value cells.entries }
         ensures { result ≡ record { plan = plan.value; ribs = ribs_from cells.entries 0 closed.items } }
     {
         Tables {

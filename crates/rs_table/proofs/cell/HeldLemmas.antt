@@ -1,28 +1,14 @@
 -- The routes that a cell holds, with one more and with one less: for `put`, `take_out`, `withdraw` and `decide` of cell.rt.
 use Rattle.std.proofs.Common.{◌≡◌, ℕ, ◌≤◌, List, length, map, not, ◌==◌, All, ap, sym, subst, arith, ◌∙◌}
-use Rattle.std.specs.Prelude.{vec_capacity}
 use Rattle.std.proofs.lemmas.List.{length-map}
 use Rattle.std.proofs.lemmas.List.Elements.{All-filter}
-use Rattle.smallvec.specs.SmallVec.{with_items}
-use Rattle.smallvec.proofs.SmallVecLemmas.{items-with_items}
 use Rattle.rs_choice.specs.Held.{sent_of_held, IsJudged}
 use Rattle.rs_choice.specs.Plan.{Plan}
 use Rattle.rs_choice.specs.declared.held_route.HeldRoute.{HeldRoute}
 use Rattle.rs_table.specs.ByPeer.{IsRow, with_one, with_route, without_one, without_route}
-use Rattle.rs_table.specs.declared.cell.Cell.TheInside.{Inside}
 use Rattle.rs_table.specs.Cell.{AreHeld}
-use Rattle.rs_table.specs.CellView.{IsKept}
 use Rattle.rs_table.proofs.cell.MemberLemmas.{map-with, map-without, All-with}
 use Rattle.rs_table.proofs.cell.RowLemmas.{IsRow-with, IsRow-without, length-row}
-
--- a cell is kept as it was where what its clients get is written anew
-pub decided-kept : (fields : Inside) (bests : List ℕ) → IsKept fields → length bests ≡ length fields.bests.items
-    → IsKept (record fields { bests = with_items fields.bests bests })
-decided-kept fields bests kept same = record {
-  room = subst (λ items. length items ≤ vec_capacity fields.held) (sym (items-with_items fields.bests bests same))
-      (omega (arith, same, kept.room));
-  ascending = kept.ascending;
-}
 
 -- the routes that are held after a change are those before, changed
 pub routes-with : (before held : List HeldRoute) (one : HeldRoute) → held ≡ with_one (λ one. one.peer) before one

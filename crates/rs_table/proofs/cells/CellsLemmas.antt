@@ -22,8 +22,8 @@ use Rattle.rs_table.specs.Content.{nothing_held}
 use Rattle.rs_table.specs.Table.{sent_by, routes_on}
 use Rattle.rs_choice.specs.Decision.{SentRoute}
 use Rattle.rs_table.specs.ByPeer.{IsRow, route_at}
-use Rattle.rs_table.specs.Cell.{CellContent, IsCell}
-use Rattle.rs_table.specs.Cells.{Entries, AreCells, cell_at, routes_at, routes_of, routes_from}
+use Rattle.rs_table.specs.Cell.{CellContent, IsCell, IsKeptCell}
+use Rattle.rs_table.specs.Cells.{Entries, AreCells, AreKeptCells, cell_at, routes_at, routes_of, routes_from}
 use Rattle.rs_table.specs.TablesView.{ribs_by, ribs_from}
 use Rattle.rs_table.proofs.PrefixLemmas.{prefix_total, same_prefix-true, find-entries}
 use Rattle.rs_table.proofs.cell.RowLemmas.{route_at-before}
@@ -34,12 +34,26 @@ pub absent : {X : Type 0} (o : Option X) → is_some o ≡ false → o ≡ None
 absent None e = refl
 absent (Some x) e = absurd (cc e)
 
--- all cells of some entries have a property
-module _ (P : CellContent → Type 0) where
-  abbrev Each : Entries → Type 0
-  Each entries = AllByRecursion (λ (entry : IpPrefix × CellContent). P entry.1) entries
+remove-set : (test : IpPrefix → Bool) (entries : Entries) (w : CellContent)
+    → remove_entry test (set_value test entries w) ≡ remove_entry test entries
+remove-set test [] w = refl
+remove-set test (e ∷ es) w =
+    elim (cases_Bool (test e.0)) [
+      | inl here ↦ rw (here, here) refl
+      | inr there ↦ rw (there, there) (ap (λ rest. e ∷ rest) (remove-set test es w))
+    ]
 
-  pub each-at : (entries : Entries) (prefix : IpPrefix) (cell : CellContent) → Each entries → cell_at entries prefix ≡ Some cell → P cell
+-- all cells of some entries have a property
+abbrev pub Each : (CellContent → Type 0) → Entries → Type 0
+Each P entries = AllByRecursion (λ (entry : IpPrefix × CellContent). P entry.1) entries
+
+pub each-weaker : (P Q : CellContent → Type 0) → ((cell : CellContent) → P cell → Q cell) → (entries : Entries) → Each P entries
+    → Each Q entries
+each-weaker P Q weaker [] all = tt
+each-weaker P Q weaker (e ∷ es) all = (weaker e.1 all.0, each-weaker P Q weaker es all.1)
+
+module _ (P : CellContent → Type 0) where
+  pub each-at : (entries : Entries) (prefix : IpPrefix) (cell : CellContent) → Each P entries → cell_at entries prefix ≡ Some cell → P cell
   each-at [] prefix cell all is = absurd (cc is)
   each-at (e ∷ es) prefix cell all is =
       elim (cases_Bool (is_at (prefix_cmp prefix) e.0)) [
@@ -47,46 +61,46 @@ module _ (P : CellContent → Type 0) where
         | inr there ↦ each-at es prefix cell all.1 (rw there at is)
       ]
 
-  pub each-set : (test : IpPrefix → Bool) (entries : Entries) (cell : CellContent) → Each entries → P cell
-      → Each (set_value test entries cell)
+  pub each-set : (test : IpPrefix → Bool) (entries : Entries) (cell : CellContent) → Each P entries → P cell
+      → Each P (set_value test entries cell)
   each-set test [] cell all one = tt
   each-set test (e ∷ es) cell all one =
-      elim (test e.0) as (λ b. Each (cond b ((e.0, cell) ∷ es) (e ∷ set_value test es cell))) [
+      elim (test e.0) as (λ b. Each P (cond b ((e.0, cell) ∷ es) (e ∷ set_value test es cell))) [
         | true ↦ (one, all.1)
         | false ↦ (all.0, each-set test es cell all.1 one)
       ]
 
-  pub each-insert : (entries : Entries) (prefix : IpPrefix) (cell : CellContent) → Each entries → P cell
-      → Each (insert_entry prefix_cmp entries prefix cell)
+  pub each-insert : (entries : Entries) (prefix : IpPrefix) (cell : CellContent) → Each P entries → P cell
+      → Each P (insert_entry prefix_cmp entries prefix cell)
   each-insert [] prefix cell all one = (one, tt)
   each-insert (e ∷ es) prefix cell all one =
-      elim (prefix_cmp prefix e.0) as (λ o. Each (match_ordering o ((prefix, cell) ∷ e ∷ es) ((e.0, cell) ∷ es)
+      elim (prefix_cmp prefix e.0) as (λ o. Each P (match_ordering o ((prefix, cell) ∷ e ∷ es) ((e.0, cell) ∷ es)
       (e ∷ insert_entry prefix_cmp es prefix cell))) [
         | Less ↦ (one, (all.0, all.1))
         | Equal ↦ (one, all.1)
         | Greater ↦ (all.0, each-insert es prefix cell all.1 one)
       ]
 
-module _ (plan : Plan) where
-  pub cell-IsCell : (entries : Entries) (prefix : IpPrefix) (cell : CellContent) → AreCells plan entries
-      → cell_at entries prefix ≡ Some cell → IsCell plan cell
-  cell-IsCell = each-at (IsCell plan)
-
-  pub AreCells-set : (test : IpPrefix → Bool) (entries : Entries) (cell : CellContent) → AreCells plan entries → IsCell plan cell
-      → AreCells plan (set_value test entries cell)
-  AreCells-set = each-set (IsCell plan)
-
-  pub AreCells-remove : (test : IpPrefix → Bool) (entries : Entries) → AreCells plan entries → AreCells plan (remove_entry test entries)
-  AreCells-remove test [] all = tt
-  AreCells-remove test (e ∷ es) all =
-      elim (test e.0) as (λ b. AreCells plan (cond b es (e ∷ remove_entry test es))) [
+  each-remove : (test : IpPrefix → Bool) (entries : Entries) → Each P entries → Each P (remove_entry test entries)
+  each-remove test [] all = tt
+  each-remove test (e ∷ es) all =
+      elim (test e.0) as (λ b. Each P (cond b es (e ∷ remove_entry test es))) [
         | true ↦ all.1
-        | false ↦ (all.0, AreCells-remove test es all.1)
+        | false ↦ (all.0, each-remove test es all.1)
       ]
 
-  pub AreCells-insert : (entries : Entries) (prefix : IpPrefix) (cell : CellContent) → AreCells plan entries → IsCell plan cell
-      → AreCells plan (insert_entry prefix_cmp entries prefix cell)
-  AreCells-insert = each-insert (IsCell plan)
+  -- a cell is written and then removed
+  pub each-removed : (test : IpPrefix → Bool) (entries : Entries) (w : CellContent) → Each P entries
+      → Each P (remove_entry test (set_value test entries w))
+  each-removed test entries w all = subst (Each P) (sym (remove-set test entries w)) (each-remove test entries all)
+
+pub cell-IsCell : (plan : Plan) (entries : Entries) (prefix : IpPrefix) (cell : CellContent) → AreCells plan entries
+    → cell_at entries prefix ≡ Some cell → IsCell plan cell
+cell-IsCell plan = each-at (IsCell plan)
+
+-- cells that keep room are cells
+pub kept-cells : (keeps_room : Bool) (plan : Plan) (entries : Entries) → AreKeptCells keeps_room plan entries → AreCells plan entries
+kept-cells keeps_room plan = each-weaker (IsKeptCell keeps_room plan) (IsCell plan) (λ cell is. is.is_cell)
 
 -- ---- what one change of the map leaves
 
@@ -115,19 +129,6 @@ removed_after m l n prefix w written removed q =
     ∙ ap (cond (same_prefix q prefix) None) (at-update m l prefix (Some w) written q)
     ∙ elim (same_prefix q prefix) as (λ b. cond b None (cond b (Some w) (cell_at m.entries q)) ≡ cond b None (cell_at m.entries q))
     [ true ↦ refl | false ↦ refl ]
-
-remove-set : (test : IpPrefix → Bool) (entries : Entries) (w : CellContent)
-    → remove_entry test (set_value test entries w) ≡ remove_entry test entries
-remove-set test [] w = refl
-remove-set test (e ∷ es) w =
-    elim (cases_Bool (test e.0)) [
-      | inl here ↦ rw (here, here) refl
-      | inr there ↦ rw (there, there) (ap (λ rest. e ∷ rest) (remove-set test es w))
-    ]
-
-pub AreCells-removed : (plan : Plan) (test : IpPrefix → Bool) (entries : Entries) (w : CellContent) → AreCells plan entries
-    → AreCells plan (remove_entry test (set_value test entries w))
-AreCells-removed plan test entries w all = subst (AreCells plan) (sym (remove-set test entries w)) (AreCells-remove plan test entries all)
 
 -- ---- what is held of each peer, by each peer's routes
 

@@ -7,12 +7,12 @@ use Rattle.std.specs.declared.cmp.Ordering.TheVariants.{Less}
 use Rattle.std.proofs.lemmas.Bool.{cases_Bool}
 use Rattle.rs_update.specs.IpPrefix.{IpPrefix}
 use Rattle.rs_update.specs.PrefixOrder.{prefix_cmp}
-use Rattle.rs_choice.specs.Plan.{Plan}
 use Rattle.rs_table.specs.Left.{same_prefix}
 use Rattle.rs_table.specs.ByPeer.{without_route}
-use Rattle.rs_table.specs.Cell.{CellContent, IsCell, routes_in}
-use Rattle.rs_table.specs.Cells.{Entries, AreCells, cell_at, routes_at, routes_of}
+use Rattle.rs_table.specs.Cell.{CellContent, routes_in}
+use Rattle.rs_table.specs.Cells.{Entries, cell_at, routes_at, routes_of}
 use Rattle.rs_table.proofs.PrefixLemmas.{same_prefix-true}
+use Rattle.rs_table.proofs.cells.CellsLemmas.{Each}
 
 abbrev pub Below : IpPrefix → Entries → Type 0
 Below prefix entries = AllByRecursion (λ other. prefix_cmp prefix other ≡ Less) (map (λ entry. entry.0) entries)
@@ -22,35 +22,34 @@ none_below q [] below = refl
 none_below q (e ∷ es) below = rw below.0 (none_below q es below.1)
 
 -- what one call of the closure does
-abbrev pub Withdraws : Plan → ℕ → CellContent → Bool → CellContent → Type 0
-Withdraws plan peer old left new =
-    (routes_in new ≡ without_route (routes_in old) peer) × (left ≡ true → IsCell plan new) × (left ≡ false → routes_in new ≡ [])
+abbrev pub Withdraws : (CellContent → Type 0) → ℕ → CellContent → Bool → CellContent → Type 0
+Withdraws P peer old left new =
+    (routes_in new ≡ without_route (routes_in old) peer) × (left ≡ true → P new) × (left ≡ false → routes_in new ≡ [])
 
-pub member-IsCell : (plan : Plan) (before after : Entries) (prefix : IpPrefix) (cell : CellContent)
-    → AreCells plan (before ++ (prefix, cell) ∷ after) → IsCell plan cell
-member-IsCell plan [] after prefix cell all = all.0
-member-IsCell plan (e ∷ es) after prefix cell all = member-IsCell plan es after prefix cell all.1
+pub member-each : (P : CellContent → Type 0) (before after : Entries) (prefix : IpPrefix) (cell : CellContent)
+    → Each P (before ++ (prefix, cell) ∷ after) → P cell
+member-each P [] after prefix cell all = all.0
+member-each P (e ∷ es) after prefix cell all = member-each P es after prefix cell all.1
 
-pub front-AreCells : (plan : Plan) (before after : Entries) → AreCells plan (before ++ after) → AreCells plan before
-front-AreCells plan [] after all = tt
-front-AreCells plan (e ∷ es) after all = (all.0, front-AreCells plan es after all.1)
+pub front-each : (P : CellContent → Type 0) (before after : Entries) → Each P (before ++ after) → Each P before
+front-each P [] after all = tt
+front-each P (e ∷ es) after all = (all.0, front-each P es after all.1)
 
-module _ {F : Type 0} (T : F → IpPrefix → CellContent → Bool → CellContent → F → Type 0) (plan : Plan) (peer : ℕ) (f : F)
-    (calls : (k : IpPrefix) (v : CellContent) (b : Bool) (w : CellContent) (f' : F) → IsCell plan v → T f k v b w f'
-    → Withdraws plan peer v b w × (f' ≡ f)) where
-  pub left-AreCells : (es kept : Entries) → AreCells plan es → RetainsPairs T f es kept → AreCells plan kept
-  left-AreCells [] kept all kept_is = subst (AreCells plan) (sym kept_is) tt
-  left-AreCells (e ∷ es) kept all (b, w, f', rest, call, later, kept_is) =
+module _ {F : Type 0} (T : F → IpPrefix → CellContent → Bool → CellContent → F → Type 0) (P : CellContent → Type 0) (peer : ℕ) (f : F)
+    (calls : (k : IpPrefix) (v : CellContent) (b : Bool) (w : CellContent) (f' : F) → P v → T f k v b w f' → Withdraws P peer v b w
+    × (f' ≡ f)) where
+  pub left-each : (es kept : Entries) → Each P es → RetainsPairs T f es kept → Each P kept
+  left-each [] kept all kept_is = subst (Each P) (sym kept_is) tt
+  left-each (e ∷ es) kept all (b, w, f', rest, call, later, kept_is) =
       let one = calls e.0 e.1 b w f' all.0 call in
-      let others : AreCells plan rest = left-AreCells es rest all.1 (subst (λ g. RetainsPairs T g es rest) one.1 later) in
-      subst (AreCells plan) (sym kept_is) (by_left b one.0.1 others)
+      let others : Each P rest = left-each es rest all.1 (subst (λ g. RetainsPairs T g es rest) one.1 later) in
+      subst (Each P) (sym kept_is) (by_left b one.0.1 others)
     where
-      by_left : (b : Bool) → (b ≡ true → IsCell plan w) → AreCells plan rest → AreCells plan (cond b ((e.0, w) ∷ rest) rest)
+      by_left : (b : Bool) → (b ≡ true → P w) → Each P rest → Each P (cond b ((e.0, w) ∷ rest) rest)
       by_left true is others = (is refl, others)
       by_left false is others = others
 
-  pub left-routes : (es kept : Entries) → AreCells plan es → IsStrictlySortedBy prefix_cmp (map (λ entry. entry.0) es)
-      → RetainsPairs T f es kept →
+  pub left-routes : (es kept : Entries) → Each P es → IsStrictlySortedBy prefix_cmp (map (λ entry. entry.0) es) → RetainsPairs T f es kept →
       (q : IpPrefix) → routes_at kept q ≡ without_route (routes_at es q) peer
   unfolding IsStrictlySortedBy
   left-routes [] kept all sorted kept_is q = ap (λ entries. routes_at entries q) kept_is
@@ -67,7 +66,7 @@ module _ {F : Type 0} (T : F → IpPrefix → CellContent → Bool → CellConte
         | inr there ↦ rw there (past_one b others there)
       ]
     where
-      at_one : (b : Bool) → Withdraws plan peer e.1 b w → routes_at rest q ≡ [] → same_prefix q e.0 ≡ true
+      at_one : (b : Bool) → Withdraws P peer e.1 b w → routes_at rest q ≡ [] → same_prefix q e.0 ≡ true
           → routes_at (cond b ((e.0, w) ∷ rest) rest) q ≡ without_route (routes_in e.1) peer
       at_one true call none here = rw here call.0
       at_one false call none here = none ∙ sym (call.2 refl) ∙ call.0
@@ -78,7 +77,7 @@ module _ {F : Type 0} (T : F → IpPrefix → CellContent → Bool → CellConte
       past_one false others there = others
 
   -- the closure stays as it was
-  pub folds_same : (es : Entries) (f' : F) → AreCells plan es → FoldsTo (SomeCallAtPair T) f es f' → f' ≡ f
+  pub folds_same : (es : Entries) (f' : F) → Each P es → FoldsTo (SomeCallAtPair T) f es f' → f' ≡ f
   folds_same [] f' all folds = sym folds
   folds_same (e ∷ es) f' all (j, (b, w, call), later) =
       folds_same es f' all.1 (subst (λ g. FoldsTo (SomeCallAtPair T) g es f') (calls e.0 e.1 b w j all.0 call).1 later)

@@ -1,18 +1,19 @@
-use Rattle.std.proofs.Common.{◌≡◌, Some, None, ◌∙◌, ap, sym, subst}
+use Rattle.std.proofs.Common.{◌≡◌, true, Some, None, ◌∙◌, ap, sym, subst}
 use Rattle.std.specs.BTreeMap.{BTreeMap, Updates, insert_entry, is_at}
 use Rattle.std.specs.Option.{is_some, option_copied_mut}
 use Rattle.rs_update.specs.IpPrefix.{IpPrefix}
 use Rattle.rs_update.specs.PrefixOrder.{prefix_cmp}
 use Rattle.rs_table.specs.ByPeer.{with_route}
-use Rattle.rs_table.specs.Cell.{CellContent}
+use Rattle.rs_table.specs.Cell.{CellContent, IsKeptCell}
 use Rattle.rs_choice.specs.Held.{sent_of_held}
-use Rattle.rs_table.specs.Cells.{AreCells, cell_at, routes_of}
-use Rattle.rs_table.proofs.cells.CellsLemmas.{cell-IsCell, AreCells-set, AreCells-insert, at-update, updated}
+use Rattle.rs_table.specs.Cells.{AreKeptCells, cell_at, routes_of}
+use Rattle.rs_table.proofs.cells.CellsLemmas.{each-at, each-set, each-insert, at-update, updated}
 use Rattle.rs_table.proofs.cells.announce.Goals as goal
 
 pub announce-requires-clause-cell : goal.announce-requires-clause-cell
 announce-requires-clause-cell c =
-    cell-IsCell c.args.plan.now c.args.cells.now.entries c.args.prefix c.in-Some.cell.now c.requires.cells (sym c.in-Some.ensures.value)
+    each-at (IsKeptCell true c.args.plan.now) c.args.cells.now.entries c.args.prefix c.in-Some.cell.now c.requires.cells
+    (sym c.in-Some.ensures.value)
 
 pub returns-in-Some-clause-routes : goal.returns-in-Some-clause-routes
 returns-in-Some-clause-routes c =
@@ -25,8 +26,8 @@ returns-in-Some-clause-routes c =
 
 pub returns-in-Some-clause-cells : goal.returns-in-Some-clause-cells
 returns-in-Some-clause-cells c =
-    subst (AreCells c.args.plan.now) (sym (c.get_mut.follows.holds c.announce.new.self).0)
-    (AreCells-set c.args.plan.now (is_at (prefix_cmp c.args.prefix))
+    subst (AreKeptCells true c.args.plan.now) (sym (c.get_mut.follows.holds c.announce.new.self).0)
+    (each-set (IsKeptCell true c.args.plan.now) (is_at (prefix_cmp c.args.prefix))
     c.args.cells.now.entries c.announce.new.self c.requires.cells c.announce.ensures.cell)
 
 pub returns-clause-routes : goal.returns-clause-routes
@@ -41,7 +42,8 @@ returns-clause-routes c =
 
 pub returns-clause-cells : goal.returns-clause-cells
 returns-clause-cells c =
-    subst (AreCells c.args.plan.now) (sym (c.in_ok-insert.ensures.entries
+    subst (AreKeptCells true c.args.plan.now) (sym (c.in_ok-insert.ensures.entries
     ∙ ap (λ (m : BTreeMap IpPrefix CellContent). insert_entry prefix_cmp m.entries c.args.prefix c.in_ok-cell.cell)
     c.get_mut.follows.holds-at-none))
-    (AreCells-insert c.args.plan.now c.args.cells.now.entries c.args.prefix c.in_ok-cell.cell c.requires.cells c.in_ok-cell.ensures.cell)
+    (each-insert (IsKeptCell true c.args.plan.now) c.args.cells.now.entries c.args.prefix c.in_ok-cell.cell c.requires.cells
+    c.in_ok-cell.ensures.cell)

@@ -1,16 +1,18 @@
-use Rattle.std.proofs.Common.{◌≡◌, Some, None, refl, ◌∙◌, ap, sym, subst}
+use Rattle.std.proofs.Common.{◌≡◌, true, Some, None, refl, ◌∙◌, ap, sym, subst}
 use Rattle.std.specs.BTreeMap.{is_at}
 use Rattle.std.specs.Map.{remove_entry}
 use Rattle.std.specs.Option.{is_some}
 use Rattle.rs_update.specs.PrefixOrder.{prefix_cmp}
 use Rattle.rs_table.specs.ByPeer.{without_route}
-use Rattle.rs_table.specs.Cells.{AreCells, cell_at, routes_of}
-use Rattle.rs_table.proofs.cells.CellsLemmas.{cell-IsCell, AreCells-set, AreCells-removed, at-update, updated, removed_after}
+use Rattle.rs_table.specs.Cell.{IsKeptCell}
+use Rattle.rs_table.specs.Cells.{AreKeptCells, cell_at, routes_of}
+use Rattle.rs_table.proofs.cells.CellsLemmas.{each-at, each-set, each-removed, at-update, updated, removed_after}
 use Rattle.rs_table.proofs.cells.withdraw.Goals as goal
 
 pub withdraw-requires : goal.withdraw-requires
 withdraw-requires c =
-    cell-IsCell c.args.plan.now c.args.cells.now.entries c.args.prefix c.in-Some.cell.now c.requires (sym c.in-Some.ensures.value)
+    each-at (IsKeptCell true c.args.plan.now) c.args.cells.now.entries c.args.prefix c.in-Some.cell.now c.requires
+    (sym c.in-Some.ensures.value)
 
 pub returns-then-not-withdraw-clause-routes : goal.returns-then-not-withdraw-clause-routes
 returns-then-not-withdraw-clause-routes c =
@@ -27,8 +29,8 @@ pub returns-then-not-withdraw-clause-cells : goal.returns-then-not-withdraw-clau
 returns-then-not-withdraw-clause-cells c =
     let w = c.withdraw.new.self in
     let test = is_at (prefix_cmp c.args.prefix) in
-    subst (AreCells c.args.plan.now) (sym (c.remove.ensures.entries ∙ ap (remove_entry test) (c.get_mut.follows.holds w).0))
-    (AreCells-removed c.args.plan.now test c.args.cells.now.entries w c.requires)
+    subst (AreKeptCells true c.args.plan.now) (sym (c.remove.ensures.entries ∙ ap (remove_entry test) (c.get_mut.follows.holds w).0))
+    (each-removed (IsKeptCell true c.args.plan.now) test c.args.cells.now.entries w c.requires)
 
 pub returns-else-not-withdraw-clause-routes : goal.returns-else-not-withdraw-clause-routes
 returns-else-not-withdraw-clause-routes c =
@@ -43,6 +45,6 @@ returns-else-not-withdraw-clause-routes c =
 pub returns-else-not-withdraw-clause-cells : goal.returns-else-not-withdraw-clause-cells
 returns-else-not-withdraw-clause-cells c =
     let w = c.withdraw.new.self in
-    subst (AreCells c.args.plan.now) (sym (c.get_mut.follows.holds w).0)
-    (AreCells-set c.args.plan.now (is_at (prefix_cmp c.args.prefix)) c.args.cells.now.entries w c.requires
+    subst (AreKeptCells true c.args.plan.now) (sym (c.get_mut.follows.holds w).0)
+    (each-set (IsKeptCell true c.args.plan.now) (is_at (prefix_cmp c.args.prefix)) c.args.cells.now.entries w c.requires
     (c.if-not-withdraw.ensures.some refl))

@@ -8,7 +8,7 @@ use Rattle.rs_choice.specs.Held.{sent_of_held, IsJudged}
 use Rattle.rs_choice.specs.declared.held_route.HeldRoute.{HeldRoute}
 use Rattle.rs_table.specs.declared.settling.Making.{Making}
 use Rattle.rs_table.specs.ByPeer.{IsRow, route_at}
-use Rattle.rs_table.specs.Cells.{AreCells, Entries, routes_at}
+use Rattle.rs_table.specs.Cells.{AreKeptCells, Entries, routes_at}
 use Rattle.rs_table.specs.Gathered.{entry_route, left_over, logged_cmp, IsAnnounced}
 use Rattle.rs_table.specs.Logged.{Logged}
 use Rattle.rs_table.specs.Making.{routes_so_far, IsBefore, IsNext}
@@ -33,7 +33,7 @@ loop-entry-init c =
           row = subst (IsRow 0 (length plan.peers)) (sym empty) tt;
           judged = subst (All (IsJudged plan)) (sym c.in_ok-with_capacity.ensures.items) (All-nil (IsJudged plan));
         };
-        cells = subst (AreCells plan) (sym c.new-2.ensures.empty) tt;
+        cells = subst (AreKeptCells c.args.keeps_room plan) (sym c.new-2.ensures.empty) tt;
         none = λ q not_less. ap (λ (entries : Entries). routes_at entries q) c.new-2.ensures.empty;
       };
       next = subst (All (IsNext making)) (sym gives) (all-next making entries c.in-Some.first.now first_is c.in_ok-compact.ensures.ascending

@@ -10,7 +10,7 @@ use Rattle.rs_table.proofs.settling.cells_of.Given as goal
 -- the routes so far, and the changes that are left over them, are what the list leaves
 abbrev pub invariant-loop-entry : goal.invariant-loop-entry
 invariant-loop-entry l = record {
-  making : IsMaking l.plan l.making;
+  making : IsMaking l.fn.keeps_room l.plan l.making;
   next : All (IsNext l.making) (into_iter_items l.entry-iterator);
   sorted : IsStrictlySortedBy logged_cmp (into_iter_items l.entry-iterator);
   announced : All (IsAnnounced l.losses) (into_iter_items l.entry-iterator);

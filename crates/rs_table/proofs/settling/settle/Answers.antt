@@ -4,16 +4,18 @@ use Rattle.std.proofs.lemmas.Iterator.Adapters.{YieldsList-from_vec}
 use Rattle.std.proofs.lemmas.Iterator.Consumers.{YieldsList-turn, YieldsList-end}
 use Rattle.rs_table.specs.Logged.{Logged}
 use Rattle.rs_table.specs.declared.log.Log.{Log}
-use Rattle.rs_table.specs.Cells.{AreCells}
+use Rattle.rs_table.specs.Cell.{IsKeptCell}
+use Rattle.rs_table.specs.Cells.{AreKeptCells}
 use Rattle.rs_table.specs.Gathered.{left_in, lists_of}
-use Rattle.rs_table.proofs.MergeLemmas.{AreCells-joined}
+use Rattle.rs_table.proofs.MergeLemmas.{each-joined}
+use Rattle.rs_table.proofs.cells.CellsLemmas.{kept-cells}
 use Rattle.rs_table.proofs.gathering.GatheredLemmas.{entered-list}
 use Rattle.rs_table.proofs.settling.SettlingLemmas.{IsReplayed, replayed-all, replayed-more, replayed-none}
 use Rattle.rs_table.proofs.settling.settle.Goals as goal
 
 pub loop-log-init : goal.loop-log-init
 loop-log-init c = record {
-  cells = subst (AreCells c.args.plan.now) (sym c.new-cells.ensures.empty) tt;
+  cells = subst (AreKeptCells c.args.keeps_room c.args.plan.now) (sym c.new-cells.ensures.empty) tt;
   replayed = replayed-none c.args.losses.now c.args.logs.items c.new-cells.result.entries c.new-cells.ensures.empty;
 }
 
@@ -34,11 +36,12 @@ loop-log-preserved c =
     let others = c.in_ok-more.more.entries in
     let joined = c.in_ok-cells.cells.entries in
     record {
-      cells = AreCells-joined plan before others joined c.loop-log.invariant.cells c.in_ok-more.ensures.cells c.in_ok-cells.ensures.cells
+      cells = each-joined (IsKeptCell c.args.keeps_room plan)
+          before others joined c.loop-log.invariant.cells c.in_ok-more.ensures.cells c.in_ok-cells.ensures.cells
           c.in_ok-cells.ensures.ordered;
       replayed = subst (λ (n : ℕ). IsReplayed losses logs n joined) (sym more)
           (replayed-more losses logs c.requires.logs plan count before others joined c.loop-log.invariant.replayed
-          c.in_ok-more.ensures.cells c.in_ok-cells.ensures.cells
+          (kept-cells c.args.keeps_room plan others c.in_ok-more.ensures.cells) c.in_ok-cells.ensures.cells
           (λ peer prefix. c.in_ok-more.ensures.routes peer prefix
           ∙ ap (λ (entries : List Logged). left_in losses entries peer prefix) (sym list)));
     }

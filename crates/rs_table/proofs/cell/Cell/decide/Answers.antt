@@ -1,6 +1,6 @@
-use Rattle.std.proofs.Common.{◌≡◌, ◌∙◌, ap, subst, sym, arith, length}
+use Rattle.std.proofs.Common.{◌∙◌, ap, subst, sym, arith}
 use Rattle.rs_table.specs.Cell.{AreHeld}
-use Rattle.rs_table.proofs.cell.HeldLemmas.{few-held, decided-kept}
+use Rattle.rs_table.proofs.cell.HeldLemmas.{few-held}
 use Rattle.rs_table.proofs.cell.Cell.decide.Goals as goal
 
 pub choose_for_all-requires-clause-bound : goal.choose_for_all-requires-clause-bound
@@ -11,6 +11,4 @@ choose_for_all-requires-clause-bound c =
 
 pub invariant_of-self : goal.invariant_of-self
 invariant_of-self c =
-    let count : length c.self.inside.bests.items ≡ length c.args.plan.now.peers =
-    ap (λ cell. length cell.bests) c.self.view_is ∙ c.requires.count in
-    decided-kept c.self.inside c.choose_for_all.new.bests c.self.invariant (c.choose_for_all.ensures.count ∙ sym count)
+    c.self.invariant

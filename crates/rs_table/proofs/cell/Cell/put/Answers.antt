@@ -10,12 +10,7 @@ pub put-requires-clause-room : goal.put-requires-clause-room
 put-requires-clause-room c =
     let plan = c.args.plan.now in
     let cell : IsUndecided plan (cell_view c.self.inside) = subst (IsUndecided plan) (sym c.self.view_is) c.requires.cell in
-    omega (
-      arith,
-      few-held plan _ (held-with plan c.self.inside.held.items _ c.args.route cell.held c.requires.judged refl),
-      c.self.invariant.room,
-      cell.count,
-    )
+    omega (arith, few-held plan _ (held-with plan c.self.inside.held.items _ c.args.route cell.held c.requires.judged refl), cell.room)
 
 pub returns-clause-routes : goal.returns-clause-routes
 returns-clause-routes c =
@@ -30,17 +25,14 @@ returns-clause-cell c =
       held = held-with plan c.self.inside.held.items c.put.new.held.items c.args.route cell.held c.requires.judged
           c.put.ensures.held;
       count = cell.count;
+      room = omega (arith, cell.room, c.put.ensures.capacity);
     }
 
 pub invariant_of-self : goal.invariant_of-self
 invariant_of-self c =
     let plan = c.args.plan.now in
-    let cell : IsUndecided plan (cell_view c.self.inside) = subst (IsUndecided plan) (sym c.self.view_is) c.requires.cell in
-    record {
-      room = omega (arith, c.self.invariant.room, c.put.ensures.capacity);
-      ascending = (
-        length plan.peers,
-        (held-with plan c.self.inside.held.items c.put.new.held.items c.args.route cell.held c.requires.judged
-            c.put.ensures.held).row,
-      );
-    }
+    let cell : IsUndecided plan (cell_view c.self.inside) = subst (IsUndecided plan) (sym c.self.view_is) c.requires.cell in (
+      length plan.peers,
+      (held-with plan c.self.inside.held.items c.put.new.held.items c.args.route cell.held c.requires.judged
+          c.put.ensures.held).row,
+    )

@@ -20,7 +20,7 @@ returns-in_err-route c =
     let at : slice_get held (place_of (λ (one : HeldRoute). one.peer) held peer) ≡ None =
     sym (ap (slice_get held) place) ∙ ap (λ xs. slice_get xs c.place.result) (sym c.deref.ensures.value) ∙ got in
     let none : route_at (map sent_of_held held) peer ≡ None =
-    route_nowhere 0 c.self.invariant.ascending.0 peer held (λ there. absurd (cc (there.1, at))) c.self.invariant.ascending.1 in
+    route_nowhere 0 c.self.invariant.0 peer held (λ there. absurd (cc (there.1, at))) c.self.invariant.1 in
     ap (option_map _) c.from_residual.ensures
     ∙ sym (ap (λ cell. option_map (sent_by peer) (route_at (routes_in cell) peer)) (sym c.self.view_is)
     ∙ ap (option_map (sent_by peer)) none)
@@ -35,8 +35,8 @@ returns-then-from-peer c =
     let at : slice_get held (place_of (λ (one : HeldRoute). one.peer) held peer) ≡ Some c.in_ok-route.route.now =
     sym (ap (slice_get held) place) ∙ ap (λ xs. slice_get xs c.place.result) (sym c.deref.ensures.value) ∙ got in
     let none : route_at (map sent_of_held held) peer ≡ None =
-    route_nowhere 0 c.self.invariant.ascending.0 peer held (λ there. c.if-from-peer.true (cc (there.1, there.2, at, c.from.ensures)))
-    c.self.invariant.ascending.1 in
+    route_nowhere 0 c.self.invariant.0 peer held (λ there. c.if-from-peer.true (cc (there.1, there.2, at, c.from.ensures)))
+    c.self.invariant.1 in
     sym (ap (λ cell. option_map (sent_by peer) (route_at (routes_in cell) peer)) (sym c.self.view_is) ∙ ap (option_map (sent_by peer)) none)
 
 pub returns : goal.returns

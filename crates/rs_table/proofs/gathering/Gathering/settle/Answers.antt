@@ -1,8 +1,11 @@
 -- Each peer has the same routes in the cells and in the lists.
-use Rattle.std.proofs.Common.{◌∙◌, ap, List}
-use Rattle.rs_table.specs.Cells.{routes_from}
+use Rattle.std.proofs.Common.{◌∙◌, Bool, ap, subst, inl, inr, List}
+use Rattle.std.proofs.lemmas.Bool.{cases_Bool}
+use Rattle.rs_table.specs.Cells.{routes_from, AreKeptCells}
 use Rattle.rs_table.specs.Content.{RibContent, TablesContent}
 use Rattle.rs_table.specs.Gathered.{routes_gathered}
+use Rattle.rs_table.specs.TablesView.{AllClosed}
+use Rattle.rs_table.proofs.cells.CellsLemmas.{kept-cells}
 use Rattle.rs_table.proofs.gathering.GatheringLemmas.{same-ribs, settled-routes}
 use Rattle.rs_table.proofs.gathering.Gathering.settle.Goals as goal
 
@@ -15,5 +18,24 @@ returns c =
     c.of_cells.ensures
     ∙ ap (λ (ribs : List RibContent). let tables : TablesContent = record { plan = inside.plan.value; ribs = ribs } in tables)
     (same-ribs (routes_from entries) (routes_gathered losses logs)
-    (settled-routes losses logs entries (rw c.deref-2.ensures.value at c.in_ok-cells.ensures.routes)) 0 inside.closed.items)
+    (settled-routes losses logs entries (rw c.deref-3.ensures.value at c.in_ok-cells.ensures.routes)) 0 inside.closed.items)
     ∙ c.self.view_is
+
+-- the cells keep room where a session is open
+pub of_cells-requires-clause-cells : goal.of_cells-requires-clause-cells
+of_cells-requires-clause-cells c =
+    let entries = c.in_ok-cells.cells.entries in
+    let keeps = c.is_some_open-keeps_room.result in
+    kept-cells keeps c.self.inside.plan.value entries (subst (λ plan. AreKeptCells keeps plan entries)
+    c.deref-2.ensures c.in_ok-cells.ensures.cells)
+
+pub of_cells-requires-clause-room : goal.of_cells-requires-clause-room
+of_cells-requires-clause-room c =
+    let plan = c.self.inside.plan.value in
+    let entries = c.in_ok-cells.cells.entries in
+    let keeps = c.is_some_open-keeps_room.result in
+    elim (cases_Bool keeps) [
+      | inl keeping ↦ inr (subst (λ (b : Bool). AreKeptCells b plan entries) keeping
+          (subst (λ plan. AreKeptCells keeps plan entries) c.deref-2.ensures c.in_ok-cells.ensures.cells))
+      | inr not_keeping ↦ inl (subst AllClosed c.deref.ensures.value (c.is_some_open-keeps_room.ensures not_keeping))
+    ]

@@ -1,9 +1,10 @@
 -- The cell of the prefix comes to the others.
 use Rattle.std.proofs.Common.{◌∙◌, Some, ap, refl, subst, sym, inl, inr}
 use Rattle.std.proofs.lemmas.Bool.{cases_Bool}
-use Rattle.rs_table.specs.Cells.{AreCells, routes_of}
+use Rattle.rs_table.specs.Cell.{IsKeptCell}
+use Rattle.rs_table.specs.Cells.{AreKeptCells, routes_of}
 use Rattle.rs_table.specs.Left.{same_prefix}
-use Rattle.rs_table.proofs.cells.CellsLemmas.{AreCells-insert, at-update}
+use Rattle.rs_table.proofs.cells.CellsLemmas.{each-insert, at-update}
 use Rattle.rs_table.proofs.settling.Making.close.Goals as goal
 
 pub returns-clause-routes : goal.returns-clause-routes
@@ -18,5 +19,6 @@ returns-clause-routes c = λ q.
 pub returns-clause-cells : goal.returns-clause-cells
 returns-clause-cells c =
     let making = c.args.self.now in
-    subst (AreCells c.args.plan.now) (sym c.in_ok-insert.ensures.entries)
-    (AreCells-insert c.args.plan.now making.cells.entries making.prefix c.in_ok-cell.cell c.requires.cells c.in_ok-cell.ensures.cell)
+    subst (AreKeptCells c.args.keeps_room c.args.plan.now) (sym c.in_ok-insert.ensures.entries)
+    (each-insert (IsKeptCell c.args.keeps_room c.args.plan.now)
+    making.cells.entries making.prefix c.in_ok-cell.cell c.requires.cells c.in_ok-cell.ensures.cell)

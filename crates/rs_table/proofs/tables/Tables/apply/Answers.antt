@@ -1,11 +1,15 @@
-use Rattle.std.proofs.Common.{◌≡◌, ◌<◌, true, false, length, length-set, get_or-set_same, set, rules, arith, refl, sym, ap, subst, ◌∙◌}
+use Rattle.std.proofs.Common.{◌≡◌, ◌<◌, ℕ, true, false, get_or, inl, inr, length, length-set, get_or-set_same, set, rules, arith, refl, sym}
+use Rattle.std.proofs.Common.{ap, subst, ◌∙◌}
 use Rattle.std.proofs.lemmas.List.{get_or-set_other}
 use Rattle.rs_session.specs.Change.{Change, change_of}
+use Rattle.rs_table.specs.declared.tables.Tables.TheInside.{Inside}
+use Rattle.rs_table.specs.Cells.{AreKeptCells}
 use Rattle.rs_table.specs.Content.{rib_of}
+use Rattle.rs_table.specs.TablesView.{AreTables}
 use Rattle.rs_table.specs.Left.{Routes, after, BecomeBy, IsNewAnnouncement}
 use Rattle.rs_table.specs.Listing.{IsFirstAnnouncement}
 use Rattle.rs_table.proofs.LeftLemmas.{left_more}
-use Rattle.rs_table.proofs.cells.CellsLemmas.{length-ribs}
+use Rattle.rs_table.proofs.cells.CellsLemmas.{kept-cells, length-ribs}
 use Rattle.rs_table.proofs.tables.TablesLemmas.{rib-of, rib-closed, rib-other, first-new, first-held, applied-routes}
 use Rattle.rs_table.proofs.tables.Tables.apply.Goals as goal
 
@@ -94,14 +98,57 @@ returns-else-closes-clause-others c = λ other apart.
     c.in_ok-change.ensures.routes inside.closed.items inside.closed.items refl other apart refl
     ∙ ap (λ tables. rib_of tables other) c.self.view_is
 
+-- the session is open, so the cells have room
+room-left : (inside : Inside) → AreTables inside → (peer : ℕ) → peer < length inside.closed.items
+    → get_or inside.closed.items peer false ≡ false → AreKeptCells true inside.plan.value inside.cells.entries
+room-left inside is peer known is_open =
+    elim is.room [
+      | inl closed ↦ absurd (cc (sym is_open ∙ closed peer false known))
+      | inr room ↦ room
+    ]
+
+pub change-requires-clause-cells : goal.change-requires-clause-cells
+change-requires-clause-cells c =
+    let inside = c.self.inside in
+    let known : c.args.peer < length inside.closed.items =
+    omega (arith, c.requires.known, c.self.invariant.peers, ap (λ tables. length tables.plan.peers) c.self.view_is) in
+    subst (λ plan. AreKeptCells true plan inside.cells.entries) (sym c.deref.ensures)
+    (room-left inside c.self.invariant c.args.peer known
+    (sym (rib-closed inside.plan.value inside.cells.entries inside.closed.items c.args.peer)
+    ∙ ap (λ tables. (rib_of tables c.args.peer).closed) c.self.view_is ∙ c.requires.open))
+
 pub invariant_of-self : goal.invariant_of-self
-invariant_of-self c = search rules
+invariant_of-self c =
+    let plan = c.self.inside.plan.value in
+    let kept : AreKeptCells true plan c.change.new.cells.entries =
+    subst (λ plan. AreKeptCells true plan c.change.new.cells.entries) c.deref.ensures c.change.ensures.cells in
+    record {
+      peers = c.self.invariant.peers;
+      cells = kept-cells true plan c.change.new.cells.entries kept;
+      room = inr kept;
+    }
 
 pub invariant_of-self-else-closes : goal.invariant_of-self-else-closes
-invariant_of-self-else-closes c = search rules
+invariant_of-self-else-closes c =
+    let plan = c.self.inside.plan.value in
+    let kept : AreKeptCells true plan c.change.new.cells.entries =
+    subst (λ plan. AreKeptCells true plan c.change.new.cells.entries) c.deref.ensures c.change.ensures.cells in
+    record {
+      peers = c.self.invariant.peers;
+      cells = kept-cells true plan c.change.new.cells.entries kept;
+      room = inr kept;
+    }
 
 pub invariant_of-self-then-closes : goal.invariant_of-self-then-closes
-invariant_of-self-then-closes c = search rules
+invariant_of-self-then-closes c =
+    let plan = c.self.inside.plan.value in
+    let kept : AreKeptCells true plan c.change.new.cells.entries =
+    subst (λ plan. AreKeptCells true plan c.change.new.cells.entries) c.deref.ensures c.change.ensures.cells in
+    record {
+      peers = length-set c.self.inside.closed.items c.args.peer true ∙ c.self.invariant.peers;
+      cells = kept-cells true plan c.change.new.cells.entries kept;
+      room = inr kept;
+    }
 
 pub returns-in_err-change-clause-others : goal.returns-in_err-change-clause-others
 returns-in_err-change-clause-others g c = search rules
