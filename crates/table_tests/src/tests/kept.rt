@@ -1,9 +1,13 @@
 //! The dumps of all clients as an outlet keeps them, and what the report says of them.
 
-use super::*;
+use super::TWO_PEERS;
+use super::changes::after;
 use rs_keep::keep_dumps;
 use rs_outlet::{MemoryOutlet, OutletLimits};
 use spelled_in_hex::octets;
+use std::alloc::Global;
+use std::process::Abort;
+use std::test::*;
 
 // The names and octets of the dumps: the peers, and for b the row 203.0.113.0/24 of a's (RFC 6396, section 4.3).
 const KEPT: &[(&str, &str)] = &[
@@ -37,7 +41,7 @@ fn check_kept(
 #[test]
 fn each_client_has_its_dump_kept_and_a_line(rt: HostRuntime) {
     let alloc = rt.alloc();
-    let tables = after(alloc, TWO_PEERS, "a 100 203.0.113.0/24 64501 hop-a").expect(&rt, "tables");
+    let tables = after(alloc, TWO_PEERS, "a 100 203.0.113.0/24 plain").expect(&rt, "tables");
     let mut outlet = MemoryOutlet::new(alloc, OutletLimits::none());
     let mut report = String::from_str(alloc, "before\n").expect(&rt, "room");
     let answer = keep_dumps(&rt, alloc, &tables, 0, &mut outlet, &mut report);

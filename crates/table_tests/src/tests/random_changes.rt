@@ -1,15 +1,20 @@
 //! Random changes: after each one every client gets what the rules, read slowly, say.
 
-use super::*;
-use rs_table::Gathering;
-use slow_reading::History;
-use tables::shown;
+use super::changes::{after, change, take};
+use super::exchanges::{exchange, prefix};
+use super::random::Random;
+use super::slow_reading::History;
+use super::tables::shown;
+use rs_table::{Gathering, Tables};
+use std::alloc::Global;
+use std::process::Abort;
+use std::test::*;
 
 // Three peers of AS 64501, so that MED decides between them, and one that refuses all routes of another, of an AS whose
 // number has the low eight bits of 64501.
 const SIX_PEERS: &str =
     "64500 192.0.2.0/24; a,64501,192.0.2.11,0.0.0.9; b,64501,192.0.2.12,0.0.0.4; \
-    c,64502,192.0.2.13,0.0.0.5; d,64503,192.0.2.14,0.0.0.6; e,64501,192.0.2.15,0.0.0.1; f,64757,192.0.2.16,0.0.0.7,a";
+    c,64502,192.0.2.13,0.0.0.5; d,64503,192.0.2.14,0.0.0.6; e,64501,192.0.2.15,0.0.0.1; f,64757,192.0.2.16,0.0.0.7,100,a";
 
 const PEERS: [&str; 6] = ["a", "b", "c", "d", "e", "f"];
 
@@ -19,42 +24,25 @@ const PREFIXES: [&str; 4] = ["0.0.0.0/0", "10.0.0.0/8", "10.0.0.0/16", "203.0.11
 // Path lengths 1 and 2, three neighbour ASes, with and without MED, one refused to AS 64502, one to all, one for the
 // peers of AS 64501 and 64503 alone, one for those of AS 64757 alone, and one not eligible.
 const ROUTES: [&str; 10] = [
-    "64501 hop-a",
-    "64501-65010 hop-a med-10",
-    "64501-65010 hop-a med-5",
-    "64502-65010 hop-a",
-    "64503-65010 hop-a",
-    "64501 hop-a 0:64502",
-    "64501 hop-a 0:64500",
-    "64502 hop-a 0:64500,64500:64501,64500:64503",
-    "64501 hop-a 0:64500,64500:64757,0:64501",
-    "64501-64500 hop-a",
+    "plain",
+    "igp 64501-65010 hop-a med-10",
+    "igp 64501-65010 hop-a med-5",
+    "igp 64502-65010 hop-a",
+    "igp 64503-65010 hop-a",
+    "plain 0:64502",
+    "plain 0:64500",
+    "igp 64502 hop-a 0:64500,64500:64501,64500:64503",
+    "plain 0:64500,64500:64757,0:64501",
+    "igp 64501-64500 hop-a",
 ];
-
-// A generator of numbers that look random (multiplicative, modulo 2^32).
-#[derive(Clone, Copy)]
-struct Random {
-    state: u32,
-}
-
-impl Random {
-    // A number below 2^16.
-    fn next(&mut self) -> usize {
-        self.state = self
-            .state
-            .wrapping_mul(1_664_525)
-            .wrapping_add(1_013_904_223);
-        (self.state >> 16) as usize
-    }
-}
 
 // Most changes announce, some withdraw, and now and then a session is lost or closes, at the end of its file or at a
 // fault.
 fn some_change(alloc: Global, random: &mut Random, time: u32) -> Option<String> {
-    let peer = PEERS[random.next() % 6];
-    let prefix = PREFIXES[random.next() % 4];
-    let route = ROUTES[random.next() % 10];
-    let (said, on, words) = match random.next() % 64 {
+    let peer = random.one_of(&PEERS);
+    let prefix = random.one_of(&PREFIXES);
+    let route = random.one_of(&ROUTES);
+    let (said, on, words) = match random.below(64) {
         0 => ("ended", "", ""),
         1 => ("mrt-2", "", ""),
         2 | 3 => ("lost", "", ""),

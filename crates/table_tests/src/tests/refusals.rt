@@ -1,22 +1,28 @@
 //! Memory that is refused, whichever allocation of the process it is: a change that wants it changes nothing, and the same
 //! change again is taken. One allocation is refused in a run at most, so what is asked a second time comes.
 
-use super::*;
-use tables::{name, table};
+use super::FOUR_PEERS;
+use super::changes::{after, change, take};
+use super::tables::{name, table};
+use rs_table::Tables;
+use std::alloc::Global;
+use std::fmt::Write;
+use std::process::Abort;
+use std::test::*;
 
 // Changes, and behind each the table of each client. Memory may be refused for a change behind a +, which announces a
 // prefix on which no peer has a route.
 const CHANGES: &str = "
-+ a 203 203.0.0.0/8 64501 hop-a 0:64502 | a[] b[] c[203.0.0.0/8 a 203] d[203.0.0.0/8 a 203]
-c 203 203.0.0.0/8 64503-65010 hop-a | \
++ a 203 203.0.0.0/8 plain 0:64502 | a[] b[] c[203.0.0.0/8 a 203] d[203.0.0.0/8 a 203]
+c 203 203.0.0.0/8 igp 64503-65010 hop-a | \
     a[203.0.0.0/8 c 203] b[203.0.0.0/8 c 203] c[203.0.0.0/8 a 203] d[203.0.0.0/8 a 203]
-+ a 198 198.0.0.0/8 64501 hop-a | \
++ a 198 198.0.0.0/8 plain | \
     a[203.0.0.0/8 c 203] b[198.0.0.0/8 a 198, 203.0.0.0/8 c 203] \
     c[198.0.0.0/8 a 198, 203.0.0.0/8 a 203] d[198.0.0.0/8 a 198, 203.0.0.0/8 a 203]
-+ b 10 10.0.0.0/8 64501-64500 hop-a | \
++ b 10 10.0.0.0/8 igp 64501-64500 hop-a | \
     a[203.0.0.0/8 c 203] b[198.0.0.0/8 a 198, 203.0.0.0/8 c 203] \
     c[198.0.0.0/8 a 198, 203.0.0.0/8 a 203] d[198.0.0.0/8 a 198, 203.0.0.0/8 a 203]
-c 10 10.0.0.0/8 64503-65010 hop-a | \
+c 10 10.0.0.0/8 igp 64503-65010 hop-a | \
     a[10.0.0.0/8 c 10, 203.0.0.0/8 c 203] b[10.0.0.0/8 c 10, 198.0.0.0/8 a 198, 203.0.0.0/8 c 203] \
     c[198.0.0.0/8 a 198, 203.0.0.0/8 a 203] d[10.0.0.0/8 c 10, 198.0.0.0/8 a 198, 203.0.0.0/8 a 203]
 a 203 withdraw 203.0.0.0/8 | \
@@ -30,8 +36,8 @@ a 198 lost | a[10.0.0.0/8 c 10] b[10.0.0.0/8 c 10] c[] d[10.0.0.0/8 c 10]
 c 10 mrt-2 | a[] b[] c[] d[]
 ";
 
-// The tables of all clients.
-fn all_tables(alloc: Global, tables: &Tables) -> Option<String> {
+/// The tables of all clients.
+pub fn all_tables(alloc: Global, tables: &Tables) -> Option<String> {
     let mut text = String::new(alloc);
     for client in 0..tables.count() {
         let mark = if client == 0 { "" } else { " " };

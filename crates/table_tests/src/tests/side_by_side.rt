@@ -2,10 +2,15 @@
 
 ghost use Rattle.std.specs.Prelude.{◌≡◌, IsFalse};
 
-use super::*;
+use super::changes::after;
+use super::writers::{add_routes, answer_of, list_dump};
 use rs_dump::{DumpFault, TableDump, Writing, write_side_by_side};
 use rs_mrt::{Limits, MemoryWriter};
-use writers::{add_routes, answer_of, list_dump};
+use rs_table::Tables;
+use std::alloc::Global;
+use std::process::Abort;
+use std::test::*;
+use std::thread::Threads;
 
 // How many clients there are: a thread is full of dumps, and there are some for another one.
 const CLIENTS: usize = 6;
@@ -13,14 +18,14 @@ const CLIENTS: usize = 6;
 // These clients. The fifth refuses the routes of the first, and the sixth those of the second.
 const SIX_PEERS: &str =
     "64500 192.0.2.0/24; a,64501,192.0.2.11,192.0.2.11; b,64502,192.0.2.12,192.0.2.12; \
-    c,64503,192.0.2.13,192.0.2.13; d,64504,192.0.2.14,192.0.2.14; e,64505,192.0.2.15,192.0.2.15,a; \
-    f,64506,192.0.2.16,192.0.2.16,b";
+    c,64503,192.0.2.13,192.0.2.13; d,64504,192.0.2.14,192.0.2.14; e,64505,192.0.2.15,192.0.2.15,100,a; \
+    f,64506,192.0.2.16,192.0.2.16,100,b";
 
 // Who has routes, the first of the prefixes on which it has them, and which.
 const SENT: [(usize, u32, &str); 3] = [
-    (0, 0x1400_0000, "64501 hop-a"),
-    (1, 0x1500_0000, "64502-65010 hop-a"),
-    (2, 0x1600_0000, "64503-65010 hop-a"),
+    (0, 0x1400_0000, "plain"),
+    (1, 0x1500_0000, "igp 64502-65010 hop-a"),
+    (2, 0x1600_0000, "igp 64503-65010 hop-a"),
 ];
 
 // On how many prefixes each of them has one: their rows are more than are spelled in a turn, and their records more

@@ -1,8 +1,11 @@
 //! The rules read slowly: all changes are kept in one list, and what a client gets is worked out from it anew
 //! each time.
 
-use super::*;
-use rs_update::Origin;
+use rs_choice::{Exchange, Local, PeerSpec};
+use rs_session::{Body, Reason, Word};
+use rs_update::{Attributes, Origin, Prefix};
+use std::alloc::Global;
+use std::sync::Arc;
 
 // A route that a peer has left, with what the decision process asks of it (RFC 4271, sections 9.1.1 and 9.1.2.2).
 #[derive(Clone, Copy)]

@@ -1,7 +1,15 @@
 //! Which route each client gets of several, and why; which rows its table has; and what is left of a peer whose session
 //! closed or was lost.
 
-use super::*;
+use super::check_rows;
+use super::exchanges::{peer_of, prefix};
+use rs_table::Tables;
+use rs_update::Prefix;
+use std::alloc::Global;
+use std::fmt::Write;
+use std::net::Ipv4Addr;
+use std::process::Abort;
+use std::test::*;
 
 /// A row as the tests compare it: the prefix, the peer that sent the route, and when.
 pub type Shown = (Prefix, usize, u32);
@@ -131,142 +139,13 @@ pub fn check_answer(rt: &impl Abort, alloc: Global, tables: &Tables, row: &str, 
     );
 }
 
-// `bests` has a letter for each client: the name of the peer whose route it gets on 203.0.113.0/24, or -.
-const DECISIONS: &str = "
-exchange 64500 192.0.2.0/24; a,64501,192.0.2.11,192.0.2.11; b,64502,192.0.2.12,192.0.2.12; \
-    c,64503,192.0.2.13,192.0.2.13; d,64504,192.0.2.14,192.0.2.14
-bests | ----
-why b a | Absent
-why b b | Own
-after a 100 203.0.113.0/24 64501 hop-a
-bests | -aaa
-why b a | Best
-
-# What policy keeps from one client hides no other (RFC 7947, section 2.3.2.1).
-after a 100 203.0.113.0/24 64501 hop-a 0:64502; c 100 203.0.113.0/24 64503-65010 hop-a
-bests | ccaa
-why b a | Refused
-why b c | Best
-why d c | Lost
-why d a | Best
-why a a | Own
-why a b | Absent
-
-# An ineligible route replaces an eligible one.
-after a 100 203.0.113.0/24 64501 hop-a; a 101 203.0.113.0/24 64501-64500 hop-a
-bests | ----
-why b a | Ineligible
-after a 100 203.0.113.0/24 64501 hop-a; a 101 203.0.113.0/24 64501 hop-server
-bests | ----
-why b a | Ineligible
-after a 100 203.0.113.0/24 64501 hop-a; a 101 203.0.113.0/24 64501 hop-outside
-bests | ----
-why b a | Ineligible
-after a 100 203.0.113.0/24 64501 hop-a; a 101 203.0.113.0/24 64501 hop-other
-bests | -aaa
-best b 203.0.113.0/24 | a 101 192.0.2.20
-
-# Without a subnet any next hop will do but the server's address.
-exchange 64500; a,64501,192.0.2.11,192.0.2.11; b,64502,192.0.2.12,192.0.2.12
-after a 100 203.0.113.0/24 64501 hop-outside
-bests | -a
-after a 100 203.0.113.0/24 64501 hop-server
-bests | --
-
-# MED decides within a neighbour AS (RFC 4271, section 9.1.2.2, c), in any order of the announcements; and what d gets
-# when b has withdrawn.
-exchange 64500 192.0.2.0/24; a,64501,192.0.2.11,0.0.0.1; b,64501,192.0.2.12,0.0.0.9; c,64502,192.0.2.13,0.0.0.5; \
-    d,64504,192.0.2.14,0.0.0.4
-after a 100 203.0.113.0/24 64501-65010 hop-a med-10; b 100 203.0.113.0/24 64501-65010 hop-a med-5; \
-    c 100 203.0.113.0/24 64502-65010 hop-a
-bests | cabc
-after a 100 203.0.113.0/24 64501-65010 hop-a med-10; c 100 203.0.113.0/24 64502-65010 hop-a; \
-    b 100 203.0.113.0/24 64501-65010 hop-a med-5
-bests | cabc
-after b 100 203.0.113.0/24 64501-65010 hop-a med-5; a 100 203.0.113.0/24 64501-65010 hop-a med-10; \
-    c 100 203.0.113.0/24 64502-65010 hop-a
-bests | cabc
-after b 100 203.0.113.0/24 64501-65010 hop-a med-5; c 100 203.0.113.0/24 64502-65010 hop-a; \
-    a 100 203.0.113.0/24 64501-65010 hop-a med-10
-bests | cabc
-after c 100 203.0.113.0/24 64502-65010 hop-a; a 100 203.0.113.0/24 64501-65010 hop-a med-10; \
-    b 100 203.0.113.0/24 64501-65010 hop-a med-5
-bests | cabc
-after c 100 203.0.113.0/24 64502-65010 hop-a; b 100 203.0.113.0/24 64501-65010 hop-a med-5; \
-    a 100 203.0.113.0/24 64501-65010 hop-a med-10
-bests | cabc
-after a 100 203.0.113.0/24 64501-65010 hop-a med-10; b 100 203.0.113.0/24 64501-65010 hop-a med-5; \
-    c 100 203.0.113.0/24 64502-65010 hop-a; b 101 withdraw 203.0.113.0/24
-bests | caaa
-after b 100 203.0.113.0/24 64501-65010 hop-a med-5; c 100 203.0.113.0/24 64502-65010 hop-a; \
-    a 100 203.0.113.0/24 64501-65010 hop-a med-10; b 101 withdraw 203.0.113.0/24
-bests | caaa
-after c 100 203.0.113.0/24 64502-65010 hop-a; b 100 203.0.113.0/24 64501-65010 hop-a med-5; \
-    a 100 203.0.113.0/24 64501-65010 hop-a med-10; b 101 withdraw 203.0.113.0/24
-bests | caaa
-
-# The lower address breaks the last tie (section 9.1.2.2, g).
-exchange 64500 192.0.2.0/24; a,64501,192.0.2.11,192.0.2.9; b,64501,192.0.2.12,192.0.2.9; c,64503,192.0.2.13,192.0.2.13
-after b 100 203.0.113.0/24 64501 hop-other; a 100 203.0.113.0/24 64501 hop-other
-bests | baa
-";
-
-#[test]
-fn each_client_gets_what_the_rules_leave_it(rt: HostRuntime) {
-    check_rows(&rt, rt.alloc(), DECISIONS);
-}
-
-const SESSIONS: &str = "
-# Routes stay at the end of the file, and go at any other close (our choice).
-exchange 64500 192.0.2.0/24; a,64501,192.0.2.11,192.0.2.11; b,64502,192.0.2.12,192.0.2.12; \
-    c,64503,192.0.2.13,192.0.2.13
-after a 100 203.0.113.0/24 64501 hop-a
-closed |
-after a 100 203.0.113.0/24 64501 hop-a; a 101 ended
-closed | a
-bests | -aa
-after a 100 203.0.113.0/24 64501 hop-a; a 101 bgp-3/6
-closed | a
-bests | ---
-after a 100 203.0.113.0/24 64501 hop-a; a 101 mrt-2
-closed | a
-bests | ---
-after a 100 203.0.113.0/24 64501 hop-a; a 101 memory
-closed | a
-bests | ---
-after a 100 203.0.113.0/24 64501 hop-a; a 101 read; b 101 ended
-closed | ab
-bests | ---
-
-# A lost session takes its routes (RFC 4271, section 8.2.2), and announces others when it is back.
-after a 100 203.0.113.0/24 64501 hop-a; c 100 203.0.113.0/24 64503-65010 hop-a
-closed |
-bests | caa
-why b a | Best
-after a 100 203.0.113.0/24 64501 hop-a; c 100 203.0.113.0/24 64503-65010 hop-a; a 101 lost
-closed |
-bests | cc-
-why b a | Absent
-after a 100 203.0.113.0/24 64501 hop-a; c 100 203.0.113.0/24 64503-65010 hop-a; a 101 lost; a 102 lost; \
-    a 103 203.0.113.0/24 64501 hop-a
-closed |
-bests | caa
-why b a | Best
-table b | 203.0.113.0/24 a 103
-";
-
-#[test]
-fn what_a_session_leaves_depends_on_how_it_ends(rt: HostRuntime) {
-    check_rows(&rt, rt.alloc(), SESSIONS);
-}
-
 const TABLES: &str = "
 # Rows ascend by address, then by length, and show the last announcement.
 exchange 64500 192.0.2.0/24; a,64501,192.0.2.11,192.0.2.11; b,64502,192.0.2.12,192.0.2.12; \
     c,64503,192.0.2.13,192.0.2.13; d,64504,192.0.2.14,192.0.2.14
 table a |
-after a 100 203.0.113.0/24 64501 hop-a; c 101 10.0.0.0/16 64503-65010 hop-a; a 102 10.0.0.0/8 64501 hop-a; \
-    a 103 10.0.0.0/16 64501 hop-a; c 104 10.0.0.0/8 64503-65010 hop-a; c 105 10.0.0.0/8 64503-65010 hop-a
+after a 100 203.0.113.0/24 plain; c 101 10.0.0.0/16 igp 64503-65010 hop-a; a 102 10.0.0.0/8 plain; \
+    a 103 10.0.0.0/16 plain; c 104 10.0.0.0/8 igp 64503-65010 hop-a; c 105 10.0.0.0/8 igp 64503-65010 hop-a
 table a | 10.0.0.0/8 c 105, 10.0.0.0/16 c 101
 table b | 10.0.0.0/8 a 102, 10.0.0.0/16 a 103, 203.0.113.0/24 a 100
 table c | 10.0.0.0/8 a 102, 10.0.0.0/16 a 103, 203.0.113.0/24 a 100
@@ -278,7 +157,7 @@ best b 10.0.0.0/24 | -
 best nobody 10.0.0.0/8 | -
 
 # There are no more rows than prefixes.
-after a 100 203.0.113.0/24 64501 hop-a; b 100 203.0.113.0/24 64502-65010 hop-a; a 100 10.0.0.0/8 64501 hop-a
+after a 100 203.0.113.0/24 plain; b 100 203.0.113.0/24 igp 64502-65010 hop-a; a 100 10.0.0.0/8 plain
 table a | 203.0.113.0/24 b 100
 table b | 10.0.0.0/8 a 100, 203.0.113.0/24 a 100
 table c | 10.0.0.0/8 a 100, 203.0.113.0/24 a 100
@@ -291,7 +170,7 @@ hint d | (0, Some(2))
 hint nobody | (0, Some(2))
 
 # Three prefixes of one address.
-after b 100 10.0.0.0/24 64502-65010 hop-a; c 100 10.0.0.0/16 64503-65010 hop-a; a 100 10.0.0.0/8 64501 hop-a
+after b 100 10.0.0.0/24 igp 64502-65010 hop-a; c 100 10.0.0.0/16 igp 64503-65010 hop-a; a 100 10.0.0.0/8 plain
 table a | 10.0.0.0/16 c 100, 10.0.0.0/24 b 100
 table b | 10.0.0.0/8 a 100, 10.0.0.0/16 c 100
 table c | 10.0.0.0/8 a 100, 10.0.0.0/24 b 100

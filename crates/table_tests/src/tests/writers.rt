@@ -1,8 +1,17 @@
 //! Writers that take little at a call, writers that fail, and the texts of faults.
 
-use super::*;
+use super::changes::{after, take};
+use super::exchanges::attributes;
+use super::{A, B, TWO_PEERS};
 use rs_dump::{DumpFault, TableDump, Writing, write_dump, write_side_by_side};
 use rs_mrt::{Limits, MemoryWriter};
+use rs_session::{Body, Word};
+use rs_table::Tables;
+use rs_update::Prefix;
+use std::alloc::Global;
+use std::process::Abort;
+use std::test::*;
+use std::thread::Threads;
 
 // Which dump is written: that of a table, or that of the list of its rows.
 #[derive(Clone, Copy, Debug)]
@@ -41,7 +50,7 @@ pub fn add_routes(
 // Tables of two peers, of which the first has a route on each of so many prefixes.
 fn many_routes(alloc: Global, count: u32) -> Option<Tables> {
     let mut tables = after(alloc, TWO_PEERS, "")?;
-    add_routes(alloc, &mut tables, A, (0x1400_0000, count), "64501 hop-a")?;
+    add_routes(alloc, &mut tables, A, (0x1400_0000, count), "plain")?;
     Some(tables)
 }
 
@@ -141,7 +150,7 @@ fn check_small<T: Abort + Threads + Sync>(
 #[test]
 fn a_dump_may_fail_at_each_octet(rt: HostRuntime) {
     let alloc = rt.alloc();
-    let tables = after(alloc, TWO_PEERS, "a 100 203.0.113.0/24 64501 hop-a").expect(&rt, "tables");
+    let tables = after(alloc, TWO_PEERS, "a 100 203.0.113.0/24 plain").expect(&rt, "tables");
     let (_, whole) = list_dump(alloc, &tables, B, Limits::none()).expect(&rt, "a dump");
     check_small(&rt, alloc, (&tables, &whole), Way::Table);
     check_small(&rt, alloc, (&tables, &whole), Way::List);

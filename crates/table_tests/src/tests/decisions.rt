@@ -5,7 +5,11 @@ ghost use Rattle.std.specs.Prelude.{◌<◌, ◌↔◌, IsTrue, length};
 ghost use Rattle.std.specs.List.{All};
 ghost use Rattle.rs_choice.specs.Held.{IsJudged};
 
-use super::*;
+use super::check_rows;
+use rs_choice::{Candidate, Exchange, HeldRoute, MAX_PEERS};
+use std::alloc::Global;
+use std::process::Abort;
+use std::test::*;
 
 // Whether all candidates are of peers of the exchange.
 fn are_known(exchange: &Exchange, candidates: &[Candidate]) -> bool
@@ -134,8 +138,8 @@ pub fn shown_bests(
 const CHOICES: &str = "
 # MED is compared within one neighbour AS alone (RFC 4271, section 9.1.2.2, c). So no route is ahead of all others by
 # pairs: b's of a's by MED, c's of b's and a's of c's by identifier. The order of the routes is no matter.
-exchange 64500 192.0.2.0/24; a,64501,192.0.2.11,0.0.0.1,100; b,64501,192.0.2.12,0.0.0.9,100; \
-    c,64502,192.0.2.13,0.0.0.5,100
+exchange 64500 192.0.2.0/24; a,64501,192.0.2.11,0.0.0.1; b,64501,192.0.2.12,0.0.0.9; \
+    c,64502,192.0.2.13,0.0.0.5
 chosen: a b c | a igp 64501-65010 hop-a med-10; b igp 64501-65010 hop-a med-5; c igp 64502-65010 hop-a | Some(2)
 chosen: a c b | a igp 64501-65010 hop-a med-10; c igp 64502-65010 hop-a; b igp 64501-65010 hop-a med-5 | Some(1)
 chosen: b a c | b igp 64501-65010 hop-a med-5; a igp 64501-65010 hop-a med-10; c igp 64502-65010 hop-a | Some(2)
@@ -150,7 +154,7 @@ chosen: none | | None
 
 # Each step decides, with a and b both of AS 64501. An AS_SET counts 1 in the path length (section 9.1.2.2, a), a
 # missing MED is 0 (c), and then the lower identifier goes first (f), not the place.
-exchange 64500 192.0.2.0/24; a,64501,192.0.2.11,192.0.2.11,100; b,64501,192.0.2.12,192.0.2.12,100
+exchange 64500 192.0.2.0/24; a,64501,192.0.2.11,192.0.2.11; b,64501,192.0.2.12,192.0.2.12
 chosen: 3 against 2 | a igp {65010,65011,65012}-65013-65014 hop-a; b igp 64501-65010 hop-a | Some(1)
 chosen: 3 against 4 | a igp {65010,65011,65012}-65013-65014 hop-a; b igp 64501-65010-65011-65012 hop-a | Some(0)
 chosen: 1 against none | a igp 64501 hop-a; b igp no-path hop-a | Some(1)
@@ -164,13 +168,13 @@ chosen: the lower identifier | b igp 64501 hop-a; a igp 64501 hop-a med-0 | Some
 chosen: two of one peer, the least place | a igp 64501 hop-a; a igp 64501 hop-a | Some(0)
 
 # Of one identifier the lower address goes first (section 9.1.2.2, g).
-exchange 64500 192.0.2.0/24; a,64501,192.0.2.11,192.0.2.9,100; b,64501,192.0.2.12,192.0.2.9,100
+exchange 64500 192.0.2.0/24; a,64501,192.0.2.11,192.0.2.9; b,64501,192.0.2.12,192.0.2.9
 chosen: a b | a igp 64501 hop-a; b igp 64501 hop-a | Some(0)
 chosen: b a | b igp 64501 hop-a; a igp 64501 hop-a | Some(1)
 chosen: the least place of a's | b igp 64501 hop-a; a igp 64501 hop-a; a igp 64501 hop-a | Some(1)
 
 # Preference goes before path length (section 9.1.1).
-exchange 64500 192.0.2.0/24; a,64501,192.0.2.11,192.0.2.11,100; b,64502,192.0.2.12,192.0.2.12,101
+exchange 64500 192.0.2.0/24; a,64501,192.0.2.11,192.0.2.11; b,64502,192.0.2.12,192.0.2.12,101
 chosen: b is preferred | a igp 64501 hop-a; b igp 64501-65010-65011-65012 hop-a | Some(1)
 ";
 
@@ -181,8 +185,8 @@ fn both_bodies_choose_what_the_steps_leave(rt: HostRuntime) {
 
 // Routes by their senders, and for each client the number of the peer whose route it gets, or its own number.
 const WORKED: &str = "
-exchange 64500 192.0.2.0/24; a,64501,192.0.2.11,192.0.2.11,100; b,64502,192.0.2.12,192.0.2.12,100; \
-    c,64503,192.0.2.13,192.0.2.13,100; d,64504,192.0.2.14,192.0.2.14,100
+exchange 64500 192.0.2.0/24; a,64501,192.0.2.11,192.0.2.11; b,64502,192.0.2.12,192.0.2.12; \
+    c,64503,192.0.2.13,192.0.2.13; d,64504,192.0.2.14,192.0.2.14
 bests: one choice for all, and the second for its sender | a igp 64501-65010 hop-a; b igp 64502-65010 hop-a; \
     c igp 64503-65010 hop-a | [1, 0, 0, 0]
 bests: the sender of the one route gets none | c igp 64503-65010 hop-a | [2, 2, 2, 2]
@@ -197,14 +201,14 @@ bests: b's isn't for d, to which it is nothing | a igp 64501-65010 hop-a; b igp 
     c igp 64503-65010 hop-a | [1, 0, 0, 0]
 
 # b refuses a's routes.
-exchange 64500 192.0.2.0/24; a,64501,192.0.2.11,192.0.2.11,100; b,64502,192.0.2.12,192.0.2.12,100,a; \
-    c,64503,192.0.2.13,192.0.2.13,100; d,64504,192.0.2.14,192.0.2.14,100
+exchange 64500 192.0.2.0/24; a,64501,192.0.2.11,192.0.2.11; b,64502,192.0.2.12,192.0.2.12,100,a; \
+    c,64503,192.0.2.13,192.0.2.13; d,64504,192.0.2.14,192.0.2.14
 bests: b gets c's | a igp 64501-65010 hop-a; c igp 64503-65010 hop-a | [2, 2, 0, 0]
 bests: b gets none | a igp 64501-65010 hop-a | [0, 1, 0, 0]
 
 # Two of one AS, with a lower identifier and a higher one than c's, which is of another AS.
-exchange 64500 192.0.2.0/24; a,64501,192.0.2.11,0.0.0.1,100; b,64501,192.0.2.12,0.0.0.9,100; \
-    c,64502,192.0.2.13,0.0.0.5,100; d,64504,192.0.2.14,192.0.2.14,100
+exchange 64500 192.0.2.0/24; a,64501,192.0.2.11,0.0.0.1; b,64501,192.0.2.12,0.0.0.9; \
+    c,64502,192.0.2.13,0.0.0.5; d,64504,192.0.2.14,192.0.2.14
 bests: at b a's comes back, which b's keeps out by its MED, and c's doesn't win | a igp 64501-65010 hop-a med-10; \
     b igp 64501-65010 hop-a med-5; c igp 64502-65010 hop-a | [2, 0, 1, 2]
 bests: so it does at d, to which b's is refused | a igp 64501-65010 hop-a med-10; \
@@ -213,8 +217,8 @@ bests: a's and b's of equal MED, c's goes before b's | a igp 64501-65010 hop-a m
     b igp 64501-65010 hop-a med-5; c igp 64502-65010 hop-a | [2, 0, 0, 0]
 
 # Three of one AS, and d of another, whose identifier is the second.
-exchange 64500 192.0.2.0/24; a,64501,192.0.2.11,0.0.0.1,100; b,64501,192.0.2.12,0.0.0.9,100; \
-    c,64501,192.0.2.13,0.0.0.8,100; d,64502,192.0.2.14,0.0.0.5,100
+exchange 64500 192.0.2.0/24; a,64501,192.0.2.11,0.0.0.1; b,64501,192.0.2.12,0.0.0.9; \
+    c,64501,192.0.2.13,0.0.0.8; d,64502,192.0.2.14,0.0.0.5
 bests: either of two of the least MED keeps a's out without the other | a igp 64501-65010 hop-a med-10; \
     b igp 64501-65010 hop-a med-5; c igp 64501-65010 hop-a med-5; d igp 64502-65010 hop-a | [3, 3, 3, 2]
 bests: at b a's comes back, where c's is refused too | a igp 64501-65010 hop-a med-10; \

@@ -1,7 +1,14 @@
 //! Which condition of eligibility fails, which rule of export policy refuses, and at which of the six steps a route loses,
 //! and to whom; `why` says the same in a word.
 
-use super::*;
+use super::changes::after;
+use super::check_rows;
+use super::exchanges::{peer_of, prefix};
+use rs_explain::{Explanation, explain};
+use rs_table::{Tables, Why};
+use std::alloc::Global;
+use std::fmt::Write;
+use std::test::*;
 
 // The answer that is explained.
 fn answer(explanation: &Explanation) -> Why {
@@ -28,9 +35,10 @@ fn text_of(alloc: Global, explanation: &Explanation) -> Option<String> {
 
 // What a client is told of a peer's route; none where `why` says something else.
 fn told_one(alloc: Global, tables: &Tables, client: &str, peer: &str) -> Option<String> {
-    let (client, peer) = (peer_of(tables, client)?, peer_of(tables, peer)?);
-    let explanation = explain(alloc, tables, client, peer, documentation()?).ok()?;
-    if tables.why(client, peer, documentation()?) != answer(&explanation) {
+    let (client, peer) = (peer_of(tables.plan(), client)?, peer_of(tables.plan(), peer)?);
+    let prefix = prefix("203.0.113.0/24")?;
+    let explanation = explain(alloc, tables, client, peer, prefix).ok()?;
+    if tables.why(client, peer, prefix) != answer(&explanation) {
         return None;
     }
     text_of(alloc, &explanation)
@@ -45,9 +53,20 @@ fn add_told(alloc: Global, tables: &Tables, question: &str, text: &mut String) -
     write!(text, "{mark}{client} {peer} {told}").ok()
 }
 
+// The tables of an exchange in which these routes were announced at 100 on 203.0.113.0/24.
+fn announced(alloc: Global, plan: &str, routes: &str) -> Option<Tables> {
+    let mut changes = String::new(alloc);
+    for route in routes.split(';') {
+        if let Some((name, words)) = route.trim().split_once(' ') {
+            write!(changes, "{name} 100 203.0.113.0/24 {words};").ok()?;
+        }
+    }
+    after(alloc, plan, &changes)
+}
+
 /// What is told of some routes, for each client and peer whose names stand behind a semicolon.
-pub fn told(alloc: Global, exchange: &str, routes: &str, questions: &str) -> Option<String> {
-    let tables = announced(alloc, exchange, routes)?;
+pub fn told(alloc: Global, plan: &str, routes: &str, questions: &str) -> Option<String> {
+    let tables = announced(alloc, plan, routes)?;
     let mut text = String::new(alloc);
     for question in questions.split(';') {
         add_told(alloc, &tables, question, &mut text)?;
@@ -58,8 +77,8 @@ pub fn told(alloc: Global, exchange: &str, routes: &str, questions: &str) -> Opt
 // Where a route lost: the step, the number and path length of the loser, and those of its rival.
 const REASONS: &str = "
 # The first condition of eligibility that fails (RFC 4271, section 9.1.2, then section 6.3).
-exchange 64500; a,64501,192.0.2.11,0.0.0.11,100; b,64502,192.0.2.12,0.0.0.12,100; c,64503,192.0.2.13,0.0.0.13,100; \
-    d,64504,192.0.2.14,0.0.0.14,100
+exchange 64500 192.0.2.0/24; a,64501,192.0.2.11,0.0.0.11; b,64502,192.0.2.12,0.0.0.12; c,64503,192.0.2.13,0.0.0.13; \
+    d,64504,192.0.2.14,0.0.0.14
 told: an eligible route | a igp 64501 hop-a | b a Best([])
 told: the server's AS in the path, and its address as next hop | a igp 64501-64500 hop-server | b a Ineligible(OwnAs(64500))
 told: the server's AS in an AS_SET | a igp 64501-{64500} hop-a | b a Ineligible(OwnAs(64500))
@@ -94,18 +113,18 @@ told: a route may lose by MED to one that isn't the best | a igp 64501 hop-a; c 
     d igp 64503 hop-a | b a Best([2, 3]); b c Lost(Med, 2, 1, 3, 1); b d Lost(Identifier, 3, 1, 0, 1)
 
 # The name of a refused peer comes before communities.
-exchange 64500; a,64501,192.0.2.11,0.0.0.11,100; b,64502,192.0.2.12,0.0.0.12,100,a; c,64503,192.0.2.13,0.0.0.13,100
+exchange 64500 192.0.2.0/24; a,64501,192.0.2.11,0.0.0.11; b,64502,192.0.2.12,0.0.0.12,100,a; c,64503,192.0.2.13,0.0.0.13
 told: b refuses a | a igp 64501 hop-a 0:64502 | b a Refused(ByName); c a Best([])
 
 # The preference goes first.
-exchange 64500; a,64501,192.0.2.11,0.0.0.11,100; b,64502,192.0.2.12,0.0.0.12,100; c,64503,192.0.2.13,0.0.0.13,100; \
+exchange 64500 192.0.2.0/24; a,64501,192.0.2.11,0.0.0.11; b,64502,192.0.2.12,0.0.0.12; c,64503,192.0.2.13,0.0.0.13; \
     d,64504,192.0.2.14,0.0.0.14,200
 told: d is preferred | a igp 64501 hop-a; c igp 64501-65010 hop-a; d igp 64501-65010 hop-a | \
     b a Lost(Preference, 0, 1, 3, 2); b c Lost(Preference, 2, 2, 3, 2); b d Best([0, 2])
 
 # Of one identifier the lower address goes first.
-exchange 64500; a,64501,192.0.2.11,0.0.0.11,100; b,64502,192.0.2.12,0.0.0.12,100; c,64503,192.0.2.13,0.0.0.11,100; \
-    d,64504,192.0.2.14,0.0.0.11,100
+exchange 64500 192.0.2.0/24; a,64501,192.0.2.11,0.0.0.11; b,64502,192.0.2.12,0.0.0.12; c,64503,192.0.2.13,0.0.0.11; \
+    d,64504,192.0.2.14,0.0.0.11
 told: a higher address | a igp 64501 hop-a; c igp 64501 hop-a; d igp 64501 hop-a | \
     b c Lost(Address, 2, 1, 0, 1); b d Lost(Address, 3, 1, 0, 1); b a Best([2, 3])
 ";

@@ -3,34 +3,14 @@
 
 ghost use Rattle.std.specs.Prelude.{◌<◌};
 
-use super::*;
+use super::exchanges::exchange;
+use super::held::hold_all;
+use super::random::Random;
+use super::decisions;
+use std::alloc::Global;
 use std::fmt::Write;
-
-// Pseudo-random numbers.
-#[derive(Drop)]
-struct Random {
-    state: u32,
-}
-
-impl Random {
-    // The next number below a bound.
-    fn below(&mut self, bound: u32) -> u32
-        requires { 0 < bound }
-        ensures { result < bound }
-    {
-        self.state = self
-            .state
-            .wrapping_mul(1_664_525)
-            .wrapping_add(1_013_904_223);
-        (self.state >> 8) % bound
-    }
-
-    // One of some words.
-    fn one_of(&mut self, words: &[&'static str]) -> &'static str {
-        let place = self.below(64) as usize;
-        words.get(place % words.len().max(1)).copied().unwrap_or("")
-    }
-}
+use std::process::Abort;
+use std::test::*;
 
 const ORIGINS: &[&str] = &["igp", "igp", "egp"];
 
@@ -116,7 +96,7 @@ fn crowd_bests(
     requires { 0 < count }
 {
     let plan = crowd(alloc, count, random)?;
-    let exchange = exchange(alloc, &plan)?.ok()?;
+    let exchange = exchange(alloc, &plan)?;
     let routes = some_routes(alloc, count, random)?;
     let held = hold_all(alloc, &exchange, &routes)?;
     let at_once = decisions::bests(alloc, &exchange, &held)?;

@@ -1,7 +1,7 @@
 use Rattle.std.proofs.Common.{◌≡◌, [], ◌∷◌, ◌++◌, rules}
 use Rattle.std.proofs.lemmas.List.Elements.{All-push}
 use Rattle.rs_choice.specs.Held.{IsJudged}
-use Rattle.choice_tests.proofs.tests.hold_all.Goals as goal
+use Rattle.table_tests.proofs.tests.held.hold_all.Goals as goal
 
 -- one route more
 pub loop-route-preserved-in_ok-ok : goal.loop-route-preserved-in_ok-ok

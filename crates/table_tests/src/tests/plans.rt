@@ -1,6 +1,10 @@
 //! Plans that are taken, and the first faults of those that are not.
 
-use super::*;
+use super::exchanges::{judged, plan};
+use super::{FOUR_PEERS, check, check_rows};
+use rs_choice::{Exchange, PlanFault};
+use std::alloc::Global;
+use std::test::*;
 
 /// How many peers an exchange has, the server's AS and subnet, and the name and address of the third peer.
 pub fn shown(alloc: Global, exchange: &Exchange) -> Option<String> {
@@ -15,40 +19,40 @@ pub fn shown(alloc: Global, exchange: &Exchange) -> Option<String> {
 
 /// The fault of the plan that a text describes, or None.
 pub fn fault_of(alloc: Global, text: &str) -> Option<String> {
-    let fault = exchange(alloc, text)?.err();
+    let fault = judged(alloc, text)?.err();
     format!(in alloc; "{fault:?}").ok()
 }
 
 // A plan, and its first fault: of the whole plan first, then of one peer after another, and last a name that no peer has.
 const PLANS: &str = "
-exchange 64500 192.0.2.0/24; a,64501,192.0.2.11,192.0.2.11,100; b,64502,192.0.2.12,192.0.2.12,100; \
-    c,64503,192.0.2.13,192.0.2.13,100; d,64504,192.0.2.14,192.0.2.14,100
+exchange 64500 192.0.2.0/24; a,64501,192.0.2.11,192.0.2.11; b,64502,192.0.2.12,192.0.2.12; \
+    c,64503,192.0.2.13,192.0.2.13; d,64504,192.0.2.14,192.0.2.14
 plan: four peers, and the third | | 4 64500 Some(Prefix { address: 3221225984, len: 24 }) c C000020D
 fault: no peer | 64500 192.0.2.0/24 | Some(NoPeer)
 fault: no AS number and no peer | 0 192.0.2.0/24 | Some(NoPeer)
-fault: no AS number of the server, and no name | 0 192.0.2.0/24; ,64501,192.0.2.11,192.0.2.11,100 | Some(ZeroAs(None))
-fault: one name twice | 64500 192.0.2.0/24; a,64501,192.0.2.11,192.0.2.11,100; a,64502,192.0.2.12,192.0.2.12,100 | \
+fault: no AS number of the server, and no name | 0 192.0.2.0/24; ,64501,192.0.2.11,192.0.2.11 | Some(ZeroAs(None))
+fault: one name twice | 64500 192.0.2.0/24; a,64501,192.0.2.11,192.0.2.11; a,64502,192.0.2.12,192.0.2.12 | \
     Some(RepeatedName(1))
 fault: one address twice, before an unknown name | 64500 192.0.2.0/24; a,64501,192.0.2.11,192.0.2.11,100,b; \
     b,64502,192.0.2.11,192.0.2.12,100,z | Some(RepeatedAddress(1))
-fault: a name before an address | 64500 192.0.2.0/24; a,64501,192.0.2.11,192.0.2.11,100; \
-    a,64502,192.0.2.11,192.0.2.12,100 | Some(RepeatedName(1))
+fault: a name before an address | 64500 192.0.2.0/24; a,64501,192.0.2.11,192.0.2.11; \
+    a,64502,192.0.2.11,192.0.2.12 | Some(RepeatedName(1))
 fault: each peer wholly before the next | 64500 192.0.2.0/24; a,0,192.0.2.11,192.0.2.11,100,z; \
-    ,64502,192.0.2.12,192.0.2.12,100 | Some(ZeroAs(Some(0)))
-fault: an empty name | 64500 192.0.2.0/24; a,64501,192.0.2.11,192.0.2.11,100; ,64502,192.0.2.12,192.0.2.12,100 | \
+    ,64502,192.0.2.12,192.0.2.12 | Some(ZeroAs(Some(0)))
+fault: an empty name | 64500 192.0.2.0/24; a,64501,192.0.2.11,192.0.2.11; ,64502,192.0.2.12,192.0.2.12 | \
     Some(InvalidName(1))
-fault: a space in a name | 64500 192.0.2.0/24; a,64501,192.0.2.11,192.0.2.11,100; \
-    b c,64502,192.0.2.12,192.0.2.12,100 | Some(InvalidName(1))
-fault: a dot in a name | 64500 192.0.2.0/24; b.c,64501,192.0.2.11,192.0.2.11,100 | Some(InvalidName(0))
+fault: a space in a name | 64500 192.0.2.0/24; a,64501,192.0.2.11,192.0.2.11; \
+    b c,64502,192.0.2.12,192.0.2.12 | Some(InvalidName(1))
+fault: a dot in a name | 64500 192.0.2.0/24; b.c,64501,192.0.2.11,192.0.2.11 | Some(InvalidName(0))
 fault: a name of 64 octets | 64500 192.0.2.0/24; \
-    0123456789-ABCDEFGHIJKLMNOPQRSTUVWXYZ_abcdefghijklmnopqrstuvwxyz,64501,192.0.2.11,192.0.2.11,100 | None
+    0123456789-ABCDEFGHIJKLMNOPQRSTUVWXYZ_abcdefghijklmnopqrstuvwxyz,64501,192.0.2.11,192.0.2.11 | None
 fault: a name of 65 octets | 64500 192.0.2.0/24; \
-    0123456789-ABCDEFGHIJKLMNOPQRSTUVWXYZ_abcdefghijklmnopqrstuvwxyz0,64501,192.0.2.11,192.0.2.11,100 | \
+    0123456789-ABCDEFGHIJKLMNOPQRSTUVWXYZ_abcdefghijklmnopqrstuvwxyz0,64501,192.0.2.11,192.0.2.11 | \
     Some(InvalidName(0))
 fault: its own name and a repeated one are lawful, an unknown one is not | 64500 192.0.2.0/24; \
     a,64501,192.0.2.11,192.0.2.11,100,a b b; b,64502,192.0.2.12,192.0.2.12,100,a z | Some(UnknownName(1))
 fault: one identifier twice, and the name of a later peer | 64500 192.0.2.0/24; a,64501,192.0.2.11,192.0.2.11,100,b; \
-    b,64502,192.0.2.12,192.0.2.11,100 | None
+    b,64502,192.0.2.12,192.0.2.11 | None
 ";
 
 #[test]
@@ -60,7 +64,7 @@ fn a_plan_has_the_fault_that_comes_first(rt: HostRuntime) {
 fn fault_of_many(alloc: Global, server: &str, count: u32) -> Option<String> {
     let mut text = String::from_str(alloc, server).ok()?;
     for _ in 0..count {
-        text.push_str("; a,64501,192.0.2.11,192.0.2.11,100").ok()?;
+        text.push_str("; a,64501,192.0.2.11,192.0.2.11").ok()?;
     }
     fault_of(alloc, &text)
 }

@@ -1,6 +1,9 @@
 //! What is asked of one route: what decisions ask of it, whether it is eligible, and to whom it is exported.
 
-use super::*;
+use super::check_rows;
+use rs_choice::{Candidate, Exchange, HeldRoute};
+use std::alloc::Global;
+use std::test::*;
 
 /// A route's sender and time, its candidacy, whether it is eligible and whether it is for all, and its path length,
 /// neighbour AS and MED.
@@ -48,8 +51,8 @@ pub fn shown_clients(alloc: Global, exchange: &Exchange, held: &HeldRoute) -> Op
 // A route, its sender's number and time, what decisions ask of it before they look at the others, whether it is
 // eligible, whether it is for all but its sender, and its path length, neighbour AS and MED.
 const HELD: &str = "
-exchange 64500 192.0.2.0/24; a,64501,192.0.2.11,192.0.2.11,100; b,64502,192.0.2.12,192.0.2.12,100; \
-    c,64503,192.0.2.13,192.0.2.13,100; d,64504,192.0.2.14,192.0.2.14,100
+exchange 64500 192.0.2.0/24; a,64501,192.0.2.11,192.0.2.11; b,64502,192.0.2.12,192.0.2.12; \
+    c,64503,192.0.2.13,192.0.2.13; d,64504,192.0.2.14,192.0.2.14
 held: IGP | a igp 64501-65010 hop-a | 0 100 PlainOpenIgp true true 2 64501 0
 held: EGP | a egp 64501-65010 hop-a | 0 100 PlainOpenEgp true true 2 64501 0
 held: INCOMPLETE | a incomplete 64501-65010 hop-a | 0 100 PlainOpenIncomplete true true 2 64501 0
@@ -86,8 +89,8 @@ held: MED, another AS first | a igp 64502-65010 hop-a med-10 | 0 100 OpenIgp tru
 held: MED, no path | a igp no-path hop-a med-5 | 0 100 OpenIgp true true 0 64501 5
 
 # b refuses a's routes, which restricts these alone.
-exchange 64500 192.0.2.0/24; a,64501,192.0.2.11,192.0.2.11,100; b,64502,192.0.2.12,192.0.2.12,100,a; \
-    c,64503,192.0.2.13,192.0.2.13,100; d,64504,192.0.2.14,192.0.2.14,100
+exchange 64500 192.0.2.0/24; a,64501,192.0.2.11,192.0.2.11; b,64502,192.0.2.12,192.0.2.12,100,a; \
+    c,64503,192.0.2.13,192.0.2.13; d,64504,192.0.2.14,192.0.2.14
 held: of a | a igp 64501-65010 hop-a | 0 100 PlainRestrictedIgp true false 2 64501 0
 held: of b | b igp 64502-65010 hop-a | 1 100 PlainOpenIgp true true 2 64502 0
 held: of c | c igp 64503-65010 hop-a | 2 100 PlainOpenIgp true true 2 64503 0
@@ -102,7 +105,7 @@ fn what_decisions_ask_of_a_route_is_held_with_it(rt: HostRuntime) {
 const ELIGIBLE: &str = "
 # Not with the server's AS in its path (RFC 4271, section 9.1.2), nor with the server's address as next hop, nor with
 # one outside the subnet (section 6.3).
-exchange 64500 192.0.2.0/24; a,64501,192.0.2.11,192.0.2.11,100; b,64502,192.0.2.12,192.0.2.12,100
+exchange 64500 192.0.2.0/24; a,64501,192.0.2.11,192.0.2.11; b,64502,192.0.2.12,192.0.2.12
 eligible: the sender's own address | a igp 64501 hop-a | true
 eligible: another's address in the subnet | a igp 64501 hop-b | true
 eligible: the server's address | a igp 64501 hop-server | false
@@ -112,7 +115,7 @@ eligible: the server's AS in an AS_SET | a igp 64501-{64500} hop-a | false
 eligible: no AS | a igp no-path hop-a | true
 
 # Without a subnet any next hop will do but the server's address.
-exchange 64500; a,64501,192.0.2.11,192.0.2.11,100; b,64502,192.0.2.12,192.0.2.12,100
+exchange 64500; a,64501,192.0.2.11,192.0.2.11; b,64502,192.0.2.12,192.0.2.12
 eligible: the sender's own address | a igp 64501 hop-a | true
 eligible: another's address in the subnet | a igp 64501 hop-b | true
 eligible: the server's address | a igp 64501 hop-server | false
@@ -121,7 +124,7 @@ eligible: the server's AS after the sender's | a igp 64501-64500 hop-a | false
 eligible: the server's AS in an AS_SET | a igp 64501-{64500} hop-a | false
 
 # A sender may stand outside the subnet, and then its own address will do; it may not have the server's.
-exchange 64500 192.0.2.0/24; a,64501,198.51.100.1,192.0.2.11,100; b,64502,192.0.2.1,192.0.2.12,100
+exchange 64500 192.0.2.0/24; a,64501,198.51.100.1,192.0.2.11; b,64502,192.0.2.1,192.0.2.12
 eligible: the sender's | a igp 64501 hop-outside | true
 eligible: another's | b igp 64501 hop-outside | false
 eligible: the server's and its own | b igp 64501 hop-server | false
@@ -136,8 +139,8 @@ fn routes_are_eligible_by_path_and_next_hop(rt: HostRuntime) {
 const EXPORTED: &str = "
 # By communities (RFC 1997), which refuse and permit: (0, client's AS) before (server's AS, client's AS) before
 # (0, server's AS), in any order in which they stand.
-exchange 64500 192.0.2.0/24; a,64501,192.0.2.11,192.0.2.11,100; b,64502,192.0.2.12,192.0.2.12,100; \
-    c,64503,192.0.2.13,192.0.2.13,100
+exchange 64500 192.0.2.0/24; a,64501,192.0.2.11,192.0.2.11; b,64502,192.0.2.12,192.0.2.12; \
+    c,64503,192.0.2.13,192.0.2.13
 exported: no community | a igp 64501 hop-a | [false, true, true]
 exported: not to b | a igp 64501 hop-a 0:64502 | [false, false, true]
 exported: to none | a igp 64501 hop-a 0:64500 | [false, false, false]
@@ -148,13 +151,13 @@ exported: not to b, and to b | a igp 64501 hop-a 0:64502,64500:64502 | [false, f
 exported: to b | a igp 64501 hop-a 64500:64502 | [false, true, true]
 
 # No community names an AS number above 65535: 70000 - 65536 is 4464.
-exchange 64500 192.0.2.0/24; a,64501,192.0.2.11,192.0.2.11,100; b,70000,192.0.2.12,192.0.2.12,100
+exchange 64500 192.0.2.0/24; a,64501,192.0.2.11,192.0.2.11; b,70000,192.0.2.12,192.0.2.12
 exported: alone | a igp 64501 hop-a 64500:4464 | [false, true]
 exported: with (0, 64500) | a igp 64501 hop-a 0:64500,64500:4464 | [false, false]
 
 # A client refuses peers by name, whatever the communities; its own name and a repeated one have no effect.
-exchange 64500 192.0.2.0/24; a,64501,192.0.2.11,192.0.2.11,100; b,64502,192.0.2.12,192.0.2.12,100,b c c; \
-    c,64503,192.0.2.13,192.0.2.13,100
+exchange 64500 192.0.2.0/24; a,64501,192.0.2.11,192.0.2.11; b,64502,192.0.2.12,192.0.2.12,100,b c c; \
+    c,64503,192.0.2.13,192.0.2.13
 exported: b refuses all of c | c igp 64501 hop-a 64500:64502 | [true, false, false]
 exported: b refuses nothing of a | a igp 64501 hop-a 64500:64502 | [false, true, true]
 exported: c refuses nothing of b | b igp 64501 hop-a 64500:64502 | [true, false, true]

@@ -1,0 +1,133 @@
+//! Which route each client gets of several, and why; and what is left of a peer whose session closed or was lost.
+
+use super::check_rows;
+use std::test::*;
+
+// `bests` has a letter for each client: the name of the peer whose route it gets on 203.0.113.0/24, or -.
+const DECISIONS: &str = "
+exchange 64500 192.0.2.0/24; a,64501,192.0.2.11,192.0.2.11; b,64502,192.0.2.12,192.0.2.12; \
+    c,64503,192.0.2.13,192.0.2.13; d,64504,192.0.2.14,192.0.2.14
+bests | ----
+why b a | Absent
+why b b | Own
+after a 100 203.0.113.0/24 plain
+bests | -aaa
+why b a | Best
+
+# What policy keeps from one client hides no other (RFC 7947, section 2.3.2.1).
+after a 100 203.0.113.0/24 plain 0:64502; c 100 203.0.113.0/24 igp 64503-65010 hop-a
+bests | ccaa
+why b a | Refused
+why b c | Best
+why d c | Lost
+why d a | Best
+why a a | Own
+why a b | Absent
+
+# An ineligible route replaces an eligible one.
+after a 100 203.0.113.0/24 plain; a 101 203.0.113.0/24 igp 64501-64500 hop-a
+bests | ----
+why b a | Ineligible
+after a 100 203.0.113.0/24 plain; a 101 203.0.113.0/24 igp 64501 hop-server
+bests | ----
+why b a | Ineligible
+after a 100 203.0.113.0/24 plain; a 101 203.0.113.0/24 igp 64501 hop-outside
+bests | ----
+why b a | Ineligible
+after a 100 203.0.113.0/24 plain; a 101 203.0.113.0/24 igp 64501 hop-other
+bests | -aaa
+best b 203.0.113.0/24 | a 101 192.0.2.20
+
+# Without a subnet any next hop will do but the server's address.
+exchange 64500; a,64501,192.0.2.11,192.0.2.11; b,64502,192.0.2.12,192.0.2.12
+after a 100 203.0.113.0/24 igp 64501 hop-outside
+bests | -a
+after a 100 203.0.113.0/24 igp 64501 hop-server
+bests | --
+
+# MED decides within a neighbour AS (RFC 4271, section 9.1.2.2, c), in any order of the announcements; and what d gets
+# when b has withdrawn.
+exchange 64500 192.0.2.0/24; a,64501,192.0.2.11,0.0.0.1; b,64501,192.0.2.12,0.0.0.9; c,64502,192.0.2.13,0.0.0.5; \
+    d,64504,192.0.2.14,0.0.0.4
+after a 100 203.0.113.0/24 igp 64501-65010 hop-a med-10; b 100 203.0.113.0/24 igp 64501-65010 hop-a med-5; \
+    c 100 203.0.113.0/24 igp 64502-65010 hop-a
+bests | cabc
+after a 100 203.0.113.0/24 igp 64501-65010 hop-a med-10; c 100 203.0.113.0/24 igp 64502-65010 hop-a; \
+    b 100 203.0.113.0/24 igp 64501-65010 hop-a med-5
+bests | cabc
+after b 100 203.0.113.0/24 igp 64501-65010 hop-a med-5; a 100 203.0.113.0/24 igp 64501-65010 hop-a med-10; \
+    c 100 203.0.113.0/24 igp 64502-65010 hop-a
+bests | cabc
+after b 100 203.0.113.0/24 igp 64501-65010 hop-a med-5; c 100 203.0.113.0/24 igp 64502-65010 hop-a; \
+    a 100 203.0.113.0/24 igp 64501-65010 hop-a med-10
+bests | cabc
+after c 100 203.0.113.0/24 igp 64502-65010 hop-a; a 100 203.0.113.0/24 igp 64501-65010 hop-a med-10; \
+    b 100 203.0.113.0/24 igp 64501-65010 hop-a med-5
+bests | cabc
+after c 100 203.0.113.0/24 igp 64502-65010 hop-a; b 100 203.0.113.0/24 igp 64501-65010 hop-a med-5; \
+    a 100 203.0.113.0/24 igp 64501-65010 hop-a med-10
+bests | cabc
+after a 100 203.0.113.0/24 igp 64501-65010 hop-a med-10; b 100 203.0.113.0/24 igp 64501-65010 hop-a med-5; \
+    c 100 203.0.113.0/24 igp 64502-65010 hop-a; b 101 withdraw 203.0.113.0/24
+bests | caaa
+after b 100 203.0.113.0/24 igp 64501-65010 hop-a med-5; c 100 203.0.113.0/24 igp 64502-65010 hop-a; \
+    a 100 203.0.113.0/24 igp 64501-65010 hop-a med-10; b 101 withdraw 203.0.113.0/24
+bests | caaa
+after c 100 203.0.113.0/24 igp 64502-65010 hop-a; b 100 203.0.113.0/24 igp 64501-65010 hop-a med-5; \
+    a 100 203.0.113.0/24 igp 64501-65010 hop-a med-10; b 101 withdraw 203.0.113.0/24
+bests | caaa
+
+# The lower address breaks the last tie (section 9.1.2.2, g).
+exchange 64500 192.0.2.0/24; a,64501,192.0.2.11,192.0.2.9; b,64501,192.0.2.12,192.0.2.9; c,64503,192.0.2.13,192.0.2.13
+after b 100 203.0.113.0/24 igp 64501 hop-other; a 100 203.0.113.0/24 igp 64501 hop-other
+bests | baa
+";
+
+#[test]
+fn each_client_gets_what_the_rules_leave_it(rt: HostRuntime) {
+    check_rows(&rt, rt.alloc(), DECISIONS);
+}
+
+const SESSIONS: &str = "
+# Routes stay at the end of the file, and go at any other close (our choice).
+exchange 64500 192.0.2.0/24; a,64501,192.0.2.11,192.0.2.11; b,64502,192.0.2.12,192.0.2.12; \
+    c,64503,192.0.2.13,192.0.2.13
+after a 100 203.0.113.0/24 plain
+closed |
+after a 100 203.0.113.0/24 plain; a 101 ended
+closed | a
+bests | -aa
+after a 100 203.0.113.0/24 plain; a 101 bgp-3/6
+closed | a
+bests | ---
+after a 100 203.0.113.0/24 plain; a 101 mrt-2
+closed | a
+bests | ---
+after a 100 203.0.113.0/24 plain; a 101 memory
+closed | a
+bests | ---
+after a 100 203.0.113.0/24 plain; a 101 read; b 101 ended
+closed | ab
+bests | ---
+
+# A lost session takes its routes (RFC 4271, section 8.2.2), and announces others when it is back.
+after a 100 203.0.113.0/24 plain; c 100 203.0.113.0/24 igp 64503-65010 hop-a
+closed |
+bests | caa
+why b a | Best
+after a 100 203.0.113.0/24 plain; c 100 203.0.113.0/24 igp 64503-65010 hop-a; a 101 lost
+closed |
+bests | cc-
+why b a | Absent
+after a 100 203.0.113.0/24 plain; c 100 203.0.113.0/24 igp 64503-65010 hop-a; a 101 lost; a 102 lost; \
+    a 103 203.0.113.0/24 plain
+closed |
+bests | caa
+why b a | Best
+table b | 203.0.113.0/24 a 103
+";
+
+#[test]
+fn what_a_session_leaves_depends_on_how_it_ends(rt: HostRuntime) {
+    check_rows(&rt, rt.alloc(), SESSIONS);
+}
