@@ -5,7 +5,7 @@
 //! colon has three columns: what is asked and of which case, what is given, and the answer.
 //!
 //! The tests go from plans and single routes (`plans`, `routes`) over the choice among routes (`decisions`, `crowds`) and
-//! the tables of clients (`clients`, `tables`, `random_changes`, `refusals`) to why a client has a route
+//! the tables of clients (`clients`, `tables`, `random_changes`, `refusals`, `parts`) to why a client has a route
 //! (`reasons`, `last_said`) and to dumps (`dumps`, `writers`, `side_by_side`, `kept`).
 
 mod changes;
@@ -17,6 +17,7 @@ mod exchanges;
 mod held;
 mod kept;
 mod last_said;
+mod parts;
 mod plans;
 mod random;
 mod random_changes;
@@ -63,6 +64,7 @@ fn check_case(
     let (given, wanted) = (given.trim(), wanted.trim());
     let found = match asked {
         "fault" => plans::fault_of(alloc, given),
+        "merged" => parts::merged(alloc, plan, given),
         "told" => reasons::told(alloc, plan, given, wanted),
         "said" => last_said::last_said(alloc, given),
         "taken" => last_said::taken(alloc, case.trim(), given),
