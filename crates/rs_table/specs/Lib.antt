@@ -16,6 +16,7 @@ pub mod Gathered  -- changes in lists, and what they leave
 pub mod Making  -- cells of a list under way
 pub mod GatheringView  -- what was gathered by its fields
 pub mod ClientRowsView  -- the rows of a client still to come, by their fields
+pub mod PrefixRoutes  -- the routes on one prefix
 pub mod CellView  -- a cell by its fields
 pub mod TablesView  -- the tables by their fields
 pub mod RouteView  -- routes and rows by their fields

@@ -4,10 +4,10 @@
 //! for each client, its export policy before its decision).
 //!
 //! Reading order: `tables` (what each peer has left, and what a client gets on a prefix), `route` (what is
-//! answered), `client_rows` and `listing` (a client's whole table), `why` (and why not), `merge` (parts made
-//! one), `gathering` (changes before tables are made of them), `laws` (of the definitions). Below them `cells`
-//! (of all prefixes), `cell` (of one; who gets which route on it is decided in `rs_choice`), `logged` (a change
-//! in a list), `log` (a list) and `settling` (the cells of such lists).
+//! answered), `client_rows` and `listing` (a client's whole table), `prefixes` and `prefix_routes` (all prefixes,
+//! each with its routes), `why` (and why not), `merge` (parts made one), `gathering` (changes before tables are made of
+//! them), `laws` (of the definitions). Below them `cells` (of all prefixes), `cell` (of one; who gets which route on it
+//! is decided in `rs_choice`), `logged` (a change in a list), `log` (a list) and `settling` (the cells of such lists).
 #![tactic(auto)]
 
 mod cell;
@@ -19,6 +19,8 @@ mod listing;
 mod log;
 mod logged;
 mod merge;
+mod prefix_routes;
+mod prefixes;
 mod route;
 mod settling;
 mod tables;
@@ -30,6 +32,8 @@ pub use laws::{
     examples_hold, left_after_one_more, left_by_last_changes, left_by_last_entries, left_by_part,
     table_is_computed,
 };
+pub use prefix_routes::PrefixRoutes;
+pub use prefixes::Prefixes;
 pub use route::{Route, Row};
 pub use tables::Tables;
 pub use why::Why;

@@ -9,14 +9,15 @@ ghost use Rattle.std.specs.Prelude.{length, slice_index_or};
 ghost use Rattle.std.specs.Option.{option_map};
 ghost use Rattle.rs_update.specs.IpPrefix.{IpPrefix};
 ghost use Rattle.rs_session.specs.Change.{change_of, is_close};
-ghost use Rattle.rs_table.specs.Cell.{CellContent, stored_best};
+ghost use Rattle.rs_table.specs.ByPeer.{route_at};
+ghost use Rattle.rs_table.specs.Cell.{CellContent, routes_in, stored_best};
 ghost use Rattle.rs_table.specs.Cells.{cell_at, AreCells, AreKeptCells};
 ghost use Rattle.rs_table.specs.Content.{nothing_held, rib_of};
 ghost use Rattle.rs_table.specs.Left.{BecomeBy, IsNewAnnouncement};
 ghost use Rattle.rs_table.specs.Listing.{is_held, IsFirstAnnouncement};
 ghost use Rattle.rs_table.specs.Merge.{AreParts, IsJoined};
 ghost use Rattle.rs_table.specs.RouteView.{sent_route_of};
-ghost use Rattle.rs_table.specs.Table.{best_of, route_from};
+ghost use Rattle.rs_table.specs.Table.{best_of, route_from, sent_by};
 ghost use Rattle.rs_table.specs.TablesView.{ribs_from, AllClosed};
 
 use crate::cell::Cell;
@@ -147,6 +148,11 @@ impl Tables {
     pub(crate) fn cells(&self) -> &BTreeMap<Prefix, Cell>
         ensures bests { (client : ℕ) → (prefix : IpPrefix) → (cell : CellContent)
             → cell_at result.now.entries prefix ≡ Some cell → stored_best cell client ≡ best_of self.now client prefix }
+        ensures routes { (peer : ℕ) → (prefix : IpPrefix) → (cell : CellContent) → peer < length self.now.plan.peers
+            → cell_at result.now.entries prefix ≡ Some cell
+            → option_map (sent_by peer) (route_at (routes_in cell) peer) ≡ route_from self.now prefix peer }
+        ensures some { (prefix : IpPrefix) → (cell : CellContent) → cell_at result.now.entries prefix ≡ Some cell
+            → is_held self.now.ribs prefix ≡ true }
         ensures none { (prefix : IpPrefix) → cell_at result.now.entries prefix ≡ None
             → is_held self.now.ribs prefix ≡ false }
     {

@@ -49,7 +49,7 @@ module _ {X : Type 0} where
   Below-keys prefix [] h = tt
   Below-keys prefix (e ∷ es) h = (less _ (first_true _ _ h), Below-keys prefix es (second_true _ _ h))
 
-  ascending-keys : (entries : List (IpPrefix × X)) → T (fin.is_sorted prefix_cmp entries)
+  pub ascending-keys : (entries : List (IpPrefix × X)) → T (fin.is_sorted prefix_cmp entries)
       → IsStrictlySortedBy prefix_cmp (map (λ entry. entry.0) entries)
   unfolding IsStrictlySortedBy
   ascending-keys [] h = tt
@@ -60,7 +60,7 @@ module _ {X : Type 0} where
   below_all-keys prefix [] h = tt
   below_all-keys prefix (e ∷ es) h = both_true _ _ (subst (λ order. T (is_lt order)) (sym h.0) tt) (below_all-keys prefix es h.1)
 
-  is_sorted-keys : (entries : List (IpPrefix × X)) → IsStrictlySortedBy prefix_cmp (map (λ entry. entry.0) entries)
+  pub is_sorted-keys : (entries : List (IpPrefix × X)) → IsStrictlySortedBy prefix_cmp (map (λ entry. entry.0) entries)
       → T (fin.is_sorted prefix_cmp entries)
   unfolding IsStrictlySortedBy
   is_sorted-keys [] h = tt

@@ -1,0 +1,2 @@
+-- The prefixes on which some peer has left a route.
+pub mod HeldLemmas
