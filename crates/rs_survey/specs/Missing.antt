@@ -1,0 +1,40 @@
+-- The routes that a client of a route server does not get, and why (RFC 4271, section 9.1; RFC 7947, section 2.3).
+use Rattle.std.specs.Prelude.{◌≡◌, ℕ, ◌==◌, ◌||◌, if◌then◌else◌, List, length, map, All, Option, None}
+use Rattle.std.specs.List.{filter_map, flat_map, range_with_len}
+use Rattle.std.specs.Option.{option_map}
+use Rattle.rs_update.specs.IpPrefix.{IpPrefix}
+use Rattle.rs_choice.specs.Decision.{SentRoute}
+use Rattle.rs_table.specs.Content.{TablesContent}
+use Rattle.rs_table.specs.RouteView.{sent_route_of}
+use Rattle.rs_table.specs.Table.{TableRow, best_of, is_from, prefixes_held, route_from}
+use Rattle.rs_explain.specs.Explanations.{IsExplanation}
+use Rattle.rs_survey.specs.declared.on_prefix.MissingOn.{MissingOn}
+use Rattle.rs_survey.specs.declared.on_prefix.MissingRoute.{MissingRoute}
+
+-- a peer's route, if it has one, where the peer is not the client, and the client gets the route of no peer or of
+-- another one
+abbrev pub missing_among : ℕ → ℕ → Option SentRoute → Option SentRoute → Option SentRoute
+missing_among client peer best route = if (peer == client) || is_from peer best then None else route
+
+-- the route that a peer has left on a prefix, where it is missing to the client
+abbrev pub missing_from : TablesContent → ℕ → IpPrefix → ℕ → Option SentRoute
+missing_from tables client prefix peer =
+    missing_among client peer (best_of tables client prefix) (route_from tables prefix peer)
+
+-- the routes on a prefix that are missing to a client, in the order of the peers
+abbrev pub missing_on : TablesContent → ℕ → IpPrefix → List SentRoute
+missing_on tables client prefix =
+    filter_map (missing_from tables client prefix) (range_with_len 0 (length tables.plan.peers))
+
+-- and on all prefixes on which some peer has left a route, in ascending order of the prefixes
+abbrev pub missing_of : TablesContent → ℕ → List TableRow
+missing_of tables client =
+    flat_map (λ prefix. map (λ route. record { prefix = prefix; route = route }) (missing_on tables client prefix))
+    (prefixes_held tables.ribs)
+
+-- these are the routes on a prefix that are missing to a client, each with the explanation
+pub record AreMissing (tables : TablesContent) (client : ℕ) (missing : MissingOn) : Type 0 where
+  pub best : option_map sent_route_of missing.best ≡ best_of tables client missing.prefix
+  pub routes : map (λ one. sent_route_of one.route) missing.routes.items ≡ missing_on tables client missing.prefix
+  pub explained : All (λ one. IsExplanation tables client one.route.peer missing.prefix one.explanation)
+      missing.routes.items

@@ -1,0 +1,90 @@
+//! The routes on one prefix that a client does not get (RFC 7947, section 2.3), each with the reason.
+
+ghost use Rattle.std.specs.Prelude.{◌≡◌, ◌<◌, IfOk, length};
+ghost use Rattle.std.specs.Option.{option_map};
+ghost use Rattle.rs_table.specs.PrefixRoutes.{AreRoutesOf, entry_of};
+ghost use Rattle.rs_table.specs.RouteView.{sent_route_of};
+ghost use Rattle.rs_table.specs.PrefixRoutes.{route_on};
+ghost use Rattle.rs_table.specs.Table.{is_from};
+ghost use Rattle.rs_survey.specs.Missing.{AreMissing, missing_among};
+
+use rs_explain::{Explanation, explain};
+use rs_table::{PrefixRoutes, Route, Tables};
+use rs_update::Prefix;
+use std::alloc::{AllocError, Global};
+
+/// The routes on one prefix that a client does not get.
+#[derive(Drop)]
+pub struct MissingOn<'a> {
+    /// The prefix.
+    pub prefix: Prefix,
+    /// The route that the client gets there, if any.
+    pub best: Option<Route<'a>>,
+    /// The routes of other peers that it does not get, in the order of the peers.
+    pub routes: Vec<MissingRoute<'a>>,
+}
+
+/// A route that a client does not get.
+#[derive(Drop)]
+pub struct MissingRoute<'a> {
+    /// The route.
+    pub route: Route<'a>,
+    /// Why the client does not get it: it is ineligible, or refused, or lost to another one.
+    pub explanation: Explanation,
+}
+
+/// The routes on a prefix that the peer of number `client` does not get, each with the reason that `explain` gives.
+///
+/// Fails where memory is refused.
+pub fn missing_on<'a>(
+    alloc: Global,
+    tables: &Tables,
+    client: usize,
+    on: &PrefixRoutes<'a>,
+) -> Result<MissingOn<'a>, AllocError>
+    requires client_known { client < length tables.now.plan.peers }
+    requires routes { AreRoutesOf tables.now (entry_of on.now) }
+    ensures prefix { IfOk result (λ missing. missing.prefix ≡ on.now.prefix) }
+    ensures missing { IfOk result (AreMissing tables.now client) }
+{
+    let best = on.best(client);
+    let mut routes = Vec::new(alloc);
+    for peer in 0..tables.count() {
+        if let Some(route) = missing_from(on, client, best, peer) {
+            let explanation = explain(alloc, tables, client, peer, on.prefix)?;
+            routes.push(MissingRoute { route, explanation })?;
+        }
+    }
+    Ok(MissingOn {
+        prefix: on.prefix,
+        best,
+        routes,
+    })
+}
+
+// The route of a peer on a prefix, where the client, which gets this best one, does not get it.
+fn missing_from<'a>(
+    on: &PrefixRoutes<'a>,
+    client: usize,
+    best: Option<Route<'a>>,
+    peer: usize,
+) -> Option<Route<'a>>
+    ensures { option_map sent_route_of result ≡ missing_among client peer (option_map sent_route_of best.entry)
+        (route_on (entry_of on.now) peer) }
+{
+    if peer == client || is_from(peer, best) {
+        None
+    } else {
+        on.route(peer)
+    }
+}
+
+// Whether a route is there, and of this peer.
+fn is_from(peer: usize, route: Option<Route>) -> bool
+    ensures { result ≡ is_from peer (option_map sent_route_of route.entry) }
+{
+    match route {
+        Some(route) => route.peer == peer,
+        None => false,
+    }
+}
