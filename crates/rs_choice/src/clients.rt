@@ -62,6 +62,7 @@ impl Exchange {
         requires eligible { chosen_of held.now eligible.now ≡ filter (λ held. is_candidate held.candidacy) held.now }
         ensures { IsShared self.now held.now result }
     {
+        // For the prover: at most 256 routes are eligible.
         let _count = eligible.len();
         let entrants = Chosen {
             plan: self,
@@ -90,6 +91,7 @@ impl Exchange {
         requires client_known { client < length self.now.peers }
         ensures { result ≡ best_peer_for self.now client (map sent_of_held held.now) }
     {
+        // For the prover: there are at most 256 peers, so the number of each is an octet.
         let _peers = self.count();
         if self.are_permitted(held, &shared.weighing, client) {
             return number(shared.peer, client);
@@ -110,6 +112,7 @@ impl Exchange {
         requires client_known { client < length self.now.peers }
         ensures { result ≡ best_peer_for self.now client (map sent_of_held held.now) }
     {
+        // For the prover: there are at most 256 peers, so the number of each is an octet.
         let _peers = self.count();
         let contenders = self.contenders(held, places, client);
         number(self.chosen_peer(held, &contenders, groups), client)
@@ -128,6 +131,7 @@ impl Exchange {
         ensures { result ≡ option_map (λ sent. sent.peer)
             (choice (standing_of self.now) (sents_at held.now places.now)) }
     {
+        // For the prover: there are at most 256 places.
         let _count = places.len();
         let entrants = Chosen {
             plan: self,

@@ -47,6 +47,7 @@ impl Exchange {
         ensures time { result.time ≡ time }
         ensures attributes { result.attributes ≡ attributes }
     {
+        // For the prover: there are at most 256 peers, so the number of each is an octet.
         let _peers = self.count();
         let candidacy = self.candidacy(peer, &attributes);
         let path_length = path_length(&attributes);
@@ -161,6 +162,7 @@ impl Exchange {
 fn path_length(attributes: &Attributes) -> u16
     ensures { result ≡ path_length_of attributes.now.path }
 {
+    // For the prover: the spelling has at most 4,073 octets.
     let _spelled = attributes.written_len();
     attributes.path_length() as u16
 }

@@ -13,6 +13,7 @@ pub(crate) fn cover(prefix: Prefix, len: u8) -> Prefix
     requires { len ≤ prefix.len }
     ensures { result ≡ network_of prefix.address len }
 {
+    // For the prover: the prefix has at most 32 bits, so its cover has no more.
     let _bound = prefix.len();
     match Prefix::new(prefix.address(), len) {
         Some(wide) => wide,
