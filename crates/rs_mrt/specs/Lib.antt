@@ -2,12 +2,15 @@
 pub mod Record  -- records, and those that a file holds
 pub mod Entry  -- what a record says of a session
 pub mod Fault  -- the numbers of faults
+pub mod Bounds  -- how much of a file is read
 pub mod Source  -- what a source of records may give
 pub mod Examples  -- worked examples
 -- How octets come and go:
 pub mod Reader  -- what a reader may still give
 pub mod RecordReading  -- the records of a reader
 pub mod Inflow  -- how they are taken, step by step
+pub mod Bounded  -- what a reader within bounds gives
+pub mod Clearing  -- step by step
 pub mod MemoryReading  -- a reader over memory
 pub mod Stream  -- what a writer has taken
 pub mod Memory  -- a writer over memory

@@ -8,6 +8,7 @@ ghost use Rattle.rs_mrt.specs.Record.{MrtRecord, SplitIsFound, SplitIsTheOnlyOne
 ghost use Rattle.rs_mrt.specs.RecordReading.{MayCome, read_limit, unread};
 ghost use Rattle.rs_mrt.specs.Source.{source_end};
 ghost use Rattle.rs_mrt.specs.declared.fault.SourceFault.{SourceFault};
+ghost use Rattle.rs_mrt.specs.Bounds.{EndIsThatWithin, IsBeginning, OpenBoundsLeaveAll, RecordsAreThoseUntil};
 
 use crate::bgp4mp::FRONT_LEN;
 use crate::reader::Read;
@@ -35,6 +36,16 @@ pub fn known_octets_are_shown<R: Read>(_reader: &R, _file: &[u8])
     ensures { (records : List MrtRecord) (fault : Option SourceFault)
         → MayCome R.gives (unread _reader.now) records fault
         → (records ≡ map front_of (records_of _file.now)) × (fault ≡ source_end (end_of _file.now)) }
+{}
+
+/// What is read of a file within bounds is a file too, a beginning of it: its records are those before the first that
+/// is later, and it ends after whole records, or as the file does where no record is later and the tail is strict.
+/// Bounds that are open leave nothing out.
+pub fn what_is_within_bounds()
+    ensures beginning { IsBeginning }
+    ensures records { RecordsAreThoseUntil }
+    ensures end { EndIsThatWithin }
+    ensures all { OpenBoundsLeaveAll }
 {}
 
 /// The definitions say of some octets, records and calls what one would say by hand.

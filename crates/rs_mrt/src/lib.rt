@@ -2,11 +2,14 @@
 //! and the header of a record that is written.
 //!
 //! Reading order: `record`, `fault`, `meaning`, `bgp4mp`, `source`; `reader`, `inlet`, `window`,
-//! `record_reader` (files in pieces); `spelling`, `stream`; `memory`, `memory_reader`; `laws`. Standards: RFC
-//! 6396, sections 2 (header), 3 and 4.5 (BGP4MP_ET), 4.4.3 and 4.4.4 (BGP4MP with AS numbers of four octets).
+//! `record_reader` (files in pieces); `bounds`, `bounded_reader` (a part of a file); `spelling`, `stream`; `memory`,
+//! `memory_reader`; `laws`. Standards: RFC 6396, sections 2 (header), 3 and 4.5 (BGP4MP_ET), 4.4.3 and 4.4.4 (BGP4MP
+//! with AS numbers of four octets).
 #![tactic(auto)]
 
 mod bgp4mp;
+mod bounded_reader;
+mod bounds;
 mod fault;
 mod inlet;
 mod laws;
@@ -22,10 +25,13 @@ mod stream;
 mod window;
 
 pub use bgp4mp::{AFI_IPV4, BGP4MP, BGP4MP_ET, FRONT_LEN, MESSAGE_AS4, STATE_CHANGE_AS4, entry};
+pub use bounded_reader::BoundedReader;
+pub use bounds::{Bounds, Tail};
 pub use fault::{MrtFault, SourceFault};
 pub use inlet::READ_LIMIT;
 pub use laws::{
     examples_hold, file_splits_in_one_way, front_of_a_record_says_the_same, known_octets_are_shown,
+    what_is_within_bounds,
 };
 pub use meaning::Entry;
 pub use memory::{Limits, MemoryWriter};

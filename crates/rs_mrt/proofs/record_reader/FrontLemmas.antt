@@ -30,7 +30,7 @@ length_field-append octets after long =
     ap (big_number 4) (drop-append-le 8 octets after (omega arith))
     ∙ big_from-append 4 (drop 8 octets) after (omega (arith, length-drop 8 octets))
 
-headed-append : (octets after body : List ℕ) → 12 ≤ length octets → headed (octets ++ after) body ≡ headed octets body
+pub headed-append : (octets after body : List ℕ) → 12 ≤ length octets → headed (octets ++ after) body ≡ headed octets body
 headed-append octets after body long =
     let time : big_number 4 (octets ++ after) ≡ big_number 4 octets = big_from-append 4 octets after (omega arith) in
     let kind : big_number 2 (drop 4 (octets ++ after)) ≡ big_number 2 (drop 4 octets) =
@@ -53,12 +53,12 @@ has_record-cut octets cut = let long = has_record-long octets in grind arith
 
 -- ---- a record, and octets behind it
 
-has_record-append : (octets after : List ℕ) → has_record octets ≡ true → has_record (octets ++ after) ≡ true
+pub has_record-append : (octets after : List ℕ) → has_record octets ≡ true → has_record (octets ++ after) ≡ true
 has_record-append octets after stands =
     let long = has_record-long octets stands in
     has_record-from (octets ++ after) (omega (arith, length_field-append octets after long.0, length-append octets after))
 
-front_record-append : (octets after : List ℕ) → has_record octets ≡ true → front_record (octets ++ after) ≡ front_record octets
+pub front_record-append : (octets after : List ℕ) → has_record octets ≡ true → front_record (octets ++ after) ≡ front_record octets
 front_record-append octets after stands =
     let long = has_record-long octets stands in
     let n = length_field octets in
@@ -69,7 +69,7 @@ front_record-append octets after stands =
     ∙ take-append-le n (drop 12 octets) after (omega arith) in
     ap (headed (octets ++ after)) body ∙ headed-append octets after (take n (drop 12 octets)) long.0
 
-after_record-append : (octets after : List ℕ) → has_record octets ≡ true → after_record (octets ++ after) ≡ after_record octets ++ after
+pub after_record-append : (octets after : List ℕ) → has_record octets ≡ true → after_record (octets ++ after) ≡ after_record octets ++ after
 after_record-append octets after stands =
     let long = has_record-long octets stands in
     let n = length_field octets in
