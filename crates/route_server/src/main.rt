@@ -12,11 +12,12 @@ ghost use Rattle.rs_program.specs.Texts.{CanTell};
 use rs_host::Options;
 use rs_mrt::{IoWriter, Read};
 use rs_program::{
-    Cleared, Ended, FolderOutlet, Progress, command_line, configuration, end, print_notes,
-    progress_on, ready_files,
+    Cleared, Close, Ended, Ending, FolderOutlet, Progress, command_line, configuration, end,
+    print_notes, progress_on, ready_files, run_status,
 };
 use rs_run::run_with_ends;
 use rs_serve::PeerEnd;
+use rs_session::Reason;
 use rs_setup::Setup;
 use std::alloc::{AllocError, Global};
 use std::fs::Files;
@@ -36,7 +37,7 @@ fn main(rt: HostRuntime) -> ExitCode {
         Err(ended) => return end(&rt, &ended, None, None),
     };
     match serve(&rt, &setup, &options, terminal(rt.stderr())) {
-        Ok(()) => ExitCode::SUCCESS,
+        Ok(clean) => ExitCode::from(run_status(options.strict, clean)),
         Err(ended) => end(&rt, &ended, Some(&setup), Some(&options)),
     }
 }
@@ -50,14 +51,15 @@ fn terminal(stderr: Stderr) -> Option<Stderr> {
     }
 }
 
-// Runs over the peers' files, and then prints notes on peers of whose files nothing was kept. On a terminal it is shown
-// how much was read, until something else is written.
+// Runs over the peers' files, and then prints notes on them. Answers whether the run was clean: each session closed at
+// the end of its file, and there is no note. On a terminal it is shown how much was read, until something else is
+// written.
 fn serve<R: AllocGlobal + Files + Print + Eprint + Threads + Wait + Sync>(
     rt: &R,
     setup: &Setup,
     options: &Options,
     terminal: Option<Stderr>,
-) -> Result<(), Ended>
+) -> Result<bool, Ended>
 where
     R::File: Send,
     requires files { length setup.now.files.items ≡ length setup.now.plan.value.peers }
@@ -68,10 +70,11 @@ where
     let progress = progress_on(rt, terminal, &setup.files);
     let files = ready_files(rt, setup, options, &progress)?;
     let ends = run_over(rt, setup, options, files, &progress)?;
-    if let Ok(changes) = changes_of(rt.alloc(), &ends) {
-        print_notes(rt, setup, &changes);
-    }
-    Ok(())
+    let noted = match endings_of(rt.alloc(), &ends) {
+        Ok(endings) => print_notes(rt, setup, options.bounds, &endings),
+        Err(_) => false,
+    };
+    Ok(!noted && all_close_at_end(&ends))
 }
 
 // Runs over opened files: dumps go to the folder of the options, the report to standard output. Answers how the session
@@ -103,11 +106,28 @@ where
     }
 }
 
-// How many changes each peer's file gave.
-fn changes_of(alloc: Global, ends: &[PeerEnd]) -> Result<Vec<u64>, AllocError> {
-    let mut changes = Vec::with_capacity(alloc, ends.len())?;
+// How the session of each peer ended, for the notes.
+fn endings_of(alloc: Global, ends: &[PeerEnd]) -> Result<Vec<Ending>, AllocError> {
+    let mut endings = Vec::with_capacity(alloc, ends.len())?;
     for end in ends {
-        changes.push(end.changes)?;
+        endings.push(Ending {
+            changes: end.changes,
+            close: close_of(end.reason),
+        })?;
     }
-    Ok(changes)
+    Ok(endings)
+}
+
+// Where a session closed.
+fn close_of(reason: Reason) -> Close {
+    match reason {
+        Reason::EndOfFile => Close::AtEnd,
+        Reason::Mrt(1 | 2) => Close::WithinRecord,
+        _ => Close::AtFault,
+    }
+}
+
+// Whether each session closed at the end of its file.
+fn all_close_at_end(ends: &[PeerEnd]) -> bool {
+    ends.iter().all(|end| end.reason == Reason::EndOfFile)
 }

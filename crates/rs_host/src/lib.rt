@@ -22,7 +22,7 @@ pub use fault::FileFault;
 pub use file_identity::{FileIdentity, found_at};
 pub use options::{Options, WordsFault};
 pub use read_once::first_unreadable;
-pub use recorded::{PIECE_LEN, Recorded, in_pieces, open, open_file};
+pub use recorded::{Bounded, PIECE_LEN, Recorded, in_pieces, open, open_file};
 pub use refusal::setup_line;
 pub use standard::standard_of;
 pub use whole::{FILE_LIMIT, read_file};

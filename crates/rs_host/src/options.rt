@@ -3,6 +3,7 @@
 ghost use Rattle.std.specs.Prelude.{◌≡◌};
 ghost use Rattle.rs_host.specs.declared.options.WordsFault.TheVariants.{Memory};
 
+use rs_mrt::Bounds;
 use rs_update::Errors;
 use std::alloc::AllocError;
 use thiserror::Error;
@@ -23,6 +24,11 @@ pub struct Options {
     /// The standard by which faults in the path attributes of an UPDATE are handled (RFC 4271, section 6.3,
     /// or RFC 7606).
     pub errors: Errors,
+    /// How much of each recorded file is read.
+    pub bounds: Bounds,
+    /// Whether a run of which there is a note, or in which a session closed before the end of its file, ends with a
+    /// status of its own.
+    pub strict: bool,
 }
 
 /// Why the words of the command line give no options.

@@ -1,14 +1,18 @@
 -- The command line: the program's command as `clap` knows it, and the options that its words ask for.
-use Rattle.std.specs.Prelude.{◌≡◌, ◌≢◌, ◌≤◌, ◌⊎◌, ℕ, ⊤, pos, true, List, [], ◌∷◌, Some, codes, option_map, string_bytes}
+use Rattle.std.specs.Prelude.{◌≡◌, ◌≢◌, ◌≤◌, ◌⊎◌, ℕ, ⊤, pos, Bool, true, false, List, [], ◌∷◌, Option, None, Some}
+use Rattle.std.specs.Prelude.{IsSome, codes, option_map, string_bytes, unwrap_or}
 use Rattle.std.specs.Str.Parse.{digits_value, without_leading_plus}
 use Rattle.clap.specs.Simple.{on_top}
 use Rattle.clap.specs.Words.{App, IsAmong, Kinds, Row, Rule, Text, fault_of, first_of, matches_of, new_app, new_rule}
 use Rattle.clap.specs.Words.{one_of, with_rule}
-use Rattle.clap.specs.declared.builder.ArgAction.TheVariants.{Set}
+use Rattle.clap.specs.declared.builder.ArgAction.TheVariants.{Set, SetTrue}
 use Rattle.clap.specs.declared.builder.value_parser.ValueParser.TheVariants.{NonEmptyString, Signed, Unsigned}
 use Rattle.clap.specs.declared.error.kind.ErrorKind.{ErrorKind}
 use Rattle.clap.specs.declared.error.kind.ErrorKind.TheVariants.{DisplayHelp, DisplayVersion, OutOfMemory}
 use Rattle.rs_host.specs.Standard.{standard_name}
+use Rattle.rs_mrt.specs.declared.bounds.Bounds.{Bounds}
+use Rattle.rs_mrt.specs.declared.bounds.Tail.{Tail}
+use Rattle.rs_mrt.specs.declared.bounds.Tail.TheVariants.{Strict, Lenient}
 use Rattle.rs_host.specs.declared.options.Options.{Options}
 use Rattle.rs_host.specs.declared.options.WordsFault.{WordsFault}
 use Rattle.rs_host.specs.declared.options.WordsFault.TheVariants.{Help, Refused, Memory}
@@ -30,9 +34,13 @@ abbrev pub option_or : Text → Text → Rule
 option_or name default =
     record (new_rule name) { long = Some name; action = Some Set; value_names = 1; defaults = default ∷ [] }
 
--- the Timestamp of the records written: of 32 bits, 0 where the words don't give it (RFC 6396, section 2)
+-- an option of one value, without one where the words don't give it
+abbrev pub free_option : Text → Rule
+free_option name = record (new_rule name) { long = Some name; action = Some Set; value_names = 1 }
+
+-- the Timestamp of the records written: of 32 bits (RFC 6396, section 2)
 abbrev pub time_rule : Rule
-time_rule = record (option_or (codes "time") (codes "0")) { parser = Some (Signed (pos 0) (pos 4294967295)) }
+time_rule = record (free_option (codes "time")) { parser = Some (Signed (pos 0) (pos 4294967295)) }
 
 -- how many changes wait between two threads: 1 to 65,536, and 1,024 where the words don't give it (our choice)
 abbrev pub ring_rule : Rule
@@ -46,6 +54,18 @@ shards_rule = record (option_or (codes "shards") (codes "1")) { parser = Some (U
 abbrev pub errors_rule : Rule
 errors_rule = option_or (codes "errors") (codes "rfc4271")
 
+-- up to when records are read: a time (our choice)
+abbrev pub until_rule : Rule
+until_rule = free_option (codes "until")
+
+-- what becomes of a record that is cut short, by its name: strict where the words don't give it (our choice)
+abbrev pub tail_rule : Rule
+tail_rule = option_or (codes "tail") (codes "strict")
+
+-- whether a run that isn't clean has a status of its own (our choice)
+abbrev pub strict_rule : Rule
+strict_rule = record (new_rule (codes "strict")) { long = Some (codes "strict"); action = Some SetTrue }
+
 -- the three options that every run has
 abbrev pub with_places : App → App
 with_places app = with_rule (with_rule (with_rule app config_rule) out_rule) time_rule
@@ -54,28 +74,63 @@ with_places app = with_rule (with_rule (with_rule app config_rule) out_rule) tim
 abbrev pub with_manner : App → App
 with_manner app = with_rule (with_rule (with_rule app ring_rule) shards_rule) errors_rule
 
+-- the three options that say how much of the files is read, and whether that is enough
+abbrev pub with_bounds : App → App
+with_bounds app = with_rule (with_rule (with_rule app until_rule) tail_rule) strict_rule
+
 -- a command that tells its version
 abbrev pub with_version : App → App
 with_version app = on_top (λ shape. record shape { has_version = true }) app
 
--- the program's command, with its six options
+-- the program's command, with its nine options
 abbrev pub program : App
-program = with_manner (with_places (with_version (new_app (codes "route_server"))))
+program = with_bounds (with_manner (with_places (with_version (new_app (codes "route_server")))))
 
 -- the number that a text of decimal digits stands for
 abbrev pub number_of : Text → ℕ
 number_of text = digits_value 10 (without_leading_plus text)
 
+-- the names of the ways to read the end of a file
+abbrev pub tail_name : Tail → Text
+tail_name Strict = codes "strict"
+tail_name Lenient = codes "lenient"
+
+-- there is a time just where the words give one
+abbrev pub IsTimeGiven : Option Text → Option ℕ → Type 0
+IsTimeGiven None until = until ≡ None
+IsTimeGiven (Some text) until = IsSome until
+
+-- what was found holds how much of each file is read
+pub record HoldBounds (rows : List Row) (bounds : Bounds) : Type 0 where
+  pub until : IsTimeGiven (first_of (codes "until") rows) bounds.until
+  pub tail : first_of (codes "tail") rows ≡ Some (tail_name bounds.tail)
+
+-- the Timestamp is that of the words, or else the default
+abbrev pub IsTimeOr : Option Text → Option ℕ → ℕ → ℕ → Type 0
+IsTimeOr None number default time = time ≡ default
+IsTimeOr (Some text) number default time = number ≡ Some time
+
+abbrev pub IsTime : List Row → ℕ → ℕ → Type 0
+IsTime rows default time =
+    IsTimeOr (first_of (codes "time") rows) (option_map number_of (one_of (codes "time") rows)) default time
+
+-- a flag that was found has its value
+pub record IsFlag (found : Option Text) (flag : Bool) : Type 0 where
+  pub given : found ≡ Some (codes "true") → flag ≡ true
+  pub absent : found ≡ Some (codes "false") → flag ≡ false
+
 -- what was found for each argument holds these options, numbers as numbers and the standard by its name
 pub record HoldOptions (rows : List Row) (options : Options) : Type 0 where
   pub config : first_of (codes "config") rows ≡ Some (string_bytes options.config)
   pub out : first_of (codes "out") rows ≡ Some (string_bytes options.out)
-  pub time : option_map number_of (one_of (codes "time") rows) ≡ Some options.time
+  pub time : IsTime rows (unwrap_or options.bounds.until 0) options.time
   pub ring : option_map number_of (one_of (codes "ring") rows) ≡ Some options.ring
   pub ring_fits : (1 ≤ options.ring) × (options.ring ≤ 65536)
   pub shards : option_map number_of (one_of (codes "shards") rows) ≡ Some options.shards
   pub shards_fit : (1 ≤ options.shards) × (options.shards ≤ 16)
   pub errors : first_of (codes "errors") rows ≡ Some (standard_name options.errors)
+  pub bounds : HoldBounds rows options.bounds
+  pub strict : IsFlag (one_of (codes "strict") rows) options.strict
 
 -- the options are the values that the command's matches of the words hold, the default included
 abbrev pub AreOptionsOf : List Text → Options → Type 0

@@ -1,14 +1,17 @@
--- The line of a note. Nothing here is of a standard: all of it is our choice.
+-- The lines of notes. Nothing here is of a standard: all of it is our choice.
 use Rattle.std.specs.Prelude.{ℕ, [], ◌++◌, Option, None, Some, codes}
 use Rattle.std.specs.Fmt.{decimal}
 use Rattle.std.specs.Int.{to_be_bytes, w32}
 use Rattle.std.specs.Net.Text.{ipv4_text}
 use Rattle.rs_program.specs.Format.{format_name}
+use Rattle.rs_program.specs.declared.cut.Cut.{Cut}
 use Rattle.rs_program.specs.declared.hint.Hint.{Hint}
 use Rattle.rs_program.specs.declared.hint.Hint.TheVariants.{NotMrt, NoRecord}
 use Rattle.rs_inventory.specs.declared.kind.Kind.{Kind}
 use Rattle.rs_inventory.specs.declared.kind.Kind.TheVariants as kinds
 use Rattle.rs_inventory.specs.declared.peer.Peer.{Peer}
+use Rattle.rs_mrt.specs.declared.bounds.Tail.{Tail}
+use Rattle.rs_mrt.specs.declared.bounds.Tail.TheVariants.{Strict, Lenient}
 use Rattle.rs_host.specs.Line.{Text, one_line}
 
 -- what all records are, where one kind explains them
@@ -45,3 +48,15 @@ text_of path peer (NoRecord others kind) = others_text path (whose_text peer) (c
 -- and the line of it, of a peer of this name
 abbrev pub note_of : Text → Text → Peer → Hint → Text
 note_of name path peer hint = codes "route_server: note: peer " ++ (name ++ (codes ": " ++ text_of path peer hint))
+
+-- what becomes of the octets of a record that is cut short
+abbrev pub loss_text : Tail → Text
+loss_text Strict = codes "lost"
+loss_text Lenient = codes "left out"
+
+-- the line on a file that ends within a record: its path, where the record begins, and how many octets of it are there
+abbrev pub cut_note : Text → Cut → Tail → Text
+cut_note path cut tail =
+    codes "route_server: note: " ++ (one_line path ++ (codes " ends within its last record, which begins at octet "
+    ++ (decimal cut.octet ++ (codes " (octets " ++ (loss_text tail
+    ++ (codes ": " ++ (decimal cut.len ++ codes ")")))))))

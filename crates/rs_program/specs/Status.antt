@@ -1,5 +1,5 @@
--- The statuses with which the program ends where it stops short.
-use Rattle.std.specs.Prelude.{ℕ}
+-- The statuses with which the program ends.
+use Rattle.std.specs.Prelude.{ℕ, Bool, true, false}
 use Rattle.rs_choice.specs.declared.fault.PlanFault.TheVariants as plan
 use Rattle.rs_program.specs.declared.ended.Ended.{Ended}
 use Rattle.rs_program.specs.declared.ended.Ended.TheVariants.{Words, Setup, Unread, Memory, Run}
@@ -26,6 +26,16 @@ out_of_memory = 3
 -- a peer is unsettled
 abbrev pub unsettled : ℕ
 unsettled = 4
+
+-- a run isn't clean, and that is asked for
+abbrev pub not_clean : ℕ
+not_clean = 5
+
+-- the status of a run that wrote all that it would: whether it must be clean, and whether it is
+abbrev pub run_status : Bool → Bool → ℕ
+run_status true false = not_clean
+run_status true true = done
+run_status false clean = done
 
 -- the status of each way to stop short
 abbrev pub status_of : Ended → ℕ

@@ -1,7 +1,7 @@
 //! How the program ends where it stops short: its status, and its line on standard error.
 
 ghost use Rattle.std.specs.Prelude.{◌≡◌};
-ghost use Rattle.rs_program.specs.Status.{status_of};
+ghost use Rattle.rs_program.specs.Status.{run_status, status_of};
 ghost use Rattle.rs_program.specs.declared.ended.Ended.TheVariants.{Memory};
 
 use rs_choice::PlanFault;
@@ -43,8 +43,20 @@ pub const OUT_OF_MEMORY: u8 = 3;
 /// Not all changes of a peer are known to have been applied.
 pub const UNSETTLED: u8 = 4;
 
-/// The status with which the program ends: 0 where help or the version was asked for, 1 where the command
-/// line or the configuration is refused, 2 where a file, a folder or a device failed, 3 for want of memory, 4
+/// A session closed before the end of its file, or there is a note, and a status is asked for where that is so.
+pub const NOT_CLEAN: u8 = 5;
+
+/// The status with which a run ends that wrote all that it would: 5 where it isn't clean and `strict` asks for that,
+/// else
+/// 0. It is clean where each session closed at the end of its file, and there is no note.
+pub fn run_status(strict: bool, clean: bool) -> u8
+    ensures { result ≡ run_status strict clean }
+{
+    if strict && !clean { NOT_CLEAN } else { 0 }
+}
+
+/// The status with which the program ends where it stops short: 0 where help or the version was asked for, 1 where the
+/// command line or the configuration is refused, 2 where a file, a folder or a device failed, 3 for want of memory, 4
 /// where not all changes of a peer are known to have been applied.
 pub fn status(ended: &Ended) -> u8
     ensures { result ≡ status_of ended.now }

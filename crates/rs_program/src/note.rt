@@ -1,13 +1,16 @@
-//! The line of a note.
+//! The lines of notes.
 
 ghost use Rattle.std.specs.Prelude.{◌≡◌, IfOk, string_bytes};
 ghost use Rattle.std.specs.Int.{to_be_bytes, w32};
 ghost use Rattle.std.specs.Net.Addr.{ipv4_octets};
-ghost use Rattle.rs_program.specs.Note.{count_text, format_text, kind_text, note_of, others_text, text_of, whose_text};
+ghost use Rattle.rs_program.specs.Note.{count_text, cut_note, format_text, kind_text};
+ghost use Rattle.rs_program.specs.Note.{loss_text, note_of, others_text, text_of, whose_text};
 
+use crate::cut::Cut;
 use crate::hint::Hint;
 use rs_host::on_one_line;
 use rs_inventory::{Kind, Peer};
+use rs_mrt::Tail;
 use std::alloc::{AllocError, Global};
 use std::net::Ipv4Addr;
 
@@ -24,6 +27,28 @@ pub fn note_line(
 {
     let text = text_of(alloc, path, peer, hint)?;
     format!(in alloc; "route_server: note: peer {name}: {text}")
+}
+
+/// The line of the note on a recorded file that ends within a record, without a line break at its end: `path` is that
+/// of the file, whose control characters are escaped. Fails where memory is refused.
+pub fn cut_line(alloc: Global, path: &str, cut: Cut, tail: Tail) -> Result<String, AllocError>
+    ensures { IfOk result (λ line. string_bytes line ≡ cut_note path.now cut tail) }
+{
+    let path = on_one_line(alloc, path)?;
+    let (octet, len, loss) = (cut.octet, cut.len, loss_text(tail));
+    format!(in alloc;
+        "route_server: note: {path} ends within its last record, which begins at octet {octet} (octets {loss}: {len})"
+    )
+}
+
+// What becomes of the octets of a record that is cut short.
+fn loss_text(tail: Tail) -> &'static str
+    ensures { result.now ≡ loss_text tail }
+{
+    match tail {
+        Tail::Strict => "lost",
+        Tail::Lenient => "left out",
+    }
 }
 
 // What is noted.

@@ -1,6 +1,6 @@
 //! What the program does before the run, and how it ends: all but the run itself.
 
-ghost use Rattle.std.specs.Prelude.{◌≡◌, ◌<◌, ◌≤◌, All, None, Some, IfErr, IfOk, length};
+ghost use Rattle.std.specs.Prelude.{◌≡◌, ◌+◌, ◌<◌, ◌≤◌, All, None, Some, IfErr, IfOk, length};
 ghost use Rattle.rs_program.specs.Texts.{CanTell};
 
 use crate::counted::Counted;
@@ -10,7 +10,7 @@ use crate::progress::Progress;
 use crate::texts::{MEMORY_LINE, NOT_UTF_8, OUTPUT_LINE, line};
 use crate::tried::first_unwritable;
 use crate::words::read_words;
-use rs_host::{Options, Recorded, WordsFault, each_on_one_line, read_file};
+use rs_host::{Bounded, Options, WordsFault, each_on_one_line, read_file};
 use rs_outlet::RunFault;
 use rs_setup::{Setup, a_configuration_has_a_file_for_each_peer, read_setup};
 use std::env;
@@ -84,19 +84,20 @@ pub fn progress_on<R: Files>(
     Progress::new(terminal, total)
 }
 
-/// Opens the recorded files of the peers, once each dump can be written: where one would take the place of a file that
-/// is read, or the folder takes no files, nothing is read or written.
+/// Opens the recorded files of the peers, to be read within the bounds of the options, once each dump can be written:
+/// where one would take the place of a file that is read, or the folder takes no files, nothing is read or written.
 pub fn ready_files<'a, R: AllocGlobal + Files>(
     rt: &R,
     setup: &Setup,
     options: &Options,
     progress: &'a Progress<Stderr>,
-) -> Result<Vec<Recorded<Counted<'a, R::File, Stderr>>>, Ended>
+) -> Result<Vec<Bounded<Counted<'a, R::File, Stderr>>>, Ended>
     ensures one_for_each { IfOk result (λ files. length files.items ≡ length setup.now.files.items) }
-    ensures no_failure { IfOk result (λ files. All (λ file. file.failures < u64.MAX) files.items) }
+    ensures no_failure { IfOk result (λ files.
+        All (λ file. file.reader.failures + file.refused < u64.MAX) files.items) }
     ensures refused { IfErr result (λ ended. CanTell ended (Some setup.entry) (Some options.entry)) }
 {
-    let files = open_files(rt, &setup.files, progress)?;
+    let files = open_files(rt, &setup.files, options.bounds, progress)?;
     match first_unwritable(rt, setup, options)? {
         Some(client) => Err(Ended::Run(RunFault::Dump(client))),
         None => Ok(files),

@@ -1,15 +1,18 @@
 //! Reads the words of the command line, with `clap`.
 
-ghost use Rattle.std.specs.Prelude.{◌≡◌, [], IfErr, IfOk, OnOk, false, map, string_bytes};
+ghost use Rattle.std.specs.Prelude.{◌≡◌, [], IfErr, IfOk, IfSome, OnOk, false, map, string_bytes};
 ghost use Rattle.clap.specs.Words.{app_of, found_of, kind_of, rows_of, rule_of};
-ghost use Rattle.rs_program.specs.CommandLine.{AreOptionsOf, HoldOptions, IsToldAs, SaysWhy, config_rule, errors_rule};
-ghost use Rattle.rs_program.specs.CommandLine.{faults_in, out_rule, program, ring_rule, shards_rule, time_rule};
-ghost use Rattle.rs_program.specs.CommandLine.{with_manner};
+ghost use Rattle.rs_program.specs.CommandLine.{AreOptionsOf, HoldBounds, HoldOptions, IsTime, IsToldAs, SaysWhy};
+ghost use Rattle.rs_program.specs.CommandLine.{config_rule, errors_rule, faults_in, out_rule, program, ring_rule};
+ghost use Rattle.rs_program.specs.CommandLine.{shards_rule, strict_rule, tail_name, tail_rule, time_rule, until_rule};
+ghost use Rattle.rs_program.specs.CommandLine.{with_bounds, with_manner};
 
 use clap::builder::ValueParser;
 use clap::error::ErrorKind;
 use clap::{Arg, ArgAction, ArgMatches, Command, Error, value_parser};
 use rs_host::{Options, WordsFault, standard_of};
+use rs_mrt::{Bounds, Tail};
+use rs_time::read_time;
 use std::alloc::{AllocError, Global};
 
 // The program's version.
@@ -37,12 +40,27 @@ Status:
   1  the command line or the configuration is refused
   2  a file, a folder or a device failed
   3  memory or a thread was refused
-  4  not all changes of a peer are known to have been applied: the fault is the program's own";
+  4  not all changes of a peer are known to have been applied: the fault is the program's own
+  5  with --strict: a session closed before the end of its file, or there is a note";
+
+// What `--time` does, in its help.
+const TIME_HELP: &str =
+    "Timestamp of every record of the dumps, in seconds since 1970, from 0 to 4294967295 [default: 0]";
 
 // What `--errors` does, in its help.
 const ERRORS_HELP: &str =
     "Standard by which faults in path attributes are handled: rfc4271 (the first closes \
     the session) or rfc7606 (a route is withdrawn where that is enough)";
+
+// What `--until` does, in its help.
+const UNTIL_HELP: &str =
+    "Reads each file up to the first record that is later, and is the default of --time: seconds since \
+    1970, or as 2026-11-22T06:36:20Z";
+
+// What `--tail` does, in its help.
+const TAIL_HELP: &str =
+    "What becomes of a record that the end of its file cuts short: strict (the session closes and its \
+    routes are gone) or lenient (the record is left out)";
 
 // The text where an option has no value.
 const INCOMPLETE: &str = "error: an option has no value\n";
@@ -54,12 +72,27 @@ const NO_STANDARD: &str =
 For more information, try '--help'.
 ";
 
+// The text where the value of `--until` is no time.
+const NO_TIME: &str =
+    "error: the value of '--until <TIME>' is neither seconds since 1970 nor as '2026-11-22T06:36:20Z'
+
+For more information, try '--help'.
+";
+
+// The text where the value of `--tail` is no way to read the end of a file.
+const NO_TAIL: &str = "error: the value of '--tail <TAIL>' is neither 'strict' nor 'lenient'
+
+For more information, try '--help'.
+";
+
 /// Reads the words of the command line, which begin with the program's own name: `--config FILE --out DIR [--time N]
-/// [--ring N] [--shards N] [--errors rfc4271|rfc7606]`. DIR isn't empty; the time is from 0 to 4,294,967,295, the ring
-/// from 1 to 65,536, the shards from 1 to 16; where they aren't given they are 0, 1,024, 1 and RFC 4271.
+/// [--ring N] [--shards N] [--errors rfc4271|rfc7606] [--until TIME] [--tail strict|lenient] [--strict]`. DIR isn't
+/// empty; the time is from 0 to 4,294,967,295, the ring from 1 to 65,536, the shards from 1 to 16; where they aren't
+/// given they are TIME, or 0 without it, 1,024, 1, RFC 4271 and strict. TIME is as `read_time` takes it.
 ///
 /// Answers `Help` where help or the version is asked for, and `Refused` where the words aren't such, each with the text
-/// of `clap`, or with one of our own where `--errors` names no standard; `Memory` where memory is refused.
+/// of `clap`, or with one of our own where `--errors`, `--until` or `--tail` has no such value; `Memory` where memory
+/// is refused.
 pub fn read_words(alloc: Global, words: Vec<String>) -> Result<Options, WordsFault>
     ensures options { IfOk result (λ options. AreOptionsOf (map string_bytes words.items) options) }
     ensures taken { OnOk result (faults_in (map string_bytes words.items) ≡ []) }
@@ -71,29 +104,30 @@ pub fn read_words(alloc: Global, words: Vec<String>) -> Result<Options, WordsFau
     }
 }
 
-// The options that the matches hold. `clap` gives each of the six a value, and numbers within their limits,
-// so nothing is refused here but memory and a word that names no standard.
+// The options that the matches hold. `clap` gives each that is needed or has a default a value, and numbers within
+// their limits, so nothing is refused here but memory and a word that names no standard, no time and no tail.
 fn options_of(alloc: Global, matches: &ArgMatches<'_>) -> Result<Options, WordsFault>
     ensures options { IfOk result (HoldOptions (rows_of (found_of matches.now))) }
     ensures refused { IfErr result (SaysWhy []) }
 {
-    let (Some(config), Some(out), Some(time)) = (
+    let (Some(config), Some(out), Some(standard)) = (
         matches.get_str("config"),
         matches.get_str("out"),
-        matches.get_one::<u32>("time"),
+        matches.get_str("errors"),
     ) else {
         return Err(WordsFault::Refused(String::from_str(alloc, INCOMPLETE)?));
     };
-    let (Some(ring @ 1..=65_536), Some(shards @ 1..=16), Some(standard)) = (
+    let (Some(ring @ 1..=65_536), Some(shards @ 1..=16)) = (
         matches.get_one::<usize>("ring"),
         matches.get_one::<usize>("shards"),
-        matches.get_str("errors"),
     ) else {
         return Err(WordsFault::Refused(String::from_str(alloc, INCOMPLETE)?));
     };
     let Some(errors) = standard_of(standard) else {
         return Err(WordsFault::Refused(String::from_str(alloc, NO_STANDARD)?));
     };
+    let bounds = bounds_of(alloc, matches)?;
+    let time = time_of(alloc, matches, bounds.until.unwrap_or(0))?;
     Ok(Options {
         config: String::from_str(alloc, config)?,
         out: String::from_str(alloc, out)?,
@@ -101,7 +135,57 @@ fn options_of(alloc: Global, matches: &ArgMatches<'_>) -> Result<Options, WordsF
         ring,
         shards,
         errors,
+        bounds,
+        strict: matches.get_flag("strict"),
     })
+}
+
+// The Timestamp of the records written: that of the words, or else this one.
+fn time_of(alloc: Global, matches: &ArgMatches<'_>, default: u32) -> Result<u32, WordsFault>
+    ensures time { IfOk result (IsTime (rows_of (found_of matches.now)) default) }
+    ensures refused { IfErr result (SaysWhy []) }
+{
+    let Some(_) = matches.get_str("time") else {
+        return Ok(default);
+    };
+    match matches.get_one::<u32>("time") {
+        Some(time) => Ok(time),
+        None => Err(WordsFault::Refused(String::from_str(alloc, INCOMPLETE)?)),
+    }
+}
+
+// How much of each file is read.
+fn bounds_of(alloc: Global, matches: &ArgMatches<'_>) -> Result<Bounds, WordsFault>
+    ensures bounds { IfOk result (HoldBounds (rows_of (found_of matches.now))) }
+    ensures refused { IfErr result (SaysWhy []) }
+{
+    let Some(name) = matches.get_str("tail") else {
+        return Err(WordsFault::Refused(String::from_str(alloc, INCOMPLETE)?));
+    };
+    let Some(tail) = tail_of(name) else {
+        return Err(WordsFault::Refused(String::from_str(alloc, NO_TAIL)?));
+    };
+    let Some(text) = matches.get_str("until") else {
+        return Ok(Bounds { until: None, tail });
+    };
+    match read_time(text) {
+        Some(time) => Ok(Bounds {
+            until: Some(time),
+            tail,
+        }),
+        None => Err(WordsFault::Refused(String::from_str(alloc, NO_TIME)?)),
+    }
+}
+
+// What becomes of a record that is cut short, by its name.
+fn tail_of(name: &str) -> Option<Tail>
+    ensures { IfSome result (λ tail. name.now ≡ tail_name tail) }
+{
+    match name {
+        "strict" => Some(Tail::Strict),
+        "lenient" => Some(Tail::Lenient),
+        _ => None,
+    }
 }
 
 // Why the words give no options, with the text of `clap`.
@@ -131,7 +215,14 @@ fn program<'a>(alloc: Global) -> Result<Command<'a>, AllocError>
         .arg(config_argument(alloc))?
         .arg(out_argument(alloc))?
         .arg(time_argument(alloc))?;
-    with_manner(alloc, command)
+    with_more(alloc, command)
+}
+
+// The command with the options that say how a run goes, and how much of the files is read.
+fn with_more<'a>(alloc: Global, command: Command<'a>) -> Result<Command<'a>, AllocError>
+    ensures { IfOk result (λ made. app_of made ≡ with_bounds (with_manner (app_of command.entry))) }
+{
+    with_bounds(alloc, with_manner(alloc, command)?)
 }
 
 // The command with the three options that say how a run goes.
@@ -142,6 +233,16 @@ fn with_manner<'a>(alloc: Global, command: Command<'a>) -> Result<Command<'a>, A
         .arg(ring_argument(alloc))?
         .arg(shards_argument(alloc))?
         .arg(errors_argument(alloc))
+}
+
+// The command with the three options that say how much of the files is read, and whether that is enough.
+fn with_bounds<'a>(alloc: Global, command: Command<'a>) -> Result<Command<'a>, AllocError>
+    ensures { IfOk result (λ made. app_of made ≡ with_bounds (app_of command.entry)) }
+{
+    command
+        .arg(until_argument(alloc))?
+        .arg(tail_argument(alloc))?
+        .arg(strict_argument(alloc))
 }
 
 // `--config FILE`
@@ -183,8 +284,7 @@ fn time_argument<'a>(alloc: Global) -> Arg<'a>
         .value_name("N")
         .action(ArgAction::Set)
         .value_parser(value_parser!(u32))
-        .default_value("0")
-        .help("Timestamp of every record of the dumps, in seconds since 1970, from 0 to 4294967295")
+        .help(TIME_HELP)
 }
 
 // `--ring N`
@@ -226,4 +326,42 @@ fn errors_argument<'a>(alloc: Global) -> Arg<'a>
         .action(ArgAction::Set)
         .default_value("rfc4271")
         .help(ERRORS_HELP)
+}
+
+// `--until TIME`
+fn until_argument<'a>(alloc: Global) -> Arg<'a>
+    ensures rule { rule_of result ≡ until_rule }
+    ensures local { result.global ≡ false }
+{
+    Arg::new(alloc, "until")
+        .long("until")
+        .value_name("TIME")
+        .action(ArgAction::Set)
+        .help(UNTIL_HELP)
+}
+
+// `--tail TAIL`
+fn tail_argument<'a>(alloc: Global) -> Arg<'a>
+    ensures rule { rule_of result ≡ tail_rule }
+    ensures local { result.global ≡ false }
+{
+    Arg::new(alloc, "tail")
+        .long("tail")
+        .value_name("TAIL")
+        .action(ArgAction::Set)
+        .default_value("strict")
+        .help(TAIL_HELP)
+}
+
+// `--strict`
+fn strict_argument<'a>(alloc: Global) -> Arg<'a>
+    ensures rule { rule_of result ≡ strict_rule }
+    ensures local { result.global ≡ false }
+{
+    Arg::new(alloc, "strict")
+        .long("strict")
+        .action(ArgAction::SetTrue)
+        .help(
+            "Ends with status 5 where a session closed before the end of its file, or there is a note",
+        )
 }

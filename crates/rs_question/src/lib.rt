@@ -1,8 +1,8 @@
 //! A question to the looking glass: what it asks, the configuration and the files that it names, and how the program
 //! ends where it gives no answer. All of it is our choice.
 //!
-//! Reading order: `query` (the questions), `times` (times as they are asked for and shown), `setup` and `files` (what
-//! is read before the answer), `ended` and `lines` (how the program stops short).
+//! Reading order: `query` (the questions), `setup` and `files` (what is read before the answer), `ended` and `lines`
+//! (how the program stops short).
 #![tactic(auto)]
 
 mod ended;
@@ -10,11 +10,10 @@ mod files;
 mod lines;
 mod query;
 mod setup;
-mod times;
 
 pub use ended::{Ended, FAILED, OUT_OF_MEMORY, REFUSED};
 pub use files::open_files;
 pub use lines::{MEMORY_LINE, line};
 pub use query::{HistoryQuery, PeersQuery, Query, WhyQuery, WordsFault};
+pub use rs_time::{Utc, civil_time, read_time};
 pub use setup::{configuration, peer_named};
-pub use times::{Utc, civil_time, read_time};

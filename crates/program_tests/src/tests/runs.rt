@@ -4,7 +4,7 @@
 ghost use Rattle.std.specs.Prelude.{◌≡◌, ◌<◌, ◌≤◌, length};
 
 use rs_host::Options;
-use rs_mrt::{IoWriter, Limits, MemoryReader, MemoryWriter, ReadLimits, Write};
+use rs_mrt::{Bounds, IoWriter, Limits, MemoryReader, MemoryWriter, ReadLimits, Write};
 use rs_outlet::{Kept, MemoryOutlet, Outlet, OutletLimits, RunFault};
 use rs_program::{Cleared, Progress};
 use rs_run::run;
@@ -178,6 +178,8 @@ fn options_in(alloc: Global, manner: &Manner) -> Options
         ring: manner.ring,
         shards: manner.shards,
         errors: Errors::Rfc4271,
+        bounds: Bounds::none(),
+        strict: false,
     }
 }
 

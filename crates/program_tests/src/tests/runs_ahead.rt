@@ -5,7 +5,7 @@ ghost use Rattle.std.specs.Prelude.{◌≡◌, ◌<◌, ◌≤◌, length};
 
 use super::outlet_ahead::{Faults, OutletAhead};
 use rs_host::Options;
-use rs_mrt::{Limits, MemoryReader, MemoryWriter, ReadLimits};
+use rs_mrt::{Bounds, Limits, MemoryReader, MemoryWriter, ReadLimits};
 use rs_outlet::{Kept, MemoryOutlet, Outlet, OutletLimits, RunFault};
 use rs_run::run;
 use rs_setup::{Setup, read_setup};
@@ -115,6 +115,8 @@ fn run_with<T: AllocGlobal + Abort + Threads + Wait + Sync, O: Outlet>(
         ring: 64,
         shards: 2,
         errors: Errors::Rfc4271,
+        bounds: Bounds::none(),
+        strict: false,
     };
     let of_a = file(alloc, OF_A, 20, count)?;
     let of_c = file(alloc, OF_C, 21, OF_C_ALONE)?;

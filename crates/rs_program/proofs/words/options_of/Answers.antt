@@ -12,19 +12,21 @@ returns-clause-options c =
     record {
       config = sym (first_value-rows found (codes "config")) ∙ (sym c.get_str.ensures ∙ search rules);
       out = sym (first_value-rows found (codes "out")) ∙ (sym c.get_str-2.ensures ∙ search rules);
-      time = number_read 32 _ (λ bs r. ParsesUnsigned 32 10 bs r × ExplainsUnsignedError 10 bs r × HasUnsignedDigitsIfOk bs r)
-          (λ u x g. g.0) _ _ _
-          (λ none. c.get_one.ensures.none (one_text-rows found (codes "time") ∙ none))
-          (λ t is. c.get_one.ensures.value t (one_text-rows found (codes "time") ∙ is)) c.in-Some-Some-Some.is-2;
+      time = search rules;
       ring = number_read 64 _ (λ bs r. ParsesUnsigned 64 10 bs r × ExplainsUnsignedError 10 bs r × HasUnsignedDigitsIfOk bs r)
           (λ u x g. g.0) _ _ _
-          (λ none. c.get_one-2.ensures.none (one_text-rows found (codes "ring") ∙ none))
-          (λ t is. c.get_one-2.ensures.value t (one_text-rows found (codes "ring") ∙ is)) (search rules);
+          (λ none. c.get_one.ensures.none (one_text-rows found (codes "ring") ∙ none))
+          (λ t is. c.get_one.ensures.value t (one_text-rows found (codes "ring") ∙ is)) (search rules);
       ring_fits = search rules;
       shards = number_read 64 _ (λ bs r. ParsesUnsigned 64 10 bs r × ExplainsUnsignedError 10 bs r × HasUnsignedDigitsIfOk bs r)
           (λ u x g. g.0) _ _ _
-          (λ none. c.get_one-3.ensures.none (one_text-rows found (codes "shards") ∙ none))
-          (λ t is. c.get_one-3.ensures.value t (one_text-rows found (codes "shards") ∙ is)) (search rules);
+          (λ none. c.get_one-2.ensures.none (one_text-rows found (codes "shards") ∙ none))
+          (λ t is. c.get_one-2.ensures.value t (one_text-rows found (codes "shards") ∙ is)) (search rules);
       shards_fit = search rules;
       errors = sym (first_value-rows found (codes "errors")) ∙ (sym c.get_str-3.ensures ∙ search rules);
+      bounds = search rules;
+      strict = record {
+        given = λ is. c.get_flag.ensures.value (one_text-rows found (codes "strict") ∙ is);
+        absent = λ is. c.get_flag.ensures.other (one_text-rows found (codes "strict") ∙ is);
+      };
     }
