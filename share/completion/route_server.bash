@@ -5,8 +5,9 @@ _route_server() {
         --config) compopt -o filenames; mapfile -t COMPREPLY < <(compgen -f -- "$word") ;;
         --out) compopt -o filenames; mapfile -t COMPREPLY < <(compgen -d -- "$word") ;;
         --errors) mapfile -t COMPREPLY < <(compgen -W "rfc4271 rfc7606" -- "$word") ;;
-        --time | --ring | --shards) COMPREPLY=() ;;
-        *) mapfile -t COMPREPLY < <(compgen -W "--config --out --time --ring --shards --errors --help --version" -- "$word") ;;
+        --tail) mapfile -t COMPREPLY < <(compgen -W "strict lenient" -- "$word") ;;
+        --time | --ring | --shards | --until) COMPREPLY=() ;;
+        *) mapfile -t COMPREPLY < <(compgen -W "--config --out --time --ring --shards --errors --until --tail --strict --help --version" -- "$word") ;;
     esac
 }
 complete -F _route_server route_server
