@@ -1,9 +1,9 @@
 //! Notes on standard error: on each peer whose recorded file gave no change but the close, and on files that end within
 //! a record.
 //!
-//! Our choices: such a file is read a second time, and with a lenient tail each file that was read to its end. So a pipe
-//! gets no note. If neighbouring peers name one file, it is read once, for the first of them. A note that can't be made
-//! or written is left out.
+//! Our choices: such a file is read a second time, and with a lenient tail each file that was read to its end. So a
+//! pipe gets no note. If neighbouring peers name one file, it is read once, for the first of them. A note that can't be
+//! made or written is left out.
 
 ghost use Rattle.std.specs.Prelude.{◌≡◌, ◌<◌, length};
 

@@ -1,5 +1,6 @@
 -- Parts with prefixes of one length each have no prefix in common: for parts.rt.
-use Rattle.std.proofs.Common.{◌≡◌, ◌≢◌, ◌∙◌, sym, ap, subst, refl, ℕ, zero, suc, ◌+◌, ◌<◌, arith, inl, inr, true, false, [], ◌∷◌, ◌++◌, length, Option, Some, None, Result, Ok, Err, AllPairs}
+use Rattle.std.proofs.Common.{◌≡◌, ◌≢◌, ◌∙◌, sym, ap, subst, refl, ℕ, zero, suc, ◌+◌, ◌<◌, arith, inl, inr, true, false, [], ◌∷◌, ◌++◌}
+use Rattle.std.proofs.Common.{length, Option, Some, None, Result, Ok, Err, AllPairs}
 use Rattle.std.specs.Prelude.{IfOk, IfSome, OnErr, OnOk}
 use Rattle.std.specs.Result.{result_ok}
 use Rattle.std.specs.FinMap as fin
@@ -31,7 +32,8 @@ nothing-left len rib e = record {
   left_is = e ∙ sym rib_left-nothing;
 }
 
-one_more-left : (len : ℕ) (before after : RibContent) (change : Change) → IsLeftOnLength len before → BecomeBy before.routes change after.routes
+one_more-left : (len : ℕ) (before after : RibContent) (change : Change) → IsLeftOnLength len before
+    → BecomeBy before.routes change after.routes
     → after.closed ≡ is_close change → IsOnLength len change → is_close change ≡ false → IsLeftOnLength len after
 one_more-left len before after change held become closed on stays = record {
   changes = held.changes ++ change ∷ [];
@@ -48,7 +50,8 @@ route-on_length len rib held q route e =
     let leaves : Leaves held.changes q route = leaves-from-left held.changes q route has in
     let seam = get_or-append_seam leaves.earlier (announcement q route) leaves.later (announcement q route) in
     let long = length-append leaves.earlier (announcement q route ∷ leaves.later) in
-    let all : All (IsOnLength len) (leaves.earlier ++ announcement q route ∷ leaves.later) = subst (All (IsOnLength len)) leaves.is_announced held.on in
+    let all : All (IsOnLength len) (leaves.earlier ++ announcement q route ∷ leaves.later) =
+    subst (All (IsOnLength len)) leaves.is_announced held.on in
     let on : IsOnLength len (announcement q route) =
     subst (IsOnLength len) seam (all (length leaves.earlier) (announcement q route) (omega (arith, long))) in
     on q refl
@@ -83,10 +86,12 @@ part-more plan len before after peer change held become closed others plan_is on
 }
 
 -- tables that may be refused are new, where they were not
-pub part-new : {E : Type 0} (answer : Result TablesContent E) (gave : Option TablesContent) (plan : Plan) (len : ℕ) → gave ≡ result_ok answer
+pub part-new : {E : Type 0} (answer : Result TablesContent E) (gave : Option TablesContent) (plan : Plan) (len : ℕ)
+    → gave ≡ result_ok answer
     → IfOk answer (λ tables. tables.plan ≡ plan) → IfOk answer (λ tables. (peer : ℕ) → rib_of tables peer ≡ nothing_held)
     → IfSome gave (IsPart plan len)
-part-new (Ok tables) gave plan len is plan_is empty = subst (λ g. IfSome g (IsPart plan len)) (sym is) (new-part plan len tables plan_is empty)
+part-new (Ok tables) gave plan len is plan_is empty =
+    subst (λ g. IfSome g (IsPart plan len)) (sym is) (new-part plan len tables plan_is empty)
 part-new (Err e) gave plan len is plan_is empty = subst (λ g. IfSome g (IsPart plan len)) (sym is) tt
 
 -- a change that may be refused leaves a part of that length, whether it was or not
@@ -102,10 +107,12 @@ part-kept (Err e) plan len before after peer change held become closed err other
 
 -- ---- of two parts, and of three
 
-not_held : (plan : Plan) (len : ℕ) (tables : TablesContent) → IsPart plan len tables → (q : IpPrefix) → q.len ≢ len → is_held tables.ribs q ≡ false
+not_held : (plan : Plan) (len : ℕ) (tables : TablesContent) → IsPart plan len tables → (q : IpPrefix) → q.len ≢ len
+    → is_held tables.ribs q ≡ false
 not_held plan len tables part q apart = none-held tables.ribs q (λ peer. no_route len (rib_of tables peer) (part.ribs peer) q apart)
 
-two-parts : (plan : Plan) (len more : ℕ) (one other : TablesContent) → len < more → IsPart plan len one → IsPart plan more other → AreParts one other
+two-parts : (plan : Plan) (len more : ℕ) (one other : TablesContent) → len < more → IsPart plan len one → IsPart plan more other
+    → AreParts one other
 two-parts plan len more one other below part later = record {
   plan = part.plan_is ∙ sym later.plan_is;
   apart = λ q held. elim (eqb_tells q.len len) [
@@ -119,10 +126,12 @@ pub three-parts : (plan : Plan) (one two three : TablesContent) → IsPart plan 
     → AllPairs AreParts (one ∷ two ∷ three ∷ [])
 three-parts plan one two three first second third zero zero d below within = absurd (omega (arith, below))
 three-parts plan one two three first second third zero (suc zero) d below within = two-parts plan 8 16 one two (omega arith) first second
-three-parts plan one two three first second third zero (suc (suc zero)) d below within = two-parts plan 8 24 one three (omega arith) first third
+three-parts plan one two three first second third zero (suc (suc zero)) d below within =
+    two-parts plan 8 24 one three (omega arith) first third
 three-parts plan one two three first second third (suc zero) zero d below within = absurd (omega (arith, below))
 three-parts plan one two three first second third (suc zero) (suc zero) d below within = absurd (omega (arith, below))
-three-parts plan one two three first second third (suc zero) (suc (suc zero)) d below within = two-parts plan 16 24 two three (omega arith) second third
+three-parts plan one two three first second third (suc zero) (suc (suc zero)) d below within =
+    two-parts plan 16 24 two three (omega arith) second third
 three-parts plan one two three first second third (suc (suc i)) zero d below within = absurd (omega (arith, below))
 three-parts plan one two three first second third (suc (suc i)) (suc zero) d below within = absurd (omega (arith, below))
 three-parts plan one two three first second third (suc (suc i)) (suc (suc zero)) d below within = absurd (omega (arith, below))

@@ -3,10 +3,10 @@
 
 ghost use Rattle.std.specs.Prelude.{◌<◌};
 
+use super::decisions;
 use super::exchanges::exchange;
 use super::held::hold_all;
 use super::random::Random;
-use super::decisions;
 use std::alloc::Global;
 use std::fmt::Write;
 use std::process::Abort;

@@ -38,7 +38,13 @@ pub fn hold_all(alloc: Global, exchange: &Exchange, text: &str) -> Option<Vec<He
 }
 
 /// What comes of routes in an exchange.
-pub fn answer(rt: &impl Abort, alloc: Global, plan: &str, asked: &str, routes: &str) -> Option<String> {
+pub fn answer(
+    rt: &impl Abort,
+    alloc: Global,
+    plan: &str,
+    asked: &str,
+    routes: &str,
+) -> Option<String> {
     let exchange = exchange(alloc, plan)?;
     let held = hold_all(alloc, &exchange, routes)?;
     match asked {

@@ -35,7 +35,10 @@ fn text_of(alloc: Global, explanation: &Explanation) -> Option<String> {
 
 // What a client is told of a peer's route; none where `why` says something else.
 fn told_one(alloc: Global, tables: &Tables, client: &str, peer: &str) -> Option<String> {
-    let (client, peer) = (peer_of(tables.plan(), client)?, peer_of(tables.plan(), peer)?);
+    let (client, peer) = (
+        peer_of(tables.plan(), client)?,
+        peer_of(tables.plan(), peer)?,
+    );
     let prefix = prefix("203.0.113.0/24")?;
     let explanation = explain(alloc, tables, client, peer, prefix).ok()?;
     if tables.why(client, peer, prefix) != answer(&explanation) {

@@ -8,5 +8,5 @@ pub returns : goal.returns
 returns c = λ plan held.
     let belongs : c.belongs.result ≡ true = search rules in
     part-kept c.apply.result plan c.args.len c.args.tables.now c.apply.new.self c.args.peer (change_of c.args.word) held
-      c.apply.ensures.routes c.apply.ensures.closed c.apply.ensures.err c.apply.ensures.others c.apply.ensures.plan
-      (c.belongs.ensures.on belongs) (c.belongs.ensures.open belongs)
+    c.apply.ensures.routes c.apply.ensures.closed c.apply.ensures.err c.apply.ensures.others c.apply.ensures.plan
+    (c.belongs.ensures.on belongs) (c.belongs.ensures.open belongs)
