@@ -2,17 +2,20 @@
 _looking_glass() {
     local word=${COMP_WORDS[COMP_CWORD]} before=${COMP_WORDS[COMP_CWORD-1]} options
     if [ "$COMP_CWORD" -eq 1 ]; then
-        mapfile -t COMPREPLY < <(compgen -W "why history peers --help --version" -- "$word")
+        mapfile -t COMPREPLY < <(compgen -W "why history table missing peers --help --version" -- "$word")
         return
     fi
     case $before in
         --config) compopt -o filenames; mapfile -t COMPREPLY < <(compgen -f -- "$word"); return ;;
         --errors) mapfile -t COMPREPLY < <(compgen -W "rfc4271 rfc7606" -- "$word"); return ;;
-        --client | --prefix | --from | --until) COMPREPLY=(); return ;;
+        --because) mapfile -t COMPREPLY < <(compgen -W "ineligible server_as_in_path server_address_as_next_hop next_hop_off_exchange refused name community lost preference path_length origin med identifier address" -- "$word"); return ;;
+        --client | --shards | --prefix | --from | --until) COMPREPLY=(); return ;;
     esac
     case ${COMP_WORDS[1]} in
         why) options="--config --client --prefix --until --errors --json --help" ;;
         history) options="--config --prefix --client --from --until --errors --json --help" ;;
+        table) options="--config --client --from --prefix --longer --count --shards --errors --csv --json --help" ;;
+        missing) options="--config --client --from --because --count --shards --errors --csv --json --help" ;;
         peers) options="--json --toml --help" ;;
     esac
     if [ "${COMP_WORDS[1]}" = peers ] && [[ $word != -* ]]; then

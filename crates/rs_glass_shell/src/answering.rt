@@ -4,6 +4,7 @@ ghost use Rattle.std.specs.Prelude.{◌≡◌, ◌<◌, length};
 
 use crate::history_lines::history_text;
 use crate::history_object::history_json;
+use crate::list_answering::{missing, table};
 use crate::listing_lines::as_text;
 use crate::listing_object::as_json;
 use crate::listing_toml::as_toml;
@@ -23,12 +24,15 @@ use rs_setup::Setup;
 use std::env;
 use std::env::Env;
 use std::fs::Files;
-use std::io::ErrorKind;
+use std::io::{ErrorKind, Print};
+use std::sync::Wait;
 use std::thread::Threads;
 
 /// Answers the question of the command line, as it is printed: reads the configuration and the recorded files that it
-/// names. Fails with why the program stops short.
-pub fn answer<R: AllocGlobal + Env + Files + Threads + Sync>(rt: &R) -> Result<String, Ended>
+/// names. Of a list all but its last part is printed by then. Fails with why the program stops short.
+pub fn answer<R: AllocGlobal + Env + Files + Threads + Wait + Sync + Print>(
+    rt: &R,
+) -> Result<String, Ended>
 where
     R::File: Send,
 {
@@ -36,6 +40,8 @@ where
         Query::Why(query) => why(rt, &query),
         Query::History(query) => history(rt, &query),
         Query::Peers(query) => peers(rt, query),
+        Query::Table(query) => table(rt, &query),
+        Query::Missing(query) => missing(rt, &query),
     }
 }
 

@@ -1,5 +1,6 @@
 //! The program's command, as `clap` knows it.
 
+use crate::list_command::{missing_command, table_command};
 use clap::builder::ValueParser;
 use clap::{Arg, ArgAction, Command};
 use std::alloc::{AllocError, Global};
@@ -39,7 +40,9 @@ pub(crate) fn program<'a>(alloc: Global) -> Result<Command<'a>, AllocError> {
     command
         .subcommand(why_command(alloc)?)?
         .subcommand(history_command(alloc)?)?
-        .subcommand(peers_command(alloc)?)
+        .subcommand(peers_command(alloc)?)?
+        .subcommand(table_command(alloc)?)?
+        .subcommand(missing_command(alloc)?)
 }
 
 // `why`
@@ -48,7 +51,7 @@ fn why_command<'a>(alloc: Global) -> Result<Command<'a>, AllocError> {
         .about(WHY_ABOUT)
         .arg(config(alloc))?
         .arg(client(alloc).required(true))?
-        .arg(prefix(alloc))?
+        .arg(prefix(alloc).required(true))?
         .arg(until(alloc))?
         .arg(errors(alloc))?
         .arg(json(alloc))
@@ -59,7 +62,7 @@ fn history_command<'a>(alloc: Global) -> Result<Command<'a>, AllocError> {
     Command::new(alloc, "history")
         .about(HISTORY_ABOUT)
         .arg(config(alloc))?
-        .arg(prefix(alloc))?
+        .arg(prefix(alloc).required(true))?
         .arg(client(alloc))?
         .arg(from(alloc))?
         .arg(until(alloc))?
@@ -77,27 +80,25 @@ fn peers_command<'a>(alloc: Global) -> Result<Command<'a>, AllocError> {
 }
 
 // An option of one value.
-fn option<'a>(alloc: Global, name: &'a str, value: &'a str) -> Arg<'a> {
+pub(crate) fn option<'a>(alloc: Global, name: &'a str, value: &'a str) -> Arg<'a> {
     Arg::new(alloc, name)
         .long(name)
         .value_name(value)
         .action(ArgAction::Set)
 }
 
-fn config<'a>(alloc: Global) -> Arg<'a> {
+pub(crate) fn config<'a>(alloc: Global) -> Arg<'a> {
     option(alloc, "config", "FILE")
         .required(true)
         .help("Configuration of the exchange, as route_server takes it")
 }
 
-fn client<'a>(alloc: Global) -> Arg<'a> {
+pub(crate) fn client<'a>(alloc: Global) -> Arg<'a> {
     option(alloc, "client", "NAME").help("Name of the client")
 }
 
-fn prefix<'a>(alloc: Global) -> Arg<'a> {
-    option(alloc, "prefix", "PREFIX")
-        .required(true)
-        .help("IPv4 prefix, as 192.0.2.0/24")
+pub(crate) fn prefix<'a>(alloc: Global) -> Arg<'a> {
+    option(alloc, "prefix", "PREFIX").help("IPv4 prefix, as 192.0.2.0/24")
 }
 
 fn from<'a>(alloc: Global) -> Arg<'a> {
@@ -112,25 +113,27 @@ fn until<'a>(alloc: Global) -> Arg<'a> {
     )
 }
 
-fn errors<'a>(alloc: Global) -> Arg<'a> {
+pub(crate) fn errors<'a>(alloc: Global) -> Arg<'a> {
     option(alloc, "errors", "STANDARD")
         .value_parser(ValueParser::Names(&["rfc4271", "rfc7606"]))
         .default_value("rfc4271")
         .help("How faults in path attributes are handled")
 }
 
-fn json<'a>(alloc: Global) -> Arg<'a> {
-    Arg::new(alloc, "json")
-        .long("json")
+// An option of no value.
+pub(crate) fn flag<'a>(alloc: Global, name: &'a str, help: &'a str) -> Arg<'a> {
+    Arg::new(alloc, name)
+        .long(name)
         .action(ArgAction::SetTrue)
-        .help("Writes the answer as JSON")
+        .help(help)
+}
+
+pub(crate) fn json<'a>(alloc: Global) -> Arg<'a> {
+    flag(alloc, "json", "Writes the answer as JSON")
 }
 
 fn toml<'a>(alloc: Global) -> Arg<'a> {
-    Arg::new(alloc, "toml")
-        .long("toml")
-        .action(ArgAction::SetTrue)
-        .help("Writes a configuration to start from")
+    flag(alloc, "toml", "Writes a configuration to start from")
 }
 
 fn files<'a>(alloc: Global) -> Arg<'a> {

@@ -97,7 +97,7 @@ fn clock_of(history: &History) -> Clock {
 }
 
 // The name of the peer whose route a client gets.
-fn best_name(plan: &Exchange, best: Option<usize>) -> &str {
+pub(crate) fn best_name(plan: &Exchange, best: Option<usize>) -> &str {
     match best {
         Some(peer) => name_at(plan, peer),
         None => "none",

@@ -2,7 +2,9 @@
 
 use crate::names::{asn_at, prefix_text};
 use crate::reasons::{close_text, origin_name};
-use crate::route_text::{community_of, path_text};
+use crate::route_text::{
+    LARGE_LEN, community_of, large_communities, large_community_of, path_text,
+};
 use crate::why_object::{name_of, put_text};
 use rs_choice::Exchange;
 use rs_glass::{Event, Gets, History};
@@ -101,7 +103,7 @@ fn add_event(
 }
 
 // Adds the attributes of a route that decide where it goes.
-fn add_route(
+pub(crate) fn add_route(
     object: &mut Map<String, Value>,
     alloc: Global,
     attributes: &Attributes,
@@ -146,4 +148,17 @@ fn push_community(list: &mut Vec<Value>, alloc: Global, community: u32) -> Resul
     let text = community_of(alloc, community)?;
     list.push(Value::String(text))?;
     Ok(())
+}
+
+// Adds the large communities of a route.
+pub(crate) fn add_large_communities(
+    object: &mut Map<String, Value>,
+    alloc: Global,
+    attributes: &Attributes,
+) -> Result<(), AllocError> {
+    let mut list = Vec::new(alloc);
+    for community in large_communities(attributes).chunks_exact(LARGE_LEN) {
+        list.push(Value::String(large_community_of(alloc, community)?))?;
+    }
+    put(object, alloc, "large_communities", Value::Array(list))
 }

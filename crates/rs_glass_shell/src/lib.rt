@@ -5,22 +5,33 @@
 //! `answering` (the whole answer); `why_lines` and `why_object` (why a client has each peer's route, or not),
 //! `history_lines` and `history_object` (what happened on a prefix), `recorded_file`, `listing_lines`, `listing_object`
 //! and `listing_toml` (what recorded files hold), each as a text and as JSON; below them `reasons`, `route_text`,
-//! `names`, `columns` and `clock`.
+//! `names`, `columns` and `clock`. Lists of whole tables: `list_command` and `list_words` (how they are asked for),
+//! `serving` (how the tables are built), `list_answering`, and their rows, `layout`, `table_row`, `missing_row`,
+//! `counted_row` and `csv_row`.
 #![tactic(auto)]
 
 mod answering;
 mod clock;
 mod columns;
 mod command;
+mod counted_row;
+mod csv_row;
 mod history_lines;
 mod history_object;
+mod layout;
+mod list_answering;
+mod list_command;
+mod list_words;
 mod listing_lines;
 mod listing_object;
 mod listing_toml;
+mod missing_row;
 mod names;
 mod reasons;
 mod recorded_file;
 mod route_text;
+mod serving;
+mod table_row;
 mod values;
 mod why_lines;
 mod why_object;

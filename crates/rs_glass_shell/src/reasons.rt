@@ -145,7 +145,7 @@ pub(crate) fn because(
 }
 
 // The rule that refuses a route.
-fn refused_text(
+pub(crate) fn refused_text(
     alloc: Global,
     plan: &Exchange,
     client: usize,

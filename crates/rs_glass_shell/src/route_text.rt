@@ -80,3 +80,81 @@ fn add_communities(
     }
     Ok(())
 }
+
+// The communities of a route, with spaces between them.
+pub(crate) fn communities_text(
+    alloc: Global,
+    attributes: &Attributes,
+) -> Result<String, AllocError> {
+    let mut text = String::new(alloc);
+    let Some(communities) = attributes.communities() else {
+        return Ok(text);
+    };
+    for community in communities.values {
+        let community = community_of(alloc, community)?;
+        add_word(&mut text, &community)?;
+    }
+    Ok(text)
+}
+
+// Adds a word behind others.
+fn add_word(text: &mut String, word: &str) -> Result<(), AllocError> {
+    if !text.is_empty() {
+        text.push(' ')?;
+    }
+    text.push_str(word)
+}
+
+// The type of LARGE_COMMUNITY, and how many octets a large community has (RFC 8092, section 3).
+const LARGE_COMMUNITY: u8 = 32;
+
+pub(crate) const LARGE_LEN: usize = 12;
+
+// The octets of a route's large communities; none where it has no such attribute.
+pub(crate) fn large_communities(attributes: &Attributes) -> &[u8] {
+    for other in attributes.others() {
+        if other.kind == LARGE_COMMUNITY {
+            return other.value;
+        }
+    }
+    &[]
+}
+
+// A large community: three numbers with colons between them (RFC 8092, section 5).
+pub(crate) fn large_community_of(alloc: Global, octets: &[u8]) -> Result<String, AllocError> {
+    match octets {
+        [a, b, c, d, e, f, g, h, i, j, k, l] => {
+            let global = u32::from_be_bytes([*a, *b, *c, *d]);
+            let first = u32::from_be_bytes([*e, *f, *g, *h]);
+            let second = u32::from_be_bytes([*i, *j, *k, *l]);
+            format!(in alloc; "{global}:{first}:{second}")
+        }
+        _ => Ok(String::new(alloc)),
+    }
+}
+
+// The large communities of a route, with spaces between them.
+pub(crate) fn large_communities_text(
+    alloc: Global,
+    attributes: &Attributes,
+) -> Result<String, AllocError> {
+    let mut text = String::new(alloc);
+    for community in large_communities(attributes).chunks_exact(LARGE_LEN) {
+        let community = large_community_of(alloc, community)?;
+        add_word(&mut text, &community)?;
+    }
+    Ok(text)
+}
+
+// Adds the large communities of a route, where it has any.
+pub(crate) fn add_large_communities(
+    text: &mut String,
+    alloc: Global,
+    attributes: &Attributes,
+) -> Result<(), AllocError> {
+    let communities = large_communities_text(alloc, attributes)?;
+    if communities.is_empty() {
+        return Ok(());
+    }
+    write!(text, ", large communities {communities}")
+}

@@ -180,7 +180,7 @@ fn closed_by(alloc: Global, said: &Said) -> Result<Value, AllocError> {
 }
 
 // Adds the condition of eligibility that fails.
-fn add_condition(
+pub(crate) fn add_condition(
     object: &mut Map<String, Value>,
     alloc: Global,
     condition: Condition,
@@ -204,7 +204,7 @@ fn address_value(alloc: Global, address: u32) -> Result<Value, AllocError> {
 }
 
 // Adds the rule that refuses a route: its community, or the name that is refused.
-fn add_refusal(
+pub(crate) fn add_refusal(
     object: &mut Map<String, Value>,
     alloc: Global,
     plan: &Exchange,
@@ -223,7 +223,7 @@ fn add_refusal(
 }
 
 // Adds the step that removed a route, the peer whose route beat it there, and what was compared.
-fn add_removal(
+pub(crate) fn add_removal(
     object: &mut Map<String, Value>,
     alloc: Global,
     plan: &Exchange,
@@ -244,7 +244,7 @@ fn add_removal(
 }
 
 // The name of a step.
-fn step_key(step: Step) -> &'static str {
+pub(crate) fn step_key(step: Step) -> &'static str {
     match step {
         Step::Preference => "preference",
         Step::PathLength => "path_length",

@@ -1,6 +1,7 @@
 //! Reads the words of the command line, with `clap`.
 
 use crate::command::program;
+use crate::list_words::{missing_of, table_of};
 use crate::values::{PREFIX_FORM, TIME_FORM, prefix_of, time_of};
 use clap::error::ErrorKind;
 use clap::{ArgMatches, Error};
@@ -42,6 +43,8 @@ fn query_of(alloc: Global, matches: &ArgMatches<'_>) -> Result<Query, WordsFault
         Some(("why", matches)) => Ok(Query::Why(why_of(alloc, matches)?)),
         Some(("history", matches)) => Ok(Query::History(history_of(alloc, matches)?)),
         Some(("peers", matches)) => Ok(Query::Peers(peers_of(alloc, matches)?)),
+        Some(("table", matches)) => Ok(Query::Table(table_of(alloc, matches)?)),
+        Some(("missing", matches)) => Ok(Query::Missing(missing_of(alloc, matches)?)),
         _ => Err(WordsFault::Refused(String::from_str(alloc, INCOMPLETE)?)),
     }
 }
@@ -89,14 +92,18 @@ fn peers_of(alloc: Global, matches: &ArgMatches<'_>) -> Result<PeersQuery, Words
 }
 
 // The text of an option that `clap` gives a value.
-fn text(alloc: Global, matches: &ArgMatches<'_>, name: &str) -> Result<String, WordsFault> {
+pub(crate) fn text(
+    alloc: Global,
+    matches: &ArgMatches<'_>,
+    name: &str,
+) -> Result<String, WordsFault> {
     match matches.get_str(name) {
         Some(value) => Ok(String::from_str(alloc, value)?),
         None => Err(WordsFault::Refused(String::from_str(alloc, INCOMPLETE)?)),
     }
 }
 
-fn prefix(alloc: Global, matches: &ArgMatches<'_>) -> Result<Prefix, WordsFault> {
+pub(crate) fn prefix(alloc: Global, matches: &ArgMatches<'_>) -> Result<Prefix, WordsFault> {
     let value = matches.get_str("prefix").unwrap_or("");
     match prefix_of(value) {
         Some(prefix) => Ok(prefix),
@@ -114,7 +121,7 @@ fn time(alloc: Global, matches: &ArgMatches<'_>, name: &str) -> Result<Option<u3
     }
 }
 
-fn errors(alloc: Global, matches: &ArgMatches<'_>) -> Result<Errors, WordsFault> {
+pub(crate) fn errors(alloc: Global, matches: &ArgMatches<'_>) -> Result<Errors, WordsFault> {
     let value = matches.get_str("errors").unwrap_or("");
     match standard_of(value) {
         Some(errors) => Ok(errors),

@@ -33,6 +33,8 @@ pub enum Ended {
     NoPeer(String),
     /// The file at this path can't be read.
     Unread(String),
+    /// Not all changes of the peer of this name are known to be in the tables.
+    Unsettled(String),
     /// Standard output can't be written.
     Output,
     /// Memory was refused.
@@ -89,6 +91,7 @@ impl Ended {
             Ended::Setup(_) => REFUSED,
             Ended::NoPeer(_) => REFUSED,
             Ended::Unread(_) => FAILED,
+            Ended::Unsettled(_) => FAILED,
             Ended::Output => FAILED,
             Ended::Memory => OUT_OF_MEMORY,
         }

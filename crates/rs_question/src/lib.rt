@@ -14,6 +14,9 @@ mod setup;
 pub use ended::{Ended, FAILED, OUT_OF_MEMORY, REFUSED};
 pub use files::open_files;
 pub use lines::{MEMORY_LINE, line};
-pub use query::{HistoryQuery, PeersQuery, Query, WhyQuery, WordsFault};
+pub use query::{
+    Form, HistoryQuery, MissingQuery, PeersQuery, Query, TableQuery, TablesQuery, WhyQuery,
+    WordsFault,
+};
 pub use rs_time::{Utc, civil_time, read_time};
 pub use setup::{configuration, peer_named};

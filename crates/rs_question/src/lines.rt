@@ -37,6 +37,10 @@ pub fn line(alloc: Global, ended: &Ended) -> Result<String, AllocError>
             let path = on_one_line(alloc, path)?;
             format!(in alloc; "looking_glass: cannot read {path}\n")
         }
+        Ended::Unsettled(name) => {
+            let name = on_one_line(alloc, name)?;
+            format!(in alloc; "looking_glass: peer {name} unsettled\n")
+        }
         Ended::Output => told(alloc, "cannot write standard output"),
         Ended::Memory => String::from_str(alloc, MEMORY_LINE),
     }

@@ -16,6 +16,10 @@ pub enum Query {
     History(HistoryQuery),
     /// What recorded files hold.
     Peers(PeersQuery),
+    /// The routes of a client's table.
+    Table(TableQuery),
+    /// The routes that a client does not get.
+    Missing(MissingQuery),
 }
 
 /// Why a client has each peer's route on a prefix, or not. Times are in seconds since 1970.
@@ -63,6 +67,64 @@ pub struct PeersQuery {
     pub json: bool,
     /// Whether a configuration to start from is written.
     pub toml: bool,
+}
+
+/// The routes of a client's table.
+#[derive(Drop)]
+pub struct TableQuery {
+    /// The exchange whose tables are built.
+    pub tables: TablesQuery,
+    /// The name of the client.
+    pub client: String,
+    /// The name of the sender whose routes are listed; all of them where it isn't given.
+    pub from: Option<String>,
+    /// The prefix whose row is listed; all of them where it isn't given.
+    pub prefix: Option<Prefix>,
+    /// Whether the more specific prefixes are listed too.
+    pub longer: bool,
+    /// Whether the routes are counted, not listed.
+    pub count: bool,
+    /// How the list is written.
+    pub form: Form,
+}
+
+/// The routes that a client does not get.
+#[derive(Drop)]
+pub struct MissingQuery {
+    /// The exchange whose tables are built.
+    pub tables: TablesQuery,
+    /// The name of the client.
+    pub client: String,
+    /// The name of the sender whose routes are listed; all of them where it isn't given.
+    pub from: Option<String>,
+    /// The answer or the reason for which routes are listed; all of them where it isn't given.
+    pub because: Option<String>,
+    /// Whether the routes are counted, not listed.
+    pub count: bool,
+    /// How the list is written.
+    pub form: Form,
+}
+
+/// Of which exchange whole tables are built, and how.
+#[derive(Drop)]
+pub struct TablesQuery {
+    /// The path of the configuration.
+    pub config: String,
+    /// The standard by which faults in path attributes are handled.
+    pub errors: Errors,
+    /// How many threads keep the tables, 1 to 16.
+    pub shards: usize,
+}
+
+/// How a list is written.
+#[derive(Clone, Copy, Debug, PartialEq, Eq, Drop)]
+pub enum Form {
+    /// In aligned columns, for people.
+    Text,
+    /// As CSV (RFC 4180), with a line of titles.
+    Csv,
+    /// As JSON (RFC 8259), an object on each line.
+    Json,
 }
 
 /// Why the words of the command line ask no question.

@@ -1,0 +1,264 @@
+//! Answers the questions about whole tables: lists routes as they are found, or counts them.
+
+ghost use Rattle.std.specs.Prelude.{◌<◌, length};
+
+use crate::counted_row::{Counts, counts_text};
+use crate::layout::Layout;
+use crate::missing_row::{add_missing_row, add_missing_titles, reason_key};
+use crate::reasons::answer_name;
+use crate::serving::served;
+use crate::table_row::{add_table_row, add_table_titles};
+use rs_question::{Ended, Form, MissingQuery, TableQuery, configuration, peer_named};
+use rs_setup::Setup;
+use rs_survey::{MissingOn, MissingRoute, MissingRoutes};
+use rs_table::{Row, Tables};
+use rs_update::{Prefix, covers};
+use std::alloc::{AllocError, Global};
+use std::fs::Files;
+use std::io::Print;
+use std::sync::Wait;
+use std::thread::Threads;
+
+// How many octets of rows are gathered before they are printed.
+const PAGE: usize = 65_536;
+
+// Which rows of a table are listed: of which sender, and on which prefix, with more specific ones or without.
+#[derive(Clone, Copy, Debug, PartialEq, Eq)]
+struct Rows {
+    from: Option<usize>,
+    prefix: Option<Prefix>,
+    longer: bool,
+}
+
+// Which routes that a client does not get are listed: of which sender, and for which answer or reason.
+#[derive(Clone, Copy, Debug, PartialEq, Eq)]
+struct Wanted<'a> {
+    from: Option<usize>,
+    because: Option<&'a str>,
+}
+
+// Lists the routes of a client's table; what is answered is the last part of the list, which isn't printed yet.
+pub(crate) fn table<R: AllocGlobal + Files + Threads + Wait + Sync + Print>(
+    rt: &R,
+    query: &TableQuery,
+) -> Result<String, Ended>
+where
+    R::File: Send,
+{
+    let setup = configuration(rt, &query.tables.config)?;
+    let client = peer_named(rt, &setup, &query.client)?;
+    let rows = Rows {
+        from: sender(rt, &setup, &query.from)?,
+        prefix: query.prefix,
+        longer: query.longer,
+    };
+    let served = served(rt, &setup, &query.tables)?;
+    if query.count {
+        Ok(count_table(rt.alloc(), served.tables(), client, &rows, query.form)?)
+    } else {
+        list_table(rt, served.tables(), client, &rows, query.form)
+    }
+}
+
+// Lists the routes that a client does not get, in the same way.
+pub(crate) fn missing<R: AllocGlobal + Files + Threads + Wait + Sync + Print>(
+    rt: &R,
+    query: &MissingQuery,
+) -> Result<String, Ended>
+where
+    R::File: Send,
+{
+    let setup = configuration(rt, &query.tables.config)?;
+    let client = peer_named(rt, &setup, &query.client)?;
+    let wanted = Wanted {
+        from: sender(rt, &setup, &query.from)?,
+        because: match &query.because {
+            Some(because) => Some(because.as_str()),
+            None => None,
+        },
+    };
+    let served = served(rt, &setup, &query.tables)?;
+    if query.count {
+        Ok(count_missing(rt.alloc(), served.tables(), client, wanted, query.form)?)
+    } else {
+        list_missing(rt, served.tables(), client, wanted, query.form)
+    }
+}
+
+// The number of the sender that is asked for, if one is.
+fn sender<R: AllocGlobal>(
+    rt: &R,
+    setup: &Setup,
+    name: &Option<String>,
+) -> Result<Option<usize>, Ended> {
+    match name {
+        Some(name) => Ok(Some(peer_named(rt, setup, name)?)),
+        None => Ok(None),
+    }
+}
+
+// Prints rows that were gathered, where they are many.
+fn print_page<R: Print>(rt: &R, page: &mut String) -> Result<(), Ended> {
+    if page.len() < PAGE {
+        return Ok(());
+    }
+    match rt.write_all(page.as_bytes()) {
+        Ok(()) => {
+            page.clear();
+            Ok(())
+        }
+        Err(_) => Err(Ended::Output),
+    }
+}
+
+// Lists the rows of a client's table.
+fn list_table<R: AllocGlobal + Print>(
+    rt: &R,
+    tables: &Tables,
+    client: usize,
+    rows: &Rows,
+    form: Form,
+) -> Result<String, Ended> {
+    let alloc = rt.alloc();
+    let layout = Layout::new(tables.plan(), client, form);
+    let mut page = String::new(alloc);
+    add_table_titles(&mut page, alloc, &layout)?;
+    for row in tables.iter_rows(client) {
+        add_listed(&mut page, alloc, &layout, rows, &row)?;
+        print_page(rt, &mut page)?;
+    }
+    Ok(page)
+}
+
+// Adds a row, where it is listed.
+fn add_listed(
+    page: &mut String,
+    alloc: Global,
+    layout: &Layout,
+    rows: &Rows,
+    row: &Row,
+) -> Result<(), AllocError> {
+    if is_listed(rows, row) {
+        add_table_row(page, alloc, layout, row)
+    } else {
+        Ok(())
+    }
+}
+
+// Counts them.
+fn count_table(
+    alloc: Global,
+    tables: &Tables,
+    client: usize,
+    rows: &Rows,
+    form: Form,
+) -> Result<String, AllocError> {
+    let mut count: u64 = 0;
+    for row in tables.iter_rows(client) {
+        count = counted(count, is_listed(rows, &row));
+    }
+    match form {
+        Form::Text => format!(in alloc; "{count}\n"),
+        Form::Csv => format!(in alloc; "routes\r\n{count}\r\n"),
+        Form::Json => format!(in alloc; "{{\"routes\":{count}}}\n"),
+    }
+}
+
+// A count, with one more where that is listed.
+fn counted(count: u64, listed: bool) -> u64 {
+    if listed { count.saturating_add(1) } else { count }
+}
+
+// Whether a row is listed.
+fn is_listed(rows: &Rows, row: &Row) -> bool {
+    is_from(rows.from, row.route.peer) && is_on(rows.prefix, rows.longer, row.prefix)
+}
+
+// Whether a sender is the one that is asked for.
+fn is_from(from: Option<usize>, peer: usize) -> bool {
+    match from {
+        Some(from) => from == peer,
+        None => true,
+    }
+}
+
+// Whether a prefix is the one that is asked for, or where that is asked for a more specific one.
+fn is_on(asked: Option<Prefix>, longer: bool, prefix: Prefix) -> bool {
+    match asked {
+        Some(asked) if longer => covers(asked, prefix),
+        Some(asked) => asked == prefix,
+        None => true,
+    }
+}
+
+// Lists the routes that a client does not get.
+fn list_missing<R: AllocGlobal + Print>(
+    rt: &R,
+    tables: &Tables,
+    client: usize,
+    wanted: Wanted<'_>,
+    form: Form,
+) -> Result<String, Ended>
+    requires { client < length tables.now.plan.peers }
+{
+    let alloc = rt.alloc();
+    let layout = Layout::new(tables.plan(), client, form);
+    let mut page = String::new(alloc);
+    add_missing_titles(&mut page, alloc, &layout)?;
+    for on in MissingRoutes::new(alloc, tables, client) {
+        let on = on?;
+        add_missing(&mut page, alloc, &layout, wanted, &on)?;
+        print_page(rt, &mut page)?;
+    }
+    Ok(page)
+}
+
+// Adds those on one prefix.
+fn add_missing(
+    page: &mut String,
+    alloc: Global,
+    layout: &Layout,
+    wanted: Wanted<'_>,
+    on: &MissingOn,
+) -> Result<(), AllocError> {
+    for one in &on.routes {
+        if is_wanted(wanted, one) {
+            add_missing_row(page, alloc, layout, on, one)?;
+        }
+    }
+    Ok(())
+}
+
+// Whether a route that a client does not get is listed.
+fn is_wanted(wanted: Wanted<'_>, one: &MissingRoute) -> bool {
+    if !is_from(wanted.from, one.route.peer) {
+        return false;
+    }
+    match wanted.because {
+        Some(because) => {
+            because == answer_name(&one.explanation) || because == reason_key(&one.explanation)
+        }
+        None => true,
+    }
+}
+
+// Counts them by sender and reason.
+fn count_missing(
+    alloc: Global,
+    tables: &Tables,
+    client: usize,
+    wanted: Wanted<'_>,
+    form: Form,
+) -> Result<String, AllocError>
+    requires { client < length tables.now.plan.peers }
+{
+    let mut counts = Counts::new(alloc, tables.count())?;
+    for on in MissingRoutes::new(alloc, tables, client) {
+        for one in &on?.routes {
+            if is_wanted(wanted, one) {
+                counts.add(one);
+            }
+        }
+    }
+    counts_text(alloc, &Layout::new(tables.plan(), client, form), &counts)
+}
