@@ -166,7 +166,11 @@ fn count_table(
 
 // A count, with one more where that is listed.
 fn counted(count: u64, listed: bool) -> u64 {
-    if listed { count.saturating_add(1) } else { count }
+    if listed {
+        count.saturating_add(1)
+    } else {
+        count
+    }
 }
 
 // Whether a row is listed.
