@@ -17,6 +17,7 @@ use rs_glass::{
 };
 use rs_host::{first_unreadable, open_file};
 use rs_inventory::{InventoryFault, read_inventory};
+use rs_mrt::Bounds;
 use rs_question::{
     Ended, HistoryQuery, PeersQuery, Query, WhyQuery, configuration, open_files, peer_named,
 };
@@ -89,7 +90,7 @@ where
         until: query.until,
         errors: query.errors,
     };
-    let files = open_files(rt, &setup.files)?;
+    let files = open_files(rt, &setup.files, Bounds::none())?;
     match read_sessions(rt, alloc, &setup.plan, files, &question) {
         Ok(reading) => Ok(explain_all(alloc, &reading, client, &question)?),
         Err(fault) => Err(Ended::by_reading(alloc, fault, setup)),
@@ -135,7 +136,7 @@ where
         until: query.until,
         errors: query.errors,
     };
-    let files = open_files(rt, &setup.files)?;
+    let files = open_files(rt, &setup.files, Bounds::none())?;
     match read_happenings(rt, alloc, &setup.plan, files, &question) {
         Ok(happenings) => {
             let asked = History::of(alloc, &question, client, query.from);

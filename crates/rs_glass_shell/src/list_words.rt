@@ -1,6 +1,6 @@
 //! The questions about whole tables that the words of the command line ask.
 
-use crate::words::{errors, prefix, text};
+use crate::words::{errors, prefix, text, time};
 use clap::ArgMatches;
 use rs_question::{Form, MissingQuery, TableQuery, TablesQuery, WordsFault};
 use std::alloc::Global;
@@ -41,6 +41,7 @@ fn tables_of(alloc: Global, matches: &ArgMatches<'_>) -> Result<TablesQuery, Wor
     Ok(TablesQuery {
         config: text(alloc, matches, "config")?,
         errors: errors(alloc, matches)?,
+        until: time(alloc, matches, "until")?,
         shards: matches.get_one::<usize>("shards").unwrap_or(1),
     })
 }

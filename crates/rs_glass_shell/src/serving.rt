@@ -2,6 +2,7 @@
 
 ghost use Rattle.std.specs.Prelude.{◌≡◌, IfOk, length};
 
+use rs_mrt::{Bounds, Tail};
 use rs_question::{Ended, TablesQuery, WordsFault, open_files};
 use rs_serve::{FloorRefused, Open, Served, serve_by};
 use rs_setup::Setup;
@@ -12,7 +13,7 @@ use std::thread::Threads;
 // How many changes wait at most between two threads.
 const RING: usize = 1024;
 
-// The tables that the recorded files of a setup leave. The first file that can't be read is named.
+// The tables that the recorded files of a setup leave, up to the time of a question. The first file that can't be read is named.
 pub(crate) fn served<R: AllocGlobal + Files + Threads + Wait + Sync>(
     rt: &R,
     setup: &Setup,
@@ -24,7 +25,11 @@ where
     ensures { IfOk result (λ served. served.tables.plan ≡ setup.now.plan.value) }
 {
     let alloc = rt.alloc();
-    let files = open_files(rt, &setup.files)?;
+    let bounds = Bounds {
+        until: query.until,
+        tail: Tail::Strict,
+    };
+    let files = open_files(rt, &setup.files, bounds)?;
     let (shards, errors) = (query.shards, query.errors);
     match serve_by(rt, alloc, &setup.plan, files, RING, shards, errors, &Open) {
         Ok(served) => Ok(served),
