@@ -1,11 +1,6 @@
 //! What the command line asks.
 
-ghost use Rattle.std.specs.Prelude.{◌≡◌};
-ghost use Rattle.rs_question.specs.declared.query.WordsFault.TheVariants.{Memory};
-
 use rs_update::{Errors, Prefix};
-use std::alloc::AllocError;
-use thiserror::Error;
 
 /// A question.
 #[derive(Drop)]
@@ -125,26 +120,4 @@ pub enum Form {
     Csv,
     /// As JSON (RFC 8259), an object on each line.
     Json,
-}
-
-/// Why the words of the command line ask no question.
-#[derive(Debug, Drop, Error)]
-pub enum WordsFault {
-    /// Help or the version was asked for: its text.
-    #[error("{0}")]
-    Shown(String),
-    /// The words are refused: the text that says why.
-    #[error("{0}")]
-    Refused(String),
-    /// Memory was refused.
-    #[error("memory was refused while the command line was read")]
-    Memory,
-}
-
-impl From<AllocError> for WordsFault {
-    ghost from_gives = { λ _ fault. fault ≡ Memory };
-
-    fn from(_refused: AllocError) -> WordsFault {
-        WordsFault::Memory
-    }
 }
