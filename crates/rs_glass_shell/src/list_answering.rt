@@ -7,8 +7,11 @@ use crate::layout::Layout;
 use crate::missing_row::{add_missing_row, add_missing_titles, reason_key};
 use crate::reasons::answer_name;
 use crate::serving::served;
+use crate::summary_numbers::written;
 use crate::table_row::{add_table_row, add_table_titles};
-use rs_question::{Ended, Form, MissingQuery, TableQuery, configuration, peer_named};
+use rs_question::{
+    Ended, Form, MissingQuery, SummaryQuery, TableQuery, configuration, peer_named,
+};
 use rs_setup::Setup;
 use rs_survey::{MissingOn, MissingRoute, MissingRoutes};
 use rs_table::{Row, Tables};
@@ -83,6 +86,22 @@ where
     } else {
         list_missing(rt, served.tables(), client, wanted, query.form)
     }
+}
+
+// What becomes of the routes of all peers, in numbers.
+pub(crate) fn summary<R: AllocGlobal + Files + Threads + Wait + Sync + Print>(
+    rt: &R,
+    query: &SummaryQuery,
+) -> Result<String, Ended>
+where
+    R::File: Send,
+{
+    let alloc = rt.alloc();
+    let setup = configuration(rt, &query.tables.config)?;
+    let served = served(rt, &setup, &query.tables)?;
+    let tables = served.tables();
+    let tally = rs_survey::summary(alloc, tables)?;
+    Ok(written(alloc, &Layout::new(tables.plan(), 0, query.form), &tally)?)
 }
 
 // The number of the sender that is asked for, if one is.

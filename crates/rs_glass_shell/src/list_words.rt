@@ -2,7 +2,7 @@
 
 use crate::words::{errors, prefix, text};
 use clap::ArgMatches;
-use rs_question::{Form, MissingQuery, TableQuery, TablesQuery, WordsFault};
+use rs_question::{Form, MissingQuery, SummaryQuery, TableQuery, TablesQuery, WordsFault};
 use std::alloc::Global;
 
 // `table`
@@ -32,6 +32,17 @@ pub(crate) fn missing_of(
         from: optional(alloc, matches, "from")?,
         because: optional(alloc, matches, "because")?,
         count: matches.get_flag("count"),
+        form: form_of(matches),
+    })
+}
+
+// `summary`
+pub(crate) fn summary_of(
+    alloc: Global,
+    matches: &ArgMatches<'_>,
+) -> Result<SummaryQuery, WordsFault> {
+    Ok(SummaryQuery {
+        tables: tables_of(alloc, matches)?,
         form: form_of(matches),
     })
 }
