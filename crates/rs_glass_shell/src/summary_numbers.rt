@@ -3,10 +3,10 @@
 ghost use Rattle.std.specs.Prelude.{◌<◌};
 
 use crate::layout::Layout;
+use crate::query::Form;
 use crate::summary_row::{Number, SummaryRow, add_row, add_row_titles};
 use crate::summary_text::add_tables;
 use rs_choice::Step;
-use rs_question::Form;
 use rs_survey::{Finding, Flaw, Tally};
 use std::alloc::{AllocError, Global};
 

@@ -2,8 +2,8 @@
 
 use crate::csv_row::{CsvRow, add_csv_titles};
 use crate::layout::{Layout, add_json_line};
+use crate::query::Form;
 use crate::why_object::put_text;
-use rs_question::Form;
 use serde_json::{Map, Value, put};
 use std::alloc::{AllocError, Global};
 
