@@ -4,28 +4,30 @@ ghost use Rattle.std.specs.Prelude.{◌≡◌, ◌<◌, length};
 
 use crate::history_lines::history_text;
 use crate::history_object::history_json;
-use crate::list_answering::{missing, table};
+use crate::lines::PROGRAM;
+use crate::list_answering::{missing, summary, table};
 use crate::listing_lines::as_text;
 use crate::listing_object::as_json;
 use crate::listing_toml::as_toml;
+use crate::query::{HistoryQuery, PeersQuery, Query, WhyQuery};
 use crate::recorded_file::RecordedFile;
+use crate::setup::peer_named;
+use crate::unanswered::Unanswered;
 use crate::why_lines::why_text;
 use crate::why_object::why_json;
 use crate::words::read_query;
 use rs_glass::{
     Answers, History, Question, explain_all, fill_history, read_happenings, read_sessions,
 };
-use rs_host::{first_unreadable, open_file};
+use rs_host::{
+    Unready, WordsFault, configuration, first_unreadable, open_file, open_files, read_arguments,
+};
 use rs_inventory::{InventoryFault, read_inventory};
 use rs_mrt::Bounds;
-use rs_question::{
-    Ended, HistoryQuery, PeersQuery, Query, WhyQuery, configuration, open_files, peer_named,
-};
 use rs_setup::Setup;
-use std::env;
 use std::env::Env;
 use std::fs::Files;
-use std::io::{ErrorKind, Print};
+use std::io::Print;
 use std::sync::Wait;
 use std::thread::Threads;
 
@@ -33,7 +35,7 @@ use std::thread::Threads;
 /// names. Of a list all but its last part is printed by then. Fails with why the program stops short.
 pub fn answer<R: AllocGlobal + Env + Files + Threads + Wait + Sync + Print>(
     rt: &R,
-) -> Result<String, Ended>
+) -> Result<String, Unanswered>
 where
     R::File: Send,
 {
@@ -43,21 +45,20 @@ where
         Query::Peers(query) => peers(rt, query),
         Query::Table(query) => table(rt, &query),
         Query::Missing(query) => missing(rt, &query),
+        Query::Summary(query) => summary(rt, &query),
     }
 }
 
 // The question of the command line.
-fn command_line<R: AllocGlobal + Env>(rt: &R) -> Result<Query, Ended> {
-    let alloc = rt.alloc();
-    match env::args(rt) {
-        Ok(words) => Ok(read_query(alloc, words.collect(alloc)?)?),
-        Err(error) if error.kind() == ErrorKind::OutOfMemory => Err(Ended::Memory),
-        Err(_) => Err(Ended::NotUtf8),
-    }
+fn command_line<R: AllocGlobal + Env>(rt: &R) -> Result<Query, WordsFault> {
+    read_query(rt.alloc(), read_arguments(rt, PROGRAM)?)
 }
 
 // Why a client has each peer's route, or not.
-fn why<R: AllocGlobal + Files + Threads + Sync>(rt: &R, query: &WhyQuery) -> Result<String, Ended>
+fn why<R: AllocGlobal + Files + Threads + Sync>(
+    rt: &R,
+    query: &WhyQuery,
+) -> Result<String, Unanswered>
 where
     R::File: Send,
 {
@@ -78,7 +79,7 @@ fn explained<R: AllocGlobal + Files + Threads + Sync>(
     setup: &Setup,
     client: usize,
     query: &WhyQuery,
-) -> Result<Answers, Ended>
+) -> Result<Answers, Unanswered>
 where
     R::File: Send,
     requires client_known { client < length setup.now.plan.value.peers }
@@ -90,10 +91,10 @@ where
         until: query.until,
         errors: query.errors,
     };
-    let files = open_files(rt, &setup.files, Bounds::none())?;
+    let files = open_files(rt, &setup.files, Bounds::none(), |file| file)?;
     match read_sessions(rt, alloc, &setup.plan, files, &question) {
         Ok(reading) => Ok(explain_all(alloc, &reading, client, &question)?),
-        Err(fault) => Err(Ended::by_reading(alloc, fault, setup)),
+        Err(fault) => Err(Unanswered::by_reading(alloc, fault, setup)),
     }
 }
 
@@ -101,7 +102,7 @@ where
 fn history<R: AllocGlobal + Files + Threads + Sync>(
     rt: &R,
     query: &HistoryQuery,
-) -> Result<String, Ended>
+) -> Result<String, Unanswered>
 where
     R::File: Send,
 {
@@ -125,7 +126,7 @@ fn replayed<R: AllocGlobal + Files + Threads + Sync>(
     setup: &Setup,
     client: Option<usize>,
     query: &HistoryQuery,
-) -> Result<History, Ended>
+) -> Result<History, Unanswered>
 where
     R::File: Send,
     requires { length setup.now.files.items ≡ length setup.now.plan.value.peers }
@@ -136,18 +137,18 @@ where
         until: query.until,
         errors: query.errors,
     };
-    let files = open_files(rt, &setup.files, Bounds::none())?;
+    let files = open_files(rt, &setup.files, Bounds::none(), |file| file)?;
     match read_happenings(rt, alloc, &setup.plan, files, &question) {
         Ok(happenings) => {
             let asked = History::of(alloc, &question, client, query.from);
             Ok(fill_history(alloc, &setup.plan, happenings, asked)?)
         }
-        Err(fault) => Err(Ended::by_reading(alloc, fault, setup)),
+        Err(fault) => Err(Unanswered::by_reading(alloc, fault, setup)),
     }
 }
 
 // What recorded files hold.
-fn peers<R: AllocGlobal + Files>(rt: &R, query: PeersQuery) -> Result<String, Ended> {
+fn peers<R: AllocGlobal + Files>(rt: &R, query: PeersQuery) -> Result<String, Unanswered> {
     let alloc = rt.alloc();
     let PeersQuery { files, json, toml } = query;
     let held = recorded_files(rt, files)?;
@@ -164,27 +165,27 @@ fn peers<R: AllocGlobal + Files>(rt: &R, query: PeersQuery) -> Result<String, En
 fn recorded_files<R: AllocGlobal + Files>(
     rt: &R,
     paths: Vec<String>,
-) -> Result<Vec<RecordedFile>, Ended> {
+) -> Result<Vec<RecordedFile>, Unready> {
     if let Some(number) = first_unreadable(rt, &paths)? {
-        return Err(Ended::by_path(rt.alloc(), &paths[number]));
+        return Err(Unready::by_path(rt.alloc(), &paths[number]));
     }
     let mut held = Vec::new(rt.alloc());
     for path in paths {
         held.push(recorded_file(rt, path)?)
-            .map_err(|_| Ended::Memory)?;
+            .map_err(|_| Unready::Memory)?;
     }
     Ok(held)
 }
 
 // What the recorded file at a path holds.
-fn recorded_file<R: AllocGlobal + Files>(rt: &R, path: String) -> Result<RecordedFile, Ended> {
+fn recorded_file<R: AllocGlobal + Files>(rt: &R, path: String) -> Result<RecordedFile, Unready> {
     let reader = match open_file(rt, &path) {
         Ok(reader) => reader,
-        Err(fault) => return Err(Ended::by_file(rt.alloc(), fault, &path)),
+        Err(fault) => return Err(Unready::by_file(rt.alloc(), fault, &path)),
     };
     match read_inventory(rt.alloc(), reader) {
         Ok(inventory) => Ok(RecordedFile { path, inventory }),
-        Err(InventoryFault::Memory) => Err(Ended::Memory),
-        Err(InventoryFault::Read) => Err(Ended::Unread(path)),
+        Err(InventoryFault::Memory) => Err(Unready::Memory),
+        Err(InventoryFault::Read) => Err(Unready::Unread(path)),
     }
 }

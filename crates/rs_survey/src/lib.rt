@@ -5,17 +5,30 @@
 //! client, its export policy before its decision).
 //!
 //! Reading order: `on_prefix` (the routes on one prefix that a client does not get), `missing_routes` (those on all
-//! prefixes); `choices`, `rows_to_come`, `side_by_side` (the rows of two clients), `differences`.
+//! prefixes). Two clients: `choices`, `rows_to_come`, `side_by_side` (the rows of both), `differences`. A summary:
+//! `finding` (what is counted), `tally` (how often), `seen` (the routes on a prefix), `removing` (the step that removes a
+//! candidate), `hidden` (what one decision for all clients would hide), `counting` (one prefix), `summary_of` (all
+//! prefixes).
 #![tactic(auto)]
 
 mod choices;
+mod counting;
 mod differences;
+mod finding;
+mod hidden;
 mod missing_routes;
 mod on_prefix;
+mod removing;
 mod rows_to_come;
+mod seen;
 mod side_by_side;
+mod summary_of;
+mod tally;
 
 pub use choices::Choices;
 pub use differences::Differences;
+pub use finding::{Finding, Flaw};
 pub use missing_routes::MissingRoutes;
 pub use on_prefix::{MissingOn, MissingRoute, missing_on};
+pub use summary_of::summary;
+pub use tally::Tally;
