@@ -32,7 +32,7 @@ use std::sync::Wait;
 use std::thread::Threads;
 
 /// Answers the question of the command line, as it is printed: reads the configuration and the recorded files that it
-/// names. Of a list all but its last part is printed by then. Fails with why the program stops short.
+/// names. Of a list all but its last part is printed by then. Fails with why there is no answer.
 pub fn answer<R: AllocGlobal + Env + Files + Threads + Wait + Sync + Print>(
     rt: &R,
 ) -> Result<String, Unanswered>

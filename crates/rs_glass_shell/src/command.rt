@@ -3,10 +3,8 @@
 use crate::list_command::{missing_command, table_command};
 use clap::builder::ValueParser;
 use clap::{Arg, ArgAction, Command};
+use rs_host::VERSION;
 use std::alloc::{AllocError, Global};
-
-// The version of the program.
-const VERSION: &str = "0.1.0";
 
 // What the program does, at the head of its help.
 const ABOUT: &str =

@@ -43,8 +43,8 @@ impl Unanswered {
         }
     }
 
-    /// The status with which the program ends: 0 where help or the version was asked for, 1 where the command line or
-    /// the configuration is refused, 2 where a file or a device failed, 3 for want of memory.
+    /// The status with which the program ends. 0: help or the version was asked for. 1: the command line or the
+    /// configuration is refused. 2: a file or a device failed. 3: memory was refused.
     pub fn status(&self) -> u8
         ensures { result ≡ status_of self.now }
     {
