@@ -14,9 +14,9 @@ _looking_glass() {
     case ${COMP_WORDS[1]} in
         why) options="--config --client --prefix --until --errors --json --help" ;;
         history) options="--config --prefix --client --from --until --errors --json --help" ;;
-        table) options="--config --client --from --prefix --longer --count --shards --errors --csv --json --help" ;;
-        missing) options="--config --client --from --because --count --shards --errors --csv --json --help" ;;
-        summary) options="--config --shards --errors --csv --json --help" ;;
+        table) options="--config --client --from --prefix --longer --until --count --shards --errors --csv --json --help" ;;
+        missing) options="--config --client --from --because --until --count --shards --errors --csv --json --help" ;;
+        summary) options="--config --until --shards --errors --csv --json --help" ;;
         peers) options="--json --toml --help" ;;
     esac
     if [ "${COMP_WORDS[1]}" = peers ] && [[ $word != -* ]]; then

@@ -106,7 +106,7 @@ fn from<'a>(alloc: Global) -> Arg<'a> {
     )
 }
 
-fn until<'a>(alloc: Global) -> Arg<'a> {
+pub(crate) fn until<'a>(alloc: Global) -> Arg<'a> {
     option(alloc, "until", "TIME").help(
         "Counts changes up to this time: seconds since 1970, or as 2026-11-22T06:36:20Z",
     )

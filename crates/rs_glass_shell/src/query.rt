@@ -118,6 +118,9 @@ pub struct TablesQuery {
     pub config: String,
     /// The standard by which faults in path attributes are handled.
     pub errors: Errors,
+    /// Up to when records are read, in seconds since 1970: each file ends before the first one that is later. All of
+    /// them where it isn't given.
+    pub until: Option<u32>,
     /// How many threads keep the tables, 1 to 16.
     pub shards: usize,
 }

@@ -112,7 +112,11 @@ pub(crate) fn prefix(alloc: Global, matches: &ArgMatches<'_>) -> Result<Prefix, 
     }
 }
 
-fn time(alloc: Global, matches: &ArgMatches<'_>, name: &str) -> Result<Option<u32>, WordsFault> {
+pub(crate) fn time(
+    alloc: Global,
+    matches: &ArgMatches<'_>,
+    name: &str,
+) -> Result<Option<u32>, WordsFault> {
     let Some(value) = matches.get_str(name) else {
         return Ok(None);
     };
