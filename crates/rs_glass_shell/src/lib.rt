@@ -4,13 +4,15 @@
 //! Reading order: `values`, `command` and `words` (how a question is read from a command line, with `clap`);
 //! `answering` (the whole answer); `why_lines` and `why_object` (why a client has each peer's route, or not),
 //! `history_lines` and `history_object` (what happened on a prefix), `recorded_file`, `listing_lines`, `listing_object`
-//! and `listing_toml` (what recorded files hold), each as a text and as JSON; below them `reasons`, `route_text`,
-//! `names`, `columns` and `clock`. Lists of whole tables: `list_command` and `list_words` (how they are asked for),
+//! and `listing_toml` (what recorded files hold), each as a text and as JSON; below them `starts` (since when recordings
+//! run), `attribute_lines`, `attribute_object`, `reasons`, `route_text`, `names`, `columns` and `clock`. Lists of whole tables: `list_command` and `list_words` (how they are asked for),
 //! `serving` (how the tables are built), `list_answering`, and their rows, `layout`, `table_row`, `missing_row`,
 //! `counted_row` and `csv_row`.
 #![tactic(auto)]
 
 mod answering;
+mod attribute_lines;
+mod attribute_object;
 mod clock;
 mod columns;
 mod command;
@@ -31,6 +33,7 @@ mod reasons;
 mod recorded_file;
 mod route_text;
 mod serving;
+mod starts;
 mod table_row;
 mod values;
 mod why_lines;
@@ -38,12 +41,12 @@ mod why_object;
 mod words;
 
 pub use answering::answer;
-pub use history_lines::history_text;
+pub use history_lines::{HistoryView, history_text};
 pub use history_object::history_json;
 pub use listing_lines::as_text;
 pub use listing_object::as_json;
 pub use listing_toml::as_toml;
 pub use recorded_file::RecordedFile;
-pub use why_lines::why_text;
+pub use why_lines::{WhyView, why_text};
 pub use why_object::why_json;
 pub use words::read_query;

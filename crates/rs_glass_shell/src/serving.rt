@@ -2,6 +2,7 @@
 
 ghost use Rattle.std.specs.Prelude.{◌≡◌, IfOk, length};
 
+use rs_mrt::Bounds;
 use rs_question::{Ended, TablesQuery, WordsFault, open_files};
 use rs_serve::{FloorRefused, Open, Served, serve_by};
 use rs_setup::Setup;
@@ -24,7 +25,7 @@ where
     ensures { IfOk result (λ served. served.tables.plan ≡ setup.now.plan.value) }
 {
     let alloc = rt.alloc();
-    let files = open_files(rt, &setup.files)?;
+    let files = open_files(rt, &setup.files, Bounds::none())?;
     let (shards, errors) = (query.shards, query.errors);
     match serve_by(rt, alloc, &setup.plan, files, RING, shards, errors, &Open) {
         Ok(served) => Ok(served),

@@ -1,8 +1,8 @@
 -- The line that says why the program stops short, with its line break (docs/LOOKING_GLASS.md, "Statuses and texts").
 use Rattle.std.specs.Prelude.{◌++◌, codes, string_bytes}
 use Rattle.rs_question.specs.declared.ended.Ended.{Ended}
-use Rattle.rs_question.specs.declared.ended.Ended.TheVariants.{Words, NotUtf8, Setup, NoPeer, Unread, Unsettled, Output}
-use Rattle.rs_question.specs.declared.ended.Ended.TheVariants.{Memory}
+use Rattle.rs_question.specs.declared.ended.Ended.TheVariants.{Words, NotUtf8, Setup, NoPeer, SeveralPeers, Unread}
+use Rattle.rs_question.specs.declared.ended.Ended.TheVariants.{Unsettled, Output, Memory}
 use Rattle.rs_question.specs.declared.query.WordsFault.TheVariants as words
 use Rattle.rs_host.specs.Line.{Text, named as named_by, one_line, out_of_memory}
 use Rattle.rs_host.specs.Refusal.{setup_line}
@@ -29,6 +29,7 @@ line_of (Words words.Memory) = out_of_memory_line
 line_of NotUtf8 = named (codes "an argument is not UTF-8" ++ line_break)
 line_of (Setup fault) = setup_line program fault ++ line_break
 line_of (NoPeer name) = named (codes "no peer is named " ++ (one_line (string_bytes name) ++ line_break))
+line_of (SeveralPeers word) = named (codes "several peers have " ++ (one_line (string_bytes word) ++ line_break))
 line_of (Unread path) = named (codes "cannot read " ++ (one_line (string_bytes path) ++ line_break))
 line_of (Unsettled name) = named (codes "peer " ++ (one_line (string_bytes name) ++ (codes " unsettled" ++ line_break)))
 line_of Output = named (codes "cannot write standard output" ++ line_break)

@@ -2,8 +2,8 @@
 use Rattle.std.specs.Prelude.{ℕ}
 use Rattle.rs_choice.specs.declared.fault.PlanFault.TheVariants as plan
 use Rattle.rs_question.specs.declared.ended.Ended.{Ended}
-use Rattle.rs_question.specs.declared.ended.Ended.TheVariants.{Words, NotUtf8, Setup, NoPeer, Unread, Unsettled, Output}
-use Rattle.rs_question.specs.declared.ended.Ended.TheVariants.{Memory}
+use Rattle.rs_question.specs.declared.ended.Ended.TheVariants.{Words, NotUtf8, Setup, NoPeer, SeveralPeers, Unread}
+use Rattle.rs_question.specs.declared.ended.Ended.TheVariants.{Unsettled, Output, Memory}
 use Rattle.rs_question.specs.declared.query.WordsFault.TheVariants as words
 use Rattle.rs_setup.specs.declared.setup.SetupFault.TheVariants as setup
 
@@ -33,6 +33,7 @@ status_of (Setup (setup.Plan plan.Memory)) = out_of_memory
 status_of (Setup setup.Memory) = out_of_memory
 status_of (Setup fault) = refused
 status_of (NoPeer name) = refused
+status_of (SeveralPeers word) = refused
 status_of (Unread path) = failed
 status_of (Unsettled name) = failed
 status_of Output = failed

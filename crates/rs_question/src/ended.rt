@@ -29,8 +29,10 @@ pub enum Ended {
     NotUtf8,
     /// The configuration is refused.
     Setup(SetupFault),
-    /// No peer of the configuration has this name.
+    /// No peer of the configuration has this name, address or AS number.
     NoPeer(String),
+    /// Several peers of the configuration have this address or AS number.
+    SeveralPeers(String),
     /// The file at this path can't be read.
     Unread(String),
     /// Not all changes of the peer of this name are known to be in the tables.
@@ -90,6 +92,7 @@ impl Ended {
             Ended::Setup(SetupFault::Memory) => OUT_OF_MEMORY,
             Ended::Setup(_) => REFUSED,
             Ended::NoPeer(_) => REFUSED,
+            Ended::SeveralPeers(_) => REFUSED,
             Ended::Unread(_) => FAILED,
             Ended::Unsettled(_) => FAILED,
             Ended::Output => FAILED,

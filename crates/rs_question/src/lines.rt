@@ -33,6 +33,10 @@ pub fn line(alloc: Global, ended: &Ended) -> Result<String, AllocError>
             let name = on_one_line(alloc, name)?;
             format!(in alloc; "looking_glass: no peer is named {name}\n")
         }
+        Ended::SeveralPeers(word) => {
+            let word = on_one_line(alloc, word)?;
+            format!(in alloc; "looking_glass: several peers have {word}\n")
+        }
         Ended::Unread(path) => {
             let path = on_one_line(alloc, path)?;
             format!(in alloc; "looking_glass: cannot read {path}\n")

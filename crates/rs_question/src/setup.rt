@@ -1,11 +1,18 @@
 //! Reads the configuration of an exchange, and finds the peer that a question names.
 
-ghost use Rattle.std.specs.Prelude.{◌≡◌, ◌<◌, IfOk, IfSome, length, slice_get};
+ghost use Rattle.std.specs.Prelude.{◌≡◌, ◌↔◌, ◌<◌, true, IfNone, IfOk, IfSome, length};
+ghost use Rattle.std.specs.Int.{to_be_bytes, w32};
+ghost use Rattle.std.specs.Net.Addr.{ipv4_octets};
+ghost use Rattle.rs_choice.specs.Plan.{peer_of};
+ghost use Rattle.rs_question.specs.Named.{IsFirstOf, IsNameOf, IsNameOfNone, IsOf, IsOfNone, Names};
 
 use crate::ended::Ended;
+use rs_choice::{Exchange, PeerSpec};
 use rs_host::read_file;
 use rs_setup::{Setup, a_configuration_has_a_file_for_each_peer, read_setup};
+use std::alloc::{AllocError, Global};
 use std::fs::Files;
+use std::net::Ipv4Addr;
 
 /// Reads the configuration at a path. A file that can't be read is named, and so is why a configuration is refused.
 /// Fails where memory is refused.
@@ -23,16 +30,75 @@ pub fn configuration<R: AllocGlobal + Files>(rt: &R, path: &str) -> Result<Setup
     }
 }
 
-/// Finds the number of the peer of a name. A name that no peer has is refused. Fails where memory is refused.
-pub fn peer_named<R: AllocGlobal>(rt: &R, setup: &Setup, name: &str) -> Result<usize, Ended>
+/// Finds the number of the peer that a word names: the first one of that name, or, where no peer has that name, the one
+/// that has the address or the AS number that the word is. A word that names no peer is refused, and one that is the
+/// address or the AS number of several. Fails where memory is refused.
+pub fn peer_named<R: AllocGlobal>(rt: &R, setup: &Setup, word: &str) -> Result<usize, Ended>
     ensures known { IfOk result (λ number. number < length setup.now.plan.value.peers) }
-    ensures named { IfOk result (λ number.
-        IfSome (slice_get setup.now.plan.value.peers number) (λ peer. peer.name ≡ name.now)) }
+    ensures named { IfOk result (Names word.now setup.now.plan.value.peers) }
 {
-    for number in 0..setup.plan.count() {
-        if setup.plan.peer(number).name.as_str() == name {
-            return Ok(number);
+    let alloc = rt.alloc();
+    let plan = &setup.plan;
+    if let Some(number) = peer_of_name(plan, word) {
+        return Ok(number);
+    }
+    let Some(number) = first_of(alloc, plan, word, 0)? else {
+        return Err(Ended::NoPeer(String::from_str(alloc, word)?));
+    };
+    match first_of(alloc, plan, word, number + 1)? {
+        None => Ok(number),
+        Some(_) => Err(Ended::SeveralPeers(String::from_str(alloc, word)?)),
+    }
+}
+
+// The first peer of a name.
+fn peer_of_name(plan: &Exchange, name: &str) -> Option<usize>
+    ensures known { IfSome result (λ number. number < length plan.now.peers) }
+    ensures found { IfSome result (IsNameOf name.now plan.now.peers) }
+    ensures none { IfNone result (IsNameOfNone name.now plan.now.peers) }
+{
+    for number in 0..plan.count() {
+        if plan.peer(number).name.as_str() == name {
+            return Some(number);
         }
     }
-    Err(Ended::NoPeer(String::from_str(rt.alloc(), name)?))
+    None
+}
+
+// The first peer, from a number on, whose address or AS number a word is.
+fn first_of(
+    alloc: Global,
+    plan: &Exchange,
+    word: &str,
+    from: usize,
+) -> Result<Option<usize>, AllocError>
+    ensures known { IfOk result (λ found. IfSome found (λ number. number < length plan.now.peers)) }
+    ensures found { IfOk result (λ found. IfSome found (IsFirstOf word.now plan.now.peers from)) }
+    ensures none { IfOk result (λ found.
+        IfNone found (IsOfNone word.now plan.now.peers from (length plan.now.peers))) }
+{
+    for number in from..plan.count() {
+        if is_of(alloc, plan.peer(number), word)? {
+            return Ok(Some(number));
+        }
+    }
+    Ok(None)
+}
+
+// Whether a word is the address of a peer, or its AS number.
+fn is_of(alloc: Global, peer: &PeerSpec, word: &str) -> Result<bool, AllocError>
+    ensures { IfOk result (λ is. (is ≡ true) ↔ IsOf word.now (peer_of peer.now)) }
+{
+    let (address, asn) = (address_of(peer.address), peer.asn);
+    let address = format!(in alloc; "{address}")?;
+    let asn = format!(in alloc; "{asn}")?;
+    Ok(word == address.as_str() || word == asn.as_str())
+}
+
+// An address as std has it.
+#[tactic(auto, unfolding(std::specs::Net::Addr::IsIpv4OfBits))]
+fn address_of(address: u32) -> Ipv4Addr
+    ensures { ipv4_octets result ≡ to_be_bytes w32 address }
+{
+    Ipv4Addr::from(address)
 }

@@ -1,5 +1,5 @@
 -- One file more, which hasn't failed either.
-use Rattle.std.proofs.Common.{◌≡◌, ◌<◌, ◌^◌, ◌-◌, All, List, [], ◌∷◌, ◌++◌, length, length-append, ap, arith, rules}
+use Rattle.std.proofs.Common.{◌≡◌, ◌+◌, ◌<◌, ◌^◌, ◌-◌, All, List, [], ◌∷◌, ◌++◌, length, length-append, ap, arith, rules}
 use Rattle.std.proofs.lemmas.List.Elements.{All-push}
 use Rattle.rs_question.proofs.files.open_files.Goals as goal
 
@@ -9,7 +9,8 @@ all-one_more xs x P = All-push P xs x
 pub loop-path-preserved : goal.loop-path-preserved
 loop-path-preserved g c =
     let pushed : c.push.new.self.items ≡ c.loop-path.files.items ++ c.in-Ok.file ∷ [] = search rules in
-    let fresh : c.in-Ok.file.failures < 2 ^ 64 - 1 = search rules in
+    let bounded : c.in-Ok.file.bounds ≡ c.args.bounds = search rules in
+    let fresh : c.in-Ok.file.reader.failures + c.in-Ok.file.refused < 2 ^ 64 - 1 = search rules in
     record {
       one_for_each = omega (
         arith,
@@ -17,7 +18,9 @@ loop-path-preserved g c =
         length-append c.loop-path.files.items (c.in-Ok.file ∷ []),
         c.loop-path.invariant.one_for_each,
       );
-      no_failure = rw pushed (all-one_more c.loop-path.files.items c.in-Ok.file (λ file. file.failures < 2 ^ 64 - 1)
+      within = rw pushed (all-one_more c.loop-path.files.items c.in-Ok.file (λ file. file.bounds ≡ c.args.bounds)
+          c.loop-path.invariant.within bounded);
+      no_failure = rw pushed (all-one_more c.loop-path.files.items c.in-Ok.file (λ file. file.reader.failures + file.refused < 2 ^ 64 - 1)
           c.loop-path.invariant.no_failure fresh);
     }
 
