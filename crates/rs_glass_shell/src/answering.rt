@@ -21,8 +21,8 @@ use rs_host::{first_unreadable, on_one_line, open_file};
 use rs_inventory::{InventoryFault, read_inventory};
 use rs_mrt::{Bounds, Tail};
 use rs_question::{
-    Destination, Ended, HistoryQuery, PeersQuery, Query, Span, WhyQuery, WordsFault,
-    configuration, open_files, peer_named,
+    Destination, Ended, HistoryQuery, PeersQuery, Query, Span, WhyQuery, WordsFault, configuration,
+    open_files, peer_named,
 };
 use rs_setup::Setup;
 use rs_update::Prefix;
@@ -130,7 +130,8 @@ fn refuse_read_once<R: AllocGlobal + Files>(
     let alloc = rt.alloc();
     let mut paths = Vec::new(alloc);
     for path in setup.files.iter().chain(setup.files.iter()) {
-        paths.push(String::from_str(alloc, path)?)
+        paths
+            .push(String::from_str(alloc, path)?)
             .map_err(|_| Ended::Memory)?;
     }
     match first_unreadable(rt, &paths)? {

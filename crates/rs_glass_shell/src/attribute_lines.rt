@@ -31,7 +31,11 @@ pub(crate) fn add_attributes(
     }
     if let Some(aggregator) = attributes.aggregator() {
         let (asn, address) = (aggregator.asn, Ipv4Addr::from_bits(aggregator.address));
-        add_line(text, "AGGREGATOR", &format!(in alloc; "AS {asn} {address}")?)?;
+        add_line(
+            text,
+            "AGGREGATOR",
+            &format!(in alloc; "AS {asn} {address}")?,
+        )?;
     }
     add_list(text, "COMMUNITIES", &communities_text(alloc, attributes)?)?;
     for other in attributes.others() {
@@ -68,7 +72,11 @@ fn add_other(
     other: &Unrecognized<'_>,
 ) -> Result<(), AllocError> {
     if other.kind == LARGE_COMMUNITY {
-        return add_list(text, "LARGE_COMMUNITY", &large_communities_text(alloc, attributes)?);
+        return add_list(
+            text,
+            "LARGE_COMMUNITY",
+            &large_communities_text(alloc, attributes)?,
+        );
     }
     let kind = other.kind;
     let name = format!(in alloc; "attribute {kind}")?;

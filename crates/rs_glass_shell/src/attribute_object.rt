@@ -26,7 +26,12 @@ pub(crate) fn add_rare(
     alloc: Global,
     attributes: &Attributes,
 ) -> Result<(), AllocError> {
-    put(object, alloc, "atomic_aggregate", Value::from(attributes.atomic()))?;
+    put(
+        object,
+        alloc,
+        "atomic_aggregate",
+        Value::from(attributes.atomic()),
+    )?;
     match attributes.aggregator() {
         Some(aggregator) => {
             let (asn, address) = (aggregator.asn, Ipv4Addr::from_bits(aggregator.address));
@@ -47,7 +52,12 @@ pub(crate) fn add_rare(
 // An unrecognized attribute: its type, and its octets.
 fn other_object(alloc: Global, other: &Unrecognized<'_>) -> Result<Value, AllocError> {
     let mut object = Map::new(alloc);
-    put(&mut object, alloc, "type", Value::from(u32::from(other.kind)))?;
+    put(
+        &mut object,
+        alloc,
+        "type",
+        Value::from(u32::from(other.kind)),
+    )?;
     put_text(&mut object, alloc, "value", &hex_text(alloc, other.value)?)?;
     Ok(Value::Object(object))
 }

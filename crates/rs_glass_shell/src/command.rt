@@ -106,17 +106,25 @@ pub(crate) fn prefix<'a>(alloc: Global) -> Arg<'a> {
 }
 
 fn destination<'a>(alloc: Global) -> Arg<'a> {
-    option(alloc, "prefix", "PREFIX")
-        .required(true)
-        .help("IPv4 prefix, as 192.0.2.0/24, or an address: the longest prefix with a route to it")
+    option(alloc, "prefix", "PREFIX").required(true).help(
+        "IPv4 prefix, as 192.0.2.0/24, or an address: the longest prefix with a route to it",
+    )
 }
 
 fn all<'a>(alloc: Global) -> Arg<'a> {
-    flag(alloc, "all", "Shows each peer that never announced the prefix")
+    flag(
+        alloc,
+        "all",
+        "Shows each peer that never announced the prefix",
+    )
 }
 
 fn attributes<'a>(alloc: Global) -> Arg<'a> {
-    flag(alloc, "attributes", "Shows all path attributes of the routes")
+    flag(
+        alloc,
+        "attributes",
+        "Shows all path attributes of the routes",
+    )
 }
 
 fn ends<'a>(alloc: Global) -> Arg<'a> {

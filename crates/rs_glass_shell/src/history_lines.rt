@@ -90,7 +90,7 @@ fn add_line(
     one: &Gets,
 ) -> Result<(), AllocError> {
     let line = text.len();
-    layout.clock.add_cell(text, alloc, Some(one.time))?;
+    layout.clock.add_cell(text, alloc, time_of(one))?;
     add_cell(text, name_at(view.plan, one.peer), layout.names)?;
     if layout.gets > 0 {
         add_cell(text, best_name(view.plan, one.best), layout.gets)?;
@@ -101,6 +101,14 @@ fn add_line(
     match &one.event {
         Event::Announced(attributes) if view.attributes => add_attributes(text, alloc, attributes),
         _ => Ok(()),
+    }
+}
+
+// When a thing happened; a close of a session without any change before it has no time.
+fn time_of(one: &Gets) -> Option<u32> {
+    match one.event {
+        Event::Closed(_) if one.time == 0 => None,
+        _ => Some(one.time),
     }
 }
 
@@ -125,8 +133,9 @@ fn clock_of(view: &HistoryView<'_>, history: &History) -> Clock {
         clock = clock.with(until);
     }
     for gets in &history.events {
-        if view.shows(gets) {
-            clock = clock.with(gets.time);
+        match time_of(gets) {
+            Some(time) if view.shows(gets) => clock = clock.with(time),
+            _ => {}
         }
     }
     clock
@@ -163,7 +172,12 @@ fn add_head(
     match (history.client, history.from) {
         (Some(client), Some(_)) => {
             let mut line = String::from_str(alloc, "before that ")?;
-            add_gets(&mut line, view.plan, (client, history.before), history.prefix)?;
+            add_gets(
+                &mut line,
+                view.plan,
+                (client, history.before),
+                history.prefix,
+            )?;
             add_sentence(text, &line)
         }
         _ => Ok(()),
@@ -188,11 +202,7 @@ fn add_titles(
 }
 
 // What happened, in words; the attributes of an announcement are left out where they have lines of their own.
-fn event_text(
-    alloc: Global,
-    view: &HistoryView<'_>,
-    event: &Event,
-) -> Result<String, AllocError> {
+fn event_text(alloc: Global, view: &HistoryView<'_>, event: &Event) -> Result<String, AllocError> {
     match event {
         Event::Announced(_) if view.attributes => String::from_str(alloc, "announced"),
         Event::Announced(attributes) => {

@@ -55,11 +55,7 @@ pub fn history_json(
 }
 
 // One thing that happened.
-fn event_object(
-    alloc: Global,
-    view: &HistoryView<'_>,
-    gets: &Gets,
-) -> Result<Value, AllocError> {
+fn event_object(alloc: Global, view: &HistoryView<'_>, gets: &Gets) -> Result<Value, AllocError> {
     let plan = view.plan;
     let mut object = Map::new(alloc);
     put(&mut object, alloc, "time", Value::from(gets.time))?;

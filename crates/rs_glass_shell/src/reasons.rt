@@ -193,7 +193,7 @@ fn absent_text(
 }
 
 // That a peer never announced a route: since when that is known, and why its session closed, where that was not at the
-// end of its file.
+// end of its file. A recording that begins later says nothing.
 fn never_text(
     alloc: Global,
     said: &Said,
@@ -208,7 +208,7 @@ fn never_text(
         }
         Some(Start::Later(time)) => {
             let time = clock.text(alloc, time)?;
-            write!(text, ", not recorded before {time}")?;
+            return format!(in alloc; "not recorded before {time}");
         }
         None => {}
     }

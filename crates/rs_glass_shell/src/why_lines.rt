@@ -147,7 +147,15 @@ fn add_answer(
     let line = text.len();
     add_cells(text, alloc, view.plan, peer, answer, layout)?;
     let start = view.start(peer);
-    let because = because(alloc, view.plan, answers.client, peer, answer, start, layout.clock)?;
+    let because = because(
+        alloc,
+        view.plan,
+        answers.client,
+        peer,
+        answer,
+        start,
+        layout.clock,
+    )?;
     add_words(text, line, &because)?;
     text.push('\n')?;
     if !view.attributes {

@@ -2,9 +2,7 @@
 
 use crate::command::program;
 use crate::list_words::{missing_of, table_of};
-use crate::values::{
-    DESTINATION_FORM, PREFIX_FORM, TIME_FORM, destination_of, prefix_of, time_of,
-};
+use crate::values::{DESTINATION_FORM, PREFIX_FORM, TIME_FORM, destination_of, prefix_of, time_of};
 use clap::error::ErrorKind;
 use clap::{ArgMatches, Error};
 use rs_host::{each_on_one_line, standard_of};

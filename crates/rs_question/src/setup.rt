@@ -3,11 +3,10 @@
 ghost use Rattle.std.specs.Prelude.{◌≡◌, ◌↔◌, ◌<◌, true, IfNone, IfOk, IfSome, length};
 ghost use Rattle.std.specs.Int.{to_be_bytes, w32};
 ghost use Rattle.std.specs.Net.Addr.{ipv4_octets};
-ghost use Rattle.rs_choice.specs.Plan.{peer_of};
-ghost use Rattle.rs_question.specs.Named.{IsFirstOf, IsNameOf, IsNameOfNone, IsOf, IsOfNone, Names};
+ghost use Rattle.rs_question.specs.Named.{IsFirstFrom, IsNameOf, IsOf, Names, NoneFrom};
 
 use crate::ended::Ended;
-use rs_choice::{Exchange, PeerSpec};
+use rs_choice::Exchange;
 use rs_host::read_file;
 use rs_setup::{Setup, a_configuration_has_a_file_for_each_peer, read_setup};
 use std::alloc::{AllocError, Global};
@@ -55,14 +54,22 @@ pub fn peer_named<R: AllocGlobal>(rt: &R, setup: &Setup, word: &str) -> Result<u
 fn peer_of_name(plan: &Exchange, name: &str) -> Option<usize>
     ensures known { IfSome result (λ number. number < length plan.now.peers) }
     ensures found { IfSome result (IsNameOf name.now plan.now.peers) }
-    ensures none { IfNone result (IsNameOfNone name.now plan.now.peers) }
+    ensures none { IfNone result (NoneFrom (IsNameOf name.now plan.now.peers) 0 (length plan.now.peers)) }
 {
     for number in 0..plan.count() {
-        if plan.peer(number).name.as_str() == name {
+        if has_name(plan, number, name) {
             return Some(number);
         }
     }
     None
+}
+
+// Whether the peer of a number has a name.
+fn has_name(plan: &Exchange, number: usize, name: &str) -> bool
+    requires { number < length plan.now.peers }
+    ensures { (result ≡ true) ↔ IsNameOf name.now plan.now.peers number }
+{
+    plan.peer(number).name.as_str() == name
 }
 
 // The first peer, from a number on, whose address or AS number a word is.
@@ -73,22 +80,24 @@ fn first_of(
     from: usize,
 ) -> Result<Option<usize>, AllocError>
     ensures known { IfOk result (λ found. IfSome found (λ number. number < length plan.now.peers)) }
-    ensures found { IfOk result (λ found. IfSome found (IsFirstOf word.now plan.now.peers from)) }
+    ensures found { IfOk result (λ found. IfSome found (IsFirstFrom (IsOf word.now plan.now.peers) from)) }
     ensures none { IfOk result (λ found.
-        IfNone found (IsOfNone word.now plan.now.peers from (length plan.now.peers))) }
+        IfNone found (NoneFrom (IsOf word.now plan.now.peers) from (length plan.now.peers))) }
 {
     for number in from..plan.count() {
-        if is_of(alloc, plan.peer(number), word)? {
+        if is_of(alloc, plan, number, word)? {
             return Ok(Some(number));
         }
     }
     Ok(None)
 }
 
-// Whether a word is the address of a peer, or its AS number.
-fn is_of(alloc: Global, peer: &PeerSpec, word: &str) -> Result<bool, AllocError>
-    ensures { IfOk result (λ is. (is ≡ true) ↔ IsOf word.now (peer_of peer.now)) }
+// Whether a word is the address of the peer of a number, or its AS number.
+fn is_of(alloc: Global, plan: &Exchange, number: usize, word: &str) -> Result<bool, AllocError>
+    requires { number < length plan.now.peers }
+    ensures { IfOk result (λ is. (is ≡ true) ↔ IsOf word.now plan.now.peers number) }
 {
+    let peer = plan.peer(number);
     let (address, asn) = (address_of(peer.address), peer.asn);
     let address = format!(in alloc; "{address}")?;
     let asn = format!(in alloc; "{asn}")?;
