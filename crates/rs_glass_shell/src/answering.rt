@@ -4,12 +4,16 @@ ghost use Rattle.std.specs.Prelude.{◌≡◌, IfOk, length};
 
 use crate::history_lines::{HistoryView, history_text};
 use crate::history_object::history_json;
+use crate::lines::PROGRAM;
 use crate::list_answering::{missing, table};
 use crate::listing_lines::as_text;
 use crate::listing_object::as_json;
 use crate::listing_toml::as_toml;
+use crate::query::{Destination, HistoryQuery, PeersQuery, Query, Span, WhyQuery};
 use crate::recorded_file::RecordedFile;
+use crate::setup::peer_named;
 use crate::starts::starts;
+use crate::unanswered::Unanswered;
 use crate::why_lines::{WhyView, why_text};
 use crate::why_object::why_json;
 use crate::words::read_query;
@@ -17,19 +21,17 @@ use rs_glass::{
     History, Question, Reading, explain_all, fill_history, longest_announced, read_happenings,
     read_sessions,
 };
-use rs_host::{first_unreadable, on_one_line, open_file};
+use rs_host::{
+    Unready, WordsFault, configuration, first_unreadable, on_one_line, open_file, open_files,
+    read_arguments,
+};
 use rs_inventory::{InventoryFault, read_inventory};
 use rs_mrt::{Bounds, Tail};
-use rs_question::{
-    Destination, Ended, HistoryQuery, PeersQuery, Query, Span, WhyQuery, WordsFault, configuration,
-    open_files, peer_named,
-};
 use rs_setup::Setup;
 use rs_update::Prefix;
-use std::env;
 use std::env::Env;
 use std::fs::Files;
-use std::io::{ErrorKind, Print};
+use std::io::Print;
 use std::net::Ipv4Addr;
 use std::sync::Wait;
 use std::thread::Threads;
@@ -38,7 +40,7 @@ use std::thread::Threads;
 /// names. Of a list all but its last part is printed by then. Fails with why the program stops short.
 pub fn answer<R: AllocGlobal + Env + Files + Threads + Wait + Sync + Print>(
     rt: &R,
-) -> Result<String, Ended>
+) -> Result<String, Unanswered>
 where
     R::File: Send,
 {
@@ -52,17 +54,15 @@ where
 }
 
 // The question of the command line.
-fn command_line<R: AllocGlobal + Env>(rt: &R) -> Result<Query, Ended> {
-    let alloc = rt.alloc();
-    match env::args(rt) {
-        Ok(words) => Ok(read_query(alloc, words.collect(alloc)?)?),
-        Err(error) if error.kind() == ErrorKind::OutOfMemory => Err(Ended::Memory),
-        Err(_) => Err(Ended::NotUtf8),
-    }
+fn command_line<R: AllocGlobal + Env>(rt: &R) -> Result<Query, WordsFault> {
+    read_query(rt.alloc(), read_arguments(rt, PROGRAM)?)
 }
 
 // Why a client has each peer's route, or not.
-fn why<R: AllocGlobal + Files + Threads + Sync>(rt: &R, query: &WhyQuery) -> Result<String, Ended>
+fn why<R: AllocGlobal + Files + Threads + Sync>(
+    rt: &R,
+    query: &WhyQuery,
+) -> Result<String, Unanswered>
 where
     R::File: Send,
 {
@@ -95,7 +95,7 @@ fn asked<R: AllocGlobal + Files + Threads + Sync>(
     setup: &Setup,
     destination: Destination,
     span: Span,
-) -> Result<Question, Ended>
+) -> Result<Question, Unanswered>
 where
     R::File: Send,
     requires { length setup.now.files.items ≡ length setup.now.plan.value.peers }
@@ -126,13 +126,13 @@ fn refuse_read_once<R: AllocGlobal + Files>(
     rt: &R,
     setup: &Setup,
     address: u32,
-) -> Result<(), Ended> {
+) -> Result<(), Unanswered> {
     let alloc = rt.alloc();
     let mut paths = Vec::new(alloc);
     for path in setup.files.iter().chain(setup.files.iter()) {
         paths
             .push(String::from_str(alloc, path)?)
-            .map_err(|_| Ended::Memory)?;
+            .map_err(|_| Unanswered::Memory)?;
     }
     match first_unreadable(rt, &paths)? {
         Some(place) if place >= setup.files.len() => {
@@ -141,7 +141,7 @@ fn refuse_read_once<R: AllocGlobal + Files>(
             let text = format!(in alloc;
                 "looking_glass: --prefix {address} is an address, and {path} can be read only once\n"
             )?;
-            Err(Ended::Words(WordsFault::Refused(text)))
+            Err(Unanswered::Words(WordsFault::Refused(text)))
         }
         _ => Ok(()),
     }
@@ -153,7 +153,7 @@ fn read<R: AllocGlobal + Files + Threads + Sync>(
     setup: &Setup,
     question: &Question,
     span: Span,
-) -> Result<Reading, Ended>
+) -> Result<Reading, Unanswered>
 where
     R::File: Send,
     requires { length setup.now.files.items ≡ length setup.now.plan.value.peers }
@@ -162,10 +162,10 @@ where
         length reading.said.items ≡ length setup.now.plan.value.peers) }
 {
     let alloc = rt.alloc();
-    let files = open_files(rt, &setup.files, bounds(span))?;
+    let files = open_files(rt, &setup.files, bounds(span), |file| file)?;
     match read_sessions(rt, alloc, &setup.plan, files, question) {
         Ok(reading) => Ok(reading),
-        Err(fault) => Err(Ended::by_reading(alloc, fault, setup)),
+        Err(fault) => Err(Unanswered::by_reading(alloc, fault, setup)),
     }
 }
 
@@ -181,7 +181,7 @@ fn bounds(span: Span) -> Bounds {
 fn history<R: AllocGlobal + Files + Threads + Sync>(
     rt: &R,
     query: &HistoryQuery,
-) -> Result<String, Ended>
+) -> Result<String, Unanswered>
 where
     R::File: Send,
 {
@@ -211,25 +211,25 @@ fn replayed<R: AllocGlobal + Files + Threads + Sync>(
     setup: &Setup,
     client: Option<usize>,
     query: &HistoryQuery,
-) -> Result<History, Ended>
+) -> Result<History, Unanswered>
 where
     R::File: Send,
     requires { length setup.now.files.items ≡ length setup.now.plan.value.peers }
 {
     let alloc = rt.alloc();
     let question = asked(rt, setup, query.prefix, query.span)?;
-    let files = open_files(rt, &setup.files, bounds(query.span))?;
+    let files = open_files(rt, &setup.files, bounds(query.span), |file| file)?;
     match read_happenings(rt, alloc, &setup.plan, files, &question) {
         Ok(happenings) => {
             let asked = History::of(alloc, &question, client, query.from);
             Ok(fill_history(alloc, &setup.plan, happenings, asked)?)
         }
-        Err(fault) => Err(Ended::by_reading(alloc, fault, setup)),
+        Err(fault) => Err(Unanswered::by_reading(alloc, fault, setup)),
     }
 }
 
 // What recorded files hold.
-fn peers<R: AllocGlobal + Files>(rt: &R, query: PeersQuery) -> Result<String, Ended> {
+fn peers<R: AllocGlobal + Files>(rt: &R, query: PeersQuery) -> Result<String, Unanswered> {
     let alloc = rt.alloc();
     let PeersQuery { files, json, toml } = query;
     let held = recorded_files(rt, files)?;
@@ -246,27 +246,27 @@ fn peers<R: AllocGlobal + Files>(rt: &R, query: PeersQuery) -> Result<String, En
 fn recorded_files<R: AllocGlobal + Files>(
     rt: &R,
     paths: Vec<String>,
-) -> Result<Vec<RecordedFile>, Ended> {
+) -> Result<Vec<RecordedFile>, Unready> {
     if let Some(number) = first_unreadable(rt, &paths)? {
-        return Err(Ended::by_path(rt.alloc(), &paths[number]));
+        return Err(Unready::by_path(rt.alloc(), &paths[number]));
     }
     let mut held = Vec::new(rt.alloc());
     for path in paths {
         held.push(recorded_file(rt, path)?)
-            .map_err(|_| Ended::Memory)?;
+            .map_err(|_| Unready::Memory)?;
     }
     Ok(held)
 }
 
 // What the recorded file at a path holds.
-fn recorded_file<R: AllocGlobal + Files>(rt: &R, path: String) -> Result<RecordedFile, Ended> {
+fn recorded_file<R: AllocGlobal + Files>(rt: &R, path: String) -> Result<RecordedFile, Unready> {
     let reader = match open_file(rt, &path) {
         Ok(reader) => reader,
-        Err(fault) => return Err(Ended::by_file(rt.alloc(), fault, &path)),
+        Err(fault) => return Err(Unready::by_file(rt.alloc(), fault, &path)),
     };
     match read_inventory(rt.alloc(), reader) {
         Ok(inventory) => Ok(RecordedFile { path, inventory }),
-        Err(InventoryFault::Memory) => Err(Ended::Memory),
-        Err(InventoryFault::Read) => Err(Ended::Unread(path)),
+        Err(InventoryFault::Memory) => Err(Unready::Memory),
+        Err(InventoryFault::Read) => Err(Unready::Unread(path)),
     }
 }

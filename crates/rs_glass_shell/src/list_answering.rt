@@ -5,10 +5,13 @@ ghost use Rattle.std.specs.Prelude.{◌<◌, length};
 use crate::counted_row::{Counts, counts_text};
 use crate::layout::Layout;
 use crate::missing_row::{add_missing_row, add_missing_titles, reason_key};
+use crate::query::{Form, MissingQuery, TableQuery};
 use crate::reasons::answer_name;
 use crate::serving::served;
+use crate::setup::peer_named;
 use crate::table_row::{add_table_row, add_table_titles};
-use rs_question::{Ended, Form, MissingQuery, TableQuery, configuration, peer_named};
+use crate::unanswered::Unanswered;
+use rs_host::configuration;
 use rs_setup::Setup;
 use rs_survey::{MissingOn, MissingRoute, MissingRoutes};
 use rs_table::{Row, Tables};
@@ -41,7 +44,7 @@ struct Wanted<'a> {
 pub(crate) fn table<R: AllocGlobal + Files + Threads + Wait + Sync + Print>(
     rt: &R,
     query: &TableQuery,
-) -> Result<String, Ended>
+) -> Result<String, Unanswered>
 where
     R::File: Send,
 {
@@ -64,7 +67,7 @@ where
 pub(crate) fn missing<R: AllocGlobal + Files + Threads + Wait + Sync + Print>(
     rt: &R,
     query: &MissingQuery,
-) -> Result<String, Ended>
+) -> Result<String, Unanswered>
 where
     R::File: Send,
 {
@@ -90,7 +93,7 @@ fn sender<R: AllocGlobal>(
     rt: &R,
     setup: &Setup,
     name: &Option<String>,
-) -> Result<Option<usize>, Ended> {
+) -> Result<Option<usize>, Unanswered> {
     match name {
         Some(name) => Ok(Some(peer_named(rt, setup, name)?)),
         None => Ok(None),
@@ -98,7 +101,7 @@ fn sender<R: AllocGlobal>(
 }
 
 // Prints rows that were gathered, where they are many.
-fn print_page<R: Print>(rt: &R, page: &mut String) -> Result<(), Ended> {
+fn print_page<R: Print>(rt: &R, page: &mut String) -> Result<(), Unanswered> {
     if page.len() < PAGE {
         return Ok(());
     }
@@ -107,7 +110,7 @@ fn print_page<R: Print>(rt: &R, page: &mut String) -> Result<(), Ended> {
             page.clear();
             Ok(())
         }
-        Err(_) => Err(Ended::Output),
+        Err(_) => Err(Unanswered::Output),
     }
 }
 
@@ -118,7 +121,7 @@ fn list_table<R: AllocGlobal + Print>(
     client: usize,
     rows: &Rows,
     form: Form,
-) -> Result<String, Ended> {
+) -> Result<String, Unanswered> {
     let alloc = rt.alloc();
     let layout = Layout::new(tables.plan(), client, form);
     let mut page = String::new(alloc);
@@ -202,7 +205,7 @@ fn list_missing<R: AllocGlobal + Print>(
     client: usize,
     wanted: Wanted<'_>,
     form: Form,
-) -> Result<String, Ended>
+) -> Result<String, Unanswered>
     requires { client < length tables.now.plan.peers }
 {
     let alloc = rt.alloc();

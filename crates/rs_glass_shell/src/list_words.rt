@@ -1,8 +1,9 @@
 //! The questions about whole tables that the words of the command line ask.
 
+use crate::query::{Form, MissingQuery, TableQuery, TablesQuery};
 use crate::words::{errors, prefix, text};
 use clap::ArgMatches;
-use rs_question::{Form, MissingQuery, TableQuery, TablesQuery, WordsFault};
+use rs_host::WordsFault;
 use std::alloc::Global;
 
 // `table`

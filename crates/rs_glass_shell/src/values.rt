@@ -1,6 +1,7 @@
 //! What the texts of values stand for.
 
-use rs_question::{Destination, read_time};
+use crate::query::Destination;
+use rs_host::read_time;
 use rs_setup::slashed_subnet;
 use rs_update::Prefix;
 use std::net::Ipv4Addr;

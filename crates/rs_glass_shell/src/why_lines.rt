@@ -8,7 +8,7 @@ use crate::reasons::{answer_name, because, fault_of};
 use crate::starts::Start;
 use rs_choice::Exchange;
 use rs_glass::{Answer, Answers, LessSpecific};
-use rs_question::Utc;
+use rs_host::Utc;
 use rs_table::Tables;
 use std::alloc::{AllocError, Global};
 

@@ -38,6 +38,6 @@ pub use hint::{Hint, hint_on};
 pub use note::{cut_line, note_line};
 pub use notes::{Close, Ending, print_notes};
 pub use progress::Progress;
-pub use start::{command_line, configuration, end, progress_on, ready_files};
+pub use start::{command_line, end, progress_on, ready_files};
 pub use texts::line;
 pub use words::read_words;

@@ -1,7 +1,0 @@
--- One peer more whose address or AS number the word isn't.
-use Rattle.rs_question.specs.Named.{IsOf}
-use Rattle.rs_question.proofs.NamedLemmas.{none-more, none-none}
-use Rattle.rs_question.proofs.setup.first_of.Goals as goal
-
-pub loop-number-init : goal.loop-number-init
-loop-number-init c = none-none (IsOf c.args.word.now c.args.plan.now.peers) c.args.from

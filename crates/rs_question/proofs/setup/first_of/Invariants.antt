@@ -1,5 +1,0 @@
-use Rattle.rs_question.specs.Named.{IsOf, NoneFrom}
-use Rattle.rs_question.proofs.setup.first_of.Given as goal
-
-abbrev pub invariant-loop-number : goal.invariant-loop-number
-invariant-loop-number l = NoneFrom (IsOf l.word l.plan.peers) l.fn.from l.number
