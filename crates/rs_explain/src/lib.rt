@@ -15,7 +15,7 @@ mod laws;
 mod refusal;
 mod removal;
 
-pub use condition::Condition;
+pub use condition::{Condition, failed_condition};
 pub use contender::Contender;
 pub use explanation::{Explanation, explain};
 pub use last_said::{EndedBy, Ending, LastSaid};

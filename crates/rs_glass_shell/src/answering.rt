@@ -5,7 +5,7 @@ ghost use Rattle.std.specs.Prelude.{◌≡◌, IfOk, length};
 use crate::history_lines::{HistoryView, history_text};
 use crate::history_object::history_json;
 use crate::lines::PROGRAM;
-use crate::list_answering::{missing, table};
+use crate::list_answering::{missing, summary, table};
 use crate::listing_lines::as_text;
 use crate::listing_object::as_json;
 use crate::listing_toml::as_toml;
@@ -50,6 +50,7 @@ where
         Query::Peers(query) => peers(rt, query),
         Query::Table(query) => table(rt, &query),
         Query::Missing(query) => missing(rt, &query),
+        Query::Summary(query) => summary(rt, &query),
     }
 }
 

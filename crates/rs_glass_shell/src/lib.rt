@@ -9,7 +9,8 @@
 //! run), `attribute_lines`, `attribute_object`, `reasons`, `route_text`, `names`, `columns` and `clock`. Lists of whole
 //! tables: `list_command` and `list_words` (how they are asked for),
 //! `serving` (how the tables are built), `list_answering`, and their rows, `layout`, `table_row`, `missing_row`,
-//! `counted_row` and `csv_row`.
+//! `counted_row` and `csv_row`. A summary: `summary_numbers` (its numbers), `summary_text` (its tables) and `summary_row`
+//! (a row of CSV or JSON).
 #![tactic(auto)]
 
 mod answering;
@@ -39,6 +40,9 @@ mod route_text;
 mod serving;
 mod setup;
 mod starts;
+mod summary_numbers;
+mod summary_row;
+mod summary_text;
 mod table_row;
 mod unanswered;
 mod values;

@@ -5,10 +5,11 @@ ghost use Rattle.std.specs.Prelude.{◌<◌, length};
 use crate::counted_row::{Counts, counts_text};
 use crate::layout::Layout;
 use crate::missing_row::{add_missing_row, add_missing_titles, reason_key};
-use crate::query::{Form, MissingQuery, TableQuery};
+use crate::query::{Form, MissingQuery, SummaryQuery, TableQuery};
 use crate::reasons::answer_name;
 use crate::serving::served;
 use crate::setup::peer_named;
+use crate::summary_numbers::written;
 use crate::table_row::{add_table_row, add_table_titles};
 use crate::unanswered::Unanswered;
 use rs_host::configuration;
@@ -86,6 +87,22 @@ where
     } else {
         list_missing(rt, served.tables(), client, wanted, query.form)
     }
+}
+
+// What becomes of the routes of all peers, in numbers.
+pub(crate) fn summary<R: AllocGlobal + Files + Threads + Wait + Sync + Print>(
+    rt: &R,
+    query: &SummaryQuery,
+) -> Result<String, Unanswered>
+where
+    R::File: Send,
+{
+    let alloc = rt.alloc();
+    let setup = configuration(rt, &query.tables.config)?;
+    let served = served(rt, &setup, &query.tables)?;
+    let tables = served.tables();
+    let tally = rs_survey::summary(alloc, tables)?;
+    Ok(written(alloc, &Layout::new(tables.plan(), 0, query.form), &tally)?)
 }
 
 // The number of the sender that is asked for, if one is.

@@ -15,6 +15,8 @@ pub enum Query {
     Table(TableQuery),
     /// The routes that a client does not get.
     Missing(MissingQuery),
+    /// What becomes of the routes of all peers, in numbers.
+    Summary(SummaryQuery),
 }
 
 /// What is asked about: a prefix, or an address.
@@ -120,6 +122,15 @@ pub struct MissingQuery {
     /// Whether the routes are counted, not listed.
     pub count: bool,
     /// How the list is written.
+    pub form: Form,
+}
+
+/// What becomes of the routes of all peers, in numbers.
+#[derive(Drop)]
+pub struct SummaryQuery {
+    /// The exchange whose tables are built.
+    pub tables: TablesQuery,
+    /// How the numbers are written.
     pub form: Form,
 }
 

@@ -1,7 +1,7 @@
 //! Reads the words of the command line, with `clap`.
 
 use crate::command::program;
-use crate::list_words::{missing_of, table_of};
+use crate::list_words::{missing_of, summary_of, table_of};
 use crate::query::{Destination, HistoryQuery, PeersQuery, Query, Span, WhyQuery};
 use crate::values::{DESTINATION_FORM, PREFIX_FORM, TIME_FORM, destination_of, prefix_of, time_of};
 use clap::error::ErrorKind;
@@ -45,6 +45,7 @@ fn query_of(alloc: Global, matches: &ArgMatches<'_>) -> Result<Query, WordsFault
         Some(("peers", matches)) => Ok(Query::Peers(peers_of(alloc, matches)?)),
         Some(("table", matches)) => Ok(Query::Table(table_of(alloc, matches)?)),
         Some(("missing", matches)) => Ok(Query::Missing(missing_of(alloc, matches)?)),
+        Some(("summary", matches)) => Ok(Query::Summary(summary_of(alloc, matches)?)),
         _ => Err(WordsFault::Refused(String::from_str(alloc, INCOMPLETE)?)),
     }
 }
