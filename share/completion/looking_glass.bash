@@ -2,7 +2,7 @@
 _looking_glass() {
     local word=${COMP_WORDS[COMP_CWORD]} before=${COMP_WORDS[COMP_CWORD-1]} options
     if [ "$COMP_CWORD" -eq 1 ]; then
-        mapfile -t COMPREPLY < <(compgen -W "why history table missing peers --help --version" -- "$word")
+        mapfile -t COMPREPLY < <(compgen -W "why history table missing summary peers --help --version" -- "$word")
         return
     fi
     case $before in
@@ -16,6 +16,7 @@ _looking_glass() {
         history) options="--config --prefix --client --from --until --errors --json --help" ;;
         table) options="--config --client --from --prefix --longer --until --count --shards --errors --csv --json --help" ;;
         missing) options="--config --client --from --because --until --count --shards --errors --csv --json --help" ;;
+        summary) options="--config --until --shards --errors --csv --json --help" ;;
         peers) options="--json --toml --help" ;;
     esac
     if [ "${COMP_WORDS[1]}" = peers ] && [[ $word != -* ]]; then

@@ -1,7 +1,7 @@
 //! Inventories as a configuration to start from: each peer of which a message is recorded, with its file.
 //!
-//! Our choices: the server is the recorder that the first file with messages names; a peer is named after its AS
-//! number; an address that stands twice is a comment the second time, since no two peers have the same.
+//! Our choices: the server is the recorder that the first file with messages names. A peer is named after its AS
+//! number. An address that stands twice is a comment the second time, since no two peers have the same.
 
 use crate::recorded_file::RecordedFile;
 use rs_inventory::{Inventory, Peer, PeerRecords};
