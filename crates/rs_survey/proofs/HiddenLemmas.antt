@@ -1,5 +1,5 @@
 -- The choice that all clients would share, of the routes seen: for hidden.rt.
-use Rattle.std.proofs.Common.{◌≡◌, ◌∙◌, sym, ap, refl, arith, ℕ, ◌<◌, ◌≤◌, Bool, true, false, cond, inl, inr, List, [], ◌∷◌, length, map}
+use Rattle.std.proofs.Common.{◌≡◌, ◌∙◌, sym, ap, refl, arith, ℕ, ◌<◌, ◌≤◌, false, cond, inl, inr, List, [], ◌∷◌, length, map}
 use Rattle.std.specs.Prelude.{filter, Option, None, Some, IfSome, is_none, is_some}
 use Rattle.std.specs.List.{All}
 use Rattle.std.specs.Option.{option_map, option_map_or}
@@ -34,8 +34,12 @@ all_known plan (one ∷ seen) all =
 
 pub few_fit : (seen : List Seen) → length (map candidate_of_seen (fit seen)) ≤ length seen
 few_fit seen =
-    omega (arith, length-map (fit seen) candidate_of_seen, length-filter (λ one. is_none one.flaw) seen,
-    count_by-le-length (λ one. is_none one.flaw) seen)
+    omega (
+      arith,
+      length-map (fit seen) candidate_of_seen,
+      length-filter (λ one. is_none one.flaw) seen,
+      count_by-le-length (λ one. is_none one.flaw) seen,
+    )
 
 eligible_are : (plan : Plan) (seen : List Seen) → All (IsSeen plan) seen →
     filter (λ one. is_eligible plan one.route.peer one.route.attributes.now) seen ≡ fit seen

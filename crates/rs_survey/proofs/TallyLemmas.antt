@@ -1,6 +1,6 @@
 -- One finding more is counted: for `add` of tally.rt.
-use Rattle.std.proofs.Common.{◌≡◌, ◌≢◌, ◌∙◌, sym, ap, subst, refl, arith, ℕ, ◌<◌, ◌+◌, ◌*◌, ◌/◌, ◌%◌, ◌==◌, ◌&&◌, Bool, true, false, cond, inl, inr, List, []}
-use Rattle.std.proofs.Common.{◌∷◌, ◌++◌, length, get_or, count_by, min, All}
+use Rattle.std.proofs.Common.{◌≡◌, ◌≢◌, ◌∙◌, sym, ap, refl, arith, ℕ, ◌<◌, ◌+◌, ◌*◌, ◌/◌, ◌%◌, ◌==◌, ◌&&◌, Bool, true, false, cond, inl, inr, List, []}
+use Rattle.std.proofs.Common.{◌∷◌, ◌++◌, length, get_or, count_by, min}
 use Rattle.std.proofs.Math.ListN.{set}
 use Rattle.std.proofs.lemmas.Bool.{cases_Bool}
 use Rattle.std.proofs.lemmas.Bool.Decides.{nat_tests}
@@ -22,9 +22,9 @@ use Rattle.rs_survey.specs.Tally.{IsTally, TallyContent, digits, most, place_in}
 
 digits_same : (w a b c d : ℕ) → b < w → d < w → a * w + b ≡ c * w + d → (a ≡ c) × (b ≡ d)
 digits_same w a b c d below also e = (
-    sym (div-mul-add a w b below) ∙ ap (λ n. n / w) e ∙ div-mul-add c w d also,
-    sym (mod-mul-add a w b below) ∙ ap (λ n. n % w) e ∙ mod-mul-add c w d also,
-  )
+  sym (div-mul-add a w b below) ∙ ap (λ n. n / w) e ∙ div-mul-add c w d also,
+  sym (mod-mul-add a w b below) ∙ ap (λ n. n % w) e ∙ mod-mul-add c w d also,
+)
 
 record HasDigits (width : ℕ) (key : Key) : Type 0 where
   first : key.first < width
