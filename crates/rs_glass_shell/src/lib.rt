@@ -3,14 +3,13 @@
 //!
 //! Reading order: `query` (the questions); `values`, `command` and `words` (how one is read from a command line, with
 //! `clap`); `setup` (the peer that it names); `answering` (the whole answer); `unanswered` and `lines` (why there is
-//! none); `why_lines` and `why_object` (why a client has each peer's route, or not),
-//! `history_lines` and `history_object` (what happened on a prefix), `recorded_file`, `listing_lines`, `listing_object`
-//! and `listing_toml` (what recorded files hold), each as a text and as JSON; below them `starts` (since when recordings
-//! run), `attribute_lines`, `attribute_object`, `reasons`, `route_text`, `names`, `columns` and `clock`. Lists of whole
-//! tables: `list_command` and `list_words` (how they are asked for),
-//! `serving` (how the tables are built), `list_answering`, and their rows, `layout`, `table_row`, `missing_row`,
-//! `counted_row` and `csv_row`. A summary: `summary_numbers` (its numbers), `summary_text` (its tables) and `summary_row`
-//! (a row of CSV or JSON).
+//! none); `why_lines` and `why_object` (why a client has each peer's route, or not), `history_lines` and
+//! `history_object` (what happened on a prefix), `recorded_file`, `listing_lines`, `listing_object` and `listing_toml`
+//! (what recorded files hold), each as a text and as JSON; below them `starts` (since when recordings run),
+//! `attribute_lines`, `attribute_object`, `reasons`, `route_text`, `names`, `columns` and `clock`. Lists of whole
+//! tables: `list_command` and `list_words` (how they are asked for), `serving` (how the tables are built),
+//! `list_answering`, and their rows, `layout`, `table_row`, `missing_row`, `counted_row` and `csv_row`. A summary:
+//! `summary_numbers` (its numbers), `summary_text` (its tables) and `summary_row` (a row of CSV or JSON).
 #![tactic(auto)]
 
 mod answering;
