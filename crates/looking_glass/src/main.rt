@@ -7,19 +7,38 @@
 //! Supported standards: RFC 4271, RFC 6793, RFC 1997, RFC 7606, RFC 7947, RFC 6396.
 #![tactic(auto)]
 
-use rs_glass_shell::answer;
+use rs_glass_shell::{Answer, answer};
+use rs_mrt::Bounds;
+use rs_notes::{Subject, print_notes};
 use rs_question::{Ended, MEMORY_LINE, OUT_OF_MEMORY, WordsFault, line};
+use rs_setup::Setup;
+use std::fs::Files;
 use std::process::ExitCode;
 
 fn main(rt: HostRuntime) -> ExitCode {
     let ended = match answer(&rt) {
-        Ok(text) => match print!(&rt; "{text}") {
-            Ok(()) => return ExitCode::SUCCESS,
+        Ok(Answer { text, read }) => match print!(&rt; "{text}") {
+            Ok(()) => {
+                note(&rt, &read);
+                return ExitCode::SUCCESS;
+            }
             Err(_) => Ended::Output,
         },
         Err(ended) => ended,
     };
     end(&rt, &ended)
+}
+
+// Prints the notes on the files that were read.
+fn note<R: AllocGlobal + Files + Eprint>(rt: &R, read: &Option<(Setup, Bounds)>) {
+    if let Some((setup, bounds)) = read {
+        let subject = Subject {
+            setup,
+            bounds: *bounds,
+            endings: None,
+        };
+        print_notes(rt, "looking_glass", subject);
+    }
 }
 
 // Says why the program stops short, and gives its status.

@@ -17,6 +17,7 @@ use rs_glass::{
 };
 use rs_host::{first_unreadable, open_file};
 use rs_inventory::{InventoryFault, read_inventory};
+use rs_mrt::{Bounds, Tail};
 use rs_question::{
     Ended, HistoryQuery, PeersQuery, Query, WhyQuery, configuration, open_files, peer_named,
 };
@@ -28,20 +29,41 @@ use std::io::{ErrorKind, Print};
 use std::sync::Wait;
 use std::thread::Threads;
 
-/// Answers the question of the command line, as it is printed: reads the configuration and the recorded files that it
-/// names. Of a list all but its last part is printed by then. Fails with why the program stops short.
+/// What a question is answered with.
+#[derive(Drop)]
+pub struct Answer {
+    /// The text that is printed.
+    pub text: String,
+    /// Of which files notes are told, and how much of them was read; none where the question is about files alone.
+    pub read: Option<(Setup, Bounds)>,
+}
+
+/// Answers the question of the command line: reads the configuration and the recorded files that it names. Of a list
+/// all but its last part is printed by then. Fails with why the program stops short.
 pub fn answer<R: AllocGlobal + Env + Files + Threads + Wait + Sync + Print>(
     rt: &R,
-) -> Result<String, Ended>
+) -> Result<Answer, Ended>
 where
     R::File: Send,
 {
     match command_line(rt)? {
         Query::Why(query) => why(rt, &query),
         Query::History(query) => history(rt, &query),
-        Query::Peers(query) => peers(rt, query),
+        Query::Peers(query) => Ok(Answer {
+            text: peers(rt, query)?,
+            read: None,
+        }),
         Query::Table(query) => table(rt, &query),
         Query::Missing(query) => missing(rt, &query),
+    }
+}
+
+// An answer for which the files of a setup were read up to a time.
+pub(crate) fn answer_until(text: String, setup: Setup, until: Option<u32>) -> Answer {
+    let tail = Tail::Strict;
+    Answer {
+        text,
+        read: Some((setup, Bounds { until, tail })),
     }
 }
 
@@ -56,7 +78,7 @@ fn command_line<R: AllocGlobal + Env>(rt: &R) -> Result<Query, Ended> {
 }
 
 // Why a client has each peer's route, or not.
-fn why<R: AllocGlobal + Files + Threads + Sync>(rt: &R, query: &WhyQuery) -> Result<String, Ended>
+fn why<R: AllocGlobal + Files + Threads + Sync>(rt: &R, query: &WhyQuery) -> Result<Answer, Ended>
 where
     R::File: Send,
 {
@@ -64,11 +86,12 @@ where
     let setup = configuration(rt, &query.config)?;
     let client = peer_named(rt, &setup, &query.client)?;
     let answers = explained(rt, &setup, client, query)?;
-    if query.json {
-        Ok(why_json(alloc, &setup.plan, &answers)?)
+    let text = if query.json {
+        why_json(alloc, &setup.plan, &answers)?
     } else {
-        Ok(why_text(alloc, &setup.plan, &answers)?)
-    }
+        why_text(alloc, &setup.plan, &answers)?
+    };
+    Ok(answer_until(text, setup, query.until))
 }
 
 // The answers of a configuration.
@@ -100,7 +123,7 @@ where
 fn history<R: AllocGlobal + Files + Threads + Sync>(
     rt: &R,
     query: &HistoryQuery,
-) -> Result<String, Ended>
+) -> Result<Answer, Ended>
 where
     R::File: Send,
 {
@@ -111,11 +134,12 @@ where
         None => None,
     };
     let history = replayed(rt, &setup, client, query)?;
-    if query.json {
-        Ok(history_json(alloc, &setup.plan, &history)?)
+    let text = if query.json {
+        history_json(alloc, &setup.plan, &history)?
     } else {
-        Ok(history_text(alloc, &setup.plan, &history)?)
-    }
+        history_text(alloc, &setup.plan, &history)?
+    };
+    Ok(answer_until(text, setup, query.until))
 }
 
 // The history of a configuration.

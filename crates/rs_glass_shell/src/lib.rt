@@ -4,7 +4,7 @@
 //! Reading order: `values`, `command` and `words` (how a question is read from a command line, with `clap`);
 //! `answering` (the whole answer); `why_lines` and `why_object` (why a client has each peer's route, or not),
 //! `history_lines` and `history_object` (what happened on a prefix), `recorded_file`, `listing_lines`, `listing_object`
-//! and `listing_toml` (what recorded files hold), each as a text and as JSON; below them `reasons`, `route_text`,
+//! `listing_pieces` and `listing_toml` (what recorded files hold), each as a text and as JSON; below them `reasons`, `route_text`,
 //! `names`, `columns` and `clock`. Lists of whole tables: `list_command` and `list_words` (how they are asked for),
 //! `serving` (how the tables are built), `list_answering`, and their rows, `layout`, `table_row`, `missing_row`,
 //! `counted_row` and `csv_row`.
@@ -24,6 +24,7 @@ mod list_command;
 mod list_words;
 mod listing_lines;
 mod listing_object;
+mod listing_pieces;
 mod listing_toml;
 mod missing_row;
 mod names;
@@ -37,7 +38,7 @@ mod why_lines;
 mod why_object;
 mod words;
 
-pub use answering::answer;
+pub use answering::{Answer, answer};
 pub use history_lines::history_text;
 pub use history_object::history_json;
 pub use listing_lines::as_text;

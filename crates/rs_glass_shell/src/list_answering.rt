@@ -2,6 +2,7 @@
 
 ghost use Rattle.std.specs.Prelude.{◌<◌, length};
 
+use crate::answering::{Answer, answer_until};
 use crate::counted_row::{Counts, counts_text};
 use crate::layout::Layout;
 use crate::missing_row::{add_missing_row, add_missing_titles, reason_key};
@@ -41,7 +42,7 @@ struct Wanted<'a> {
 pub(crate) fn table<R: AllocGlobal + Files + Threads + Wait + Sync + Print>(
     rt: &R,
     query: &TableQuery,
-) -> Result<String, Ended>
+) -> Result<Answer, Ended>
 where
     R::File: Send,
 {
@@ -53,18 +54,19 @@ where
         longer: query.longer,
     };
     let served = served(rt, &setup, &query.tables)?;
-    if query.count {
-        Ok(count_table(rt.alloc(), served.tables(), client, &rows, query.form)?)
+    let text = if query.count {
+        count_table(rt.alloc(), served.tables(), client, &rows, query.form)?
     } else {
-        list_table(rt, served.tables(), client, &rows, query.form)
-    }
+        list_table(rt, served.tables(), client, &rows, query.form)?
+    };
+    Ok(answer_until(text, setup, None))
 }
 
 // Lists the routes that a client does not get, in the same way.
 pub(crate) fn missing<R: AllocGlobal + Files + Threads + Wait + Sync + Print>(
     rt: &R,
     query: &MissingQuery,
-) -> Result<String, Ended>
+) -> Result<Answer, Ended>
 where
     R::File: Send,
 {
@@ -78,11 +80,12 @@ where
         },
     };
     let served = served(rt, &setup, &query.tables)?;
-    if query.count {
-        Ok(count_missing(rt.alloc(), served.tables(), client, wanted, query.form)?)
+    let text = if query.count {
+        count_missing(rt.alloc(), served.tables(), client, wanted, query.form)?
     } else {
-        list_missing(rt, served.tables(), client, wanted, query.form)
-    }
+        list_missing(rt, served.tables(), client, wanted, query.form)?
+    };
+    Ok(answer_until(text, setup, None))
 }
 
 // The number of the sender that is asked for, if one is.

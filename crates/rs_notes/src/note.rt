@@ -1,20 +1,21 @@
-//! The lines of notes.
+//! The texts of notes.
 
 ghost use Rattle.std.specs.Prelude.{◌≡◌, IfOk, string_bytes};
 ghost use Rattle.std.specs.Int.{to_be_bytes, w32};
 ghost use Rattle.std.specs.Net.Addr.{ipv4_octets};
-ghost use Rattle.rs_program.specs.Note.{count_text, cut_note, format_text, kind_text};
-ghost use Rattle.rs_program.specs.Note.{loss_text, note_of, others_text, text_of, whose_text};
+ghost use Rattle.rs_notes.specs.Note.{count_text, cut_note, format_text, kind_text};
+ghost use Rattle.rs_notes.specs.Note.{loss_text, note_of, others_text, text_of, whose_text};
 
 use crate::cut::Cut;
 use crate::hint::Hint;
 use rs_host::on_one_line;
 use rs_inventory::{Kind, Peer};
 use rs_mrt::Tail;
+use rs_time::Utc;
 use std::alloc::{AllocError, Global};
 use std::net::Ipv4Addr;
 
-/// The line of what is noted of a peer's recorded file, without a line break at its end: `name` is the peer's, `path`
+/// The text of what is noted of a peer's recorded file, without a line break at its end: `name` is the peer's, `path`
 /// that of its file, whose control characters are escaped. Fails where memory is refused.
 pub fn note_line(
     alloc: Global,
@@ -26,10 +27,10 @@ pub fn note_line(
     ensures { IfOk result (λ line. string_bytes line ≡ note_of name.now path.now peer hint) }
 {
     let text = text_of(alloc, path, peer, hint)?;
-    format!(in alloc; "route_server: note: peer {name}: {text}")
+    format!(in alloc; "peer {name}: {text}")
 }
 
-/// The line of the note on a recorded file that ends within a record, without a line break at its end: `path` is that
+/// The text of the note on a recorded file that ends within a record, without a line break at its end: `path` is that
 /// of the file, whose control characters are escaped. Fails where memory is refused.
 pub fn cut_line(alloc: Global, path: &str, cut: Cut, tail: Tail) -> Result<String, AllocError>
     ensures { IfOk result (λ line. string_bytes line ≡ cut_note path.now cut tail) }
@@ -37,7 +38,7 @@ pub fn cut_line(alloc: Global, path: &str, cut: Cut, tail: Tail) -> Result<Strin
     let path = on_one_line(alloc, path)?;
     let (octet, len, loss) = (cut.octet, cut.len, loss_text(tail));
     format!(in alloc;
-        "route_server: note: {path} ends within its last record, which begins at octet {octet} (octets {loss}: {len})"
+        "{path} ends within its last record, which begins at octet {octet} (octets {loss}: {len})"
     )
 }
 
@@ -116,4 +117,32 @@ fn kind_text(kind: Option<Kind>) -> &'static str
         Some(Kind::Ipv6) => ", all of IPv6 peers",
         _ => "",
     }
+}
+
+/// The text of the note on a peer whose recording begins in mid-session. Fails where memory is refused.
+pub(crate) fn inside_line(alloc: Global, name: &str) -> Result<String, AllocError> {
+    format!(in alloc;
+        "peer {name}: the recording begins in mid-session; routes announced before are missing"
+    )
+}
+
+/// The text of the note on a peer whose session began again at a time. Fails where memory is refused.
+pub(crate) fn again_line(alloc: Global, name: &str, time: u32) -> Result<String, AllocError> {
+    let time = Utc(time);
+    format!(in alloc;
+        "peer {name}: a session began again at {time} UTC without a recorded loss; its earlier routes stay"
+    )
+}
+
+/// The text of the note on files of which no record names the server as their recorder; the first message of the file
+/// at a path names another one. Fails where memory is refused.
+pub(crate) fn server_line(
+    alloc: Global,
+    server: Peer,
+    path: &str,
+    recorder: Peer,
+) -> Result<String, AllocError> {
+    let (server, recorder) = (whose_text(alloc, server)?, whose_text(alloc, recorder)?);
+    let path = on_one_line(alloc, path)?;
+    format!(in alloc; "no record is of the server {server}; {path} is of {recorder}")
 }

@@ -3,17 +3,17 @@ use Rattle.std.proofs.lemmas.Result.{err_from_is_err_and}
 use Rattle.rs_mrt.specs.RecordReading.{MayCome, unread}
 use Rattle.rs_inventory.specs.Compression.{compression_of}
 use Rattle.rs_inventory.specs.Front.{RewoundGives, rewound}
-use Rattle.rs_inventory.specs.Reading.{IsInventoryOf, MayBeCompressed, MayFail}
+use Rattle.rs_inventory.specs.Reading.{IsReadingOf, MayBeCompressed, MayFail}
 use Rattle.rs_inventory.specs.declared.compression.Compression.{Compression}
-use Rattle.rs_inventory.proofs.ReadingLemmas.{fails-read, fails-whole, inventory-whole, may-be-compressed}
-use Rattle.rs_inventory.proofs.reading.read_inventory.Goals as goal
+use Rattle.rs_inventory.proofs.ReadingLemmas.{fails-read, fails-whole, may-be-compressed, reading-whole}
+use Rattle.rs_inventory.proofs.reading.read_at.Goals as goal
 
 pub returns-clause-records : goal.returns-clause-records
 returns-clause-records g c = λ none.
     let source : c.new-source.result ≡ unread (rewound c.in_ok-front.front c.of.new.reader) =
     c.new-source.ensures ∙ ap unread c.new.ensures in
-    inventory-whole g.R.Read.gives c.args.reader c.of.new.reader c.in_ok-front.front c.in_ok-inventory.inventory c.in_ok-front.ensures.gives
-    (subst (λ s. IsInventoryOf (MayCome (RewoundGives g.R.Read.gives)) s c.in_ok-inventory.inventory)
+    reading-whole c.args.depth g.R.Read.gives c.args.reader c.of.new.reader c.in_ok-front.front c.in_ok-inventory.inventory c.in_ok-front.ensures.gives
+    (subst (λ s. IsReadingOf c.args.depth (MayCome (RewoundGives g.R.Read.gives)) s c.in_ok-inventory.inventory)
     source c.in_ok-inventory.ensures.records)
 
 pub returns-in-Some-clause-compressed : goal.returns-in-Some-clause-compressed

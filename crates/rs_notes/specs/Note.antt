@@ -1,12 +1,12 @@
--- The lines of notes. Nothing here is of a standard: all of it is our choice.
+-- The texts of notes. Nothing here is of a standard: all of it is our choice.
 use Rattle.std.specs.Prelude.{ℕ, [], ◌++◌, Option, None, Some, codes}
 use Rattle.std.specs.Fmt.{decimal}
 use Rattle.std.specs.Int.{to_be_bytes, w32}
 use Rattle.std.specs.Net.Text.{ipv4_text}
-use Rattle.rs_program.specs.Format.{format_name}
-use Rattle.rs_program.specs.declared.cut.Cut.{Cut}
-use Rattle.rs_program.specs.declared.hint.Hint.{Hint}
-use Rattle.rs_program.specs.declared.hint.Hint.TheVariants.{NotMrt, NoRecord}
+use Rattle.rs_notes.specs.Format.{format_name}
+use Rattle.rs_notes.specs.declared.cut.Cut.{Cut}
+use Rattle.rs_notes.specs.declared.hint.Hint.{Hint}
+use Rattle.rs_notes.specs.declared.hint.Hint.TheVariants.{NotMrt, NoRecord}
 use Rattle.rs_inventory.specs.declared.kind.Kind.{Kind}
 use Rattle.rs_inventory.specs.declared.kind.Kind.TheVariants as kinds
 use Rattle.rs_inventory.specs.declared.peer.Peer.{Peer}
@@ -45,18 +45,18 @@ abbrev pub text_of : Text → Peer → Hint → Text
 text_of path peer (NotMrt format) = format_text path (format_name format)
 text_of path peer (NoRecord others kind) = others_text path (whose_text peer) (count_text others kind)
 
--- and the line of it, of a peer of this name
+-- and the text of the note, of a peer of this name
 abbrev pub note_of : Text → Text → Peer → Hint → Text
-note_of name path peer hint = codes "route_server: note: peer " ++ (name ++ (codes ": " ++ text_of path peer hint))
+note_of name path peer hint = codes "peer " ++ (name ++ (codes ": " ++ text_of path peer hint))
 
 -- what becomes of the octets of a record that is cut short
 abbrev pub loss_text : Tail → Text
 loss_text Strict = codes "lost"
 loss_text Lenient = codes "left out"
 
--- the line on a file that ends within a record: its path, where the record begins, and how many octets of it are there
+-- the text on a file that ends within a record: its path, where the record begins, and how many octets of it are there
 abbrev pub cut_note : Text → Cut → Tail → Text
 cut_note path cut tail =
-    codes "route_server: note: " ++ (one_line path ++ (codes " ends within its last record, which begins at octet "
+    one_line path ++ (codes " ends within its last record, which begins at octet "
     ++ (decimal cut.octet ++ (codes " (octets " ++ (loss_text tail
-    ++ (codes ": " ++ (decimal cut.len ++ codes ")")))))))
+    ++ (codes ": " ++ (decimal cut.len ++ codes ")"))))))

@@ -5,7 +5,7 @@
 
 ghost use Rattle.std.specs.Prelude.{◌≡◌};
 ghost use Rattle.std.specs.List.{list_all};
-ghost use Rattle.rs_program.specs.Format.{format_of, format_name, is_pcap, is_text, is_text_octet};
+ghost use Rattle.rs_notes.specs.Format.{format_of, format_name, is_pcap, is_text, is_text_octet};
 
 use rs_inventory::Compression;
 

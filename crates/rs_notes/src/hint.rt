@@ -5,7 +5,7 @@
 //! kind and long enough for its fields.
 
 ghost use Rattle.std.specs.Prelude.{◌≡◌};
-ghost use Rattle.rs_program.specs.Hint.{has_bodies, hint_of, is_all, is_known, only_kind, records_of};
+ghost use Rattle.rs_notes.specs.Hint.{has_bodies, hint_of, is_all, is_known, only_kind, records_of};
 
 use crate::format::Format;
 use rs_inventory::{Inventory, Kind, Peer};
