@@ -2,7 +2,7 @@
 _looking_glass() {
     local word=${COMP_WORDS[COMP_CWORD]} before=${COMP_WORDS[COMP_CWORD-1]} options
     if [ "$COMP_CWORD" -eq 1 ]; then
-        mapfile -t COMPREPLY < <(compgen -W "why history table missing peers --help --version" -- "$word")
+        mapfile -t COMPREPLY < <(compgen -W "why history table missing peers check --help --version" -- "$word")
         return
     fi
     case $before in
@@ -17,6 +17,7 @@ _looking_glass() {
         table) options="--config --client --from --prefix --longer --count --shards --errors --csv --json --help" ;;
         missing) options="--config --client --from --because --count --shards --errors --csv --json --help" ;;
         peers) options="--json --toml --help" ;;
+        check) options="--config --help" ;;
     esac
     if [ "${COMP_WORDS[1]}" = peers ] && [[ $word != -* ]]; then
         compopt -o filenames

@@ -17,10 +17,10 @@ use std::process::ExitCode;
 
 fn main(rt: HostRuntime) -> ExitCode {
     let ended = match answer(&rt) {
-        Ok(Answer { text, read }) => match print!(&rt; "{text}") {
+        Ok(Answer { text, status, read }) => match print!(&rt; "{text}") {
             Ok(()) => {
                 note(&rt, &read);
-                return ExitCode::SUCCESS;
+                return ExitCode::from(status);
             }
             Err(_) => Ended::Output,
         },

@@ -2,6 +2,7 @@
 
 ghost use Rattle.std.specs.Prelude.{◌≡◌, ◌<◌, length};
 
+use crate::checking::check;
 use crate::history_lines::history_text;
 use crate::history_object::history_json;
 use crate::list_answering::{missing, table};
@@ -34,6 +35,8 @@ use std::thread::Threads;
 pub struct Answer {
     /// The text that is printed.
     pub text: String,
+    /// The status with which the program ends.
+    pub status: u8,
     /// Of which files notes are told, and how much of them was read; none where the question is about files alone.
     pub read: Option<(Setup, Bounds)>,
 }
@@ -51,8 +54,10 @@ where
         Query::History(query) => history(rt, &query),
         Query::Peers(query) => Ok(Answer {
             text: peers(rt, query)?,
+            status: 0,
             read: None,
         }),
+        Query::Check(query) => check(rt, &query.config),
         Query::Table(query) => table(rt, &query),
         Query::Missing(query) => missing(rt, &query),
     }
@@ -63,6 +68,7 @@ pub(crate) fn answer_until(text: String, setup: Setup, until: Option<u32>) -> An
     let tail = Tail::Strict;
     Answer {
         text,
+        status: 0,
         read: Some((setup, Bounds { until, tail })),
     }
 }
@@ -200,7 +206,10 @@ fn recorded_files<R: AllocGlobal + Files>(
 }
 
 // What the recorded file at a path holds.
-fn recorded_file<R: AllocGlobal + Files>(rt: &R, path: String) -> Result<RecordedFile, Ended> {
+pub(crate) fn recorded_file<R: AllocGlobal + Files>(
+    rt: &R,
+    path: String,
+) -> Result<RecordedFile, Ended> {
     let reader = match open_file(rt, &path) {
         Ok(reader) => reader,
         Err(fault) => return Err(Ended::by_file(rt.alloc(), fault, &path)),

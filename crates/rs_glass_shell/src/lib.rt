@@ -11,7 +11,9 @@
 #![tactic(auto)]
 
 mod answering;
+mod checking;
 mod clock;
+mod closing;
 mod columns;
 mod command;
 mod counted_row;
@@ -30,6 +32,7 @@ mod missing_row;
 mod names;
 mod reasons;
 mod recorded_file;
+mod refused;
 mod route_text;
 mod serving;
 mod table_row;

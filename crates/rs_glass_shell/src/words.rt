@@ -6,7 +6,7 @@ use crate::values::{PREFIX_FORM, TIME_FORM, prefix_of, time_of};
 use clap::error::ErrorKind;
 use clap::{ArgMatches, Error};
 use rs_host::{each_on_one_line, standard_of};
-use rs_question::{HistoryQuery, PeersQuery, Query, WhyQuery, WordsFault};
+use rs_question::{CheckQuery, HistoryQuery, PeersQuery, Query, WhyQuery, WordsFault};
 use rs_update::{Errors, Prefix};
 use std::alloc::{AllocError, Global};
 
@@ -43,6 +43,9 @@ fn query_of(alloc: Global, matches: &ArgMatches<'_>) -> Result<Query, WordsFault
         Some(("why", matches)) => Ok(Query::Why(why_of(alloc, matches)?)),
         Some(("history", matches)) => Ok(Query::History(history_of(alloc, matches)?)),
         Some(("peers", matches)) => Ok(Query::Peers(peers_of(alloc, matches)?)),
+        Some(("check", matches)) => Ok(Query::Check(CheckQuery {
+            config: text(alloc, matches, "config")?,
+        })),
         Some(("table", matches)) => Ok(Query::Table(table_of(alloc, matches)?)),
         Some(("missing", matches)) => Ok(Query::Missing(missing_of(alloc, matches)?)),
         _ => Err(WordsFault::Refused(String::from_str(alloc, INCOMPLETE)?)),

@@ -15,8 +15,8 @@ pub use ended::{Ended, FAILED, OUT_OF_MEMORY, REFUSED};
 pub use files::open_files;
 pub use lines::{MEMORY_LINE, line};
 pub use query::{
-    Form, HistoryQuery, MissingQuery, PeersQuery, Query, TableQuery, TablesQuery, WhyQuery,
-    WordsFault,
+    CheckQuery, Form, HistoryQuery, MissingQuery, PeersQuery, Query, TableQuery, TablesQuery,
+    WhyQuery, WordsFault,
 };
 pub use rs_time::{Utc, civil_time, read_time};
 pub use setup::{configuration, peer_named};
