@@ -7,26 +7,26 @@
 //! Supported standards: RFC 4271, RFC 6793, RFC 1997, RFC 7606, RFC 7947, RFC 6396.
 #![tactic(auto)]
 
-use rs_glass_shell::{Answer, answer};
+use rs_glass_shell::{Answer, PROGRAM, Unanswered, answer, line};
+use rs_host::end_with;
 use rs_mrt::Bounds;
 use rs_notes::{Subject, print_notes};
-use rs_question::{Ended, MEMORY_LINE, OUT_OF_MEMORY, WordsFault, line};
 use rs_setup::Setup;
 use std::fs::Files;
 use std::process::ExitCode;
 
 fn main(rt: HostRuntime) -> ExitCode {
-    let ended = match answer(&rt) {
+    let unanswered = match answer(&rt) {
         Ok(Answer { text, status, read }) => match print!(&rt; "{text}") {
             Ok(()) => {
                 note(&rt, &read);
                 return ExitCode::from(status);
             }
-            Err(_) => Ended::Output,
+            Err(_) => Unanswered::Output,
         },
-        Err(ended) => ended,
+        Err(unanswered) => unanswered,
     };
-    end(&rt, &ended)
+    end(&rt, &unanswered)
 }
 
 // Prints the notes on the files that were read.
@@ -37,28 +37,16 @@ fn note<R: AllocGlobal + Files + Eprint>(rt: &R, read: &Option<(Setup, Bounds)>)
             bounds: *bounds,
             endings: None,
         };
-        print_notes(rt, "looking_glass", subject);
+        print_notes(rt, PROGRAM, subject);
     }
 }
 
-// Says why the program stops short, and gives its status.
-fn end<R: AllocGlobal + Print + Eprint>(rt: &R, ended: &Ended) -> ExitCode {
-    let Ok(text) = line(rt.alloc(), ended) else {
-        let _ = eprint!(rt; "{MEMORY_LINE}");
-        return ExitCode::from(OUT_OF_MEMORY);
+// Says why there is no answer, and gives the status of that.
+fn end<R: AllocGlobal + Print + Eprint>(rt: &R, unanswered: &Unanswered) -> ExitCode {
+    let words = match unanswered {
+        Unanswered::Words(fault) => Some(fault),
+        _ => None,
     };
-    if let Ended::Words(WordsFault::Shown(_)) = ended {
-        return match print!(rt; "{text}") {
-            Ok(()) => ExitCode::SUCCESS,
-            Err(_) => end_unwritten(rt),
-        };
-    }
-    let _ = eprint!(rt; "{text}");
-    ExitCode::from(ended.status())
-}
-
-// Says that standard output can't be written.
-fn end_unwritten<R: Eprint>(rt: &R) -> ExitCode {
-    let _ = eprintln!(rt; "looking_glass: cannot write standard output");
-    ExitCode::from(Ended::Output.status())
+    let text = line(rt.alloc(), unanswered);
+    end_with(rt, PROGRAM, words, text, unanswered.status())
 }

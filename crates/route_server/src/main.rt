@@ -9,12 +9,11 @@
 ghost use Rattle.std.specs.Prelude.{◌≡◌, ◌<◌, ◌≤◌, All, Some, IfErr, length};
 ghost use Rattle.rs_program.specs.Texts.{CanTell};
 
-use rs_host::Options;
+use rs_host::{Options, configuration};
 use rs_mrt::{IoWriter, Read};
 use rs_notes::{Close, Ending, Subject, print_notes};
 use rs_program::{
-    Cleared, Ended, FolderOutlet, Progress, command_line, configuration, end, progress_on,
-    ready_files, run_status,
+    Cleared, Ended, FolderOutlet, Progress, command_line, end, progress_on, ready_files, run_status,
 };
 use rs_run::run_with_ends;
 use rs_serve::PeerEnd;
@@ -33,9 +32,9 @@ fn main(rt: HostRuntime) -> ExitCode {
         Ok(options) => options,
         Err(fault) => return end(&rt, &Ended::Words(fault), None, None),
     };
-    let setup = match configuration(&rt, &options) {
+    let setup = match configuration(&rt, &options.config) {
         Ok(setup) => setup,
-        Err(ended) => return end(&rt, &ended, None, None),
+        Err(unready) => return end(&rt, &Ended::from(unready), None, None),
     };
     match serve(&rt, &setup, &options, terminal(rt.stderr())) {
         Ok(clean) => ExitCode::from(run_status(options.strict, clean)),

@@ -17,7 +17,7 @@ mod refusal;
 mod removal;
 mod until;
 
-pub use condition::Condition;
+pub use condition::{Condition, failed_condition};
 pub use contender::Contender;
 pub use explanation::{Explanation, explain};
 pub use last_said::{EndedBy, Ending, LastSaid};

@@ -5,28 +5,30 @@ ghost use Rattle.std.specs.Prelude.{◌≡◌, ◌<◌, length};
 use crate::checking::check;
 use crate::history_lines::history_text;
 use crate::history_object::history_json;
-use crate::list_answering::{missing, table};
+use crate::lines::PROGRAM;
+use crate::list_answering::{missing, summary, table};
 use crate::listing_lines::as_text;
 use crate::listing_object::as_json;
 use crate::listing_toml::as_toml;
+use crate::query::{HistoryQuery, PeersQuery, Query, WhyQuery};
 use crate::recorded_file::RecordedFile;
+use crate::setup::peer_named;
+use crate::unanswered::Unanswered;
 use crate::why_lines::why_text;
 use crate::why_object::why_json;
 use crate::words::read_query;
 use rs_glass::{
     Answers, History, Question, explain_all, fill_history, read_happenings, read_sessions,
 };
-use rs_host::{first_unreadable, open_file};
+use rs_host::{
+    Unready, WordsFault, configuration, first_unreadable, open_file, open_files, read_arguments,
+};
 use rs_inventory::{InventoryFault, read_inventory};
 use rs_mrt::{Bounds, Tail};
-use rs_question::{
-    Ended, HistoryQuery, PeersQuery, Query, WhyQuery, configuration, open_files, peer_named,
-};
 use rs_setup::Setup;
-use std::env;
 use std::env::Env;
 use std::fs::Files;
-use std::io::{ErrorKind, Print};
+use std::io::Print;
 use std::sync::Wait;
 use std::thread::Threads;
 
@@ -45,7 +47,7 @@ pub struct Answer {
 /// all but its last part is printed by then. Fails with why the program stops short.
 pub fn answer<R: AllocGlobal + Env + Files + Threads + Wait + Sync + Print>(
     rt: &R,
-) -> Result<Answer, Ended>
+) -> Result<Answer, Unanswered>
 where
     R::File: Send,
 {
@@ -60,6 +62,7 @@ where
         Query::Check(query) => check(rt, &query.config),
         Query::Table(query) => table(rt, &query),
         Query::Missing(query) => missing(rt, &query),
+        Query::Summary(query) => summary(rt, &query),
     }
 }
 
@@ -74,17 +77,15 @@ pub(crate) fn answer_until(text: String, setup: Setup, until: Option<u32>) -> An
 }
 
 // The question of the command line.
-fn command_line<R: AllocGlobal + Env>(rt: &R) -> Result<Query, Ended> {
-    let alloc = rt.alloc();
-    match env::args(rt) {
-        Ok(words) => Ok(read_query(alloc, words.collect(alloc)?)?),
-        Err(error) if error.kind() == ErrorKind::OutOfMemory => Err(Ended::Memory),
-        Err(_) => Err(Ended::NotUtf8),
-    }
+fn command_line<R: AllocGlobal + Env>(rt: &R) -> Result<Query, WordsFault> {
+    read_query(rt.alloc(), read_arguments(rt, PROGRAM)?)
 }
 
 // Why a client has each peer's route, or not.
-fn why<R: AllocGlobal + Files + Threads + Sync>(rt: &R, query: &WhyQuery) -> Result<Answer, Ended>
+fn why<R: AllocGlobal + Files + Threads + Sync>(
+    rt: &R,
+    query: &WhyQuery,
+) -> Result<Answer, Unanswered>
 where
     R::File: Send,
 {
@@ -106,7 +107,7 @@ fn explained<R: AllocGlobal + Files + Threads + Sync>(
     setup: &Setup,
     client: usize,
     query: &WhyQuery,
-) -> Result<Answers, Ended>
+) -> Result<Answers, Unanswered>
 where
     R::File: Send,
     requires client_known { client < length setup.now.plan.value.peers }
@@ -118,10 +119,10 @@ where
         until: query.until,
         errors: query.errors,
     };
-    let files = open_files(rt, &setup.files)?;
+    let files = open_files(rt, &setup.files, Bounds::none(), |file| file)?;
     match read_sessions(rt, alloc, &setup.plan, files, &question) {
         Ok(reading) => Ok(explain_all(alloc, &reading, client, &question)?),
-        Err(fault) => Err(Ended::by_reading(alloc, fault, setup)),
+        Err(fault) => Err(Unanswered::by_reading(alloc, fault, setup)),
     }
 }
 
@@ -129,7 +130,7 @@ where
 fn history<R: AllocGlobal + Files + Threads + Sync>(
     rt: &R,
     query: &HistoryQuery,
-) -> Result<Answer, Ended>
+) -> Result<Answer, Unanswered>
 where
     R::File: Send,
 {
@@ -154,7 +155,7 @@ fn replayed<R: AllocGlobal + Files + Threads + Sync>(
     setup: &Setup,
     client: Option<usize>,
     query: &HistoryQuery,
-) -> Result<History, Ended>
+) -> Result<History, Unanswered>
 where
     R::File: Send,
     requires { length setup.now.files.items ≡ length setup.now.plan.value.peers }
@@ -165,18 +166,18 @@ where
         until: query.until,
         errors: query.errors,
     };
-    let files = open_files(rt, &setup.files)?;
+    let files = open_files(rt, &setup.files, Bounds::none(), |file| file)?;
     match read_happenings(rt, alloc, &setup.plan, files, &question) {
         Ok(happenings) => {
             let asked = History::of(alloc, &question, client, query.from);
             Ok(fill_history(alloc, &setup.plan, happenings, asked)?)
         }
-        Err(fault) => Err(Ended::by_reading(alloc, fault, setup)),
+        Err(fault) => Err(Unanswered::by_reading(alloc, fault, setup)),
     }
 }
 
 // What recorded files hold.
-fn peers<R: AllocGlobal + Files>(rt: &R, query: PeersQuery) -> Result<String, Ended> {
+fn peers<R: AllocGlobal + Files>(rt: &R, query: PeersQuery) -> Result<String, Unanswered> {
     let alloc = rt.alloc();
     let PeersQuery { files, json, toml } = query;
     let held = recorded_files(rt, files)?;
@@ -193,14 +194,14 @@ fn peers<R: AllocGlobal + Files>(rt: &R, query: PeersQuery) -> Result<String, En
 fn recorded_files<R: AllocGlobal + Files>(
     rt: &R,
     paths: Vec<String>,
-) -> Result<Vec<RecordedFile>, Ended> {
+) -> Result<Vec<RecordedFile>, Unready> {
     if let Some(number) = first_unreadable(rt, &paths)? {
-        return Err(Ended::by_path(rt.alloc(), &paths[number]));
+        return Err(Unready::by_path(rt.alloc(), &paths[number]));
     }
     let mut held = Vec::new(rt.alloc());
     for path in paths {
         held.push(recorded_file(rt, path)?)
-            .map_err(|_| Ended::Memory)?;
+            .map_err(|_| Unready::Memory)?;
     }
     Ok(held)
 }
@@ -209,14 +210,14 @@ fn recorded_files<R: AllocGlobal + Files>(
 pub(crate) fn recorded_file<R: AllocGlobal + Files>(
     rt: &R,
     path: String,
-) -> Result<RecordedFile, Ended> {
+) -> Result<RecordedFile, Unready> {
     let reader = match open_file(rt, &path) {
         Ok(reader) => reader,
-        Err(fault) => return Err(Ended::by_file(rt.alloc(), fault, &path)),
+        Err(fault) => return Err(Unready::by_file(rt.alloc(), fault, &path)),
     };
     match read_inventory(rt.alloc(), reader) {
         Ok(inventory) => Ok(RecordedFile { path, inventory }),
-        Err(InventoryFault::Memory) => Err(Ended::Memory),
-        Err(InventoryFault::Read) => Err(Ended::Unread(path)),
+        Err(InventoryFault::Memory) => Err(Unready::Memory),
+        Err(InventoryFault::Read) => Err(Unready::Unread(path)),
     }
 }

@@ -1,28 +1,26 @@
 //! What a run over a configuration would meet: why it would be refused, which files can't be opened, what they hold of
 //! each peer, where sessions close, and the notes.
 
-ghost use Rattle.std.specs.Prelude.{◌≡◌, ◌<◌, length};
-
 use crate::answering::{Answer, recorded_file};
 use crate::closing::{Closing, closing_of};
 use crate::reasons::close_text;
 use crate::recorded_file::RecordedFile;
 use crate::refused::refusal_text;
+use crate::unanswered::Unanswered;
 use rs_choice::PeerSpec;
-use rs_host::{first_unreadable, found_at, on_one_line, open_file, read_file};
+use rs_host::{
+    FAILED, NOT_CLEAN, REFUSED, Unready, Utc, first_unreadable, found_at, on_one_line, open_file,
+    read_file,
+};
 use rs_inventory::{Kind, Peer};
 use rs_mrt::Bounds;
 use rs_notes::{Close, Ending, Subject, notes_on};
-use rs_question::{Ended, FAILED, REFUSED, Utc};
-use rs_setup::{Setup, SetupFault, a_configuration_has_a_file_for_each_peer, read_setup};
+use rs_setup::{Setup, SetupFault, read_setup};
 use std::alloc::{AllocError, Global};
 use std::env;
 use std::env::Env;
 use std::fs::{File, Files};
 use std::io::ErrorKind;
-
-// The status of a configuration whose run would not be clean.
-const NOT_CLEAN: u8 = 5;
 
 // How many changes are taken for granted of a peer of which a note may be told.
 const CLOSE_ALONE: u64 = 1;
@@ -30,15 +28,18 @@ const CLOSE_ALONE: u64 = 1;
 /// Tells what a run over the configuration at a path would meet. The status is 0 where it would be clean, 1 where the
 /// configuration would be refused, 2 where a file would fail, 5 where a session would close before the end of its file
 /// or there would be a note.
-pub(crate) fn check<R: AllocGlobal + Files + Env>(rt: &R, path: &str) -> Result<Answer, Ended> {
+pub(crate) fn check<R: AllocGlobal + Files + Env>(
+    rt: &R,
+    path: &str,
+) -> Result<Answer, Unanswered> {
     let alloc = rt.alloc();
     let octets = match read_file(rt, path) {
         Ok(octets) => octets,
-        Err(fault) => return Err(Ended::by_file(alloc, fault, path)),
+        Err(fault) => return Err(Unanswered::from(Unready::by_file(alloc, fault, path))),
     };
     match read_setup(alloc, &octets) {
         Ok(setup) => check_files(rt, &setup),
-        Err(SetupFault::Memory) => Err(Ended::Memory),
+        Err(SetupFault::Memory) => Err(Unanswered::Memory),
         Err(fault) => Ok(told(refusal_text(alloc, path, &octets, &fault)?, REFUSED)),
     }
 }
@@ -53,7 +54,7 @@ fn told(text: String, status: u8) -> Answer {
 }
 
 // Tells what the files of a setup hold.
-fn check_files<R: AllocGlobal + Files + Env>(rt: &R, setup: &Setup) -> Result<Answer, Ended> {
+fn check_files<R: AllocGlobal + Files + Env>(rt: &R, setup: &Setup) -> Result<Answer, Unanswered> {
     let mut text = String::new(rt.alloc());
     for peer in 0..setup.plan.count().min(setup.files.len()) {
         add_unopened(
@@ -131,7 +132,7 @@ fn check_records<R: AllocGlobal + Files>(
     rt: &R,
     setup: &Setup,
     text: String,
-) -> Result<Answer, Ended> {
+) -> Result<Answer, Unanswered> {
     let alloc = rt.alloc();
     let mut text = text;
     let mut held = Vec::new(alloc);
@@ -149,7 +150,7 @@ fn check_records<R: AllocGlobal + Files>(
             changes: CLOSE_ALONE,
             close,
         };
-        endings.push(ending).map_err(|_| Ended::Memory)?;
+        endings.push(ending).map_err(|_| Unanswered::Memory)?;
     }
     let clean = endings.iter().all(|ending| ending.close == Close::AtEnd);
     let noted = add_notes(rt, &mut text, setup, &endings)?;
@@ -190,12 +191,12 @@ fn add_held<R: AllocGlobal + Files>(
     rt: &R,
     held: &mut Vec<RecordedFile>,
     path: &str,
-) -> Result<(), Ended> {
+) -> Result<(), Unanswered> {
     if held.iter().any(|file| file.path.as_str() == path) {
         return Ok(());
     }
     let file = recorded_file(rt, String::from_str(rt.alloc(), path)?)?;
-    held.push(file).map_err(|_| Ended::Memory)
+    held.push(file).map_err(|_| Unanswered::Memory)
 }
 
 // Adds that what a peer's file holds isn't looked at, since it is none.
@@ -214,7 +215,7 @@ fn add_peer<R: AllocGlobal + Files>(
     spec: &PeerSpec,
     held: &[RecordedFile],
     path: &str,
-) -> Result<Close, Ended> {
+) -> Result<Close, Unanswered> {
     let alloc = rt.alloc();
     let peer = Peer {
         address: spec.address,
@@ -229,7 +230,7 @@ fn add_peer<R: AllocGlobal + Files>(
     }
     let reader = match open_file(rt, path) {
         Ok(reader) => reader,
-        Err(fault) => return Err(Ended::by_file(alloc, fault, path)),
+        Err(fault) => return Err(Unanswered::from(Unready::by_file(alloc, fault, path))),
     };
     let Some(closing) = closing_of(alloc, reader, peer, path)? else {
         return Ok(Close::AtEnd);

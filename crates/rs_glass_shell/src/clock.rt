@@ -3,7 +3,7 @@
 use crate::columns::add_cell;
 use rs_explain::LastSaid;
 use rs_glass::Said;
-use rs_question::{Utc, civil_time};
+use rs_host::{Utc, civil_time};
 use std::alloc::{AllocError, Global};
 
 // The seconds of a day.

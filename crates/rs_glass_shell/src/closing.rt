@@ -1,11 +1,12 @@
 //! Where the recorded session of a peer closes before the end of its file, by RFC 4271 (docs/MANUAL.md, "Report and
 //! dumps").
 
+use crate::unanswered::Unanswered;
+use rs_host::Unready;
 use rs_inventory::Peer;
 use rs_mrt::{
     Entry, FRONT_LEN, HEADER_LEN, MrtFault, Read, Record, RecordReader, Source, SourceFault, entry,
 };
-use rs_question::Ended;
 use rs_session::Reason;
 use rs_update::{MessageFault, read_message};
 use std::alloc::{AllocError, Global};
@@ -28,7 +29,7 @@ pub(crate) fn closing_of<R: Read + Drop>(
     reader: R,
     peer: Peer,
     path: &str,
-) -> Result<Option<Closing>, Ended>
+) -> Result<Option<Closing>, Unanswered>
     requires { R.failures reader < u64.MAX }
 {
     let mut source = RecordReader::new(reader);
@@ -38,7 +39,7 @@ pub(crate) fn closing_of<R: Read + Drop>(
             Ok(true) => {}
             Ok(false) => return Ok(None),
             Err(SourceFault::Mrt(fault)) => return Ok(Some(cut_at(octet, fault))),
-            Err(SourceFault::Read) => return Err(Ended::by_path(alloc, path)),
+            Err(SourceFault::Read) => return Err(Unanswered::from(Unready::by_path(alloc, path))),
         }
         let Some(record) = source.shown() else {
             return Ok(None);

@@ -7,7 +7,7 @@ use crate::reasons::close_text;
 use crate::route_text::add_route;
 use rs_choice::Exchange;
 use rs_glass::{Event, Gets, History};
-use rs_question::Utc;
+use rs_host::Utc;
 use rs_session::Reason;
 use std::alloc::{AllocError, Global};
 

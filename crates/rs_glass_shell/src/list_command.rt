@@ -9,6 +9,8 @@ const TABLE_ABOUT: &str = "Which routes does a client get?";
 
 const MISSING_ABOUT: &str = "Which routes of other peers does a client not get, and why?";
 
+const SUMMARY_ABOUT: &str = "What becomes of the routes of all peers, in numbers?";
+
 // What routes are listed for: an answer, or a reason.
 const REASONS: [&str; 14] = [
     "ineligible",
@@ -52,6 +54,17 @@ pub(crate) fn missing_command<'a>(alloc: Global) -> Result<Command<'a>, AllocErr
         .arg(from(alloc))?
         .arg(because(alloc))?
         .arg(count(alloc))?
+        .arg(errors(alloc))?
+        .arg(shards(alloc))?
+        .arg(csv(alloc)?)?
+        .arg(json(alloc))
+}
+
+// `summary`
+pub(crate) fn summary_command<'a>(alloc: Global) -> Result<Command<'a>, AllocError> {
+    Command::new(alloc, "summary")
+        .about(SUMMARY_ABOUT)
+        .arg(config(alloc))?
         .arg(errors(alloc))?
         .arg(shards(alloc))?
         .arg(csv(alloc)?)?

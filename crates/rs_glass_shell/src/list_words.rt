@@ -1,8 +1,9 @@
 //! The questions about whole tables that the words of the command line ask.
 
+use crate::query::{Form, MissingQuery, SummaryQuery, TableQuery, TablesQuery};
 use crate::words::{errors, prefix, text};
 use clap::ArgMatches;
-use rs_question::{Form, MissingQuery, TableQuery, TablesQuery, WordsFault};
+use rs_host::WordsFault;
 use std::alloc::Global;
 
 // `table`
@@ -32,6 +33,17 @@ pub(crate) fn missing_of(
         from: optional(alloc, matches, "from")?,
         because: optional(alloc, matches, "because")?,
         count: matches.get_flag("count"),
+        form: form_of(matches),
+    })
+}
+
+// `summary`
+pub(crate) fn summary_of(
+    alloc: Global,
+    matches: &ArgMatches<'_>,
+) -> Result<SummaryQuery, WordsFault> {
+    Ok(SummaryQuery {
+        tables: tables_of(alloc, matches)?,
         form: form_of(matches),
     })
 }

@@ -1,6 +1,6 @@
 //! What the texts of values stand for.
 
-use rs_question::read_time;
+use rs_host::read_time;
 use rs_setup::slashed_subnet;
 use rs_update::Prefix;
 

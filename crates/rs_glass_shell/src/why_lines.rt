@@ -6,7 +6,7 @@ use crate::names::{add_gets, asn_at, name_at, name_width};
 use crate::reasons::{answer_name, because};
 use rs_choice::Exchange;
 use rs_glass::{Answer, Answers, LessSpecific};
-use rs_question::Utc;
+use rs_host::Utc;
 use std::alloc::{AllocError, Global};
 
 // How wide the columns of AS numbers and of answers are.

@@ -1,19 +1,19 @@
 //! Reads the words of the command line, with `clap`.
 
 use crate::command::program;
-use crate::list_words::{missing_of, table_of};
+use crate::list_words::{missing_of, summary_of, table_of};
+use crate::query::{CheckQuery, HistoryQuery, PeersQuery, Query, WhyQuery};
 use crate::values::{PREFIX_FORM, TIME_FORM, prefix_of, time_of};
 use clap::error::ErrorKind;
 use clap::{ArgMatches, Error};
-use rs_host::{each_on_one_line, standard_of};
-use rs_question::{CheckQuery, HistoryQuery, PeersQuery, Query, WhyQuery, WordsFault};
+use rs_host::{WordsFault, each_on_one_line, standard_of};
 use rs_update::{Errors, Prefix};
 use std::alloc::{AllocError, Global};
 
 // The text where `clap` gives less than it promises.
 const INCOMPLETE: &str = "error: an option has no value\n";
 
-/// Reads the words of the command line, which begin with the program's own name. Fails with `Shown` where they ask for
+/// Reads the words of the command line, which begin with the program's own name. Fails with `Help` where they ask for
 /// help or the version, with `Refused` where they ask no question, with `Memory` where memory is refused. Control
 /// characters of a word are escaped in the text that tells why.
 pub fn read_query(alloc: Global, words: Vec<String>) -> Result<Query, WordsFault> {
@@ -48,6 +48,7 @@ fn query_of(alloc: Global, matches: &ArgMatches<'_>) -> Result<Query, WordsFault
         })),
         Some(("table", matches)) => Ok(Query::Table(table_of(alloc, matches)?)),
         Some(("missing", matches)) => Ok(Query::Missing(missing_of(alloc, matches)?)),
+        Some(("summary", matches)) => Ok(Query::Summary(summary_of(alloc, matches)?)),
         _ => Err(WordsFault::Refused(String::from_str(alloc, INCOMPLETE)?)),
     }
 }
@@ -147,7 +148,7 @@ fn fault_of(alloc: Global, error: &Error) -> WordsFault {
     };
     match error.kind() {
         ErrorKind::OutOfMemory => WordsFault::Memory,
-        ErrorKind::DisplayHelp | ErrorKind::DisplayVersion => WordsFault::Shown(text),
+        ErrorKind::DisplayHelp | ErrorKind::DisplayVersion => WordsFault::Help(text),
         _ => WordsFault::Refused(text),
     }
 }

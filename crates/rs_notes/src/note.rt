@@ -8,10 +8,9 @@ ghost use Rattle.rs_notes.specs.Note.{loss_text, note_of, others_text, text_of, 
 
 use crate::cut::Cut;
 use crate::hint::Hint;
-use rs_host::on_one_line;
+use rs_host::{Utc, on_one_line};
 use rs_inventory::{Kind, Peer};
 use rs_mrt::Tail;
-use rs_time::Utc;
 use std::alloc::{AllocError, Global};
 use std::net::Ipv4Addr;
 

@@ -1,6 +1,5 @@
 pub mod Amount
 pub mod CommandLine
-pub mod Files
 pub mod Paths
 pub mod Status
 pub mod Texts

@@ -28,6 +28,6 @@ pub use counted::Counted;
 pub use ended::{Ended, run_status, status};
 pub use folder_outlet::FolderOutlet;
 pub use progress::Progress;
-pub use start::{command_line, configuration, end, progress_on, ready_files};
+pub use start::{command_line, end, progress_on, ready_files};
 pub use texts::line;
 pub use words::read_words;

@@ -10,9 +10,8 @@ ghost use Rattle.rs_program.specs.CommandLine.{with_bounds, with_manner};
 use clap::builder::ValueParser;
 use clap::error::ErrorKind;
 use clap::{Arg, ArgAction, ArgMatches, Command, Error, value_parser};
-use rs_host::{Options, WordsFault, standard_of};
+use rs_host::{Options, WordsFault, read_time, standard_of};
 use rs_mrt::{Bounds, Tail};
-use rs_time::read_time;
 use std::alloc::{AllocError, Global};
 
 // The program's version.

@@ -1,1 +1,9 @@
 pub mod MissingLemmas
+pub mod TallyLemmas
+pub mod GrowthLemmas
+pub mod RemovingLemmas
+pub mod RefusalLemmas
+pub mod SeenLemmas
+pub mod HiddenLemmas
+pub mod CountLemmas
+pub mod SummaryLemmas

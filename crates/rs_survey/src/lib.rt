@@ -4,11 +4,23 @@
 //! client, its export policy before its decision).
 //!
 //! Reading order: `on_prefix` (the routes on one prefix that a client does not get), `missing_routes` (those on all
-//! prefixes).
+//! prefixes). A summary: `finding` (what is counted), `tally` (how often), `seen` (the routes on a prefix), `removing` (the
+//! step that removes a candidate), `hidden` (what one decision for all clients would hide), `counting` (one prefix),
+//! `summary_of` (all prefixes).
 #![tactic(auto)]
 
+mod counting;
+mod finding;
+mod hidden;
 mod missing_routes;
 mod on_prefix;
+mod removing;
+mod seen;
+mod summary_of;
+mod tally;
 
+pub use finding::{Finding, Flaw};
 pub use missing_routes::MissingRoutes;
 pub use on_prefix::{MissingOn, MissingRoute, missing_on};
+pub use summary_of::summary;
+pub use tally::Tally;
