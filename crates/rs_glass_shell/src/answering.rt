@@ -1,34 +1,39 @@
 //! Answers the question of the command line: reads what it names, and writes what comes of it.
 
-ghost use Rattle.std.specs.Prelude.{◌≡◌, ◌<◌, length};
+ghost use Rattle.std.specs.Prelude.{◌≡◌, IfOk, length};
 
 use crate::checking::check;
-use crate::history_lines::history_text;
+use crate::history_lines::{HistoryView, history_text};
 use crate::history_object::history_json;
 use crate::lines::PROGRAM;
 use crate::list_answering::{missing, summary, table};
 use crate::listing_lines::as_text;
 use crate::listing_object::as_json;
 use crate::listing_toml::as_toml;
-use crate::query::{HistoryQuery, PeersQuery, Query, WhyQuery};
+use crate::query::{Destination, HistoryQuery, PeersQuery, Query, Span, WhyQuery};
 use crate::recorded_file::RecordedFile;
 use crate::setup::peer_named;
+use crate::starts::starts;
 use crate::unanswered::Unanswered;
-use crate::why_lines::why_text;
+use crate::why_lines::{WhyView, why_text};
 use crate::why_object::why_json;
 use crate::words::read_query;
 use rs_glass::{
-    Answers, History, Question, explain_all, fill_history, read_happenings, read_sessions,
+    History, Question, Reading, explain_all, fill_history, longest_announced, read_happenings,
+    read_sessions,
 };
 use rs_host::{
-    Unready, WordsFault, configuration, first_unreadable, open_file, open_files, read_arguments,
+    DONE, Unready, WordsFault, configuration, first_unreadable, on_one_line, open_file, open_files,
+    read_arguments,
 };
 use rs_inventory::{InventoryFault, read_inventory};
 use rs_mrt::{Bounds, Tail};
 use rs_setup::Setup;
+use rs_update::Prefix;
 use std::env::Env;
 use std::fs::Files;
 use std::io::Print;
+use std::net::Ipv4Addr;
 use std::sync::Wait;
 use std::thread::Threads;
 
@@ -44,7 +49,7 @@ pub struct Answer {
 }
 
 /// Answers the question of the command line: reads the configuration and the recorded files that it names. Of a list
-/// all but its last part is printed by then. Fails with why the program stops short.
+/// all but its last part is printed by then. Fails with why there is no answer.
 pub fn answer<R: AllocGlobal + Env + Files + Threads + Wait + Sync + Print>(
     rt: &R,
 ) -> Result<Answer, Unanswered>
@@ -56,7 +61,7 @@ where
         Query::History(query) => history(rt, &query),
         Query::Peers(query) => Ok(Answer {
             text: peers(rt, query)?,
-            status: 0,
+            status: DONE,
             read: None,
         }),
         Query::Check(query) => check(rt, &query.config),
@@ -71,7 +76,7 @@ pub(crate) fn answer_until(text: String, setup: Setup, until: Option<u32>) -> An
     let tail = Tail::Strict;
     Answer {
         text,
-        status: 0,
+        status: DONE,
         read: Some((setup, Bounds { until, tail })),
     }
 }
@@ -92,37 +97,112 @@ where
     let alloc = rt.alloc();
     let setup = configuration(rt, &query.config)?;
     let client = peer_named(rt, &setup, &query.client)?;
-    let answers = explained(rt, &setup, client, query)?;
-    let text = if query.json {
-        why_json(alloc, &setup.plan, &answers)?
-    } else {
-        why_text(alloc, &setup.plan, &answers)?
+    let question = asked(rt, &setup, query.prefix, query.span)?;
+    let reading = read(rt, &setup, &question, query.span)?;
+    let answers = explain_all(alloc, &reading, client, &question)?;
+    let starts = starts(rt, &setup, &answers, query.span.until)?;
+    let view = WhyView {
+        plan: &setup.plan,
+        tables: &reading.tables,
+        starts: &starts,
+        until: query.span.until,
+        all: query.all,
+        attributes: query.attributes,
     };
-    Ok(answer_until(text, setup, query.until))
+    let text = if query.json {
+        why_json(alloc, &view, &answers)?
+    } else {
+        why_text(alloc, &view, &answers)?
+    };
+    Ok(answer_until(text, setup, query.span.until))
 }
 
-// The answers of a configuration.
-fn explained<R: AllocGlobal + Files + Threads + Sync>(
+// What is asked of the recorded sessions: of an address, about the longest prefix with a route that covers it; where
+// there is none, about the address alone.
+fn asked<R: AllocGlobal + Files + Threads + Sync>(
     rt: &R,
     setup: &Setup,
-    client: usize,
-    query: &WhyQuery,
-) -> Result<Answers, Unanswered>
+    destination: Destination,
+    span: Span,
+) -> Result<Question, Unanswered>
 where
     R::File: Send,
-    requires client_known { client < length setup.now.plan.value.peers }
-    requires one_for_each { length setup.now.files.items ≡ length setup.now.plan.value.peers }
+    requires { length setup.now.files.items ≡ length setup.now.plan.value.peers }
+{
+    let errors = span.errors;
+    let prefix = match destination {
+        Destination::Prefix(prefix) => prefix,
+        Destination::Address(address) => {
+            refuse_read_once(rt, setup, address)?;
+            let prefix = host(address);
+            let reading = read(rt, setup, &Question { prefix, errors }, span)?;
+            longest_announced(&reading.tables, prefix).unwrap_or(prefix)
+        }
+    };
+    Ok(Question { prefix, errors })
+}
+
+// The prefix of one address.
+fn host(address: u32) -> Prefix {
+    match Prefix::new(address, 32) {
+        Some(prefix) => prefix,
+        None => unreachable!(),
+    }
+}
+
+// Refuses a question about an address where a file gives its octets only once: it is read twice for that.
+fn refuse_read_once<R: AllocGlobal + Files>(
+    rt: &R,
+    setup: &Setup,
+    address: u32,
+) -> Result<(), Unanswered> {
+    let alloc = rt.alloc();
+    let mut paths = Vec::new(alloc);
+    for path in setup.files.iter().chain(setup.files.iter()) {
+        paths
+            .push(String::from_str(alloc, path)?)
+            .map_err(|_| Unanswered::Memory)?;
+    }
+    match first_unreadable(rt, &paths)? {
+        Some(place) if place >= setup.files.len() => {
+            let path = on_one_line(alloc, &paths[place])?;
+            let address = Ipv4Addr::from_bits(address);
+            let text = format!(in alloc;
+                "looking_glass: --prefix {address} is an address, and {path} can be read only once\n"
+            )?;
+            Err(Unanswered::Words(WordsFault::Refused(text)))
+        }
+        _ => Ok(()),
+    }
+}
+
+// What the recorded sessions of a configuration say.
+fn read<R: AllocGlobal + Files + Threads + Sync>(
+    rt: &R,
+    setup: &Setup,
+    question: &Question,
+    span: Span,
+) -> Result<Reading, Unanswered>
+where
+    R::File: Send,
+    requires { length setup.now.files.items ≡ length setup.now.plan.value.peers }
+    ensures plan { IfOk result (λ reading. reading.tables.plan ≡ setup.now.plan.value) }
+    ensures as_many { IfOk result (λ reading.
+        length reading.said.items ≡ length setup.now.plan.value.peers) }
 {
     let alloc = rt.alloc();
-    let question = Question {
-        prefix: query.prefix,
-        until: query.until,
-        errors: query.errors,
-    };
-    let files = open_files(rt, &setup.files, Bounds::none(), |file| file)?;
-    match read_sessions(rt, alloc, &setup.plan, files, &question) {
-        Ok(reading) => Ok(explain_all(alloc, &reading, client, &question)?),
+    let files = open_files(rt, &setup.files, bounds(span), |file| file)?;
+    match read_sessions(rt, alloc, &setup.plan, files, question) {
+        Ok(reading) => Ok(reading),
         Err(fault) => Err(Unanswered::by_reading(alloc, fault, setup)),
+    }
+}
+
+// How much of each recorded file is read.
+fn bounds(span: Span) -> Bounds {
+    Bounds {
+        until: span.until,
+        tail: Tail::Strict,
     }
 }
 
@@ -137,16 +217,22 @@ where
     let alloc = rt.alloc();
     let setup = configuration(rt, &query.config)?;
     let client = match &query.client {
-        Some(name) => Some(peer_named(rt, &setup, name)?),
+        Some(word) => Some(peer_named(rt, &setup, word)?),
         None => None,
     };
     let history = replayed(rt, &setup, client, query)?;
-    let text = if query.json {
-        history_json(alloc, &setup.plan, &history)?
-    } else {
-        history_text(alloc, &setup.plan, &history)?
+    let view = HistoryView {
+        plan: &setup.plan,
+        until: query.span.until,
+        ends: query.ends,
+        attributes: query.attributes,
     };
-    Ok(answer_until(text, setup, query.until))
+    let text = if query.json {
+        history_json(alloc, &view, &history)?
+    } else {
+        history_text(alloc, &view, &history)?
+    };
+    Ok(answer_until(text, setup, query.span.until))
 }
 
 // The history of a configuration.
@@ -161,12 +247,8 @@ where
     requires { length setup.now.files.items ≡ length setup.now.plan.value.peers }
 {
     let alloc = rt.alloc();
-    let question = Question {
-        prefix: query.prefix,
-        until: query.until,
-        errors: query.errors,
-    };
-    let files = open_files(rt, &setup.files, Bounds::none(), |file| file)?;
+    let question = asked(rt, setup, query.prefix, query.span)?;
+    let files = open_files(rt, &setup.files, bounds(query.span), |file| file)?;
     match read_happenings(rt, alloc, &setup.plan, files, &question) {
         Ok(happenings) => {
             let asked = History::of(alloc, &question, client, query.from);

@@ -63,7 +63,7 @@ where
     } else {
         list_table(rt, served.tables(), client, &rows, query.form)?
     };
-    Ok(answer_until(text, setup, None))
+    Ok(answer_until(text, setup, query.tables.until))
 }
 
 // Lists the routes that a client does not get, in the same way.
@@ -89,7 +89,7 @@ where
     } else {
         list_missing(rt, served.tables(), client, wanted, query.form)?
     };
-    Ok(answer_until(text, setup, None))
+    Ok(answer_until(text, setup, query.tables.until))
 }
 
 // What becomes of the routes of all peers, in numbers.
@@ -106,7 +106,7 @@ where
     let tables = served.tables();
     let tally = rs_survey::summary(alloc, tables)?;
     let text = written(alloc, &Layout::new(tables.plan(), 0, query.form), &tally)?;
-    Ok(answer_until(text, setup, None))
+    Ok(answer_until(text, setup, query.tables.until))
 }
 
 // The number of the sender that is asked for, if one is.

@@ -1,7 +1,7 @@
 //! Inventories as a configuration to start from: each peer of which a message is recorded, with its file.
 //!
-//! Our choices: the server is the recorder that the first file with messages names; a peer is named after its AS
-//! number; an address that stands twice is a comment the second time, since no two peers have the same. Files in which
+//! Our choices: the server is the recorder that the first file with messages names. A peer is named after its AS
+//! number. An address that stands twice is a comment the second time, since no two peers have the same. Files in which
 //! one peer has messages are pieces of one recording, in the order of the command line: the peer stands once, with the
 //! file that they make when they are joined. A file that is there only while the command runs is no peer's file.
 

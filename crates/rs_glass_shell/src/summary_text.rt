@@ -4,6 +4,7 @@ ghost use Rattle.std.specs.Prelude.{◌<◌};
 
 use crate::columns::{add_cell, fill_cell};
 use crate::layout::Layout;
+use crate::names::name_width;
 use crate::summary_numbers::{STEPS, of_peer};
 use rs_survey::{Finding, Tally};
 use std::alloc::AllocError;
@@ -26,7 +27,11 @@ const PEER_TITLES: [&str; 7] = [
 ];
 
 // Adds the four tables.
-pub(crate) fn add_tables(text: &mut String, layout: &Layout, tally: &Tally) -> Result<(), AllocError> {
+pub(crate) fn add_tables(
+    text: &mut String,
+    layout: &Layout,
+    tally: &Tally,
+) -> Result<(), AllocError> {
     add_peers(text, layout, tally)?;
     text.push('\n')?;
     add_matrix(text, layout, tally)?;
@@ -34,12 +39,17 @@ pub(crate) fn add_tables(text: &mut String, layout: &Layout, tally: &Tally) -> R
     add_steps(text, tally)?;
     text.push('\n')?;
     let hidden = tally.count(Finding::Hidden);
-    writeln!(text, "hidden paths: prefixes on which one decision for all clients would leave a client none\n{hidden}")
+    writeln!(
+        text,
+        "hidden paths: prefixes on which one decision for all clients would leave a client none\n{hidden}"
+    )
 }
 
 // Adds what becomes of the routes of each peer.
 fn add_peers(text: &mut String, layout: &Layout, tally: &Tally) -> Result<(), AllocError> {
-    text.push_str("peers: prefixes left, of these ineligible; at the other peers refused, lost, best\n")?;
+    text.push_str(
+        "peers: prefixes left, of these ineligible; at the other peers refused, lost, best\n",
+    )?;
     layout.add_sender_titles(text)?;
     for title in &PEER_TITLES {
         add_cell(text, title, NUMBER_WIDTH)?;
@@ -62,23 +72,28 @@ fn add_peer(
 {
     layout.add_sender(text, peer)?;
     for (_, number) in &of_peer(tally, peer) {
-        add_number(text, *number)?;
+        add_number(text, *number, NUMBER_WIDTH)?;
     }
     end_line(text)
 }
 
 // Adds how many routes each client gets from each sender.
 fn add_matrix(text: &mut String, layout: &Layout, tally: &Tally) -> Result<(), AllocError> {
-    text.push_str("clients: routes that each gets from each peer\n")?;
-    add_cell(text, "client", layout.names)?;
-    for peer in 0..tally.peers() {
-        add_cell(text, layout.name(peer), NUMBER_WIDTH)?;
-    }
-    end_line(text)?;
+    add_matrix_titles(text, layout, tally)?;
     for client in 0..tally.peers() {
         add_client(text, layout, tally, client)?;
     }
     Ok(())
+}
+
+// Adds its titles.
+fn add_matrix_titles(text: &mut String, layout: &Layout, tally: &Tally) -> Result<(), AllocError> {
+    text.push_str("clients: routes that each gets from each peer\n")?;
+    add_cell(text, "client", name_width(layout.plan, "client"))?;
+    for peer in 0..tally.peers() {
+        add_cell(text, layout.name(peer), layout.names.max(NUMBER_WIDTH))?;
+    }
+    end_line(text)
 }
 
 // Adds the line of a client.
@@ -90,12 +105,13 @@ fn add_client(
 ) -> Result<(), AllocError>
     requires { client < tally.now.peers }
 {
-    add_cell(text, layout.name(client), layout.names)?;
+    let width = layout.names.max(NUMBER_WIDTH);
+    add_cell(text, layout.name(client), name_width(layout.plan, "client"))?;
     for peer in 0..tally.peers() {
         if peer == client {
-            add_cell(text, "-", NUMBER_WIDTH)?;
+            add_cell(text, "-", width)?;
         } else {
-            add_number(text, tally.count(Finding::Best(client, peer)))?;
+            add_number(text, tally.count(Finding::Best(client, peer)), width)?;
         }
     }
     end_line(text)
@@ -113,10 +129,10 @@ fn add_steps(text: &mut String, tally: &Tally) -> Result<(), AllocError> {
 }
 
 // Adds a number as a cell.
-fn add_number(text: &mut String, number: u64) -> Result<(), AllocError> {
+fn add_number(text: &mut String, number: u64, width: usize) -> Result<(), AllocError> {
     let start = text.len();
     write!(text, "{number}")?;
-    fill_cell(text, start, NUMBER_WIDTH)
+    fill_cell(text, start, width)
 }
 
 // Ends a line of cells: no space stands before the line break.

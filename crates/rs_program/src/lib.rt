@@ -1,11 +1,11 @@
 //! What the route server does beside the run itself: it reads the command line, opens files, keeps dumps in a
 //! folder, shows progress, and ends with a status.
 //!
-//! Reading order: `start` (what the program does before the run, and how it ends); `words` (the command line);
-//! `ended` (the ways to stop short, and their statuses), `texts` (their lines), `paths` (the path of a dump); `amount`
-//! (how much was read, and the line that says it), `progress` (that line on standard error), `counted` (a reader whose
-//! octets are counted), `cleared` (a writer that takes the line away first); `files` (opening), `folder_outlet`
-//! (dumps), `overwritten` and `tried` (what is seen beforehand).
+//! Reading order: `start` (what the program does before the run, and how it ends), `words` (the command line). `ended`
+//! (the ways to fail, and their statuses), `texts` (their lines), `paths` (the path of a dump). `amount` (how much was
+//! read, and the line that says it), `files` (how much there is), `progress` (that line on standard error). `counted`
+//! (a reader whose octets are counted), `cleared` (a writer that takes the line away first). `folder_outlet` (dumps),
+//! `overwritten` and `tried` (what is seen beforehand).
 #![tactic(auto)]
 
 mod amount;

@@ -1,5 +1,5 @@
 -- What is found of a route to a client, case by case: for counting.rt.
-use Rattle.std.proofs.Common.{◌≡◌, ◌≢◌, ◌∙◌, sym, ap, refl, arith, ℕ, ◌<◌, ◌==◌, Bool, true, false, ◌||◌, ◌&&◌, not, List, [], ◌∷◌, length, map}
+use Rattle.std.proofs.Common.{◌≡◌, ◌≢◌, ◌∙◌, sym, ap, refl, arith, ℕ, ◌<◌, ◌==◌, Bool, true, false, cond, ◌||◌, ◌&&◌, not, List, [], ◌∷◌, length, map}
 use Rattle.std.specs.Prelude.{Option, None, Some, IfSome, is_some, slice_get}
 use Rattle.std.specs.List.{Contains}
 use Rattle.std.specs.Option.{option_map, option_map_or, option_to_list}
@@ -59,11 +59,13 @@ module _ (plan : Plan) (routes : List SentRoute) (client : ℕ) (route : SentRou
 
   pub refused_is : (client == route.peer) ≡ false → is_some (failed_condition plan route.peer route.attributes) ≡ false →
       is_sent_to plan client route ≡ false → to_client plan routes client route ≡ Refused client route.peer ∷ []
-  refused_is other passes refused = rw (other, passes, refused) refl
+  refused_is other passes refused =
+      λ i. cond (other i || passes i) [] (cond (not (refused i)) (Refused client route.peer ∷ []) (of_candidate plan routes client route))
 
   pub candidate_is : (client == route.peer) ≡ false → is_some (failed_condition plan route.peer route.attributes) ≡ false →
       is_sent_to plan client route ≡ true → to_client plan routes client route ≡ of_candidate plan routes client route
-  candidate_is other passes sent = rw (other, passes, sent) refl
+  candidate_is other passes sent =
+      λ i. cond (other i || passes i) [] (cond (not (sent i)) (Refused client route.peer ∷ []) (of_candidate plan routes client route))
 
   pub best_is : is_from route.peer (chosen_for plan client routes) ≡ true →
       of_candidate plan routes client route ≡ Best client route.peer ∷ []

@@ -34,8 +34,12 @@ all_known plan (one ∷ seen) all =
 
 pub few_fit : (seen : List Seen) → length (map candidate_of_seen (fit seen)) ≤ length seen
 few_fit seen =
-    omega (arith, length-map (fit seen) candidate_of_seen, length-filter (λ one. is_none one.flaw) seen,
-    count_by-le-length (λ one. is_none one.flaw) seen)
+    omega (
+      arith,
+      length-map (fit seen) candidate_of_seen,
+      length-filter (λ one. is_none one.flaw) seen,
+      count_by-le-length (λ one. is_none one.flaw) seen,
+    )
 
 eligible_are : (plan : Plan) (seen : List Seen) → All (IsSeen plan) seen →
     filter (λ one. is_eligible plan one.route.peer one.route.attributes.now) seen ≡ fit seen

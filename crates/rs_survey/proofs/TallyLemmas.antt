@@ -22,9 +22,9 @@ use Rattle.rs_survey.specs.Tally.{IsTally, TallyContent, digits, most, place_in}
 
 digits_same : (w a b c d : ℕ) → b < w → d < w → a * w + b ≡ c * w + d → (a ≡ c) × (b ≡ d)
 digits_same w a b c d below also e = (
-    sym (div-mul-add a w b below) ∙ ap (λ n. n / w) e ∙ div-mul-add c w d also,
-    sym (mod-mul-add a w b below) ∙ ap (λ n. n % w) e ∙ mod-mul-add c w d also,
-  )
+  sym (div-mul-add a w b below) ∙ ap (λ n. n / w) e ∙ div-mul-add c w d also,
+  sym (mod-mul-add a w b below) ∙ ap (λ n. n % w) e ∙ mod-mul-add c w d also,
+)
 
 record HasDigits (width : ℕ) (key : Key) : Type 0 where
   first : key.first < width

@@ -89,13 +89,7 @@ fn is_kept_out(
 }
 
 // Whether a route is such a candidate.
-fn keeps_out(
-    plan: &Exchange,
-    client: usize,
-    best: &Standing,
-    one: &Standing,
-    other: &Seen,
-) -> bool
+fn keeps_out(plan: &Exchange, client: usize, best: &Standing, one: &Standing, other: &Seen) -> bool
     requires client_known { client < length plan.now.peers }
     requires seen { IsSeen plan.now other.now }
     ensures { result ≡ keeps_out plan.now client best.now one.now (sent_of_seen other.now) }

@@ -27,8 +27,5 @@ returns-in-Some c =
     is_best_from plan route.peer (chosen_for plan c.args.client routes) c.args.best.now c.is_best.result c.is_best.ensures c.requires.best in
     subst (Grows c.args.tally.now c.add-in-Some.new.self)
     (sym (lost_is plan routes c.args.client route (Some c.in-Some.step) (sym from ∙ c.if-is_best.false) c.in-Some.ensures))
-    (grows_then c.args.tally.now c.add.new.self c.add-in-Some.new.self (Lost c.args.client route.peer ∷ []) (Removed c.in-Some.step ∷ [])
-    c.add.ensures c.add-in-Some.ensures)
-
-pub returns : goal.returns
-returns c = ?
+    (grows_then c.args.tally.now c.add-2.new.self c.add-in-Some.new.self (Lost c.args.client route.peer ∷ []) (Removed c.in-Some.step ∷ [])
+    c.add-2.ensures c.add-in-Some.ensures)

@@ -21,7 +21,7 @@ loop-client-preserved c =
     let so_far = c.loop-client.invariant in
     let both : c.if-hides.hides ≡ (list_any hidden (range_with_len 0 n) || hidden n) =
     elim c.if-hides.branch [
-      | then-hides w ↦ w.hides-is ∙ ap (λ b. b || hidden n) (sym w.if-hides.true ∙ so_far)
+      | then-hides w ↦ w.hides-is ∙ w.if-hides.true ∙ ap (λ b. b || hidden n) (sym w.if-hides.true ∙ so_far)
       | else-hides+then-is_some w ↦
           let gets : is_some (chosen_for plan n routes) ≡ true =
           sym (ap is_some (w.best.ensures ∙ c.requires.routes.bests n)) ∙ some_made sent_route_of w.best.result

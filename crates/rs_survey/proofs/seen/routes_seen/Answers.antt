@@ -1,8 +1,9 @@
-use Rattle.std.proofs.Common.{◌≡◌, ◌∙◌, ◌+◌, ◌++◌, ◌∷◌, [], ◌<◌, ◌≤◌, List, ap, sym, arith, drop, length, length-append, map}
+use Rattle.std.proofs.Common.{◌≡◌, ◌∙◌, ◌+◌, ◌++◌, ◌∷◌, [], ◌<◌, ◌≤◌, List, ap, sym, subst, arith, drop, length, length-append, map}
 use Rattle.std.specs.Prelude.{None, Some, Option}
 use Rattle.std.specs.List.{cons_option}
 use Rattle.std.proofs.lemmas.List.Elements.{All-push}
 use Rattle.rs_choice.specs.Decision.{SentRoute}
+use Rattle.rs_choice.specs.Plan.{Plan}
 use Rattle.rs_table.specs.RouteView.{sent_route_of}
 use Rattle.rs_table.specs.Table.{route_from}
 use Rattle.rs_survey.specs.declared.seen.Seen.{Seen}
@@ -32,7 +33,8 @@ loop-peer-preserved c =
           record {
             listed = rw grown (next_listed sent_of_seen items _ rest _ one c.loop-peer.invariant.listed
                 (more ∙ ap (λ (found : Option SentRoute). cons_option found rest) (sym found)));
-            seen = rw grown (All-push (IsSeen tables.plan) items one c.loop-peer.invariant.seen w.route_seen.ensures.seen);
+            seen = rw grown (All-push (IsSeen tables.plan) items one c.loop-peer.invariant.seen
+                (subst (λ (plan : Plan). IsSeen plan one) w.plan.ensures w.route_seen.ensures.seen));
             bound = rw grown len;
           }
       | in_default w ↦
