@@ -2,7 +2,7 @@
 _looking_glass() {
     local word=${COMP_WORDS[COMP_CWORD]} before=${COMP_WORDS[COMP_CWORD-1]} options
     if [ "$COMP_CWORD" -eq 1 ]; then
-        mapfile -t COMPREPLY < <(compgen -W "why history table missing summary peers --help --version" -- "$word")
+        mapfile -t COMPREPLY < <(compgen -W "why history table missing summary peers check --help --version" -- "$word")
         return
     fi
     case $before in
@@ -18,6 +18,7 @@ _looking_glass() {
         missing) options="--config --client --from --because --until --count --shards --errors --csv --json --help" ;;
         summary) options="--config --until --shards --errors --csv --json --help" ;;
         peers) options="--json --toml --help" ;;
+        check) options="--config --help" ;;
     esac
     if [ "${COMP_WORDS[1]}" = peers ] && [[ $word != -* ]]; then
         compopt -o filenames
