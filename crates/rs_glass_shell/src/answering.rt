@@ -2,6 +2,7 @@
 
 ghost use Rattle.std.specs.Prelude.{◌≡◌, IfOk, length};
 
+use crate::checking::check;
 use crate::history_lines::{HistoryView, history_text};
 use crate::history_object::history_json;
 use crate::lines::PROGRAM;
@@ -22,7 +23,7 @@ use rs_glass::{
     read_sessions,
 };
 use rs_host::{
-    Unready, WordsFault, configuration, first_unreadable, on_one_line, open_file, open_files,
+    DONE, Unready, WordsFault, configuration, first_unreadable, on_one_line, open_file, open_files,
     read_arguments,
 };
 use rs_inventory::{InventoryFault, read_inventory};
@@ -36,21 +37,47 @@ use std::net::Ipv4Addr;
 use std::sync::Wait;
 use std::thread::Threads;
 
-/// Answers the question of the command line, as it is printed: reads the configuration and the recorded files that it
-/// names. Of a list all but its last part is printed by then. Fails with why there is no answer.
+/// What a question is answered with.
+#[derive(Drop)]
+pub struct Answer {
+    /// The text that is printed.
+    pub text: String,
+    /// The status with which the program ends.
+    pub status: u8,
+    /// Of which files notes are told, and how much of them was read; none where the question is about files alone.
+    pub read: Option<(Setup, Bounds)>,
+}
+
+/// Answers the question of the command line: reads the configuration and the recorded files that it names. Of a list
+/// all but its last part is printed by then. Fails with why there is no answer.
 pub fn answer<R: AllocGlobal + Env + Files + Threads + Wait + Sync + Print>(
     rt: &R,
-) -> Result<String, Unanswered>
+) -> Result<Answer, Unanswered>
 where
     R::File: Send,
 {
     match command_line(rt)? {
         Query::Why(query) => why(rt, &query),
         Query::History(query) => history(rt, &query),
-        Query::Peers(query) => peers(rt, query),
+        Query::Peers(query) => Ok(Answer {
+            text: peers(rt, query)?,
+            status: DONE,
+            read: None,
+        }),
+        Query::Check(query) => check(rt, &query.config),
         Query::Table(query) => table(rt, &query),
         Query::Missing(query) => missing(rt, &query),
         Query::Summary(query) => summary(rt, &query),
+    }
+}
+
+// An answer for which the files of a setup were read up to a time.
+pub(crate) fn answer_until(text: String, setup: Setup, until: Option<u32>) -> Answer {
+    let tail = Tail::Strict;
+    Answer {
+        text,
+        status: DONE,
+        read: Some((setup, Bounds { until, tail })),
     }
 }
 
@@ -63,7 +90,7 @@ fn command_line<R: AllocGlobal + Env>(rt: &R) -> Result<Query, WordsFault> {
 fn why<R: AllocGlobal + Files + Threads + Sync>(
     rt: &R,
     query: &WhyQuery,
-) -> Result<String, Unanswered>
+) -> Result<Answer, Unanswered>
 where
     R::File: Send,
 {
@@ -82,11 +109,12 @@ where
         all: query.all,
         attributes: query.attributes,
     };
-    if query.json {
-        Ok(why_json(alloc, &view, &answers)?)
+    let text = if query.json {
+        why_json(alloc, &view, &answers)?
     } else {
-        Ok(why_text(alloc, &view, &answers)?)
-    }
+        why_text(alloc, &view, &answers)?
+    };
+    Ok(answer_until(text, setup, query.span.until))
 }
 
 // What is asked of the recorded sessions: of an address, about the longest prefix with a route that covers it; where
@@ -182,7 +210,7 @@ fn bounds(span: Span) -> Bounds {
 fn history<R: AllocGlobal + Files + Threads + Sync>(
     rt: &R,
     query: &HistoryQuery,
-) -> Result<String, Unanswered>
+) -> Result<Answer, Unanswered>
 where
     R::File: Send,
 {
@@ -199,11 +227,12 @@ where
         ends: query.ends,
         attributes: query.attributes,
     };
-    if query.json {
-        Ok(history_json(alloc, &view, &history)?)
+    let text = if query.json {
+        history_json(alloc, &view, &history)?
     } else {
-        Ok(history_text(alloc, &view, &history)?)
-    }
+        history_text(alloc, &view, &history)?
+    };
+    Ok(answer_until(text, setup, query.span.until))
 }
 
 // The history of a configuration.
@@ -260,7 +289,10 @@ fn recorded_files<R: AllocGlobal + Files>(
 }
 
 // What the recorded file at a path holds.
-fn recorded_file<R: AllocGlobal + Files>(rt: &R, path: String) -> Result<RecordedFile, Unready> {
+pub(crate) fn recorded_file<R: AllocGlobal + Files>(
+    rt: &R,
+    path: String,
+) -> Result<RecordedFile, Unready> {
     let reader = match open_file(rt, &path) {
         Ok(reader) => reader,
         Err(fault) => return Err(Unready::by_file(rt.alloc(), fault, &path)),

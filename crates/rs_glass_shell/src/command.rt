@@ -18,7 +18,8 @@ Status:
   0  the question is answered, or help or the version was asked for
   1  the command line or the configuration is refused
   2  a file or a device failed
-  3  memory was refused";
+  3  memory was refused
+  5  by check: a session closes before the end of its file, or there is a note";
 
 const WHY_ABOUT: &str = "Why does a client get each peer's route to a prefix, or not?";
 
@@ -26,6 +27,8 @@ const HISTORY_ABOUT: &str =
     "What happened to a prefix, in the order of time, and what did a client get from then on?";
 
 const PEERS_ABOUT: &str = "What is in recorded files: which peers, sessions and prefixes?";
+
+const CHECK_ABOUT: &str = "What would a run of route_server over a configuration meet?";
 
 // The program's command, with its subcommands.
 pub(crate) fn program<'a>(alloc: Global) -> Result<Command<'a>, AllocError> {
@@ -39,6 +42,7 @@ pub(crate) fn program<'a>(alloc: Global) -> Result<Command<'a>, AllocError> {
         .subcommand(why_command(alloc)?)?
         .subcommand(history_command(alloc)?)?
         .subcommand(peers_command(alloc)?)?
+        .subcommand(check_command(alloc)?)?
         .subcommand(table_command(alloc)?)?
         .subcommand(missing_command(alloc)?)?
         .subcommand(summary_command(alloc)?)
@@ -80,6 +84,13 @@ fn peers_command<'a>(alloc: Global) -> Result<Command<'a>, AllocError> {
         .arg(files(alloc))?
         .arg(json(alloc).conflicts_with("toml")?)?
         .arg(toml(alloc))
+}
+
+// `check`
+fn check_command<'a>(alloc: Global) -> Result<Command<'a>, AllocError> {
+    Command::new(alloc, "check")
+        .about(CHECK_ABOUT)
+        .arg(config(alloc))
 }
 
 // An option of one value.

@@ -11,6 +11,8 @@ pub enum Query {
     History(HistoryQuery),
     /// What recorded files hold.
     Peers(PeersQuery),
+    /// What a run over a configuration would meet.
+    Check(CheckQuery),
     /// The routes of a client's table.
     Table(TableQuery),
     /// The routes that a client does not get.
@@ -87,6 +89,13 @@ pub struct PeersQuery {
     pub json: bool,
     /// Whether a configuration to start from is written.
     pub toml: bool,
+}
+
+/// What a run over a configuration would meet.
+#[derive(Drop)]
+pub struct CheckQuery {
+    /// The path of the configuration.
+    pub config: String,
 }
 
 /// The routes of a client's table.

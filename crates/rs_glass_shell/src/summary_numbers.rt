@@ -21,11 +21,7 @@ pub(crate) const STEPS: [(&str, &str, Step); 6] = [
 ];
 
 // The summary, in the form that is asked for.
-pub(crate) fn written(
-    alloc: Global,
-    layout: &Layout,
-    tally: &Tally,
-) -> Result<String, AllocError> {
+pub(crate) fn written(alloc: Global, layout: &Layout, tally: &Tally) -> Result<String, AllocError> {
     let mut text = String::new(alloc);
     if layout.form == Form::Text {
         add_tables(&mut text, layout, tally)?;
@@ -54,8 +50,14 @@ pub(crate) fn of_peer(tally: &Tally, peer: usize) -> [Number; 7]
     [
         ("left", tally.count(Finding::Left(peer))),
         ("server_as_in_path", ineligible(tally, peer, Flaw::OwnAs)),
-        ("server_address_as_next_hop", ineligible(tally, peer, Flaw::ServerAsNextHop)),
-        ("next_hop_off_exchange", ineligible(tally, peer, Flaw::NextHopOffExchange)),
+        (
+            "server_address_as_next_hop",
+            ineligible(tally, peer, Flaw::ServerAsNextHop),
+        ),
+        (
+            "next_hop_off_exchange",
+            ineligible(tally, peer, Flaw::NextHopOffExchange),
+        ),
         ("refused", at_clients[0]),
         ("lost", at_clients[1]),
         ("best", at_clients[2]),

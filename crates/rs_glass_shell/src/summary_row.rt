@@ -42,7 +42,11 @@ pub(crate) struct SummaryRow<'a> {
 }
 
 // Adds the line of titles, where the form has one.
-pub(crate) fn add_row_titles(text: &mut String, alloc: Global, form: Form) -> Result<(), AllocError> {
+pub(crate) fn add_row_titles(
+    text: &mut String,
+    alloc: Global,
+    form: Form,
+) -> Result<(), AllocError> {
     match form {
         Form::Csv => add_csv_titles(text, alloc, &TITLES),
         _ => Ok(()),

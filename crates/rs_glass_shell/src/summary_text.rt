@@ -27,7 +27,11 @@ const PEER_TITLES: [&str; 7] = [
 ];
 
 // Adds the four tables.
-pub(crate) fn add_tables(text: &mut String, layout: &Layout, tally: &Tally) -> Result<(), AllocError> {
+pub(crate) fn add_tables(
+    text: &mut String,
+    layout: &Layout,
+    tally: &Tally,
+) -> Result<(), AllocError> {
     add_peers(text, layout, tally)?;
     text.push('\n')?;
     add_matrix(text, layout, tally)?;
@@ -35,12 +39,17 @@ pub(crate) fn add_tables(text: &mut String, layout: &Layout, tally: &Tally) -> R
     add_steps(text, tally)?;
     text.push('\n')?;
     let hidden = tally.count(Finding::Hidden);
-    writeln!(text, "hidden paths: prefixes on which one decision for all clients would leave a client none\n{hidden}")
+    writeln!(
+        text,
+        "hidden paths: prefixes on which one decision for all clients would leave a client none\n{hidden}"
+    )
 }
 
 // Adds what becomes of the routes of each peer.
 fn add_peers(text: &mut String, layout: &Layout, tally: &Tally) -> Result<(), AllocError> {
-    text.push_str("peers: prefixes left, of these ineligible; at the other peers refused, lost, best\n")?;
+    text.push_str(
+        "peers: prefixes left, of these ineligible; at the other peers refused, lost, best\n",
+    )?;
     layout.add_sender_titles(text)?;
     for title in &PEER_TITLES {
         add_cell(text, title, NUMBER_WIDTH)?;
@@ -78,11 +87,7 @@ fn add_matrix(text: &mut String, layout: &Layout, tally: &Tally) -> Result<(), A
 }
 
 // Adds its titles.
-fn add_matrix_titles(
-    text: &mut String,
-    layout: &Layout,
-    tally: &Tally,
-) -> Result<(), AllocError> {
+fn add_matrix_titles(text: &mut String, layout: &Layout, tally: &Tally) -> Result<(), AllocError> {
     text.push_str("clients: routes that each gets from each peer\n")?;
     add_cell(text, "client", name_width(layout.plan, "client"))?;
     for peer in 0..tally.peers() {

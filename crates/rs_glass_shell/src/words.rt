@@ -2,7 +2,7 @@
 
 use crate::command::program;
 use crate::list_words::{missing_of, summary_of, table_of};
-use crate::query::{Destination, HistoryQuery, PeersQuery, Query, Span, WhyQuery};
+use crate::query::{CheckQuery, Destination, HistoryQuery, PeersQuery, Query, Span, WhyQuery};
 use crate::values::{DESTINATION_FORM, PREFIX_FORM, TIME_FORM, destination_of, prefix_of, time_of};
 use clap::error::ErrorKind;
 use clap::{ArgMatches, Error};
@@ -43,6 +43,9 @@ fn query_of(alloc: Global, matches: &ArgMatches<'_>) -> Result<Query, WordsFault
         Some(("why", matches)) => Ok(Query::Why(why_of(alloc, matches)?)),
         Some(("history", matches)) => Ok(Query::History(history_of(alloc, matches)?)),
         Some(("peers", matches)) => Ok(Query::Peers(peers_of(alloc, matches)?)),
+        Some(("check", matches)) => Ok(Query::Check(CheckQuery {
+            config: text(alloc, matches, "config")?,
+        })),
         Some(("table", matches)) => Ok(Query::Table(table_of(alloc, matches)?)),
         Some(("missing", matches)) => Ok(Query::Missing(missing_of(alloc, matches)?)),
         Some(("summary", matches)) => Ok(Query::Summary(summary_of(alloc, matches)?)),
