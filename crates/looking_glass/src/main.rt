@@ -7,19 +7,38 @@
 //! Supported standards: RFC 4271, RFC 6793, RFC 1997, RFC 7606, RFC 7947, RFC 6396.
 #![tactic(auto)]
 
-use rs_glass_shell::{PROGRAM, Unanswered, answer, line};
+use rs_glass_shell::{Answer, PROGRAM, Unanswered, answer, line};
 use rs_host::end_with;
+use rs_mrt::Bounds;
+use rs_notes::{Subject, print_notes};
+use rs_setup::Setup;
+use std::fs::Files;
 use std::process::ExitCode;
 
 fn main(rt: HostRuntime) -> ExitCode {
     let unanswered = match answer(&rt) {
-        Ok(text) => match print!(&rt; "{text}") {
-            Ok(()) => return ExitCode::SUCCESS,
+        Ok(Answer { text, status, read }) => match print!(&rt; "{text}") {
+            Ok(()) => {
+                note(&rt, &read);
+                return ExitCode::from(status);
+            }
             Err(_) => Unanswered::Output,
         },
         Err(unanswered) => unanswered,
     };
     end(&rt, &unanswered)
+}
+
+// Prints the notes on the files that were read.
+fn note<R: AllocGlobal + Files + Eprint>(rt: &R, read: &Option<(Setup, Bounds)>) {
+    if let Some((setup, bounds)) = read {
+        let subject = Subject {
+            setup,
+            bounds: *bounds,
+            endings: None,
+        };
+        print_notes(rt, PROGRAM, subject);
+    }
 }
 
 // Says why there is no answer, and gives the status of that.

@@ -1,8 +1,8 @@
 -- The line that says why a question isn't answered (docs/LOOKING_GLASS.md, "Statuses and texts").
 use Rattle.std.specs.Prelude.{◌++◌, codes, string_bytes}
 use Rattle.rs_glass_shell.specs.declared.unanswered.Unanswered.{Unanswered}
-use Rattle.rs_glass_shell.specs.declared.unanswered.Unanswered.TheVariants.{Words, Setup, NoPeer, Unread, Unsettled}
-use Rattle.rs_glass_shell.specs.declared.unanswered.Unanswered.TheVariants.{Output, Memory}
+use Rattle.rs_glass_shell.specs.declared.unanswered.Unanswered.TheVariants.{Words, Setup, NoPeer, SeveralPeers, Unread}
+use Rattle.rs_glass_shell.specs.declared.unanswered.Unanswered.TheVariants.{Unsettled, Output, Memory}
 use Rattle.rs_host.specs.Line.{Text, named as named_by, one_line, out_of_memory, unread_line}
 use Rattle.rs_host.specs.Refusal.{setup_line, words_text}
 
@@ -18,6 +18,7 @@ abbrev pub line_of : Unanswered → Text
 line_of (Words fault) = words_text program fault
 line_of (Setup fault) = setup_line program fault
 line_of (NoPeer name) = named (codes "no peer is named " ++ one_line (string_bytes name))
+line_of (SeveralPeers word) = named (codes "several peers have " ++ one_line (string_bytes word))
 line_of (Unread path) = unread_line program (string_bytes path)
 line_of (Unsettled name) = named (codes "peer " ++ (one_line (string_bytes name) ++ codes " unsettled"))
 line_of Output = named (codes "cannot write standard output")

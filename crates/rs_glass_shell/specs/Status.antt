@@ -2,8 +2,8 @@
 -- texts").
 use Rattle.std.specs.Prelude.{ℕ}
 use Rattle.rs_glass_shell.specs.declared.unanswered.Unanswered.{Unanswered}
-use Rattle.rs_glass_shell.specs.declared.unanswered.Unanswered.TheVariants.{Words, Setup, NoPeer, Unread, Unsettled}
-use Rattle.rs_glass_shell.specs.declared.unanswered.Unanswered.TheVariants.{Output, Memory}
+use Rattle.rs_glass_shell.specs.declared.unanswered.Unanswered.TheVariants.{Words, Setup, NoPeer, SeveralPeers, Unread}
+use Rattle.rs_glass_shell.specs.declared.unanswered.Unanswered.TheVariants.{Unsettled, Output, Memory}
 use Rattle.rs_host.specs.Status.{failed, out_of_memory, refused, setup_status, words_status}
 use Rattle.rs_host.specs.declared.unready.Unready.{Unready}
 use Rattle.rs_host.specs.declared.unready.Unready.TheVariants as unready
@@ -13,6 +13,7 @@ abbrev pub status_of : Unanswered → ℕ
 status_of (Words fault) = words_status fault
 status_of (Setup fault) = setup_status fault
 status_of (NoPeer name) = refused
+status_of (SeveralPeers word) = refused
 status_of (Unread path) = failed
 status_of (Unsettled name) = failed
 status_of Output = failed

@@ -25,6 +25,10 @@ pub fn line(alloc: Global, unanswered: &Unanswered) -> Result<String, AllocError
             let name = on_one_line(alloc, name)?;
             format!(in alloc; "looking_glass: no peer is named {name}")
         }
+        Unanswered::SeveralPeers(word) => {
+            let word = on_one_line(alloc, word)?;
+            format!(in alloc; "looking_glass: several peers have {word}")
+        }
         Unanswered::Unread(path) => unread_line(alloc, PROGRAM, path),
         Unanswered::Unsettled(name) => {
             let name = on_one_line(alloc, name)?;

@@ -2,6 +2,7 @@
 
 ghost use Rattle.std.specs.Prelude.{◌<◌, length};
 
+use crate::answering::{Answer, answer_until};
 use crate::counted_row::{Counts, counts_text};
 use crate::layout::Layout;
 use crate::missing_row::{add_missing_row, add_missing_titles, reason_key};
@@ -45,7 +46,7 @@ struct Wanted<'a> {
 pub(crate) fn table<R: AllocGlobal + Files + Threads + Wait + Sync + Print>(
     rt: &R,
     query: &TableQuery,
-) -> Result<String, Unanswered>
+) -> Result<Answer, Unanswered>
 where
     R::File: Send,
 {
@@ -57,18 +58,19 @@ where
         longer: query.longer,
     };
     let served = served(rt, &setup, &query.tables)?;
-    if query.count {
-        Ok(count_table(rt.alloc(), served.tables(), client, &rows, query.form)?)
+    let text = if query.count {
+        count_table(rt.alloc(), served.tables(), client, &rows, query.form)?
     } else {
-        list_table(rt, served.tables(), client, &rows, query.form)
-    }
+        list_table(rt, served.tables(), client, &rows, query.form)?
+    };
+    Ok(answer_until(text, setup, query.tables.until))
 }
 
 // Lists the routes that a client does not get, in the same way.
 pub(crate) fn missing<R: AllocGlobal + Files + Threads + Wait + Sync + Print>(
     rt: &R,
     query: &MissingQuery,
-) -> Result<String, Unanswered>
+) -> Result<Answer, Unanswered>
 where
     R::File: Send,
 {
@@ -82,18 +84,19 @@ where
         },
     };
     let served = served(rt, &setup, &query.tables)?;
-    if query.count {
-        Ok(count_missing(rt.alloc(), served.tables(), client, wanted, query.form)?)
+    let text = if query.count {
+        count_missing(rt.alloc(), served.tables(), client, wanted, query.form)?
     } else {
-        list_missing(rt, served.tables(), client, wanted, query.form)
-    }
+        list_missing(rt, served.tables(), client, wanted, query.form)?
+    };
+    Ok(answer_until(text, setup, query.tables.until))
 }
 
 // What becomes of the routes of all peers, in numbers.
 pub(crate) fn summary<R: AllocGlobal + Files + Threads + Wait + Sync + Print>(
     rt: &R,
     query: &SummaryQuery,
-) -> Result<String, Unanswered>
+) -> Result<Answer, Unanswered>
 where
     R::File: Send,
 {
@@ -102,7 +105,8 @@ where
     let served = served(rt, &setup, &query.tables)?;
     let tables = served.tables();
     let tally = rs_survey::summary(alloc, tables)?;
-    Ok(written(alloc, &Layout::new(tables.plan(), 0, query.form), &tally)?)
+    let text = written(alloc, &Layout::new(tables.plan(), 0, query.form), &tally)?;
+    Ok(answer_until(text, setup, query.tables.until))
 }
 
 // The number of the sender that is asked for, if one is.

@@ -1,6 +1,6 @@
 //! The commands that list routes of whole tables, as `clap` knows them.
 
-use crate::command::{client, config, errors, flag, json, option, prefix};
+use crate::command::{client, config, errors, flag, json, option, prefix, until};
 use clap::builder::ValueParser;
 use clap::{Arg, ArgAction, Command};
 use std::alloc::{AllocError, Global};
@@ -39,6 +39,7 @@ pub(crate) fn table_command<'a>(alloc: Global) -> Result<Command<'a>, AllocError
         .arg(prefix(alloc))?
         .arg(longer(alloc)?)?
         .arg(count(alloc))?
+        .arg(until(alloc))?
         .arg(errors(alloc))?
         .arg(shards(alloc))?
         .arg(csv(alloc)?)?
@@ -54,6 +55,7 @@ pub(crate) fn missing_command<'a>(alloc: Global) -> Result<Command<'a>, AllocErr
         .arg(from(alloc))?
         .arg(because(alloc))?
         .arg(count(alloc))?
+        .arg(until(alloc))?
         .arg(errors(alloc))?
         .arg(shards(alloc))?
         .arg(csv(alloc)?)?
@@ -65,6 +67,7 @@ pub(crate) fn summary_command<'a>(alloc: Global) -> Result<Command<'a>, AllocErr
     Command::new(alloc, "summary")
         .about(SUMMARY_ABOUT)
         .arg(config(alloc))?
+        .arg(until(alloc))?
         .arg(errors(alloc))?
         .arg(shards(alloc))?
         .arg(csv(alloc)?)?

@@ -1,7 +1,7 @@
 //! The questions about whole tables that the words of the command line ask.
 
 use crate::query::{Form, MissingQuery, SummaryQuery, TableQuery, TablesQuery};
-use crate::words::{errors, prefix, text};
+use crate::words::{errors, prefix, text, time};
 use clap::ArgMatches;
 use rs_host::WordsFault;
 use std::alloc::Global;
@@ -53,6 +53,7 @@ fn tables_of(alloc: Global, matches: &ArgMatches<'_>) -> Result<TablesQuery, Wor
     Ok(TablesQuery {
         config: text(alloc, matches, "config")?,
         errors: errors(alloc, matches)?,
+        until: time(alloc, matches, "until")?,
         shards: matches.get_one::<usize>("shards").unwrap_or(1),
     })
 }

@@ -11,6 +11,8 @@ pub enum Query {
     History(HistoryQuery),
     /// What recorded files hold.
     Peers(PeersQuery),
+    /// What a run over a configuration would meet.
+    Check(CheckQuery),
     /// The routes of a client's table.
     Table(TableQuery),
     /// The routes that a client does not get.
@@ -19,19 +21,40 @@ pub enum Query {
     Summary(SummaryQuery),
 }
 
-/// Why a client has each peer's route on a prefix, or not. Times are in seconds since 1970.
+/// What is asked about: a prefix, or an address.
+#[derive(Clone, Copy, Debug, PartialEq, Eq, Drop)]
+pub enum Destination {
+    /// Just this prefix.
+    Prefix(Prefix),
+    /// The longest prefix with a route that covers this address, which is in host order.
+    Address(u32),
+}
+
+/// Of which recorded sessions it is asked.
+#[derive(Clone, Copy, Debug, PartialEq, Eq, Drop)]
+pub struct Span {
+    /// Up to when records are read, in seconds since 1970: each file ends before the first one that is later. All of
+    /// them where it isn't given.
+    pub until: Option<u32>,
+    /// The standard by which faults in path attributes are handled.
+    pub errors: Errors,
+}
+
+/// Why a client has each peer's route on a prefix, or not.
 #[derive(Drop)]
 pub struct WhyQuery {
     /// The path of the configuration.
     pub config: String,
-    /// The name of the client.
+    /// The word that names the client.
     pub client: String,
-    /// The prefix.
-    pub prefix: Prefix,
-    /// Up to when changes count; all of them where it isn't given.
-    pub until: Option<u32>,
-    /// The standard by which faults in path attributes are handled.
-    pub errors: Errors,
+    /// The prefix, or an address on it.
+    pub prefix: Destination,
+    /// Of which records, and by which standard.
+    pub span: Span,
+    /// Whether each peer that never announced the prefix has a line of its own.
+    pub all: bool,
+    /// Whether all attributes of the routes are shown.
+    pub attributes: bool,
     /// Whether the answer is written as JSON.
     pub json: bool,
 }
@@ -41,16 +64,18 @@ pub struct WhyQuery {
 pub struct HistoryQuery {
     /// The path of the configuration.
     pub config: String,
-    /// The prefix.
-    pub prefix: Prefix,
-    /// The name of the client whose table is shown beside, where one is given.
+    /// The prefix, or an address on it.
+    pub prefix: Destination,
+    /// The word that names the client whose table is shown beside, where one is given.
     pub client: Option<String>,
     /// From when on changes are shown; all of them where it isn't given.
     pub from: Option<u32>,
-    /// Up to when changes count; all of them where it isn't given.
-    pub until: Option<u32>,
-    /// The standard by which faults in path attributes are handled.
-    pub errors: Errors,
+    /// Of which records, and by which standard.
+    pub span: Span,
+    /// Whether the ends of files are shown.
+    pub ends: bool,
+    /// Whether all attributes of the routes are shown.
+    pub attributes: bool,
     /// Whether the answer is written as JSON.
     pub json: bool,
 }
@@ -66,14 +91,21 @@ pub struct PeersQuery {
     pub toml: bool,
 }
 
+/// What a run over a configuration would meet.
+#[derive(Drop)]
+pub struct CheckQuery {
+    /// The path of the configuration.
+    pub config: String,
+}
+
 /// The routes of a client's table.
 #[derive(Drop)]
 pub struct TableQuery {
     /// The exchange whose tables are built.
     pub tables: TablesQuery,
-    /// The name of the client.
+    /// The word that names the client.
     pub client: String,
-    /// The name of the sender whose routes are listed; all of them where it isn't given.
+    /// The word that names the sender whose routes are listed; all of them where it isn't given.
     pub from: Option<String>,
     /// The prefix whose row is listed; all of them where it isn't given.
     pub prefix: Option<Prefix>,
@@ -90,9 +122,9 @@ pub struct TableQuery {
 pub struct MissingQuery {
     /// The exchange whose tables are built.
     pub tables: TablesQuery,
-    /// The name of the client.
+    /// The word that names the client.
     pub client: String,
-    /// The name of the sender whose routes are listed; all of them where it isn't given.
+    /// The word that names the sender whose routes are listed; all of them where it isn't given.
     pub from: Option<String>,
     /// The answer or the reason for which routes are listed; all of them where it isn't given.
     pub because: Option<String>,
@@ -118,6 +150,9 @@ pub struct TablesQuery {
     pub config: String,
     /// The standard by which faults in path attributes are handled.
     pub errors: Errors,
+    /// Up to when records are read, in seconds since 1970: each file ends before the first one that is later. All of
+    /// them where it isn't given.
+    pub until: Option<u32>,
     /// How many threads keep the tables, 1 to 16.
     pub shards: usize,
 }

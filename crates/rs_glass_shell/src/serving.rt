@@ -5,7 +5,7 @@ ghost use Rattle.std.specs.Prelude.{◌≡◌, IfOk, length};
 use crate::query::TablesQuery;
 use crate::unanswered::Unanswered;
 use rs_host::{Unready, WordsFault, open_files};
-use rs_mrt::Bounds;
+use rs_mrt::{Bounds, Tail};
 use rs_serve::{FloorRefused, Open, Served, serve_by};
 use rs_setup::Setup;
 use std::fs::Files;
@@ -27,7 +27,11 @@ where
     ensures { IfOk result (λ served. served.tables.plan ≡ setup.now.plan.value) }
 {
     let alloc = rt.alloc();
-    let files = open_files(rt, &setup.files, Bounds::none(), |file| file)?;
+    let bounds = Bounds {
+        until: query.until,
+        tail: Tail::Strict,
+    };
+    let files = open_files(rt, &setup.files, bounds, |file| file)?;
     let (shards, errors) = (query.shards, query.errors);
     match serve_by(rt, alloc, &setup.plan, files, RING, shards, errors, &Open) {
         Ok(served) => Ok(served),

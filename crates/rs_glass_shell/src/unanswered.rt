@@ -16,8 +16,10 @@ pub enum Unanswered {
     Words(WordsFault),
     /// The configuration is refused.
     Setup(SetupFault),
-    /// No peer of the configuration has this name.
+    /// No peer of the configuration has this name, address or AS number.
     NoPeer(String),
+    /// Several peers of the configuration have this AS number.
+    SeveralPeers(String),
     /// The file at this path can't be read.
     Unread(String),
     /// Not all changes of the peer of this name are known to be in the tables.
@@ -43,8 +45,8 @@ impl Unanswered {
         }
     }
 
-    /// The status with which the program ends: 0 where help or the version was asked for, 1 where the command line or
-    /// the configuration is refused, 2 where a file or a device failed, 3 for want of memory.
+    /// The status with which the program ends. 0: help or the version was asked for. 1: the command line or the
+    /// configuration is refused. 2: a file or a device failed. 3: memory was refused.
     pub fn status(&self) -> u8
         ensures { result ≡ status_of self.now }
     {
@@ -52,6 +54,7 @@ impl Unanswered {
             Unanswered::Words(fault) => words_status(fault),
             Unanswered::Setup(fault) => setup_status(fault),
             Unanswered::NoPeer(_) => REFUSED,
+            Unanswered::SeveralPeers(_) => REFUSED,
             Unanswered::Unread(_) => FAILED,
             Unanswered::Unsettled(_) => FAILED,
             Unanswered::Output => FAILED,

@@ -2,8 +2,8 @@
 
 use crate::command::program;
 use crate::list_words::{missing_of, summary_of, table_of};
-use crate::query::{HistoryQuery, PeersQuery, Query, WhyQuery};
-use crate::values::{PREFIX_FORM, TIME_FORM, prefix_of, time_of};
+use crate::query::{CheckQuery, Destination, HistoryQuery, PeersQuery, Query, Span, WhyQuery};
+use crate::values::{DESTINATION_FORM, PREFIX_FORM, TIME_FORM, destination_of, prefix_of, time_of};
 use clap::error::ErrorKind;
 use clap::{ArgMatches, Error};
 use rs_host::{WordsFault, each_on_one_line, standard_of};
@@ -43,6 +43,9 @@ fn query_of(alloc: Global, matches: &ArgMatches<'_>) -> Result<Query, WordsFault
         Some(("why", matches)) => Ok(Query::Why(why_of(alloc, matches)?)),
         Some(("history", matches)) => Ok(Query::History(history_of(alloc, matches)?)),
         Some(("peers", matches)) => Ok(Query::Peers(peers_of(alloc, matches)?)),
+        Some(("check", matches)) => Ok(Query::Check(CheckQuery {
+            config: text(alloc, matches, "config")?,
+        })),
         Some(("table", matches)) => Ok(Query::Table(table_of(alloc, matches)?)),
         Some(("missing", matches)) => Ok(Query::Missing(missing_of(alloc, matches)?)),
         Some(("summary", matches)) => Ok(Query::Summary(summary_of(alloc, matches)?)),
@@ -54,9 +57,10 @@ fn why_of(alloc: Global, matches: &ArgMatches<'_>) -> Result<WhyQuery, WordsFaul
     Ok(WhyQuery {
         config: text(alloc, matches, "config")?,
         client: text(alloc, matches, "client")?,
-        prefix: prefix(alloc, matches)?,
-        until: time(alloc, matches, "until")?,
-        errors: errors(alloc, matches)?,
+        prefix: destination(alloc, matches)?,
+        span: span(alloc, matches)?,
+        all: matches.get_flag("all"),
+        attributes: matches.get_flag("attributes"),
         json: matches.get_flag("json"),
     })
 }
@@ -64,14 +68,15 @@ fn why_of(alloc: Global, matches: &ArgMatches<'_>) -> Result<WhyQuery, WordsFaul
 fn history_of(alloc: Global, matches: &ArgMatches<'_>) -> Result<HistoryQuery, WordsFault> {
     Ok(HistoryQuery {
         config: text(alloc, matches, "config")?,
-        prefix: prefix(alloc, matches)?,
+        prefix: destination(alloc, matches)?,
         client: match matches.get_str("client") {
             Some(client) => Some(String::from_str(alloc, client)?),
             None => None,
         },
         from: time(alloc, matches, "from")?,
-        until: time(alloc, matches, "until")?,
-        errors: errors(alloc, matches)?,
+        span: span(alloc, matches)?,
+        ends: matches.get_flag("ends"),
+        attributes: matches.get_flag("attributes"),
         json: matches.get_flag("json"),
     })
 }
@@ -112,7 +117,28 @@ pub(crate) fn prefix(alloc: Global, matches: &ArgMatches<'_>) -> Result<Prefix, 
     }
 }
 
-fn time(alloc: Global, matches: &ArgMatches<'_>, name: &str) -> Result<Option<u32>, WordsFault> {
+// The prefix or the address that is asked about.
+fn destination(alloc: Global, matches: &ArgMatches<'_>) -> Result<Destination, WordsFault> {
+    let value = matches.get_str("prefix").unwrap_or("");
+    match destination_of(value) {
+        Some(destination) => Ok(destination),
+        None => Err(not_a(alloc, "prefix", value, DESTINATION_FORM)),
+    }
+}
+
+// Of which recorded sessions it is asked.
+fn span(alloc: Global, matches: &ArgMatches<'_>) -> Result<Span, WordsFault> {
+    Ok(Span {
+        until: time(alloc, matches, "until")?,
+        errors: errors(alloc, matches)?,
+    })
+}
+
+pub(crate) fn time(
+    alloc: Global,
+    matches: &ArgMatches<'_>,
+    name: &str,
+) -> Result<Option<u32>, WordsFault> {
     let Some(value) = matches.get_str(name) else {
         return Ok(None);
     };

@@ -13,8 +13,9 @@ use std::io::Read;
 /// Opens the files of these paths, in their order, to be read within bounds through what `observed` makes of each, and
 /// reads nothing yet.
 ///
-/// Fails with `Unread` and the path of the first that can't be opened; where each is there, of the first that gives its
-/// octets only once, as a pipe does, and that an earlier path names too. Fails with `Memory` where memory is refused.
+/// Fails with `Unread` and the path of the first that can't be opened. Where each is there, it fails so at the first
+/// that gives its octets only once, as a pipe does, and that an earlier path names too. Fails with `Memory` where
+/// memory is refused.
 pub fn open_files<R: AllocGlobal + Files, F: Read + Drop, O: Fn(R::File) -> F>(
     rt: &R,
     paths: &[String],

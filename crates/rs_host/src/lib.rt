@@ -2,13 +2,12 @@
 //! is refused, what the command line of a run asks for, and how a program ends.
 //!
 //! Reading order: `fault` (why a file can't be read), `whole` (a file that is read whole), `recorded` (a recorded
-//! file, which is read in pieces), `file_identity` (which file a path names), `read_once` (what is seen before any is
-//! opened); `unready` (why what a program needs can't be read), `setup_file` (the configuration), `files` (opening the
-//! recorded files); `escaped` (texts whose control characters are escaped), `times` (times of records as texts, RFC
-//! 6396, section 2); `arguments` (the words of the command line), `options` (what that of a run asks for), `standard`
-//! (the standards for faults by their names); `refusal` (why a command line or a configuration is
-//! refused), `line` and `status` (how a
-//! program ends).
+//! file, which is read in pieces). `file_identity` (which file a path names), `read_once` (what is seen before any is
+//! opened). `unready` (why what a program needs can't be read), `setup_file` (the configuration), `files` (opening the
+//! recorded files). `escaped` (texts whose control characters are escaped), `times` (times of records as texts, RFC
+//! 6396, section 2). `arguments` (the words of the command line), `options` (what that of a run asks for), `standard`
+//! (the standards for faults by their names), `version` (what `--version` answers). `refusal` (why a command line or a
+//! configuration is refused), `line` and `status` (how a program ends).
 #![tactic(auto)]
 
 mod arguments;
@@ -26,6 +25,7 @@ mod standard;
 mod status;
 mod times;
 mod unready;
+mod version;
 mod whole;
 
 pub use arguments::read_arguments;
@@ -45,4 +45,5 @@ pub use status::{
 };
 pub use times::{Utc, civil_time, read_time};
 pub use unready::Unready;
+pub use version::VERSION;
 pub use whole::{FILE_LIMIT, read_file};

@@ -1,4 +1,4 @@
-//! The line with which a program ends where it stops short, and how that is printed. All of it is our choice.
+//! The line with which a program ends where it fails, and how that is printed. All of it is our choice.
 
 ghost use Rattle.std.specs.Prelude.{◌≡◌, IfOk, string_bytes};
 ghost use Rattle.rs_host.specs.Line.{named, unread_line, unread_text};
@@ -39,7 +39,7 @@ fn unread_text(alloc: Global, path: &str) -> Result<String, AllocError>
     format!(in alloc; "cannot read {path}")
 }
 
-/// Ends a program that stops short with a status: prints its line, or for what a command line is refused with the whole
+/// Ends a program that fails with a status: prints its line, or for what a command line is refused with the whole
 /// text. Help goes to standard output, all else to standard error. Where memory for the line was refused, or help can't
 /// be printed, the program says that instead, and ends with the status of it.
 pub fn end_with<R: Print + Eprint>(

@@ -31,9 +31,9 @@ impl fmt::Display for Utc {
     }
 }
 
-/// The time that a text is: seconds since 1970, an instant as `2026-11-22T06:36:20Z`, or a time as it is shown,
-/// `2026-11-22 06:36:20`, in UTC, a date alone being its first second; whole seconds of the years that a
-/// Timestamp of 32 bits holds. Other texts give none.
+/// The time that a text is: seconds since 1970, an instant as `2026-11-22T06:36:20Z`, or a time in UTC as it is shown,
+/// `2026-11-22 06:36:20`. A date alone is its first second. A time is in whole seconds, of the years that a Timestamp
+/// of 32 bits holds. Other texts give none.
 pub fn read_time(text: &str) -> Option<u32> {
     if let Ok(seconds) = text.parse::<u32>() {
         return Some(seconds);

@@ -1,4 +1,4 @@
-//! How the program ends where it stops short: its status, and its line on standard error.
+//! How the program ends where it fails: its status, and its line on standard error.
 
 ghost use Rattle.std.specs.Prelude.{◌≡◌};
 ghost use Rattle.rs_program.specs.Status.{ended_of, run_status, status_of};
@@ -13,7 +13,7 @@ use rs_setup::SetupFault;
 use std::alloc::AllocError;
 use thiserror::Error;
 
-/// Why the program stops short.
+/// Why the program fails.
 #[derive(Debug, Drop, Error)]
 pub enum Ended {
     /// The command line gives no options: help or the version was asked for, or it is refused.
@@ -41,9 +41,9 @@ pub fn run_status(strict: bool, clean: bool) -> u8
     if strict && !clean { NOT_CLEAN } else { DONE }
 }
 
-/// The status with which the program ends where it stops short: 0 where help or the version was asked for, 1 where the
-/// command line or the configuration is refused, 2 where a file, a folder or a device failed, 3 for want of memory, 4
-/// where not all changes of a peer are known to have been applied.
+/// The status with which the program ends where it fails. 0: help or the version was asked for. 1: the command
+/// line or the configuration is refused. 2: a file, a folder or a device failed. 3: memory was refused. 4: not all
+/// changes of a peer are known to have been applied.
 pub fn status(ended: &Ended) -> u8
     ensures { result ≡ status_of ended.now }
 {

@@ -48,7 +48,7 @@ fn fault_on_one_line<R: AllocGlobal + Env>(
     }
 }
 
-/// How far a run over the files of these paths is, shown where there is a terminal.
+/// How much of the files of these paths was read, shown where there is a terminal.
 pub fn progress_on<R: Files>(
     rt: &R,
     terminal: Option<Stderr>,
@@ -83,7 +83,7 @@ pub fn ready_files<'a, R: AllocGlobal + Files>(
     }
 }
 
-/// Says why the program stops short, and gives its status.
+/// Says why the program fails, and gives its status.
 pub fn end<R: AllocGlobal + Print + Eprint>(
     rt: &R,
     ended: &Ended,

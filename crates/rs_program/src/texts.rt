@@ -1,4 +1,4 @@
-//! The line that says why the program stops short.
+//! The line that says why the program fails.
 
 ghost use Rattle.std.specs.Prelude.{◌≡◌, ◌<◌, IfOk, length, string_bytes};
 ghost use Rattle.rs_program.specs.Texts.{CanTell, NamesPeer, dump_path, line_of, run_line};
@@ -16,8 +16,8 @@ use std::alloc::{AllocError, Global};
 /// The program's name, as its lines begin.
 pub const PROGRAM: &str = "route_server";
 
-/// The line that says why the program stops short, without a line break at its end; for help, the version and
-/// a refused command line the whole text of `clap`.
+/// The line that says why the program fails, without a line break at its end. For help, the version and a refused
+/// command line it is the whole text of `clap`.
 ///
 /// Of a run that stopped short, `setup` and `options` are those that it was given. Line breaks in a key or a
 /// path are shown as `\n` and `\r`, other control characters as `\u{1b}`. Fails where memory is refused.
