@@ -14,6 +14,7 @@ loop-number-preserved c =
 
 pub returns-clause-none : goal.returns-clause-none
 returns-clause-none c =
-    let past : length c.args.plan.now.peers ≤ c.loop-number.number = omega (arith, c.loop-number-test.false, c.count-number-end.ensures.value) in
+    let past : length c.args.plan.now.peers ≤ c.loop-number.number =
+    omega (arith, c.loop-number-test.false, c.count-number-end.ensures.value) in
     none-below (IsNameOf c.args.name.now c.args.plan.now.peers) 0 c.loop-number.number (length c.args.plan.now.peers) past
     c.loop-number.invariant
