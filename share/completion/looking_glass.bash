@@ -12,8 +12,8 @@ _looking_glass() {
         --client | --shards | --prefix | --from | --until) COMPREPLY=(); return ;;
     esac
     case ${COMP_WORDS[1]} in
-        why) options="--config --client --prefix --until --errors --json --help" ;;
-        history) options="--config --prefix --client --from --until --errors --json --help" ;;
+        why) options="--config --client --prefix --until --errors --all --attributes --json --help" ;;
+        history) options="--config --prefix --client --from --until --errors --ends --attributes --json --help" ;;
         table) options="--config --client --from --prefix --longer --until --count --shards --errors --csv --json --help" ;;
         missing) options="--config --client --from --because --until --count --shards --errors --csv --json --help" ;;
         summary) options="--config --until --shards --errors --csv --json --help" ;;

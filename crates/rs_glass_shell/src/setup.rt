@@ -71,7 +71,8 @@ fn first_of(
         IfNone found (NoneFrom (IsOf word.now plan.now.peers) from (length plan.now.peers))) }
 {
     for number in from..plan.count() {
-        if is_of(alloc, plan, number, word)? {
+        let found = is_of(alloc, plan, number, word)?;
+        if found {
             return Ok(Some(number));
         }
     }

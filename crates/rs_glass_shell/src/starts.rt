@@ -1,10 +1,10 @@
 //! Since when the recordings of peers run.
 
+use crate::unanswered::Unanswered;
 use rs_explain::{Explanation, LastSaid};
 use rs_glass::{Answer, Answers};
-use rs_host::{found_at, open};
+use rs_host::{FileFault, found_at, open};
 use rs_setup::Setup;
-use std::alloc::AllocError;
 use std::fs::Files;
 use std::io::Read;
 
@@ -34,14 +34,14 @@ pub(crate) fn starts<R: AllocGlobal + Files>(
     setup: &Setup,
     answers: &Answers,
     until: Option<u32>,
-) -> Result<Vec<Option<Start>>, AllocError> {
+) -> Result<Vec<Option<Start>>, Unanswered> {
     let mut starts = Vec::with_capacity(rt.alloc(), answers.peers.len())?;
     for (peer, answer) in answers.peers.iter().enumerate() {
         let start = match setup.files.get(peer) {
-            Some(path) if never_announced(answer) => start_of(rt, path, until),
+            Some(path) if never_announced(answer) => start_of(rt, path, until)?,
             _ => None,
         };
-        starts.push(start)?;
+        starts.push(start).map_err(|_| Unanswered::Memory)?;
     }
     Ok(starts)
 }
@@ -53,21 +53,32 @@ pub(crate) fn never_announced(answer: &Answer) -> bool {
 }
 
 // Since when the recording at a path runs.
-fn start_of<R: AllocGlobal + Files>(rt: &R, path: &str, until: Option<u32>) -> Option<Start> {
-    let time = first_time(rt, path)?;
-    match until {
-        Some(until) if time > until => Some(Start::Later(time)),
-        _ => Some(Start::InTime(time)),
+fn start_of<R: AllocGlobal + Files>(
+    rt: &R,
+    path: &str,
+    until: Option<u32>,
+) -> Result<Option<Start>, Unanswered> {
+    match (first_time(rt, path)?, until) {
+        (None, _) => Ok(None),
+        (Some(time), Some(until)) if time > until => Ok(Some(Start::Later(time))),
+        (Some(time), _) => Ok(Some(Start::InTime(time))),
     }
 }
 
 // The Timestamp of the first record of a file; none where the file is read only once, or has none.
-fn first_time<R: AllocGlobal + Files>(rt: &R, path: &str) -> Option<u32> {
-    if !found_at(rt, path).ok()??.is_file() {
-        return None;
+fn first_time<R: AllocGlobal + Files>(rt: &R, path: &str) -> Result<Option<u32>, Unanswered> {
+    match found_at(rt, path)? {
+        Some(found) if found.is_file() => {}
+        _ => return Ok(None),
     }
-    let mut file = open(rt, path).ok()?;
+    let mut file = match open(rt, path) {
+        Ok(file) => file,
+        Err(FileFault::Memory) => return Err(Unanswered::Memory),
+        Err(FileFault::Unread) => return Ok(None),
+    };
     let mut octets = [0; 4];
-    file.read_exact(&mut octets).ok()?;
-    Some(u32::from_be_bytes(octets))
+    match file.read_exact(&mut octets) {
+        Ok(()) => Ok(Some(u32::from_be_bytes(octets))),
+        Err(_) => Ok(None),
+    }
 }

@@ -1,7 +1,6 @@
 -- What is found of a route to a client, case by case: for counting.rt.
-use Rattle.std.proofs.Common.{◌≡◌, ◌≢◌, ◌∙◌, sym, ap, refl, arith, ℕ, ◌<◌, ◌==◌, Bool, true, false, cond, ◌||◌, ◌&&◌, not, List, [], ◌∷◌, length, map}
+use Rattle.std.proofs.Common.{◌≡◌, ◌≢◌, ◌∙◌, sym, ap, refl, arith, ℕ, ◌<◌, ◌==◌, Bool, true, false, cond, ◌||◌, ◌&&◌, not, List, [], ◌∷◌, length}
 use Rattle.std.specs.Prelude.{Option, None, Some, IfSome, is_some, slice_get}
-use Rattle.std.specs.List.{Contains}
 use Rattle.std.specs.Option.{option_map, option_map_or, option_to_list}
 use Rattle.std.proofs.lemmas.Bool.{ne_eqb}
 use Rattle.std.proofs.lemmas.Bool.Decides.{nat_tests}
@@ -20,7 +19,6 @@ use Rattle.rs_explain.specs.Reasons.{failed_condition}
 use Rattle.rs_table.specs.declared.route.Route.{Route}
 use Rattle.rs_table.specs.RouteView.{sent_route_of}
 use Rattle.rs_table.specs.Table.{is_from}
-use Rattle.rs_survey.specs.declared.finding.Finding.{Finding}
 use Rattle.rs_survey.specs.declared.finding.Finding.TheVariants.{Refused, Lost, Best, Removed}
 use Rattle.rs_survey.specs.declared.seen.Seen.{Seen}
 use Rattle.rs_survey.specs.Findings.{flaw_of}

@@ -1,5 +1,5 @@
 -- The choice that all clients would share, of the routes seen: for hidden.rt.
-use Rattle.std.proofs.Common.{◌≡◌, ◌∙◌, sym, ap, refl, arith, ℕ, ◌<◌, ◌≤◌, Bool, true, false, cond, inl, inr, List, [], ◌∷◌, length, map}
+use Rattle.std.proofs.Common.{◌≡◌, ◌∙◌, sym, ap, refl, arith, ℕ, ◌<◌, ◌≤◌, false, cond, inl, inr, List, [], ◌∷◌, length, map}
 use Rattle.std.specs.Prelude.{filter, Option, None, Some, IfSome, is_none, is_some}
 use Rattle.std.specs.List.{All}
 use Rattle.std.specs.Option.{option_map, option_map_or}

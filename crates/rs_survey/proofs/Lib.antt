@@ -1,4 +1,5 @@
 pub mod MissingLemmas
+pub mod RowLemmas
 pub mod TallyLemmas
 pub mod GrowthLemmas
 pub mod RemovingLemmas

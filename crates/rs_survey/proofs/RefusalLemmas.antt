@@ -1,5 +1,5 @@
 -- A route without a community (0, AS) is refused by its sender's name alone: for `permits` of seen.rt.
-use Rattle.std.proofs.Common.{◌≡◌, ◌∙◌, sym, ap, arith, ℕ, ◌<◌, ◌/◌, ◌*◌, ◌+◌, ◌==◌, Bool, true, false, not, ◌&&◌, ◌≢◌, inl, inr, List, []}
+use Rattle.std.proofs.Common.{◌≡◌, ◌∙◌, sym, arith, ℕ, ◌<◌, ◌/◌, ◌*◌, ◌+◌, ◌==◌, Bool, true, false, not, ◌&&◌, ◌≢◌, inl, inr, List, []}
 use Rattle.std.proofs.Common.{◌∷◌, length, Option, None, Some, refl}
 use Rattle.std.specs.Prelude.{slice_get, nat_lt, if◌then◌else◌}
 use Rattle.std.specs.List.{list_any}

@@ -1,5 +1,5 @@
 -- Counts of findings (our choice).
-use Rattle.std.specs.Prelude.{◌≡◌, ◌<◌, ◌≤◌, ◌+◌, ◌-◌, ◌*◌, ◌^◌, ℕ, List, All, length, count_by, min, slice_index_or, refl}
+use Rattle.std.specs.Prelude.{◌≡◌, ◌≤◌, ◌+◌, ◌-◌, ◌*◌, ◌^◌, ℕ, List, All, length, count_by, min, slice_index_or, refl}
 use Rattle.std.specs.Coded.{Coded, code_by, coded×, coded_ℕ, coded_list}
 use Rattle.rs_survey.specs.declared.finding.Finding.{Finding}
 use Rattle.rs_survey.specs.declared.finding.Key.{Key}

@@ -7,7 +7,7 @@ ghost use Rattle.std.specs.Option.{option_map};
 use crate::choices::Choices;
 use crate::side_by_side::SideBySide;
 use rs_choice::Exchange;
-use rs_table::{Route, Tables};
+use rs_table::Tables;
 use rs_update::{Attributes, the_attributes_of_a_route_read_back, write_attributes};
 use std::alloc::{AllocError, Global};
 use std::marker::Model;
@@ -93,7 +93,7 @@ fn is_same(octets: &mut Vec<u8>, before: &Exchange, after: &Exchange, one: &Choi
 {
     match (one.before, one.after) {
         (Some(old), Some(new)) => {
-            has_one_name(before, old, after, new)
+            has_one_name(before, old.peer, after, new.peer)
                 && has_same_attributes(octets, old.attributes, new.attributes)
         }
         (None, None) => true,
@@ -101,12 +101,12 @@ fn is_same(octets: &mut Vec<u8>, before: &Exchange, after: &Exchange, one: &Choi
     }
 }
 
-// Whether the senders of two routes have one name.
-fn has_one_name(before: &Exchange, old: Route, after: &Exchange, new: Route) -> bool
-    ensures same { IsTrue result → name_of before.now old.peer ≡ name_of after.now new.peer }
-    ensures differ { IsFalse result → name_of before.now old.peer ≡ name_of after.now new.peer → ⊥ }
+// Whether two peers have one name.
+fn has_one_name(before: &Exchange, old: usize, after: &Exchange, new: usize) -> bool
+    ensures same { IsTrue result → name_of before.now old ≡ name_of after.now new }
+    ensures differ { IsFalse result → name_of before.now old ≡ name_of after.now new → ⊥ }
 {
-    match (name(before, old.peer), name(after, new.peer)) {
+    match (name(before, old), name(after, new)) {
         (Some(one), Some(other)) => one == other,
         (None, None) => true,
         _ => false,
@@ -145,5 +145,6 @@ fn has_same_attributes(octets: &mut Vec<u8>, one: &Attributes, other: &Attribute
     ) else {
         unreachable!();
     };
-    octets[..len] == octets[len..]
+    let (first, second) = octets.split_at(len);
+    first == second
 }

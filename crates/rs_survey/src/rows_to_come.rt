@@ -62,7 +62,7 @@ impl<'a> RowsToCome<'a> {
     pub(crate) fn first_prefix(&self) -> Option<Prefix>
         ensures { IsFirstPrefix self.now result }
     {
-        match self.first {
+        match &self.first {
             Some(row) => Some(row.prefix),
             None => None,
         }
@@ -78,12 +78,15 @@ impl<'a> RowsToCome<'a> {
         ensures fewer { OnSome result (length self.new.rows < length self.old.rows) }
     {
         self.last = Some(prefix);
-        match self.first {
-            Some(row) if row.prefix == prefix => {
-                self.first = self.rest.next();
-                Some(row.route)
-            }
-            _ => None,
+        let Some(row) = self.first.take() else {
+            return None;
+        };
+        if row.prefix == prefix {
+            self.first = self.rest.next();
+            Some(row.route)
+        } else {
+            self.first = Some(row);
+            None
         }
     }
 }

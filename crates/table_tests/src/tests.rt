@@ -4,18 +4,16 @@
 //! below both are of that exchange. A row without a colon is a question and its answer after these changes. One with a
 //! colon has three columns: what is asked and of which case, what is given, and the answer.
 //!
-//! The tests go from plans and single routes (`plans`, `routes`) over the choice among routes (`decisions`, `crowds`) and
-//! the tables of clients (`clients`, `tables`, `random_changes`, `refusals`, `parts`) to why a client has a route
-//! (`reasons`, `last_said`) and to dumps (`dumps`, `writers`, `side_by_side`, `kept`).
+//! The tests go from plans and single routes (`plans`, `routes`) over the choice among routes (`decisions`) and the
+//! tables of clients (`clients`, `tables`, `random_changes`, `refusals`, `parts`) to why a client has a route
+//! (`reasons`, `last_said`) and to dumps (`dumps`, `writers`, `side_by_side`).
 
 mod changes;
 mod clients;
-mod crowds;
 mod decisions;
 mod dumps;
 mod exchanges;
 mod held;
-mod kept;
 mod last_said;
 mod parts;
 mod plans;

@@ -1,5 +1,5 @@
-use Rattle.std.proofs.Common.{◌≡◌, ◌∙◌, ◌∷◌, [], sym, map, subst, true, false}
-use Rattle.std.specs.Prelude.{Some, None}
+use Rattle.std.proofs.Common.{◌≡◌, ◌∙◌, ◌∷◌, [], sym, map, subst}
+use Rattle.std.specs.Prelude.{Some}
 use Rattle.rs_choice.specs.Clients.{chosen_for}
 use Rattle.rs_table.specs.Table.{is_from}
 use Rattle.rs_survey.specs.declared.finding.Finding.TheVariants.{Lost, Removed}

@@ -1,11 +1,8 @@
-use Rattle.std.proofs.Common.{◌≡◌, ◌∙◌, ◌∷◌, [], sym, subst, Some}
+use Rattle.std.proofs.Common.{◌∙◌, ◌∷◌, [], sym, subst}
 use Rattle.std.specs.Prelude.{Option}
 use Rattle.std.specs.Option.{option_map, option_to_list}
-use Rattle.rs_explain.specs.Reasons.{failed_condition}
-use Rattle.rs_survey.specs.declared.finding.Finding.{Finding}
 use Rattle.rs_survey.specs.declared.finding.Finding.TheVariants.{Left, Ineligible}
 use Rattle.rs_survey.specs.declared.finding.Flaw.{Flaw}
-use Rattle.rs_survey.specs.Findings.{flaw_of}
 use Rattle.rs_survey.specs.Grows.{Grows}
 use Rattle.rs_survey.proofs.GrowthLemmas.{grows_then}
 use Rattle.rs_survey.proofs.counting.count_route.Goals as goal

@@ -1,6 +1,4 @@
-use Rattle.std.proofs.Common.{◌≡◌, ◌∙◌, sym, ap, map, subst, arith, false, true, Bool}
-use Rattle.std.specs.Prelude.{is_some}
-use Rattle.rs_explain.specs.Reasons.{failed_condition}
+use Rattle.std.proofs.Common.{◌∙◌, sym, map, subst}
 use Rattle.rs_survey.specs.Grows.{Grows}
 use Rattle.rs_survey.specs.Seen.{sent_of_seen}
 use Rattle.rs_survey.proofs.CountLemmas.{candidate_is, differs, flaw_seen, nothing_ineligible, nothing_own, refused_is}

@@ -3,8 +3,10 @@ use Rattle.std.specs.Prelude.{is_some}
 use Rattle.std.specs.List.{list_any, range_with_len}
 use Rattle.std.specs.Option.{option_map_or}
 use Rattle.rs_choice.specs.Clients.{chosen_for, is_sent_to}
+use Rattle.rs_choice.specs.Plan.{Plan}
 use Rattle.rs_table.specs.RouteView.{sent_route_of}
 use Rattle.rs_table.specs.Table.{routes_on}
+use Rattle.rs_survey.specs.Seen.{is_open_to}
 use Rattle.rs_survey.specs.Summary.{is_hidden_from, shared_choice}
 use Rattle.rs_survey.proofs.GrowthLemmas.{any-number}
 use Rattle.rs_survey.proofs.HiddenLemmas.{some_made}
@@ -26,12 +28,13 @@ loop-client-preserved c =
           let gets : is_some (chosen_for plan n routes) ≡ true =
           sym (ap is_some (w.best.ensures ∙ c.requires.routes.bests n)) ∙ some_made sent_route_of w.best.result
           ∙ sym w.is_some.ensures ∙ w.if-is_some.true in
-          w.hides-is ∙ ap not (w.is_open_to.ensures ∙ c.requires.shared n) ∙ ap (λ b. b && not shared) (sym gets)
+          w.hides-is ∙ ap not (w.is_open_to.ensures
+          ∙ ap (λ (plan : Plan). is_open_to plan c.args.shared.now n) c.plan-plan.ensures ∙ c.requires.shared n) ∙ ap (λ b. b && not shared) (sym gets)
           ∙ ap (λ b. b || hidden n) (sym w.if-hides.false ∙ so_far)
       | else-hides+else-is_some w ↦
           let gets : is_some (chosen_for plan n routes) ≡ false =
           sym (ap is_some (w.best.ensures ∙ c.requires.routes.bests n)) ∙ some_made sent_route_of w.best.result
           ∙ sym w.is_some.ensures ∙ w.if-is_some.false in
-          w.hides-is ∙ ap (λ b. b && not shared) (sym gets) ∙ ap (λ b. b || hidden n) (sym w.if-hides.false ∙ so_far)
+          w.hides-is ∙ w.if-is_some.false ∙ ap (λ b. b && not shared) (sym gets) ∙ ap (λ b. b || hidden n) (sym w.if-hides.false ∙ so_far)
     ] in
     both ∙ any-number hidden n

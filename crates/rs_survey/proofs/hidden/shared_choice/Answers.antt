@@ -1,5 +1,4 @@
-use Rattle.std.proofs.Common.{◌≡◌, ◌∙◌, ◌≤◌, ◌<◌, sym, ap, subst, arith, length, map}
-use Rattle.std.specs.Prelude.{Option}
+use Rattle.std.proofs.Common.{◌≡◌, ◌∙◌, ◌<◌, sym, ap, subst, arith, length, map}
 use Rattle.std.specs.List.{All}
 use Rattle.rs_choice.specs.declared.candidate.Candidate.{Candidate}
 use Rattle.rs_choice.specs.Decision.{choice, member_at, standing_of_candidate}

@@ -1,4 +1,4 @@
-use Rattle.std.proofs.Common.{◌≡◌, ◌∙◌, sym, ap, true, false}
+use Rattle.std.proofs.Common.{◌∙◌, sym, ap}
 use Rattle.rs_choice.specs.Clients.{is_sent_to}
 use Rattle.rs_choice.specs.Decision.{standing_of}
 use Rattle.rs_choice.specs.Eligibility.{is_eligible}

@@ -1,10 +1,9 @@
-use Rattle.std.proofs.Common.{◌≡◌, ◌∙◌, ◌+◌, ◌++◌, ◌∷◌, [], ◌<◌, ◌≤◌, List, ap, sym, subst, arith, drop, length, length-append, map}
+use Rattle.std.proofs.Common.{◌≡◌, ◌∙◌, ◌+◌, ◌++◌, ◌∷◌, [], ◌<◌, ◌≤◌, ap, sym, subst, arith, drop, length, length-append, map, refl}
 use Rattle.std.specs.Prelude.{None, Some, Option}
 use Rattle.std.specs.List.{cons_option}
 use Rattle.std.proofs.lemmas.List.Elements.{All-push}
 use Rattle.rs_choice.specs.Decision.{SentRoute}
 use Rattle.rs_choice.specs.Plan.{Plan}
-use Rattle.rs_table.specs.RouteView.{sent_route_of}
 use Rattle.rs_table.specs.Table.{route_from}
 use Rattle.rs_survey.specs.declared.seen.Seen.{Seen}
 use Rattle.rs_survey.specs.Seen.{IsSeen, sent_of_seen}
@@ -39,7 +38,7 @@ loop-peer-preserved c =
           }
       | in_default w ↦
           let none : None ≡ route_from tables prefix peer = w.in_default.ensures ∙ c.requires.routes peer known in
-          let same : c.match-route.seen.items ≡ items = w.seen-is in
+          let same : c.match-route.seen.items ≡ items = rw w.seen-is refl in
           record {
             listed = rw same (ap (λ later. map sent_of_seen items ++ later)
                 (sym (more ∙ ap (λ (found : Option SentRoute). cons_option found rest) (sym none))) ∙ c.loop-peer.invariant.listed);
