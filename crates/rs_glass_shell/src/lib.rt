@@ -55,7 +55,7 @@ mod why_lines;
 mod why_object;
 mod words;
 
-pub use answering::{Answer, answer};
+pub use answering::{Reply, answer};
 pub use history_lines::{HistoryView, history_text};
 pub use history_object::history_json;
 pub use lines::{PROGRAM, line};
