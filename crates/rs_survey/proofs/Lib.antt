@@ -1,5 +1,6 @@
 pub mod MissingLemmas
 pub mod RowLemmas
+pub mod DifferenceLemmas
 pub mod TallyLemmas
 pub mod GrowthLemmas
 pub mod RemovingLemmas

@@ -186,7 +186,7 @@ module _ (fields : Inside) (is : AreAhead fields) where
     }
 
     module _ (row : Row) (found : fields.first ≡ Some row) (between : GetsNoneBetween (ahead_view fields).whose fields.last p)
-      (apart : row.prefix ≡ p → ⊥) where
+        (apart : row.prefix ≡ p → ⊥) where
       pub none-on : None ≡ route_of (ahead_view fields).whose p
       none-on = gets-none (ahead_view fields).whose fields.last (row_of row) fields.rest (all-are row found) p behind between apart
 
