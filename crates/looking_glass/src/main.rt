@@ -7,7 +7,7 @@
 //! Supported standards: RFC 4271, RFC 6793, RFC 1997, RFC 7606, RFC 7947, RFC 6396.
 #![tactic(auto)]
 
-use rs_glass_shell::{Answer, PROGRAM, Unanswered, answer, end_status, line};
+use rs_glass_shell::{PROGRAM, Reply, Unanswered, answer, end_status, line};
 use rs_host::end_with;
 use rs_mrt::Bounds;
 use rs_notes::{Subject, print_notes};
@@ -18,7 +18,7 @@ use std::process::ExitCode;
 
 fn main(rt: HostRuntime) -> ExitCode {
     let unanswered = match answer(&rt) {
-        Ok(Answer { text, status, read }) => match print!(&rt; "{text}") {
+        Ok(Reply { text, status, read }) => match print!(&rt; "{text}") {
             Ok(()) => {
                 note(&rt, &read);
                 return ExitCode::from(status);

@@ -8,10 +8,10 @@ none-none Holds from number above below = absurd (omega (arith, above, below))
 
 pub none-more : (Holds : ℕ → Type 0) (from to : ℕ) (is : Bool) → NoneFrom Holds from to → (is ≡ true) ↔ Holds to → is ≡ false
     → NoneFrom Holds from (to + 1)
-none-more Holds from to is none tells no number above below =
+none-more Holds from to is none tells isnt number above below =
     elim (cases_lt number to) [
       | inl earlier ↦ none number above earlier
-      | inr later ↦ λ holds. true≢false (sym (tells.1 (subst Holds (omega (arith, below, later)) holds)) ∙ no)
+      | inr later ↦ λ holds. true≢false (sym (tells.1 (subst Holds (omega (arith, below, later)) holds)) ∙ isnt)
     ]
 
 pub none-below : (Holds : ℕ → Type 0) (from to end : ℕ) → end ≤ to → NoneFrom Holds from to → NoneFrom Holds from end

@@ -40,7 +40,7 @@ use std::thread::Threads;
 
 /// What a question is answered with.
 #[derive(Drop)]
-pub struct Answer {
+pub struct Reply {
     /// The text that is printed.
     pub text: String,
     /// The status with which the program ends.
@@ -53,14 +53,14 @@ pub struct Answer {
 /// all but its last part is printed by then. Fails with why there is no answer.
 pub fn answer<R: AllocGlobal + Env + Files + Threads + Wait + Sync + Print>(
     rt: &R,
-) -> Result<Answer, Unanswered>
+) -> Result<Reply, Unanswered>
 where
     R::File: Send,
 {
     match command_line(rt)? {
         Query::Why(query) => why(rt, &query),
         Query::History(query) => history(rt, &query),
-        Query::Peers(query) => Ok(Answer {
+        Query::Peers(query) => Ok(Reply {
             text: peers(rt, query)?,
             status: DONE,
             read: None,
@@ -74,9 +74,9 @@ where
 }
 
 // An answer for which the files of a setup were read up to a time.
-pub(crate) fn answer_until(text: String, setup: Setup, until: Option<u32>) -> Answer {
+pub(crate) fn answer_until(text: String, setup: Setup, until: Option<u32>) -> Reply {
     let tail = Tail::Strict;
-    Answer {
+    Reply {
         text,
         status: DONE,
         read: Some((setup, Bounds { until, tail })),
@@ -92,7 +92,7 @@ fn command_line<R: AllocGlobal + Env>(rt: &R) -> Result<Query, WordsFault> {
 fn why<R: AllocGlobal + Files + Threads + Sync>(
     rt: &R,
     query: &WhyQuery,
-) -> Result<Answer, Unanswered>
+) -> Result<Reply, Unanswered>
 where
     R::File: Send,
 {
@@ -212,7 +212,7 @@ fn bounds(span: Span) -> Bounds {
 fn history<R: AllocGlobal + Files + Threads + Sync>(
     rt: &R,
     query: &HistoryQuery,
-) -> Result<Answer, Unanswered>
+) -> Result<Reply, Unanswered>
 where
     R::File: Send,
 {

@@ -1,7 +1,7 @@
 //! What a run over a configuration would meet: why it would be refused, which files can't be opened, what they hold of
 //! each peer, where sessions close, and the notes.
 
-use crate::answering::{Answer, recorded_file};
+use crate::answering::{Reply, recorded_file};
 use crate::closing::{Closing, closing_of};
 use crate::reasons::close_text;
 use crate::recorded_file::RecordedFile;
@@ -28,10 +28,7 @@ const CLOSE_ALONE: u64 = 1;
 /// Tells what a run over the configuration at a path would meet. The status is 0 where it would be clean, 1 where the
 /// configuration would be refused, 2 where a file would fail, 5 where a session would close before the end of its file
 /// or there would be a note.
-pub(crate) fn check<R: AllocGlobal + Files + Env>(
-    rt: &R,
-    path: &str,
-) -> Result<Answer, Unanswered> {
+pub(crate) fn check<R: AllocGlobal + Files + Env>(rt: &R, path: &str) -> Result<Reply, Unanswered> {
     let alloc = rt.alloc();
     let octets = match read_file(rt, path) {
         Ok(octets) => octets,
@@ -45,8 +42,8 @@ pub(crate) fn check<R: AllocGlobal + Files + Env>(
 }
 
 // An answer to which no note is printed.
-fn told(text: String, status: u8) -> Answer {
-    Answer {
+fn told(text: String, status: u8) -> Reply {
+    Reply {
         text,
         status,
         read: None,
@@ -54,7 +51,7 @@ fn told(text: String, status: u8) -> Answer {
 }
 
 // Tells what the files of a setup hold.
-fn check_files<R: AllocGlobal + Files + Env>(rt: &R, setup: &Setup) -> Result<Answer, Unanswered> {
+fn check_files<R: AllocGlobal + Files + Env>(rt: &R, setup: &Setup) -> Result<Reply, Unanswered> {
     let mut text = String::new(rt.alloc());
     for peer in 0..setup.plan.count().min(setup.files.len()) {
         add_unopened(
@@ -132,7 +129,7 @@ fn check_records<R: AllocGlobal + Files>(
     rt: &R,
     setup: &Setup,
     text: String,
-) -> Result<Answer, Unanswered> {
+) -> Result<Reply, Unanswered> {
     let alloc = rt.alloc();
     let mut text = text;
     let mut held = Vec::new(alloc);

@@ -1,6 +1,6 @@
 //! Answers where the tables of clients differ.
 
-use crate::answering::{Answer, answer_until};
+use crate::answering::{Reply, answer_until};
 use crate::diff_row::{
     CHANGES, Sides, add_count, add_count_titles, add_diff_rows, add_diff_titles, change_of,
 };
@@ -45,7 +45,7 @@ struct Client<'a> {
 pub(crate) fn diff<R: AllocGlobal + Files + Threads + Wait + Sync + Print>(
     rt: &R,
     query: &DiffQuery,
-) -> Result<Answer, Unanswered>
+) -> Result<Reply, Unanswered>
 where
     R::File: Send,
 {

@@ -58,7 +58,7 @@ mod why_lines;
 mod why_object;
 mod words;
 
-pub use answering::{Answer, answer};
+pub use answering::{Reply, answer};
 pub use diff_answering::end_status;
 pub use history_lines::{HistoryView, history_text};
 pub use history_object::history_json;

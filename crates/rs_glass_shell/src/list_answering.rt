@@ -2,7 +2,7 @@
 
 ghost use Rattle.std.specs.Prelude.{◌<◌, length};
 
-use crate::answering::{Answer, answer_until};
+use crate::answering::{Reply, answer_until};
 use crate::counted_row::{Counts, counts_text};
 use crate::layout::Layout;
 use crate::missing_row::{add_missing_row, add_missing_titles, reason_key};
@@ -46,7 +46,7 @@ struct Wanted<'a> {
 pub(crate) fn table<R: AllocGlobal + Files + Threads + Wait + Sync + Print>(
     rt: &R,
     query: &TableQuery,
-) -> Result<Answer, Unanswered>
+) -> Result<Reply, Unanswered>
 where
     R::File: Send,
 {
@@ -70,7 +70,7 @@ where
 pub(crate) fn missing<R: AllocGlobal + Files + Threads + Wait + Sync + Print>(
     rt: &R,
     query: &MissingQuery,
-) -> Result<Answer, Unanswered>
+) -> Result<Reply, Unanswered>
 where
     R::File: Send,
 {
@@ -96,7 +96,7 @@ where
 pub(crate) fn summary<R: AllocGlobal + Files + Threads + Wait + Sync + Print>(
     rt: &R,
     query: &SummaryQuery,
-) -> Result<Answer, Unanswered>
+) -> Result<Reply, Unanswered>
 where
     R::File: Send,
 {

@@ -22,11 +22,19 @@ pub(crate) fn peer_named<R: AllocGlobal>(
     ensures known { IfOk result (λ number. number < length setup.now.plan.value.peers) }
     ensures named { IfOk result (Names word.now setup.now.plan.value.peers) }
 {
-    let alloc = rt.alloc();
-    let plan = &setup.plan;
+    named_in(rt.alloc(), &setup.plan, word)
+}
+
+// The same, of the peers of an exchange.
+fn named_in(alloc: Global, plan: &Exchange, word: &str) -> Result<usize, Unanswered>
+    ensures known { IfOk result (λ number. number < length plan.now.peers) }
+    ensures named { IfOk result (Names word.now plan.now.peers) }
+{
     if let Some(number) = peer_of_name(plan, word) {
         return Ok(number);
     }
+    // For the prover: there are fewer peers than the greatest number.
+    let _count = plan.count();
     let Some(number) = first_of(alloc, plan, word, 0)? else {
         return Err(Unanswered::NoPeer(String::from_str(alloc, word)?));
     };

@@ -28,6 +28,7 @@ const TITLES: [&str; 13] = [
 pub(crate) type Number = (&'static str, u64);
 
 // A row: what it is about, and its numbers.
+#[derive(Drop)]
 pub(crate) struct SummaryRow<'a> {
     // Of which kind it is.
     pub(crate) kind: &'static str,

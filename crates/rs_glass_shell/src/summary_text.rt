@@ -15,15 +15,14 @@ const NUMBER_WIDTH: usize = 11;
 // How wide the column of steps is.
 const STEP_WIDTH: usize = 14;
 
-// The titles of the numbers of each peer.
-const PEER_TITLES: [&str; 7] = [
+// The titles of the numbers of each peer, without the last one.
+const PEER_TITLES: [&str; 6] = [
     "left",
     "server AS",
     "server hop",
     "off subnet",
     "refused",
     "lost",
-    "best",
 ];
 
 // Adds the four tables.
@@ -54,7 +53,7 @@ fn add_peers(text: &mut String, layout: &Layout, tally: &Tally) -> Result<(), Al
     for title in &PEER_TITLES {
         add_cell(text, title, NUMBER_WIDTH)?;
     }
-    end_line(text)?;
+    text.push_str("best\n")?;
     for peer in 0..tally.peers() {
         add_peer(text, layout, tally, peer)?;
     }
@@ -71,10 +70,12 @@ fn add_peer(
     requires { peer < tally.now.peers }
 {
     layout.add_sender(text, peer)?;
-    for (_, number) in &of_peer(tally, peer) {
+    let numbers = of_peer(tally, peer);
+    for (_, number) in numbers.iter().take(PEER_TITLES.len()) {
         add_number(text, *number, NUMBER_WIDTH)?;
     }
-    end_line(text)
+    let (_, best) = numbers[PEER_TITLES.len()];
+    writeln!(text, "{best}")
 }
 
 // Adds how many routes each client gets from each sender.
@@ -93,7 +94,7 @@ fn add_matrix_titles(text: &mut String, layout: &Layout, tally: &Tally) -> Resul
     for peer in 0..tally.peers() {
         add_cell(text, layout.name(peer), layout.names.max(NUMBER_WIDTH))?;
     }
-    end_line(text)
+    text.push_str("all\n")
 }
 
 // Adds the line of a client.
@@ -106,15 +107,14 @@ fn add_client(
     requires { client < tally.now.peers }
 {
     let width = layout.names.max(NUMBER_WIDTH);
+    let mut all: u64 = 0;
     add_cell(text, layout.name(client), name_width(layout.plan, "client"))?;
     for peer in 0..tally.peers() {
-        if peer == client {
-            add_cell(text, "-", width)?;
-        } else {
-            add_number(text, tally.count(Finding::Best(client, peer)), width)?;
-        }
+        let routes = tally.count(Finding::Best(client, peer));
+        all = all.saturating_add(routes);
+        add_number(text, routes, width)?;
     }
-    end_line(text)
+    writeln!(text, "{all}")
 }
 
 // Adds how many routes each step of the decision process removed.
@@ -133,11 +133,4 @@ fn add_number(text: &mut String, number: u64, width: usize) -> Result<(), AllocE
     let start = text.len();
     write!(text, "{number}")?;
     fill_cell(text, start, width)
-}
-
-// Ends a line of cells: no space stands before the line break.
-fn end_line(text: &mut String) -> Result<(), AllocError> {
-    let len = text.trim_end_matches(' ').len();
-    text.truncate(len);
-    text.push('\n')
 }

@@ -1,5 +1,5 @@
--- A change that is given comes before whatever may come, and is listed where it happens on the prefix; once none is given or a read failed, all
--- were given.
+-- A change that is given comes before whatever may come, and is listed where it happens on the prefix; once none is given or a read failed,
+-- all were given.
 use Rattle.std.proofs.Common.{◌∙◌, ◌++◌, ◌∷◌, [], refl, rules, sym}
 use Rattle.rs_mrt.specs.RecordReading.{MayCome, room_left}
 use Rattle.rs_session.specs.Change.{change_of, is_close}
