@@ -1,5 +1,7 @@
 //! Answers where the tables of clients differ.
 
+ghost use Rattle.std.specs.Prelude.{◌≡◌, length};
+
 use crate::answering::{Reply, answer_until};
 use crate::diff_row::{
     CHANGES, Sides, add_count, add_count_titles, add_diff_rows, add_diff_titles, change_of,
@@ -51,9 +53,27 @@ where
 {
     let old = configuration(rt, &query.old.config)?;
     let new = configuration(rt, &query.new.config)?;
-    let clients = clients(rt, &old, &new, &query.client)?;
-    let before = served(rt, &old, &query.old)?;
-    let after = served(rt, &new, &query.new)?;
+    let page = compared(rt, &old, &new, query)?;
+    let mut reply = answer_until(page.text, new, query.new.until);
+    reply.status = if page.differs { DIFFERS } else { DONE };
+    Ok(reply)
+}
+
+// The last part of the list of two setups, and whether something differs.
+fn compared<R: AllocGlobal + Files + Threads + Wait + Sync + Print>(
+    rt: &R,
+    old: &Setup,
+    new: &Setup,
+    query: &DiffQuery,
+) -> Result<Page, Unanswered>
+where
+    R::File: Send,
+    requires old { length old.now.files.items ≡ length old.now.plan.value.peers }
+    requires new { length new.now.files.items ≡ length new.now.plan.value.peers }
+{
+    let clients = clients(rt, old, new, &query.client)?;
+    let before = served(rt, old, &query.old)?;
+    let after = served(rt, new, &query.new)?;
     let mut page = Page {
         text: String::new(rt.alloc()),
         differs: false,
@@ -68,9 +88,7 @@ where
     for client in &clients {
         add_client(rt, &mut page, old_tables, new_tables, client, query)?;
     }
-    let mut answer = answer_until(page.text, new, query.new.until);
-    answer.status = if page.differs { DIFFERS } else { DONE };
-    Ok(answer)
+    Ok(page)
 }
 
 // What is gathered of the list, and whether something differs.
