@@ -51,13 +51,7 @@ fn check(rt: &impl Abort, found: &Option<String>, wanted: &str, row: &str) {
 }
 
 // A row of three columns has its answer in an exchange.
-fn check_case(
-    rt: &impl Abort,
-    alloc: Global,
-    plan: &str,
-    (asked, case, rest): (&str, &str, &str),
-    row: &str,
-) {
+fn check_case(rt: &impl Abort, alloc: Global, plan: &str, (asked, rest): (&str, &str), row: &str) {
     let (given, wanted) = rest.split_once('|').unwrap_or(("", "three columns"));
     let (given, wanted) = (given.trim(), wanted.trim());
     let found = match asked {
@@ -65,7 +59,6 @@ fn check_case(
         "merged" => parts::merged(alloc, plan, given),
         "told" => reasons::told(alloc, plan, given, wanted),
         "said" => last_said::last_said(alloc, given),
-        "taken" => last_said::taken(alloc, case.trim(), given),
         _ => held::answer(rt, alloc, plan, asked, given),
     };
     check(rt, &found, wanted, row);
@@ -96,7 +89,7 @@ fn check_row<T: Abort + Threads + Sync>(
 ) {
     let (head, rest) = row.split_once('|').unwrap_or((row, ""));
     match head.split_once(':') {
-        Some((asked, case)) => check_case(rt, alloc, plan, (asked, case, rest), row),
+        Some((asked, _)) => check_case(rt, alloc, plan, (asked, rest), row),
         None => check_after(rt, alloc, (plan, changes), row),
     }
 }
