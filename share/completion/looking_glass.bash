@@ -2,7 +2,7 @@
 _looking_glass() {
     local word=${COMP_WORDS[COMP_CWORD]} before=${COMP_WORDS[COMP_CWORD-1]} options
     if [ "$COMP_CWORD" -eq 1 ]; then
-        mapfile -t COMPREPLY < <(compgen -W "why history table missing summary peers check --help --version" -- "$word")
+        mapfile -t COMPREPLY < <(compgen -W "why history table missing summary diff peers check --help --version" -- "$word")
         return
     fi
     case $before in
@@ -17,6 +17,7 @@ _looking_glass() {
         table) options="--config --client --from --prefix --longer --until --count --shards --errors --csv --json --help" ;;
         missing) options="--config --client --from --because --until --count --shards --errors --csv --json --help" ;;
         summary) options="--config --until --shards --errors --csv --json --help" ;;
+        diff) options="--config --client --until --errors --count --shards --csv --json --help" ;;
         peers) options="--json --toml --help" ;;
         check) options="--config --help" ;;
     esac

@@ -7,11 +7,12 @@
 //! Supported standards: RFC 4271, RFC 6793, RFC 1997, RFC 7606, RFC 7947, RFC 6396.
 #![tactic(auto)]
 
-use rs_glass_shell::{PROGRAM, Reply, Unanswered, answer, line};
+use rs_glass_shell::{PROGRAM, Reply, Unanswered, answer, end_status, line};
 use rs_host::end_with;
 use rs_mrt::Bounds;
 use rs_notes::{Subject, print_notes};
 use rs_setup::Setup;
+use std::env::Env;
 use std::fs::Files;
 use std::process::ExitCode;
 
@@ -42,11 +43,11 @@ fn note<R: AllocGlobal + Files + Eprint>(rt: &R, read: &Option<(Setup, Bounds)>)
 }
 
 // Says why there is no answer, and gives the status of that.
-fn end<R: AllocGlobal + Print + Eprint>(rt: &R, unanswered: &Unanswered) -> ExitCode {
+fn end<R: AllocGlobal + Env + Print + Eprint>(rt: &R, unanswered: &Unanswered) -> ExitCode {
     let words = match unanswered {
         Unanswered::Words(fault) => Some(fault),
         _ => None,
     };
     let text = line(rt.alloc(), unanswered);
-    end_with(rt, PROGRAM, words, text, unanswered.status())
+    end_with(rt, PROGRAM, words, text, end_status(rt, unanswered))
 }

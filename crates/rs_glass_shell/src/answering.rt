@@ -3,6 +3,7 @@
 ghost use Rattle.std.specs.Prelude.{◌≡◌, IfOk, length};
 
 use crate::checking::check;
+use crate::diff_answering::diff;
 use crate::history_lines::{HistoryView, history_text};
 use crate::history_object::history_json;
 use crate::lines::PROGRAM;
@@ -68,6 +69,7 @@ where
         Query::Table(query) => table(rt, &query),
         Query::Missing(query) => missing(rt, &query),
         Query::Summary(query) => summary(rt, &query),
+        Query::Diff(query) => diff(rt, &query),
     }
 }
 

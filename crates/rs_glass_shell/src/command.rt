@@ -1,6 +1,6 @@
 //! The program's command, as `clap` knows it.
 
-use crate::list_command::{missing_command, summary_command, table_command};
+use crate::list_command::{diff_command, missing_command, summary_command, table_command};
 use clap::builder::ValueParser;
 use clap::{Arg, ArgAction, Command};
 use rs_host::VERSION;
@@ -45,6 +45,7 @@ pub(crate) fn program<'a>(alloc: Global) -> Result<Command<'a>, AllocError> {
         .subcommand(check_command(alloc)?)?
         .subcommand(table_command(alloc)?)?
         .subcommand(missing_command(alloc)?)?
+        .subcommand(diff_command(alloc)?)?
         .subcommand(summary_command(alloc)?)
 }
 

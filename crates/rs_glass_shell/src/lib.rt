@@ -11,7 +11,7 @@
 //! tables: `list_command` and `list_words` (how they are asked for),
 //! `serving` (how the tables are built), `list_answering`, and their rows, `layout`, `table_row`, `missing_row`,
 //! `counted_row` and `csv_row`. A summary: `summary_numbers` (its numbers), `summary_text` (its tables) and `summary_row`
-//! (a row of CSV or JSON).
+//! (a row of CSV or JSON). Differences: `diff_words`, `diff_answering` and `diff_row`.
 #![tactic(auto)]
 
 mod answering;
@@ -24,6 +24,9 @@ mod columns;
 mod command;
 mod counted_row;
 mod csv_row;
+mod diff_answering;
+mod diff_row;
+mod diff_words;
 mod history_lines;
 mod history_object;
 mod layout;
@@ -56,6 +59,7 @@ mod why_object;
 mod words;
 
 pub use answering::{Reply, answer};
+pub use diff_answering::end_status;
 pub use history_lines::{HistoryView, history_text};
 pub use history_object::history_json;
 pub use lines::{PROGRAM, line};

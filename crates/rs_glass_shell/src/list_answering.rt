@@ -122,7 +122,7 @@ fn sender<R: AllocGlobal>(
 }
 
 // Prints rows that were gathered, where they are many.
-fn print_page<R: Print>(rt: &R, page: &mut String) -> Result<(), Unanswered> {
+pub(crate) fn print_page<R: Print>(rt: &R, page: &mut String) -> Result<(), Unanswered> {
     if page.len() < PAGE {
         return Ok(());
     }

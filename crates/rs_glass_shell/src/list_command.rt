@@ -9,6 +9,9 @@ const TABLE_ABOUT: &str = "Which routes does a client get?";
 
 const MISSING_ABOUT: &str = "Which routes of other peers does a client not get, and why?";
 
+const DIFF_ABOUT: &str =
+    "Which routes of clients differ between two configurations, times or standards?";
+
 const SUMMARY_ABOUT: &str = "What becomes of the routes of all peers, in numbers?";
 
 // What routes are listed for: an answer, or a reason.
@@ -57,6 +60,20 @@ pub(crate) fn missing_command<'a>(alloc: Global) -> Result<Command<'a>, AllocErr
         .arg(count(alloc))?
         .arg(until(alloc))?
         .arg(errors(alloc))?
+        .arg(shards(alloc))?
+        .arg(csv(alloc)?)?
+        .arg(json(alloc))
+}
+
+// `diff`
+pub(crate) fn diff_command<'a>(alloc: Global) -> Result<Command<'a>, AllocError> {
+    Command::new(alloc, "diff")
+        .about(DIFF_ABOUT)
+        .arg(config(alloc).action(ArgAction::Append))?
+        .arg(client(alloc))?
+        .arg(until(alloc).action(ArgAction::Append))?
+        .arg(errors(alloc).action(ArgAction::Append))?
+        .arg(count(alloc))?
         .arg(shards(alloc))?
         .arg(csv(alloc)?)?
         .arg(json(alloc))

@@ -59,7 +59,7 @@ fn tables_of(alloc: Global, matches: &ArgMatches<'_>) -> Result<TablesQuery, Wor
 }
 
 // The text of an option that may be left out.
-fn optional(
+pub(crate) fn optional(
     alloc: Global,
     matches: &ArgMatches<'_>,
     name: &str,
@@ -71,7 +71,7 @@ fn optional(
 }
 
 // How the list is written.
-fn form_of(matches: &ArgMatches<'_>) -> Form {
+pub(crate) fn form_of(matches: &ArgMatches<'_>) -> Form {
     if matches.get_flag("csv") {
         Form::Csv
     } else if matches.get_flag("json") {

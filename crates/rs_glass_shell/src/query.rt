@@ -17,6 +17,8 @@ pub enum Query {
     Table(TableQuery),
     /// The routes that a client does not get.
     Missing(MissingQuery),
+    /// Which routes of clients differ between two tables.
+    Diff(DiffQuery),
     /// What becomes of the routes of all peers, in numbers.
     Summary(SummaryQuery),
 }
@@ -140,6 +142,21 @@ pub struct SummaryQuery {
     /// The exchange whose tables are built.
     pub tables: TablesQuery,
     /// How the numbers are written.
+    pub form: Form,
+}
+
+/// Which routes of clients differ between two tables.
+#[derive(Drop)]
+pub struct DiffQuery {
+    /// The exchange whose tables are the old ones.
+    pub old: TablesQuery,
+    /// The exchange whose tables are the new ones.
+    pub new: TablesQuery,
+    /// The word that names the client; all of them where it isn't given.
+    pub client: Option<String>,
+    /// Whether the differences are counted, not listed.
+    pub count: bool,
+    /// How the list is written.
     pub form: Form,
 }
 

@@ -45,7 +45,7 @@ fn named_in(alloc: Global, plan: &Exchange, word: &str) -> Result<usize, Unanswe
 }
 
 // The first peer of a name.
-fn peer_of_name(plan: &Exchange, name: &str) -> Option<usize>
+pub(crate) fn peer_of_name(plan: &Exchange, name: &str) -> Option<usize>
     ensures known { IfSome result (λ number. number < length plan.now.peers) }
     ensures found { IfSome result (IsNameOf name.now plan.now.peers) }
     ensures none { IfNone result (NoneFrom (IsNameOf name.now plan.now.peers) 0 (length plan.now.peers)) }

@@ -12,7 +12,7 @@ use crate::route_text::{
 };
 use crate::why_object::put_text;
 use rs_host::Utc;
-use rs_table::Row;
+use rs_table::{Route, Row};
 use rs_update::Attributes;
 use serde_json::{Map, Value, put};
 use std::alloc::{AllocError, Global};
@@ -88,18 +88,29 @@ fn add_fields(
     layout: &Layout,
     row: &Row,
 ) -> Result<(), AllocError> {
-    let attributes = row.route.attributes;
     let prefix = prefix_text(alloc, row.prefix)?;
-    let asn = layout.asn(row.route.peer).to_string(alloc)?;
-    let time = row.route.time.to_string(alloc)?;
+    let mut fields = CsvRow::new(alloc);
+    fields.add(&prefix)?;
+    add_route_fields(&mut fields, alloc, layout, &row.route)?;
+    fields.add_to(text)
+}
+
+// Adds the fields of a route to a row of CSV.
+pub(crate) fn add_route_fields(
+    fields: &mut CsvRow,
+    alloc: Global,
+    layout: &Layout,
+    route: &Route,
+) -> Result<(), AllocError> {
+    let attributes = route.attributes;
+    let asn = layout.asn(route.peer).to_string(alloc)?;
+    let time = route.time.to_string(alloc)?;
     let next_hop = Ipv4Addr::from_bits(attributes.next_hop()).to_string(alloc)?;
     let path = path_text(alloc, attributes)?;
     let med = med_text(alloc, attributes)?;
     let communities = communities_text(alloc, attributes)?;
     let large = large_communities_text(alloc, attributes)?;
-    let mut fields = CsvRow::new(alloc);
-    fields.add(&prefix)?;
-    fields.add(layout.name(row.route.peer))?;
+    fields.add(layout.name(route.peer))?;
     fields.add(&asn)?;
     fields.add(&time)?;
     fields.add(&next_hop)?;
@@ -107,8 +118,7 @@ fn add_fields(
     fields.add(origin_name(attributes.origin()))?;
     fields.add(&med)?;
     fields.add(&communities)?;
-    fields.add(&large)?;
-    fields.add_to(text)
+    fields.add(&large)
 }
 
 // A MED; empty where it is missing, which is not 0.
@@ -127,13 +137,23 @@ fn add_object(
     row: &Row,
 ) -> Result<(), AllocError> {
     let mut object = Map::new(alloc);
-    let peer = row.route.peer;
     let prefix = prefix_text(alloc, row.prefix)?;
     put_text(&mut object, alloc, "prefix", &prefix)?;
-    put_text(&mut object, alloc, "peer", layout.name(peer))?;
-    put(&mut object, alloc, "as", Value::from(layout.asn(peer)))?;
-    put(&mut object, alloc, "time", Value::from(row.route.time))?;
-    history_object::add_route(&mut object, alloc, row.route.attributes)?;
-    history_object::add_large_communities(&mut object, alloc, row.route.attributes)?;
+    put_route(&mut object, alloc, layout, &row.route)?;
     add_json_line(text, alloc, object)
+}
+
+// Puts what is known of a route into an object of JSON.
+pub(crate) fn put_route(
+    object: &mut Map<String, Value>,
+    alloc: Global,
+    layout: &Layout,
+    route: &Route,
+) -> Result<(), AllocError> {
+    let peer = route.peer;
+    put_text(object, alloc, "peer", layout.name(peer))?;
+    put(object, alloc, "as", Value::from(layout.asn(peer)))?;
+    put(object, alloc, "time", Value::from(route.time))?;
+    history_object::add_route(object, alloc, route.attributes)?;
+    history_object::add_large_communities(object, alloc, route.attributes)
 }

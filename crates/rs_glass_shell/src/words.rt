@@ -1,6 +1,7 @@
 //! Reads the words of the command line, with `clap`.
 
 use crate::command::program;
+use crate::diff_words::diff_of;
 use crate::list_words::{missing_of, summary_of, table_of};
 use crate::query::{CheckQuery, Destination, HistoryQuery, PeersQuery, Query, Span, WhyQuery};
 use crate::values::{DESTINATION_FORM, PREFIX_FORM, TIME_FORM, destination_of, prefix_of, time_of};
@@ -48,6 +49,7 @@ fn query_of(alloc: Global, matches: &ArgMatches<'_>) -> Result<Query, WordsFault
         })),
         Some(("table", matches)) => Ok(Query::Table(table_of(alloc, matches)?)),
         Some(("missing", matches)) => Ok(Query::Missing(missing_of(alloc, matches)?)),
+        Some(("diff", matches)) => Ok(Query::Diff(diff_of(alloc, matches)?)),
         Some(("summary", matches)) => Ok(Query::Summary(summary_of(alloc, matches)?)),
         _ => Err(WordsFault::Refused(String::from_str(alloc, INCOMPLETE)?)),
     }
@@ -139,7 +141,16 @@ pub(crate) fn time(
     matches: &ArgMatches<'_>,
     name: &str,
 ) -> Result<Option<u32>, WordsFault> {
-    let Some(value) = matches.get_str(name) else {
+    time_in(alloc, name, matches.get_str(name))
+}
+
+// The time that the value of an option writes, where it has one.
+pub(crate) fn time_in(
+    alloc: Global,
+    name: &str,
+    value: Option<&str>,
+) -> Result<Option<u32>, WordsFault> {
+    let Some(value) = value else {
         return Ok(None);
     };
     match time_of(value) {
@@ -149,7 +160,11 @@ pub(crate) fn time(
 }
 
 pub(crate) fn errors(alloc: Global, matches: &ArgMatches<'_>) -> Result<Errors, WordsFault> {
-    let value = matches.get_str("errors").unwrap_or("");
+    errors_in(alloc, matches.get_str("errors").unwrap_or(""))
+}
+
+// The standard that the value of an option names.
+pub(crate) fn errors_in(alloc: Global, value: &str) -> Result<Errors, WordsFault> {
     match standard_of(value) {
         Some(errors) => Ok(errors),
         None => Err(not_a(alloc, "errors", value, "rfc4271 or rfc7606")),
