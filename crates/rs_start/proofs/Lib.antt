@@ -1,0 +1,4 @@
+pub mod PrefixLemmas
+pub mod UpdateLemmas
+pub mod RecordLemmas
+pub mod SaidLemmas
