@@ -1,5 +1,6 @@
 """Runs the built program on exchanges and judges what comes by the slow reading."""
 
+import datetime
 import multiprocessing
 import os
 import re
@@ -45,7 +46,7 @@ class Bench:
         line = [self.program, "--config", "exchange.toml", "--out", "tables", "--time", str(time), *words]
         ran = subprocess.run(line, cwd=self.folder.name, capture_output=True)
         report, dumps = slow_reading.outcome(server, peers, [octets for _, octets in files], time, errors)
-        if ran.returncode or wrong_notes(report, files, ran.stderr.decode(errors="replace")):
+        if ran.returncode or wrong_notes(server, peers, report, files, ran.stderr.decode(errors="replace")):
             return f"status {ran.returncode}: {ran.stderr.decode(errors='replace')}"
         if ran.stdout.decode() != report:
             return f"the report is\n{ran.stdout.decode()}and not\n{report}"
@@ -56,15 +57,18 @@ class Bench:
         return None
 
 
-def wrong_notes(report, files, told):
-    """The lines that may not be told: a run notes nothing but, once for each, of a peer whose file gave only the close, and of a file in which the session of a
-    peer closed within a record that the end of the file cuts short."""
+def wrong_notes(server, peers, report, files, told):
+    """The lines that may not be told, and those that must be: a run notes nothing but, once for each, of a peer whose file gave only the close, of a file in which
+    the session of a peer closed within a record that the end of the file cuts short, and what `session_notes` and `server_note` say."""
     silent = set(re.findall(r"^peer (\S+) changes 1 ", report, re.M))
     ends = re.findall(r"^peer .* close (.*)$", report, re.M)
     cut = {cut_note(name, octets) for (name, octets), end in zip(files, ends) if end in ("mrt M1", "mrt M2")}
-    wrong = []
+    must = session_notes(peers, ends, files) + server_note(server, files)
+    wrong = [line for line in must if told.splitlines().count(line) != 1]
     for line in told.splitlines():
         note = re.match(r"route_server: note: peer (\S+): ", line)
+        if line in must:
+            continue
         if note and note[1] in silent:
             silent.remove(note[1])
         elif line in cut:
@@ -78,6 +82,29 @@ def cut_note(name, octets):
     """The note on a file that ends within a record."""
     whole = sum(12 + len(record.body) for record in slow_reading.records(octets)[0])
     return f"route_server: note: {name} ends within its last record, which begins at octet {whole} (octets lost: {len(octets) - whole})"
+
+
+def session_notes(peers, ends, files):
+    """The notes on sessions that went on to the end of their files."""
+    lines = []
+    for peer, end, (_, octets) in zip(peers, ends, files):
+        inside, again = slow_reading.notes(octets, peer) if end == "end" else (False, None)
+        if inside:
+            lines.append(f"peer {peer.name}: the recording begins in mid-session; routes announced before are missing")
+        if again is not None:
+            shown = datetime.datetime.fromtimestamp(again, datetime.timezone.utc).strftime("%Y-%m-%d %H:%M:%S")
+            lines.append(f"peer {peer.name}: a session began again at {shown} UTC without a recorded loss; its earlier routes stay")
+    return [f"route_server: note: {line}" for line in lines]
+
+
+def server_note(server, files):
+    """The note where messages are recorded, and none of a session with the server."""
+    found = [(name, whose) for name, octets in files for whose in slow_reading.recorders(octets)]
+    if not found or (server.asn, server.address) in [whose for _, whose in found]:
+        return []
+    name, (asn, address) = found[0]
+    shown = f"{text_of(server.address)} AS {server.asn}; {name} is of {text_of(address)} AS {asn}"
+    return [f"route_server: note: no record is of the server {shown}"]
 
 
 def judge_all(judge, tasks):

@@ -268,6 +268,45 @@ def left(changes):
     return routes
 
 
+# ---- what is noted of a session (ours)
+
+
+def said(record):
+    """Of whom a record tells, and what as far as notes rest on it: start, up, update, state, loss, gone (a NOTIFICATION) or other; else None."""
+    what = entry(record)
+    if what[0] == "message":
+        kind = what[3][18] if len(what[3]) > 18 else 0
+        return what[1:3], {1: "start", 2: "update", 3: "gone"}.get(kind, "other")
+    if what[0] == "state":
+        old, new = what[3:5]
+        return what[1:3], "up" if new == 6 != old else "loss" if old == 6 != new else "state"
+    body = record.body[4:] if record.type == 17 else record.body
+    if record.type in (16, 17) and record.subtype == 1 and body[6:8] == b"\x00\x01" and len(body) > 34 and body[34] == 1:
+        return (number(body[0:2]), number(body[8:12])), "start"
+    return None
+
+
+def notes(file, peer):
+    """Whether a peer's recording begins in mid-session, and when its session began again without a recorded loss, the last time since its last loss."""
+    whole = [(record.time, said(record)) for record in records(file)[0]]
+    told = [(time, what[1]) for time, what in whole if what and what[0] == (peer.asn, peer.address)]
+    losses = [place for place, (_, what) in enumerate(told) if what in ("loss", "gone")]
+    since = told[losses[-1] + 1 :] if losses else told
+    ups = [place for place, (_, what) in enumerate(since) if what in ("update", "up")]
+    again = [time for place, (time, what) in enumerate(since) if what in ("start", "up") and ups and ups[0] < place]
+    return bool(told) and told[0][1] in ("update", "other", "gone"), again[-1] if again else None
+
+
+def recorders(file):
+    """The local AS and address of each message of an IPv4 session with four-octet AS numbers, in order."""
+    found = []
+    for record in records(file)[0]:
+        if entry(record)[0] == "message":
+            body = record.body[4:] if record.type == 17 else record.body
+            found.append((number(body[4:8]), number(body[16:20])))
+    return found
+
+
 # ---- the table of a client (RFC 4271, section 9.1; RFC 7947, section 2.3)
 
 

@@ -2,7 +2,7 @@
 _looking_glass() {
     local word=${COMP_WORDS[COMP_CWORD]} before=${COMP_WORDS[COMP_CWORD-1]} options
     if [ "$COMP_CWORD" -eq 1 ]; then
-        mapfile -t COMPREPLY < <(compgen -W "why history table missing peers --help --version" -- "$word")
+        mapfile -t COMPREPLY < <(compgen -W "why history table missing summary peers check --help --version" -- "$word")
         return
     fi
     case $before in
@@ -12,11 +12,13 @@ _looking_glass() {
         --client | --shards | --prefix | --from | --until) COMPREPLY=(); return ;;
     esac
     case ${COMP_WORDS[1]} in
-        why) options="--config --client --prefix --until --errors --json --help" ;;
-        history) options="--config --prefix --client --from --until --errors --json --help" ;;
-        table) options="--config --client --from --prefix --longer --count --shards --errors --csv --json --help" ;;
-        missing) options="--config --client --from --because --count --shards --errors --csv --json --help" ;;
+        why) options="--config --client --prefix --until --errors --all --attributes --json --help" ;;
+        history) options="--config --prefix --client --from --until --errors --ends --attributes --json --help" ;;
+        table) options="--config --client --from --prefix --longer --until --count --shards --errors --csv --json --help" ;;
+        missing) options="--config --client --from --because --until --count --shards --errors --csv --json --help" ;;
+        summary) options="--config --until --shards --errors --csv --json --help" ;;
         peers) options="--json --toml --help" ;;
+        check) options="--config --help" ;;
     esac
     if [ "${COMP_WORDS[1]}" = peers ] && [[ $word != -* ]]; then
         compopt -o filenames

@@ -7,39 +7,46 @@
 //! Supported standards: RFC 4271, RFC 6793, RFC 1997, RFC 7606, RFC 7947, RFC 6396.
 #![tactic(auto)]
 
-use rs_glass_shell::answer;
-use rs_question::{Ended, MEMORY_LINE, OUT_OF_MEMORY, WordsFault, line};
+use rs_glass_shell::{PROGRAM, Reply, Unanswered, answer, line};
+use rs_host::end_with;
+use rs_mrt::Bounds;
+use rs_notes::{Subject, print_notes};
+use rs_setup::Setup;
+use std::fs::Files;
 use std::process::ExitCode;
 
 fn main(rt: HostRuntime) -> ExitCode {
-    let ended = match answer(&rt) {
-        Ok(text) => match print!(&rt; "{text}") {
-            Ok(()) => return ExitCode::SUCCESS,
-            Err(_) => Ended::Output,
+    let unanswered = match answer(&rt) {
+        Ok(Reply { text, status, read }) => match print!(&rt; "{text}") {
+            Ok(()) => {
+                note(&rt, &read);
+                return ExitCode::from(status);
+            }
+            Err(_) => Unanswered::Output,
         },
-        Err(ended) => ended,
+        Err(unanswered) => unanswered,
     };
-    end(&rt, &ended)
+    end(&rt, &unanswered)
 }
 
-// Says why the program stops short, and gives its status.
-fn end<R: AllocGlobal + Print + Eprint>(rt: &R, ended: &Ended) -> ExitCode {
-    let Ok(text) = line(rt.alloc(), ended) else {
-        let _ = eprint!(rt; "{MEMORY_LINE}");
-        return ExitCode::from(OUT_OF_MEMORY);
-    };
-    if let Ended::Words(WordsFault::Shown(_)) = ended {
-        return match print!(rt; "{text}") {
-            Ok(()) => ExitCode::SUCCESS,
-            Err(_) => end_unwritten(rt),
+// Prints the notes on the files that were read.
+fn note<R: AllocGlobal + Files + Eprint>(rt: &R, read: &Option<(Setup, Bounds)>) {
+    if let Some((setup, bounds)) = read {
+        let subject = Subject {
+            setup,
+            bounds: *bounds,
+            endings: None,
         };
+        print_notes(rt, PROGRAM, subject);
     }
-    let _ = eprint!(rt; "{text}");
-    ExitCode::from(ended.status())
 }
 
-// Says that standard output can't be written.
-fn end_unwritten<R: Eprint>(rt: &R) -> ExitCode {
-    let _ = eprintln!(rt; "looking_glass: cannot write standard output");
-    ExitCode::from(Ended::Output.status())
+// Says why there is no answer, and gives the status of that.
+fn end<R: AllocGlobal + Print + Eprint>(rt: &R, unanswered: &Unanswered) -> ExitCode {
+    let words = match unanswered {
+        Unanswered::Words(fault) => Some(fault),
+        _ => None,
+    };
+    let text = line(rt.alloc(), unanswered);
+    end_with(rt, PROGRAM, words, text, unanswered.status())
 }

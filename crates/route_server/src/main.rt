@@ -9,11 +9,11 @@
 ghost use Rattle.std.specs.Prelude.{◌≡◌, ◌<◌, ◌≤◌, All, Some, IfErr, length};
 ghost use Rattle.rs_program.specs.Texts.{CanTell};
 
-use rs_host::Options;
+use rs_host::{Options, configuration};
 use rs_mrt::{IoWriter, Read};
+use rs_notes::{Close, Ending, Subject, print_notes};
 use rs_program::{
-    Cleared, Close, Ended, Ending, FolderOutlet, Progress, command_line, configuration, end,
-    print_notes, progress_on, ready_files, run_status,
+    Cleared, Ended, FolderOutlet, Progress, command_line, end, progress_on, ready_files, run_status,
 };
 use rs_run::run_with_ends;
 use rs_serve::PeerEnd;
@@ -32,9 +32,9 @@ fn main(rt: HostRuntime) -> ExitCode {
         Ok(options) => options,
         Err(fault) => return end(&rt, &Ended::Words(fault), None, None),
     };
-    let setup = match configuration(&rt, &options) {
+    let setup = match configuration(&rt, &options.config) {
         Ok(setup) => setup,
-        Err(ended) => return end(&rt, &ended, None, None),
+        Err(unready) => return end(&rt, &Ended::from(unready), None, None),
     };
     match serve(&rt, &setup, &options, terminal(rt.stderr())) {
         Ok(clean) => ExitCode::from(run_status(options.strict, clean)),
@@ -71,7 +71,15 @@ where
     let files = ready_files(rt, setup, options, &progress)?;
     let ends = run_over(rt, setup, options, files, &progress)?;
     let noted = match endings_of(rt.alloc(), &ends) {
-        Ok(endings) => print_notes(rt, setup, options.bounds, &endings),
+        Ok(endings) => print_notes(
+            rt,
+            "route_server",
+            Subject {
+                setup,
+                bounds: options.bounds,
+                endings: Some(&endings),
+            },
+        ),
         Err(_) => false,
     };
     Ok(!noted && all_close_at_end(&ends))

@@ -6,4 +6,3 @@ pub mod AgreementLemmas
 pub mod RivalLemmas
 pub mod SaidLemmas
 pub mod SaidLaws
-pub mod CutLemmas

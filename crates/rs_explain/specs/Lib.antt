@@ -1,10 +1,8 @@
 -- Why a route is there or not:
 pub mod LastSaid  -- what a list of changes says last of a prefix
-pub mod Cut  -- changes up to a time
 pub mod Reasons  -- the condition or rule that stops a route
 pub mod Removals  -- the step that removes a candidate
 pub mod Explanations  -- the first case that holds
 pub mod Laws  -- what holds of all of these
 -- How it is found:
 pub mod Contenders  -- candidates by what decisions ask of them
-pub mod UntilView  -- changes up to a time, by their fields

@@ -1,6 +1,5 @@
 //! Laws of this crate's definitions. Each function does nothing: its contract is the law.
 
-ghost use Rattle.rs_explain.specs.Cut.{TakenIsCut};
 ghost use Rattle.rs_explain.specs.Laws.{AnnouncedIsLeft, EndedIsNotLeft, ExplanationAgrees, NeverAnnouncedIsNotLeft};
 ghost use Rattle.rs_explain.specs.Laws.{RivalIsCandidate};
 
@@ -21,9 +20,4 @@ pub fn what_is_said_last_agrees_with_the_routes_left()
     ensures announced { AnnouncedIsLeft }
     ensures never { NeverAnnouncedIsNotLeft }
     ensures ended { EndedIsNotLeft }
-{}
-
-/// Changes are taken up to a time: those before the first change that is later.
-pub fn what_is_taken_is_the_longest_beginning()
-    ensures { TakenIsCut }
 {}

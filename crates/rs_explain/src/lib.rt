@@ -4,8 +4,7 @@
 //! Standards: RFC 4271, section 9.1 (eligible routes, decision process); RFC 7947, section 2.3 (export policy).
 //!
 //! Reading order: `condition`, `refusal`, `contender` (the candidates of a client), `removal` (the step that
-//! removes one), `explanation`, `last_said` (what a list of changes says last of a prefix), `until` (its
-//! beginning up to a time), `laws`.
+//! removes one), `explanation`, `last_said` (what a list of changes says last of a prefix), `laws`.
 #![tactic(auto)]
 
 mod condition;
@@ -15,16 +14,14 @@ mod last_said;
 mod laws;
 mod refusal;
 mod removal;
-mod until;
 
-pub use condition::Condition;
+pub use condition::{Condition, failed_condition};
 pub use contender::Contender;
 pub use explanation::{Explanation, explain};
 pub use last_said::{EndedBy, Ending, LastSaid};
 pub use laws::{
     an_explanation_agrees_with_why, the_rival_is_a_candidate,
-    what_is_said_last_agrees_with_the_routes_left, what_is_taken_is_the_longest_beginning,
+    what_is_said_last_agrees_with_the_routes_left,
 };
 pub use refusal::Refusal;
 pub use removal::Removal;
-pub use until::Until;

@@ -14,10 +14,9 @@ use Rattle.rs_session.specs.declared.word.Body.{Body}
 use Rattle.rs_session.specs.declared.word.Body.TheVariants.{Close}
 use Rattle.rs_session.specs.declared.word.Reason.{Reason}
 use Rattle.rs_session.specs.declared.word.Word.{Word}
-use Rattle.rs_explain.specs.Cut.{UntilContent}
 use Rattle.rs_glass.specs.Happened.{AreHappeningsOf, AreWhole, HappeningContent, contents_of, happened_among, happened_in, happens_at}
 use Rattle.rs_glass.specs.Happened.{happens_behind, latest_of}
-use Rattle.rs_glass.specs.Recorded.{AreInTime, close_after, close_in, is_failed_read}
+use Rattle.rs_glass.specs.Recorded.{AreChangesOf, close_after, close_in, is_failed_read}
 use Rattle.rs_glass.specs.Heard.{IsRecording}
 use Rattle.rs_glass.specs.declared.happened.Happening.{Happening}
 use Rattle.rs_glass.specs.declared.question.Question.{Question}
@@ -57,12 +56,12 @@ latest_of-more : (changes : List Change) (one : Change) → latest_of (changes +
 latest_of-more [] one = refl
 latest_of-more (first ∷ later) one = omega (arith, latest_of-more later one)
 
-module _ {S : Type 0} (comes : Comes S) (shows : S → Option MrtRecord) (start : Stage S) (until : Option ℕ) (prefix : IpPrefix) (peer : ℕ)
+module _ {S : Type 0} (comes : Comes S) (shows : S → Option MrtRecord) (start : Stage S) (prefix : IpPrefix) (peer : ℕ)
   where
     -- these changes of a file were given, no read failed, and what happens by them is listed
-    pub record IsListing (stage : Stage S) (taken : UntilContent) (latest : ℕ) (listed : List HappeningContent) : Type 0 where
+    pub record IsListing (stage : Stage S) (latest : ℕ) (listed : List HappeningContent) : Type 0 where
       pub given : List Change
-      pub is_given : IsGiven comes shows start until given stage taken
+      pub is_given : IsGiven comes shows start given stage
       pub unfailed : is_failed_read (close_in given) ≡ false
       pub time : latest ≡ latest_of given
       pub lists : listed ≡ happened_in prefix peer given
@@ -143,7 +142,7 @@ module _ {R : Type 0} (gives : R → List ℕ → ReadEnd → Type 0) (question 
         peer_is = is.peer_is;
         reader = one.reader;
         reader_is = is.reader_is;
-        in_time = subst (λ (id : PeerId). AreInTime gives question id one.reader says.0) is.id_is says.1;
+        says = subst (λ (id : PeerId). AreChangesOf gives question id one.reader says.0) is.id_is says.1;
         unfailed = says.2;
       })
       (adds ∙ ap (λ (more : List HappeningContent). before ++ more)

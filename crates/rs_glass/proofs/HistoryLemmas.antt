@@ -233,7 +233,6 @@ notes-nothing history = record {
   prefix = refl;
   client = refl;
   from = refl;
-  until = refl;
   events = sym (append-nil (map gets_content history.events.items));
   before = refl;
 }
@@ -253,7 +252,6 @@ notes-more asked old new some more first next =
       prefix = next.prefix ∙ first.prefix;
       client = next.client ∙ first.client;
       from = next.from ∙ first.from;
-      until = next.until ∙ first.until;
       events = events ∙ ap (λ (all : List GetsContent). all ++ shown more) first.events
           ∙ append_assoc (map gets_content asked.events.items) (shown some) (shown more)
           ∙ ap (λ (all : List GetsContent). map gets_content asked.events.items ++ all)

@@ -4,29 +4,23 @@ use Rattle.std.specs.Prelude.{◌||◌, cond, filter}
 use Rattle.std.specs.List.{list_any}
 use Rattle.std.specs.Option.{is_some}
 use Rattle.std.proofs.lemmas.Bool.{false_from_ne_true, or_parts, true≢false}
-use Rattle.std.proofs.lemmas.List.{append-nil, append_cancel_left}
+use Rattle.std.proofs.lemmas.List.{append-nil}
 use Rattle.std.proofs.lemmas.List.Elements.{filter-append}
 use Rattle.rs_update.specs.Covering.{covers}
 use Rattle.rs_update.specs.IpPrefix.{IpPrefix}
-use Rattle.rs_mrt.specs.Reader.{ReadEnd}
 use Rattle.rs_mrt.specs.Record.{MrtRecord}
 use Rattle.rs_session.specs.Change.{Change, ChangeBody, Announced, Withdrawn, Closed, body_closes, change_of, is_close}
-use Rattle.rs_session.specs.Concerning.{SaysBehind, body_concerns, concerns, is_later}
-use Rattle.rs_session.specs.Given.{IsRead}
-use Rattle.rs_session.specs.Laws.{SomethingMayCome}
+use Rattle.rs_session.specs.Concerning.{SaysBehind, body_concerns, concerns}
 use Rattle.rs_session.specs.Stage.{Comes, Stage, May, Closes}
-use Rattle.rs_session.specs.declared.peer.PeerId.{PeerId}
 use Rattle.rs_session.specs.declared.word.Reason.{Reason}
 use Rattle.rs_session.specs.declared.word.Word.{Word}
 use Rattle.rs_table.proofs.RibLemmas.{any-one_more}
 use Rattle.rs_table.specs.Left.{Routes, left, same_prefix}
-use Rattle.rs_explain.specs.Cut.{BeginsLater, HasTaken, HasTakenIf, TakenIsCut, UntilContent}
 use Rattle.rs_explain.specs.LastSaid.{IsSaidLast, EndRoute, KeepRoute, announces, body_announces, body_ends_by}
 use Rattle.rs_explain.specs.declared.last_said.LastSaid.{LastSaid}
 use Rattle.rs_explain.specs.declared.last_said.LastSaid.TheVariants as last
 use Rattle.rs_explain.proofs.SaidLemmas.{announced_before, ended_before, kept, none-append, none-one}
-use Rattle.rs_glass.specs.Recorded.{AreInTime, IsSaid, close_after, close_in}
-use Rattle.rs_glass.specs.declared.question.Question.{Question}
+use Rattle.rs_glass.specs.Recorded.{IsSaid, close_after, close_in}
 use Rattle.rs_glass.specs.declared.said.Said.{Said}
 use Rattle.rs_table.proofs.PrefixLemmas.{same_prefix-true}
 use Rattle.rs_glass.proofs.GivenLemmas.{IsGiven}
@@ -115,33 +109,15 @@ pub open-over : (prefix : IpPrefix) (given over : List Change) → list_any (con
     → list_any is_close (given ++ over) ≡ false
 open-over prefix given over beside none = none-append is_close given over none (over-open prefix over beside)
 
--- ---- what is taken up to a time
-
-not_longer : (given rest : List Change) (first : Change) → given ≡ given ++ first ∷ rest → ⊥
-not_longer given rest first e =
-    let nothing : [] ≡ first ∷ rest = append_cancel_left given [] (first ∷ rest) (append-nil given ∙ e) in
-    absurd cc
-
-takes_if-over : (passed : Bool) (time : Option ℕ) (given over : List Change) → list_any (is_later time) over ≡ false
-    → HasTakenIf passed time given given → HasTakenIf passed time (given ++ over) (given ++ over)
-takes_if-over false time given over in_time taken = (refl, none-append (is_later time) given over taken.1 in_time)
-takes_if-over true time given over in_time taken = absurd (not_longer given taken.rest taken.first taken.splits)
-
-pub takes-over : (taken : UntilContent) (until : Option ℕ) (given over : List Change) → taken.time ≡ until
-    → list_any (is_later until) over ≡ false → HasTaken taken given given → HasTaken taken (given ++ over) (given ++ over)
-takes-over taken until given over at in_time is =
-    takes_if-over taken.passed taken.time given over (subst (λ (time : Option ℕ). list_any (is_later time) over ≡ false) (sym at) in_time)
-    is
-
 -- ---- what was given and passed over
 
-module _ {S : Type 0} (comes : Comes S) (shows : S → Option MrtRecord) (start : Stage S) (until : Option ℕ) where
+module _ {S : Type 0} (comes : Comes S) (shows : S → Option MrtRecord) (start : Stage S) where
   -- those that were passed over come behind those that were given, and what is given then behind these
-  before-behind : (given over : List Change) (old new : Stage S) (taken : UntilContent) (word : Word)
-      → IsGiven comes shows start until given old taken → SaysBehind comes shows over old new (Ok (Some word))
+  before-behind : (given over : List Change) (old new : Stage S) (word : Word)
+      → IsGiven comes shows start given old → SaysBehind comes shows over old new (Ok (Some word))
       → (changes : List Change) (passed : ℕ) → May comes shows new changes passed
       → May comes shows start (((given ++ over) ++ change_of word ∷ []) ++ changes) passed
-  before-behind given over old new taken word is says changes passed may =
+  before-behind given over old new word is says changes passed may =
       let change = change_of word in
       let same : given ++ ((over ++ change ∷ []) ++ changes) ≡ ((given ++ over) ++ change ∷ []) ++ changes =
       ap (λ (rest : List Change). given ++ rest) (append_assoc over (change ∷ []) changes)
@@ -149,47 +125,12 @@ module _ {S : Type 0} (comes : Comes S) (shows : S → Option MrtRecord) (start 
       subst (λ (all : List Change). May comes shows start all passed) same
       (is.before ((over ++ change ∷ []) ++ changes) passed (says.0 changes passed may))
 
-  pub given-more-behind : (prefix : IpPrefix) (given over : List Change) (old new : Stage S) (taken later : UntilContent) (word : Word)
-      → list_any (concerns prefix) over ≡ false → IsGiven comes shows start until given old taken
+  pub given-more-behind : (prefix : IpPrefix) (given over : List Change) (old new : Stage S) (word : Word)
+      → list_any (concerns prefix) over ≡ false → IsGiven comes shows start given old
       → SaysBehind comes shows over old new (Ok (Some word)) → Closes old.closed new.closed (Ok (Some word))
-      → HasTaken later ((given ++ over) ++ change_of word ∷ []) ((given ++ over) ++ change_of word ∷ []) → later.time ≡ taken.time
-      → IsGiven comes shows start until ((given ++ over) ++ change_of word ∷ []) new later
-  given-more-behind prefix given over old new taken later word beside is says closes takes time = record {
-    before = before-behind given over old new taken word is says;
+      → IsGiven comes shows start ((given ++ over) ++ change_of word ∷ []) new
+  given-more-behind prefix given over old new word beside is says closes = record {
+    before = before-behind given over old new word is says;
     closed = closes.1 ∙ sym (any-one_more is_close (given ++ over) (change_of word)
         (open-over prefix given over beside (sym is.closed ∙ closes.0)));
-    takes = takes;
-    time = time ∙ is.time;
   }
-
-  -- where the next one is too late, those that were given and those that were passed over are all in time
-  pub given-late-behind : {R : Type 0} (gives : R → List ℕ → ReadEnd → Type 0) (question : Question) (peer : PeerId) (reader : R)
-      (same : question.until ≡ until)
-      (read : (changes : List Change) (passed : ℕ) → May comes shows start changes passed
-      → IsRead gives question.errors peer reader changes passed) (cuts : TakenIsCut)
-      (given over : List Change) (old new : Stage S) (taken later : UntilContent) (word : Word)
-      → IsGiven comes shows start until given old taken → SaysBehind comes shows over old new (Ok (Some word))
-      → SomethingMayCome comes shows new
-      → HasTaken later ((given ++ over) ++ change_of word ∷ []) (given ++ over) → later.time ≡ taken.time
-      → AreInTime gives question peer reader (given ++ over)
-  given-late-behind gives question peer reader same read cuts given over old new taken later word is says some takes time =
-      let change : Change = change_of word in
-      let all = given ++ over in
-      let cut = cuts later (all ++ change ∷ []) all takes in
-      let rest : change ∷ [] ≡ cut.rest = append_cancel_left all (change ∷ []) cut.rest cut.splits in
-      let at : later.time ≡ question.until = time ∙ is.time ∙ sym same in
-      let late : BeginsLater later.time (change ∷ []) = subst (BeginsLater later.time) (sym rest) cut.longest in
-      let whole : May comes shows start (all ++ change ∷ some.0) some.1 =
-      subst (λ (given : List Change). May comes shows start given some.1) (append_assoc all (change ∷ []) some.0)
-      (before-behind given over old new taken word is says some.0 some.1 some.2) in
-      record {
-        changes = all ++ change ∷ some.0;
-        passed = some.1;
-        says = read (all ++ change ∷ some.0) some.1 whole;
-        cut = record {
-          rest = change ∷ some.0;
-          splits = refl;
-          in_time = subst (λ (time : Option ℕ). list_any (is_later time) all ≡ false) at cut.in_time;
-          longest = subst (λ (time : Option ℕ). is_later time change ≡ true) at late;
-        };
-      }

@@ -1,4 +1,4 @@
--- The recorded session of a peer up to a time: what its changes leave and say, change by change.
+-- The recorded session of a peer: what its changes leave and say, change by change.
 use Rattle.std.proofs.Common.{◌≡◌, ◌∙◌, sym, ap, subst, refl, ℕ, Bool, true, false, List, [], ◌∷◌, ◌++◌, Option, None}
 use Rattle.std.specs.Prelude.{cond, filter}
 use Rattle.std.specs.List.{list_any}
@@ -14,10 +14,9 @@ use Rattle.rs_session.specs.Stage.{Comes, Stage}
 use Rattle.rs_session.specs.declared.peer.PeerId.{PeerId}
 use Rattle.rs_table.specs.Laws.{LeftAfterOneMore, LeftByLastChanges, LeftByPart}
 use Rattle.rs_table.specs.Left.{Routes, after, body_prefix, left, same_prefix}
-use Rattle.rs_explain.specs.Cut.{UntilContent}
 use Rattle.rs_update.specs.Covering.{covers}
 use Rattle.rs_session.specs.Concerning.{body_concerns, concerns}
-use Rattle.rs_glass.specs.Recorded.{AreInTime, AreTold, IsSaid, IsSaidBefore}
+use Rattle.rs_glass.specs.Recorded.{AreChangesOf, AreTold, IsSaid, IsSaidBefore}
 use Rattle.rs_glass.specs.declared.question.Question.{Question}
 use Rattle.rs_glass.specs.declared.said.Said.{Said}
 use Rattle.rs_session.proofs.BesideLemmas.{none-part}
@@ -90,7 +89,7 @@ module _ (prefix : IpPrefix) where
   -- what is said in the end
   pub taken-said : {R : Type 0} (gives : R → List ℕ → ReadEnd → Type 0) (question : Question) (peer : PeerId) (reader : R)
       → question.prefix ≡ prefix → (given : List Change) (routes : Routes) (said : Said) → IsTaken given routes said
-      → AreInTime gives question peer reader given → LeftByPart → LeftByLastChanges → IsSaidBefore gives question peer reader routes said
+      → AreChangesOf gives question peer reader given → LeftByPart → LeftByLastChanges → IsSaidBefore gives question peer reader routes said
   taken-said gives question peer reader same given routes said is in_time by_part by_last = (
     given,
     in_time,
@@ -99,8 +98,8 @@ module _ (prefix : IpPrefix) where
   )
 
 -- how far the reading of a session has come
-pub record IsReading {S : Type 0} (comes : Comes S) (shows : S → Option MrtRecord) (start : Stage S) (prefix : IpPrefix) (until : Option ℕ)
-    (stage : Stage S) (routes : Routes) (said : Said) (taken : UntilContent) : Type 0 where
+pub record IsReading {S : Type 0} (comes : Comes S) (shows : S → Option MrtRecord) (start : Stage S) (prefix : IpPrefix)
+    (stage : Stage S) (routes : Routes) (said : Said) : Type 0 where
   pub given : List Change
-  pub is_given : IsGiven comes shows start until given stage taken
+  pub is_given : IsGiven comes shows start given stage
   pub is_taken : IsTaken prefix given routes said

@@ -11,7 +11,7 @@ use Rattle.rs_session.specs.Change.{Change, ChangeBody, Announced, Withdrawn, Lo
 use Rattle.rs_choice.specs.Plan.{Peer, Plan}
 use Rattle.rs_table.specs.Left.{same_prefix}
 use Rattle.rs_glass.specs.Behind.{each_behind}
-use Rattle.rs_glass.specs.Recorded.{AreInTime, close_in, id_of, is_failed_read}
+use Rattle.rs_glass.specs.Recorded.{AreChangesOf, close_in, id_of, is_failed_read}
 use Rattle.rs_glass.specs.declared.happened.Happening.{Happening}
 use Rattle.rs_glass.specs.declared.question.Question.{Question}
 
@@ -59,21 +59,21 @@ happened_among prefix number [] = []
 happened_among prefix number (changes ∷ later) =
     happened_in prefix number changes ++ happened_among prefix (number + 1) later
 
--- the changes of a peer's recorded session up to the time that is asked for, no read having failed
+-- the changes of a peer's recorded session, no read having failed
 pub record AreWhole {R : Type 0} (gives : R → List ℕ → ReadEnd → Type 0) (question : Question) (plan : Plan)
     (readers : List R) (number : ℕ) (changes : List Change) : Type 0 where
   pub peer : Peer
   pub peer_is : slice_get plan.peers number ≡ Some peer
   pub reader : R
   pub reader_is : slice_get readers number ≡ Some reader
-  pub in_time : AreInTime gives question (id_of peer) reader changes
+  pub says : AreChangesOf gives question (id_of peer) reader changes
   pub unfailed : is_failed_read (close_in changes) ≡ false
 
 -- what happens by the recorded file of a peer, no read having failed
 abbrev pub AreHappeningsOf : {R : Type 0} → (R → List ℕ → ReadEnd → Type 0) → Question → PeerId → R → ℕ
     → List Happening → Type 0
 AreHappeningsOf gives question peer reader number all =
-    (changes : List Change) × AreInTime gives question peer reader changes
+    (changes : List Change) × AreChangesOf gives question peer reader changes
     × (is_failed_read (close_in changes) ≡ false)
     × (contents_of all ≡ happened_in question.prefix number changes)
 

@@ -138,7 +138,6 @@ pub record Notes (asked : History) (all : List GetsContent) (history : History) 
   pub prefix : history.prefix ≡ asked.prefix
   pub client : history.client ≡ asked.client
   pub from : history.from ≡ asked.from
-  pub until : history.until ≡ asked.until
   pub events : map gets_content history.events.items
       ≡ map gets_content asked.events.items ++ filter (λ gets. not (is_before gets.time asked.from)) all
   pub before : history.before ≡ best_last asked.before (filter (λ gets. is_before gets.time asked.from) all)

@@ -1,4 +1,4 @@
--- What the recorded session of a peer says of a prefix, up to a time.
+-- What the recorded session of a peer says of a prefix.
 use Rattle.std.specs.Prelude.{◌≡◌, ◌↔◌, ◌<◌, ℕ, Bool, true, false, List, reverse, Option, None, Some, slice_get}
 use Rattle.std.specs.FinMap.{get}
 use Rattle.std.specs.List.{find}
@@ -14,7 +14,6 @@ use Rattle.rs_session.specs.declared.word.Reason.TheVariants as reasons
 use Rattle.rs_choice.specs.Plan.{Peer, Plan}
 use Rattle.rs_table.specs.Content.{TablesContent, rib_of}
 use Rattle.rs_table.specs.Left.{Leaves, RouteLeft, Routes}
-use Rattle.rs_explain.specs.Cut.{IsCut}
 use Rattle.rs_explain.specs.LastSaid.{IsSaidLast}
 use Rattle.rs_explain.specs.declared.last_said.EndedBy.{EndedBy}
 use Rattle.rs_explain.specs.declared.last_said.EndedBy.TheVariants as ended
@@ -25,14 +24,12 @@ use Rattle.rs_glass.specs.declared.fault.GlassFault.TheVariants.{Memory, Read}
 use Rattle.rs_glass.specs.declared.question.Question.{Question}
 use Rattle.rs_glass.specs.declared.said.Said.{Said}
 
--- of the changes that the recorded file of a peer says, or that come before a failed read, these are the ones
--- up to the time that is asked for
-pub record AreInTime {R : Type 0} (gives : R → List ℕ → ReadEnd → Type 0) (question : Question) (peer : PeerId)
-    (reader : R) (beginning : List Change) : Type 0 where
-  pub changes : List Change
+-- these are all changes that the session of a peer says by what its reader gives: those of a file that the reader may
+-- give, or those before a failed read, with the close that says so
+pub record AreChangesOf {R : Type 0} (gives : R → List ℕ → ReadEnd → Type 0) (question : Question) (peer : PeerId)
+    (reader : R) (changes : List Change) : Type 0 where
   pub passed : ℕ
   pub says : IsRead gives question.errors peer reader changes passed
-  pub cut : IsCut question.until changes beginning
 
 -- why the session closed that says these changes: the reason of the last close among them, if there is one
 abbrev pub body_reason : ChangeBody → Option Reason
@@ -81,8 +78,8 @@ pub record AreTold (prefix : IpPrefix) (changes : List Change) (routes : Routes)
 abbrev pub IsSaidBefore : {R : Type 0} → (R → List ℕ → ReadEnd → Type 0) → Question → PeerId → R → Routes → Said
     → Type 0
 IsSaidBefore gives question peer reader routes said =
-    (beginning : List Change) × AreInTime gives question peer reader beginning
-    × AreTold question.prefix beginning routes said
+    (changes : List Change) × AreChangesOf gives question peer reader changes
+    × AreTold question.prefix changes routes said
 
 -- what the recorded session of a peer says of the prefix that is asked for, no read having failed
 abbrev pub IsSaidOf : {R : Type 0} → (R → List ℕ → ReadEnd → Type 0) → Question → PeerId → R → Routes → Said
@@ -90,11 +87,11 @@ abbrev pub IsSaidOf : {R : Type 0} → (R → List ℕ → ReadEnd → Type 0) �
 IsSaidOf gives question peer reader routes said =
     IsSaidBefore gives question peer reader routes said × (is_failed_read said.close ≡ false)
 
--- the recorded session of a peer closes in time at a failed read
+-- the recorded session of a peer closes at a failed read
 abbrev pub ClosesUnread : {R : Type 0} → (R → List ℕ → ReadEnd → Type 0) → Question → PeerId → R → Type 0
 ClosesUnread gives question peer reader =
-    (beginning : List Change) × AreInTime gives question peer reader beginning
-    × (is_failed_read (close_in beginning) ≡ true)
+    (changes : List Change) × AreChangesOf gives question peer reader changes
+    × (is_failed_read (close_in changes) ≡ true)
 
 -- a fault of a peer's reader: a read failed, or memory was refused
 abbrev pub IsFaultOf : {R : Type 0} → (R → List ℕ → ReadEnd → Type 0) → Question → PeerId → R → ℕ → GlassFault

@@ -23,8 +23,6 @@ pub struct Answers {
     pub client: usize,
     /// The prefix.
     pub prefix: Prefix,
-    /// Up to when changes count, in seconds since 1970, where that was asked for.
-    pub until: Option<u32>,
     /// The number of the peer whose route the client gets, if any.
     pub best: Option<usize>,
     /// An answer for each peer, in the order of the peers, the client itself included.
@@ -68,8 +66,7 @@ pub fn explain_all(
         AreExplained reading.now.tables client question.now.prefix reading.now.said.items
         (length answers.peers.items) answers.peers.items) }
     ensures best { IfOk result (λ answers. answers.best ≡ best_from reading.now.tables client question.now.prefix) }
-    ensures asked { IfOk result (λ answers. (answers.client ≡ client) × (answers.prefix ≡ question.now.prefix)
-        × (answers.until ≡ question.now.until)) }
+    ensures asked { IfOk result (λ answers. (answers.client ≡ client) × (answers.prefix ≡ question.now.prefix)) }
     ensures less_specific { IfOk result (λ answers.
         IsLessSpecific reading.now.tables client question.now.prefix answers.less_specific) }
 {
@@ -84,7 +81,6 @@ pub fn explain_all(
     Ok(Answers {
         client,
         prefix,
-        until: question.until,
         best: best_from(tables, client, prefix),
         peers,
         less_specific: less_specific(tables, client, prefix),
@@ -123,8 +119,9 @@ fn less_specific(tables: &Tables, client: usize, prefix: Prefix) -> Option<LessS
     })
 }
 
-// The longest prefix that covers another, which may be itself, and on which some peer has a route.
-fn longest_announced(tables: &Tables, prefix: Prefix) -> Option<Prefix>
+/// The longest prefix that covers another, which may be itself, and on which some peer has a route; none where there is
+/// no such prefix.
+pub fn longest_announced(tables: &Tables, prefix: Prefix) -> Option<Prefix>
     ensures { MatchOption result (NoneIsHeld tables.now.ribs prefix) (IsLongestHeld tables.now.ribs prefix) }
 {
     for dropped in 0..prefix.len() + 1 {

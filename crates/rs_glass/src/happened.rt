@@ -13,7 +13,6 @@ use crate::loss::Loss;
 use crate::question::Question;
 use crate::recording::{Recording, recordings};
 use rs_choice::Exchange;
-use rs_explain::{Until, what_is_taken_is_the_longest_beginning};
 use rs_mrt::{Read, RecordReader};
 use rs_session::{Body, Reason, Session, Word, a_reader_gives_a_file_or_fails};
 use rs_update::Prefix;
@@ -38,7 +37,7 @@ pub struct Happening {
 /// What happened on the prefix, of all peers, in the order of time; at one time by the peers in their order,
 /// and then in the order of the file. `readers` gives the recorded file of each peer.
 ///
-/// Fails where memory is refused, and where a session closes in time because its file can't be read.
+/// Fails where memory is refused, and where a session closes because its file can't be read.
 pub fn read_happenings<T: Threads + Sync, R: Read + Send + Drop>(
     rt: &T,
     alloc: Global,
@@ -80,15 +79,10 @@ fn happenings_of<R: Read + Drop>(
 {
     let Recording { peer, id, reader } = recording;
     a_reader_gives_a_file_or_fails(&reader);
-    what_is_taken_is_the_longest_beginning();
     let mut session = Session::over_by(alloc, RecordReader::new(reader), id, question.errors);
-    let mut until = Until::new(question.until);
     let mut latest = 0;
     let mut all = Vec::new(alloc);
     while let Some(word) = session.next_word()? {
-        if !until.takes(&word) {
-            return Ok(all);
-        }
         if fails_to_read(&word) {
             return Err(GlassFault::Read(peer));
         }

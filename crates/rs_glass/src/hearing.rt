@@ -14,7 +14,6 @@ use crate::question::Question;
 use crate::recording::Recording;
 use crate::routes_left::RoutesLeft;
 use crate::said::{Said, is_failed_read};
-use rs_explain::{Until, what_is_taken_is_the_longest_beginning};
 use rs_mrt::{Read, RecordReader};
 use rs_session::{Body, PeerId, Session, Word, a_reader_gives_a_file_or_fails};
 use rs_table::{left_after_one_more, left_by_last_changes, left_by_part};
@@ -30,7 +29,7 @@ pub(crate) struct Heard {
     pub(crate) routes: RoutesLeft,
 }
 
-// Reads the recorded session of a peer up to the time that is asked for.
+// Reads the recorded session of a peer.
 pub(crate) fn hear<R: Read + Drop>(
     alloc: Global,
     recording: Recording<R>,
@@ -61,19 +60,14 @@ fn hear_changes<R: Read + Drop>(
     ensures { IfOk result (λ heard. IsSaidBefore R.gives question.now id reader heard.routes heard.said) }
 {
     a_reader_gives_a_file_or_fails(&reader);
-    what_is_taken_is_the_longest_beginning();
     left_after_one_more();
     left_by_part();
     left_by_last_changes();
     a_prefix_covers_itself(question.prefix);
     let mut session = Session::over_by(alloc, RecordReader::new(reader), id, question.errors);
-    let mut until = Until::new(question.until);
     let mut said = Said::nothing();
     let mut routes = RoutesLeft::none(alloc);
-    while let Some(word) = session.next_word_on(question.prefix, question.until)? {
-        if !until.takes(&word) {
-            return Ok(Heard { said, routes });
-        }
+    while let Some(word) = session.next_word_on(question.prefix, None)? {
         said = said.after(question.prefix, &word, loss_behind(&session, &word));
         take_change(&mut routes, question.prefix, word)?;
     }

@@ -52,8 +52,6 @@ pub struct History {
     pub client: Option<usize>,
     /// From when on changes are shown, in seconds since 1970, where that was asked for.
     pub from: Option<u32>,
-    /// Up to when changes count, in seconds since 1970, where that was asked for.
-    pub until: Option<u32>,
     /// The number of the peer whose route the client gets before what is shown, if any.
     pub before: Option<usize>,
     /// What happened, in the order of time.
@@ -71,14 +69,12 @@ impl History {
         ensures prefix { result.prefix ≡ question.now.prefix }
         ensures client { result.client ≡ client }
         ensures from { result.from ≡ from }
-        ensures until { result.until ≡ question.now.until }
         ensures nothing { (result.before ≡ None) × (result.events.items ≡ []) }
     {
         History {
             prefix: question.prefix,
             client,
             from,
-            until: question.until,
             before: None,
             events: Vec::new(alloc),
         }

@@ -25,7 +25,7 @@ mod recording;
 mod routes_left;
 mod said;
 
-pub use answers::{Answer, Answers, LessSpecific, explain_all};
+pub use answers::{Answer, Answers, LessSpecific, explain_all, longest_announced};
 pub use fault::GlassFault;
 pub use happened::{Happening, read_happenings};
 pub use history::{Event, Gets, History, fill_history};

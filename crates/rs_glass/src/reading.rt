@@ -30,7 +30,7 @@ pub struct Reading {
 
 /// Reads the recorded session of each peer: `readers` gives its file, in the order of the peers.
 ///
-/// Fails where memory is refused, and where a session closes in time because its file can't be read.
+/// Fails where memory is refused, and where a session closes because its file can't be read.
 pub fn read_sessions<T: Threads + Sync, R: Read + Send + Drop>(
     rt: &T,
     alloc: Global,

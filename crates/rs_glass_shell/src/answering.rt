@@ -1,98 +1,208 @@
 //! Answers the question of the command line: reads what it names, and writes what comes of it.
 
-ghost use Rattle.std.specs.Prelude.{◌≡◌, ◌<◌, length};
+ghost use Rattle.std.specs.Prelude.{◌≡◌, IfOk, length};
 
-use crate::history_lines::history_text;
+use crate::checking::check;
+use crate::history_lines::{HistoryView, history_text};
 use crate::history_object::history_json;
-use crate::list_answering::{missing, table};
+use crate::lines::PROGRAM;
+use crate::list_answering::{missing, summary, table};
 use crate::listing_lines::as_text;
 use crate::listing_object::as_json;
 use crate::listing_toml::as_toml;
+use crate::query::{Destination, HistoryQuery, PeersQuery, Query, Span, WhyQuery};
 use crate::recorded_file::RecordedFile;
-use crate::why_lines::why_text;
+use crate::setup::peer_named;
+use crate::starts::starts;
+use crate::unanswered::Unanswered;
+use crate::why_lines::{WhyView, why_text};
 use crate::why_object::why_json;
 use crate::words::read_query;
 use rs_glass::{
-    Answers, History, Question, explain_all, fill_history, read_happenings, read_sessions,
+    History, Question, Reading, explain_all, fill_history, longest_announced, read_happenings,
+    read_sessions,
 };
-use rs_host::{first_unreadable, open_file};
+use rs_host::{
+    DONE, Unready, WordsFault, configuration, first_unreadable, on_one_line, open_file, open_files,
+    read_arguments,
+};
 use rs_inventory::{InventoryFault, read_inventory};
-use rs_question::{
-    Ended, HistoryQuery, PeersQuery, Query, WhyQuery, configuration, open_files, peer_named,
-};
+use rs_mrt::{Bounds, Tail};
 use rs_setup::Setup;
-use std::env;
+use rs_update::Prefix;
 use std::env::Env;
 use std::fs::Files;
-use std::io::{ErrorKind, Print};
+use std::io::Print;
+use std::net::Ipv4Addr;
 use std::sync::Wait;
 use std::thread::Threads;
 
-/// Answers the question of the command line, as it is printed: reads the configuration and the recorded files that it
-/// names. Of a list all but its last part is printed by then. Fails with why the program stops short.
+/// What a question is answered with.
+#[derive(Drop)]
+pub struct Reply {
+    /// The text that is printed.
+    pub text: String,
+    /// The status with which the program ends.
+    pub status: u8,
+    /// Of which files notes are told, and how much of them was read; none where the question is about files alone.
+    pub read: Option<(Setup, Bounds)>,
+}
+
+/// Answers the question of the command line: reads the configuration and the recorded files that it names. Of a list
+/// all but its last part is printed by then. Fails with why there is no answer.
 pub fn answer<R: AllocGlobal + Env + Files + Threads + Wait + Sync + Print>(
     rt: &R,
-) -> Result<String, Ended>
+) -> Result<Reply, Unanswered>
 where
     R::File: Send,
 {
     match command_line(rt)? {
         Query::Why(query) => why(rt, &query),
         Query::History(query) => history(rt, &query),
-        Query::Peers(query) => peers(rt, query),
+        Query::Peers(query) => Ok(Reply {
+            text: peers(rt, query)?,
+            status: DONE,
+            read: None,
+        }),
+        Query::Check(query) => check(rt, &query.config),
         Query::Table(query) => table(rt, &query),
         Query::Missing(query) => missing(rt, &query),
+        Query::Summary(query) => summary(rt, &query),
+    }
+}
+
+// An answer for which the files of a setup were read up to a time.
+pub(crate) fn answer_until(text: String, setup: Setup, until: Option<u32>) -> Reply {
+    let tail = Tail::Strict;
+    Reply {
+        text,
+        status: DONE,
+        read: Some((setup, Bounds { until, tail })),
     }
 }
 
 // The question of the command line.
-fn command_line<R: AllocGlobal + Env>(rt: &R) -> Result<Query, Ended> {
-    let alloc = rt.alloc();
-    match env::args(rt) {
-        Ok(words) => Ok(read_query(alloc, words.collect(alloc)?)?),
-        Err(error) if error.kind() == ErrorKind::OutOfMemory => Err(Ended::Memory),
-        Err(_) => Err(Ended::NotUtf8),
-    }
+fn command_line<R: AllocGlobal + Env>(rt: &R) -> Result<Query, WordsFault> {
+    read_query(rt.alloc(), read_arguments(rt, PROGRAM)?)
 }
 
 // Why a client has each peer's route, or not.
-fn why<R: AllocGlobal + Files + Threads + Sync>(rt: &R, query: &WhyQuery) -> Result<String, Ended>
+fn why<R: AllocGlobal + Files + Threads + Sync>(
+    rt: &R,
+    query: &WhyQuery,
+) -> Result<Reply, Unanswered>
 where
     R::File: Send,
 {
     let alloc = rt.alloc();
     let setup = configuration(rt, &query.config)?;
     let client = peer_named(rt, &setup, &query.client)?;
-    let answers = explained(rt, &setup, client, query)?;
-    if query.json {
-        Ok(why_json(alloc, &setup.plan, &answers)?)
+    let question = asked(rt, &setup, query.prefix, query.span)?;
+    let reading = read(rt, &setup, &question, query.span)?;
+    let answers = explain_all(alloc, &reading, client, &question)?;
+    let starts = starts(rt, &setup, &answers, query.span.until)?;
+    let view = WhyView {
+        plan: &setup.plan,
+        tables: &reading.tables,
+        starts: &starts,
+        until: query.span.until,
+        all: query.all,
+        attributes: query.attributes,
+    };
+    let text = if query.json {
+        why_json(alloc, &view, &answers)?
     } else {
-        Ok(why_text(alloc, &setup.plan, &answers)?)
+        why_text(alloc, &view, &answers)?
+    };
+    Ok(answer_until(text, setup, query.span.until))
+}
+
+// What is asked of the recorded sessions: of an address, about the longest prefix with a route that covers it; where
+// there is none, about the address alone.
+fn asked<R: AllocGlobal + Files + Threads + Sync>(
+    rt: &R,
+    setup: &Setup,
+    destination: Destination,
+    span: Span,
+) -> Result<Question, Unanswered>
+where
+    R::File: Send,
+    requires { length setup.now.files.items ≡ length setup.now.plan.value.peers }
+{
+    let errors = span.errors;
+    let prefix = match destination {
+        Destination::Prefix(prefix) => prefix,
+        Destination::Address(address) => {
+            refuse_read_once(rt, setup, address)?;
+            let prefix = host(address);
+            let reading = read(rt, setup, &Question { prefix, errors }, span)?;
+            longest_announced(&reading.tables, prefix).unwrap_or(prefix)
+        }
+    };
+    Ok(Question { prefix, errors })
+}
+
+// The prefix of one address.
+fn host(address: u32) -> Prefix {
+    match Prefix::new(address, 32) {
+        Some(prefix) => prefix,
+        None => unreachable!(),
     }
 }
 
-// The answers of a configuration.
-fn explained<R: AllocGlobal + Files + Threads + Sync>(
+// Refuses a question about an address where a file gives its octets only once: it is read twice for that.
+fn refuse_read_once<R: AllocGlobal + Files>(
     rt: &R,
     setup: &Setup,
-    client: usize,
-    query: &WhyQuery,
-) -> Result<Answers, Ended>
+    address: u32,
+) -> Result<(), Unanswered> {
+    let alloc = rt.alloc();
+    let mut paths = Vec::new(alloc);
+    for path in setup.files.iter().chain(setup.files.iter()) {
+        paths
+            .push(String::from_str(alloc, path)?)
+            .map_err(|_| Unanswered::Memory)?;
+    }
+    match first_unreadable(rt, &paths)? {
+        Some(place) if place >= setup.files.len() => {
+            let path = on_one_line(alloc, &paths[place])?;
+            let address = Ipv4Addr::from_bits(address);
+            let text = format!(in alloc;
+                "looking_glass: --prefix {address} is an address, and {path} can be read only once\n"
+            )?;
+            Err(Unanswered::Words(WordsFault::Refused(text)))
+        }
+        _ => Ok(()),
+    }
+}
+
+// What the recorded sessions of a configuration say.
+fn read<R: AllocGlobal + Files + Threads + Sync>(
+    rt: &R,
+    setup: &Setup,
+    question: &Question,
+    span: Span,
+) -> Result<Reading, Unanswered>
 where
     R::File: Send,
-    requires client_known { client < length setup.now.plan.value.peers }
-    requires one_for_each { length setup.now.files.items ≡ length setup.now.plan.value.peers }
+    requires { length setup.now.files.items ≡ length setup.now.plan.value.peers }
+    ensures plan { IfOk result (λ reading. reading.tables.plan ≡ setup.now.plan.value) }
+    ensures as_many { IfOk result (λ reading.
+        length reading.said.items ≡ length setup.now.plan.value.peers) }
 {
     let alloc = rt.alloc();
-    let question = Question {
-        prefix: query.prefix,
-        until: query.until,
-        errors: query.errors,
-    };
-    let files = open_files(rt, &setup.files)?;
-    match read_sessions(rt, alloc, &setup.plan, files, &question) {
-        Ok(reading) => Ok(explain_all(alloc, &reading, client, &question)?),
-        Err(fault) => Err(Ended::by_reading(alloc, fault, setup)),
+    let files = open_files(rt, &setup.files, bounds(span), |file| file)?;
+    match read_sessions(rt, alloc, &setup.plan, files, question) {
+        Ok(reading) => Ok(reading),
+        Err(fault) => Err(Unanswered::by_reading(alloc, fault, setup)),
+    }
+}
+
+// How much of each recorded file is read.
+fn bounds(span: Span) -> Bounds {
+    Bounds {
+        until: span.until,
+        tail: Tail::Strict,
     }
 }
 
@@ -100,22 +210,29 @@ where
 fn history<R: AllocGlobal + Files + Threads + Sync>(
     rt: &R,
     query: &HistoryQuery,
-) -> Result<String, Ended>
+) -> Result<Reply, Unanswered>
 where
     R::File: Send,
 {
     let alloc = rt.alloc();
     let setup = configuration(rt, &query.config)?;
     let client = match &query.client {
-        Some(name) => Some(peer_named(rt, &setup, name)?),
+        Some(word) => Some(peer_named(rt, &setup, word)?),
         None => None,
     };
     let history = replayed(rt, &setup, client, query)?;
-    if query.json {
-        Ok(history_json(alloc, &setup.plan, &history)?)
+    let view = HistoryView {
+        plan: &setup.plan,
+        until: query.span.until,
+        ends: query.ends,
+        attributes: query.attributes,
+    };
+    let text = if query.json {
+        history_json(alloc, &view, &history)?
     } else {
-        Ok(history_text(alloc, &setup.plan, &history)?)
-    }
+        history_text(alloc, &view, &history)?
+    };
+    Ok(answer_until(text, setup, query.span.until))
 }
 
 // The history of a configuration.
@@ -124,29 +241,25 @@ fn replayed<R: AllocGlobal + Files + Threads + Sync>(
     setup: &Setup,
     client: Option<usize>,
     query: &HistoryQuery,
-) -> Result<History, Ended>
+) -> Result<History, Unanswered>
 where
     R::File: Send,
     requires { length setup.now.files.items ≡ length setup.now.plan.value.peers }
 {
     let alloc = rt.alloc();
-    let question = Question {
-        prefix: query.prefix,
-        until: query.until,
-        errors: query.errors,
-    };
-    let files = open_files(rt, &setup.files)?;
+    let question = asked(rt, setup, query.prefix, query.span)?;
+    let files = open_files(rt, &setup.files, bounds(query.span), |file| file)?;
     match read_happenings(rt, alloc, &setup.plan, files, &question) {
         Ok(happenings) => {
             let asked = History::of(alloc, &question, client, query.from);
             Ok(fill_history(alloc, &setup.plan, happenings, asked)?)
         }
-        Err(fault) => Err(Ended::by_reading(alloc, fault, setup)),
+        Err(fault) => Err(Unanswered::by_reading(alloc, fault, setup)),
     }
 }
 
 // What recorded files hold.
-fn peers<R: AllocGlobal + Files>(rt: &R, query: PeersQuery) -> Result<String, Ended> {
+fn peers<R: AllocGlobal + Files>(rt: &R, query: PeersQuery) -> Result<String, Unanswered> {
     let alloc = rt.alloc();
     let PeersQuery { files, json, toml } = query;
     let held = recorded_files(rt, files)?;
@@ -163,27 +276,30 @@ fn peers<R: AllocGlobal + Files>(rt: &R, query: PeersQuery) -> Result<String, En
 fn recorded_files<R: AllocGlobal + Files>(
     rt: &R,
     paths: Vec<String>,
-) -> Result<Vec<RecordedFile>, Ended> {
+) -> Result<Vec<RecordedFile>, Unready> {
     if let Some(number) = first_unreadable(rt, &paths)? {
-        return Err(Ended::by_path(rt.alloc(), &paths[number]));
+        return Err(Unready::by_path(rt.alloc(), &paths[number]));
     }
     let mut held = Vec::new(rt.alloc());
     for path in paths {
         held.push(recorded_file(rt, path)?)
-            .map_err(|_| Ended::Memory)?;
+            .map_err(|_| Unready::Memory)?;
     }
     Ok(held)
 }
 
 // What the recorded file at a path holds.
-fn recorded_file<R: AllocGlobal + Files>(rt: &R, path: String) -> Result<RecordedFile, Ended> {
+pub(crate) fn recorded_file<R: AllocGlobal + Files>(
+    rt: &R,
+    path: String,
+) -> Result<RecordedFile, Unready> {
     let reader = match open_file(rt, &path) {
         Ok(reader) => reader,
-        Err(fault) => return Err(Ended::by_file(rt.alloc(), fault, &path)),
+        Err(fault) => return Err(Unready::by_file(rt.alloc(), fault, &path)),
     };
     match read_inventory(rt.alloc(), reader) {
         Ok(inventory) => Ok(RecordedFile { path, inventory }),
-        Err(InventoryFault::Memory) => Err(Ended::Memory),
-        Err(InventoryFault::Read) => Err(Ended::Unread(path)),
+        Err(InventoryFault::Memory) => Err(Unready::Memory),
+        Err(InventoryFault::Read) => Err(Unready::Unread(path)),
     }
 }

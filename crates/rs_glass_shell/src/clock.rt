@@ -1,9 +1,10 @@
 //! How times are shown: those of one day by the clock, and else with their dates, in UTC.
 
 use crate::columns::add_cell;
+use crate::starts::Start;
 use rs_explain::LastSaid;
 use rs_glass::Said;
-use rs_question::{Utc, civil_time};
+use rs_host::{Utc, civil_time};
 use std::alloc::{AllocError, Global};
 
 // The seconds of a day.
@@ -42,6 +43,14 @@ impl Clock {
             (LastSaid::Ended(announced, _), None) => self.with(announced),
             (_, Some(time)) => self.with(time),
             (_, None) => self,
+        }
+    }
+
+    // With the time since when a recording runs, where that is known.
+    pub(crate) fn with_start(self, start: Option<Start>) -> Clock {
+        match start {
+            Some(start) => self.with(start.time()),
+            None => self,
         }
     }
 

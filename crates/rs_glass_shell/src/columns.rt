@@ -21,3 +21,48 @@ pub(crate) fn fill_cell(text: &mut String, start: usize, width: usize) -> Result
     }
     Ok(())
 }
+
+// How many columns a line has at most, where it can be broken between words.
+const LINE_WIDTH: usize = 80;
+
+// How far the lines behind the first one are indented at most.
+const MOST_INDENT: usize = 48;
+
+// Adds words to the line that begins at this place of a text. Where they pass the width of a line, it is broken between
+// two words; what follows is indented to where the words begin.
+pub(crate) fn add_words(text: &mut String, start: usize, words: &str) -> Result<(), AllocError> {
+    let indent = text.len().saturating_sub(start).min(MOST_INDENT);
+    add_indented_words(text, start, words, indent)
+}
+
+// The same, with what follows the break indented so far.
+fn add_indented_words(
+    text: &mut String,
+    start: usize,
+    words: &str,
+    indent: usize,
+) -> Result<(), AllocError> {
+    let mut column = text.len().saturating_sub(start);
+    for (place, word) in words.split(' ').enumerate() {
+        let behind = column.saturating_add(word.len());
+        if place == 0 {
+            column = behind;
+        } else if behind < LINE_WIDTH {
+            text.push(' ')?;
+            column = behind.saturating_add(1);
+        } else {
+            text.push('\n')?;
+            add_cell(text, "", indent)?;
+            column = indent.saturating_add(word.len());
+        }
+        text.push_str(word)?;
+    }
+    Ok(())
+}
+
+// Adds a line of words; where it passes the width of a line, what follows is indented by two columns.
+pub(crate) fn add_sentence(text: &mut String, words: &str) -> Result<(), AllocError> {
+    let start = text.len();
+    add_indented_words(text, start, words, 2)?;
+    text.push('\n')
+}

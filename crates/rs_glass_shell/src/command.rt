@@ -1,12 +1,10 @@
 //! The program's command, as `clap` knows it.
 
-use crate::list_command::{missing_command, table_command};
+use crate::list_command::{missing_command, summary_command, table_command};
 use clap::builder::ValueParser;
 use clap::{Arg, ArgAction, Command};
+use rs_host::VERSION;
 use std::alloc::{AllocError, Global};
-
-// The version of the program.
-const VERSION: &str = "0.1.0";
 
 // What the program does, at the head of its help.
 const ABOUT: &str =
@@ -20,7 +18,8 @@ Status:
   0  the question is answered, or help or the version was asked for
   1  the command line or the configuration is refused
   2  a file or a device failed
-  3  memory was refused";
+  3  memory was refused
+  5  by check: a session closes before the end of its file, or there is a note";
 
 const WHY_ABOUT: &str = "Why does a client get each peer's route to a prefix, or not?";
 
@@ -28,6 +27,8 @@ const HISTORY_ABOUT: &str =
     "What happened to a prefix, in the order of time, and what did a client get from then on?";
 
 const PEERS_ABOUT: &str = "What is in recorded files: which peers, sessions and prefixes?";
+
+const CHECK_ABOUT: &str = "What would a run of route_server over a configuration meet?";
 
 // The program's command, with its subcommands.
 pub(crate) fn program<'a>(alloc: Global) -> Result<Command<'a>, AllocError> {
@@ -41,8 +42,10 @@ pub(crate) fn program<'a>(alloc: Global) -> Result<Command<'a>, AllocError> {
         .subcommand(why_command(alloc)?)?
         .subcommand(history_command(alloc)?)?
         .subcommand(peers_command(alloc)?)?
+        .subcommand(check_command(alloc)?)?
         .subcommand(table_command(alloc)?)?
-        .subcommand(missing_command(alloc)?)
+        .subcommand(missing_command(alloc)?)?
+        .subcommand(summary_command(alloc)?)
 }
 
 // `why`
@@ -51,9 +54,11 @@ fn why_command<'a>(alloc: Global) -> Result<Command<'a>, AllocError> {
         .about(WHY_ABOUT)
         .arg(config(alloc))?
         .arg(client(alloc).required(true))?
-        .arg(prefix(alloc).required(true))?
+        .arg(destination(alloc))?
         .arg(until(alloc))?
         .arg(errors(alloc))?
+        .arg(all(alloc))?
+        .arg(attributes(alloc))?
         .arg(json(alloc))
 }
 
@@ -62,11 +67,13 @@ fn history_command<'a>(alloc: Global) -> Result<Command<'a>, AllocError> {
     Command::new(alloc, "history")
         .about(HISTORY_ABOUT)
         .arg(config(alloc))?
-        .arg(prefix(alloc).required(true))?
+        .arg(destination(alloc))?
         .arg(client(alloc))?
         .arg(from(alloc))?
         .arg(until(alloc))?
         .arg(errors(alloc))?
+        .arg(ends(alloc))?
+        .arg(attributes(alloc))?
         .arg(json(alloc))
 }
 
@@ -77,6 +84,13 @@ fn peers_command<'a>(alloc: Global) -> Result<Command<'a>, AllocError> {
         .arg(files(alloc))?
         .arg(json(alloc).conflicts_with("toml")?)?
         .arg(toml(alloc))
+}
+
+// `check`
+fn check_command<'a>(alloc: Global) -> Result<Command<'a>, AllocError> {
+    Command::new(alloc, "check")
+        .about(CHECK_ABOUT)
+        .arg(config(alloc))
 }
 
 // An option of one value.
@@ -94,11 +108,37 @@ pub(crate) fn config<'a>(alloc: Global) -> Arg<'a> {
 }
 
 pub(crate) fn client<'a>(alloc: Global) -> Arg<'a> {
-    option(alloc, "client", "NAME").help("Name of the client")
+    option(alloc, "client", "NAME").help("Name of the client, or its address or AS number")
 }
 
 pub(crate) fn prefix<'a>(alloc: Global) -> Arg<'a> {
     option(alloc, "prefix", "PREFIX").help("IPv4 prefix, as 192.0.2.0/24")
+}
+
+fn destination<'a>(alloc: Global) -> Arg<'a> {
+    option(alloc, "prefix", "PREFIX").required(true).help(
+        "IPv4 prefix, as 192.0.2.0/24, or an address: the longest prefix with a route to it",
+    )
+}
+
+fn all<'a>(alloc: Global) -> Arg<'a> {
+    flag(
+        alloc,
+        "all",
+        "Shows each peer that never announced the prefix",
+    )
+}
+
+fn attributes<'a>(alloc: Global) -> Arg<'a> {
+    flag(
+        alloc,
+        "attributes",
+        "Shows all path attributes of the routes",
+    )
+}
+
+fn ends<'a>(alloc: Global) -> Arg<'a> {
+    flag(alloc, "ends", "Shows the ends of the files")
 }
 
 fn from<'a>(alloc: Global) -> Arg<'a> {
@@ -107,9 +147,9 @@ fn from<'a>(alloc: Global) -> Arg<'a> {
     )
 }
 
-fn until<'a>(alloc: Global) -> Arg<'a> {
+pub(crate) fn until<'a>(alloc: Global) -> Arg<'a> {
     option(alloc, "until", "TIME").help(
-        "Counts changes up to this time: seconds since 1970, or as 2026-11-22T06:36:20Z",
+        "Stops reading at the first later record: seconds since 1970, or as 2026-11-22T06:36:20Z",
     )
 }
 

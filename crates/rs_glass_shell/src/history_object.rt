@@ -1,12 +1,13 @@
 //! The history of a prefix as JSON: one object.
 
+use crate::attribute_object::add_rare;
+use crate::history_lines::HistoryView;
 use crate::names::{asn_at, prefix_text};
 use crate::reasons::{close_text, origin_name};
 use crate::route_text::{
     LARGE_LEN, community_of, large_communities, large_community_of, path_text,
 };
 use crate::why_object::{name_of, put_text};
-use rs_choice::Exchange;
 use rs_glass::{Event, Gets, History};
 use rs_update::{Attributes, Numbers};
 use serde_json::{Map, Value, put};
@@ -16,12 +17,15 @@ use std::net::Ipv4Addr;
 /// The history as one JSON object on one line, with a line break behind it. Fails where memory is refused.
 pub fn history_json(
     alloc: Global,
-    plan: &Exchange,
+    view: &HistoryView<'_>,
     history: &History,
 ) -> Result<String, AllocError> {
+    let plan = view.plan;
     let mut changes = Vec::with_capacity(alloc, history.events.len())?;
     for gets in &history.events {
-        changes.push(event_object(alloc, plan, gets)?)?;
+        if view.shows(gets) {
+            changes.push(event_object(alloc, view, gets)?)?;
+        }
     }
     let mut object = Map::new(alloc);
     put(
@@ -37,7 +41,7 @@ pub fn history_json(
         name_of(alloc, plan, history.client)?,
     )?;
     put(&mut object, alloc, "from", Value::from(history.from))?;
-    put(&mut object, alloc, "until", Value::from(history.until))?;
+    put(&mut object, alloc, "until", Value::from(view.until))?;
     put(
         &mut object,
         alloc,
@@ -51,7 +55,8 @@ pub fn history_json(
 }
 
 // One thing that happened.
-fn event_object(alloc: Global, plan: &Exchange, gets: &Gets) -> Result<Value, AllocError> {
+fn event_object(alloc: Global, view: &HistoryView<'_>, gets: &Gets) -> Result<Value, AllocError> {
+    let plan = view.plan;
     let mut object = Map::new(alloc);
     put(&mut object, alloc, "time", Value::from(gets.time))?;
     put(
@@ -67,7 +72,7 @@ fn event_object(alloc: Global, plan: &Exchange, gets: &Gets) -> Result<Value, Al
         Value::from(asn_at(plan, gets.peer)),
     )?;
     put(&mut object, alloc, "best", name_of(alloc, plan, gets.best)?)?;
-    add_event(&mut object, alloc, &gets.event)?;
+    add_event(&mut object, alloc, view, &gets.event)?;
     Ok(Value::Object(object))
 }
 
@@ -75,12 +80,18 @@ fn event_object(alloc: Global, plan: &Exchange, gets: &Gets) -> Result<Value, Al
 fn add_event(
     object: &mut Map<String, Value>,
     alloc: Global,
+    view: &HistoryView<'_>,
     event: &Event,
 ) -> Result<(), AllocError> {
     match event {
         Event::Announced(attributes) => {
             put_text(object, alloc, "change", "announced")?;
-            add_route(object, alloc, attributes)
+            add_route(object, alloc, attributes)?;
+            add_large_communities(object, alloc, attributes)?;
+            if view.attributes {
+                add_rare(object, alloc, attributes)?;
+            }
+            Ok(())
         }
         Event::Withdrawn => put_text(object, alloc, "change", "withdrawn"),
         Event::Lost(loss) => {

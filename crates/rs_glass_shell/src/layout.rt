@@ -2,8 +2,8 @@
 
 use crate::columns::{add_cell, fill_cell};
 use crate::names::{asn_at, name_at, name_width};
+use crate::query::Form;
 use rs_choice::Exchange;
-use rs_question::Form;
 use rs_update::Prefix;
 use serde_json::{Map, Value};
 use std::alloc::{AllocError, Global};

@@ -2,13 +2,18 @@
 
 ghost use Rattle.std.specs.Prelude.{◌<◌, length};
 
+use crate::answering::{Reply, answer_until};
 use crate::counted_row::{Counts, counts_text};
 use crate::layout::Layout;
 use crate::missing_row::{add_missing_row, add_missing_titles, reason_key};
+use crate::query::{Form, MissingQuery, SummaryQuery, TableQuery};
 use crate::reasons::answer_name;
 use crate::serving::served;
+use crate::setup::peer_named;
+use crate::summary_numbers::written;
 use crate::table_row::{add_table_row, add_table_titles};
-use rs_question::{Ended, Form, MissingQuery, TableQuery, configuration, peer_named};
+use crate::unanswered::Unanswered;
+use rs_host::configuration;
 use rs_setup::Setup;
 use rs_survey::{MissingOn, MissingRoute, MissingRoutes};
 use rs_table::{Row, Tables};
@@ -41,7 +46,7 @@ struct Wanted<'a> {
 pub(crate) fn table<R: AllocGlobal + Files + Threads + Wait + Sync + Print>(
     rt: &R,
     query: &TableQuery,
-) -> Result<String, Ended>
+) -> Result<Reply, Unanswered>
 where
     R::File: Send,
 {
@@ -53,18 +58,19 @@ where
         longer: query.longer,
     };
     let served = served(rt, &setup, &query.tables)?;
-    if query.count {
-        Ok(count_table(rt.alloc(), served.tables(), client, &rows, query.form)?)
+    let text = if query.count {
+        count_table(rt.alloc(), served.tables(), client, &rows, query.form)?
     } else {
-        list_table(rt, served.tables(), client, &rows, query.form)
-    }
+        list_table(rt, served.tables(), client, &rows, query.form)?
+    };
+    Ok(answer_until(text, setup, query.tables.until))
 }
 
 // Lists the routes that a client does not get, in the same way.
 pub(crate) fn missing<R: AllocGlobal + Files + Threads + Wait + Sync + Print>(
     rt: &R,
     query: &MissingQuery,
-) -> Result<String, Ended>
+) -> Result<Reply, Unanswered>
 where
     R::File: Send,
 {
@@ -78,11 +84,29 @@ where
         },
     };
     let served = served(rt, &setup, &query.tables)?;
-    if query.count {
-        Ok(count_missing(rt.alloc(), served.tables(), client, wanted, query.form)?)
+    let text = if query.count {
+        count_missing(rt.alloc(), served.tables(), client, wanted, query.form)?
     } else {
-        list_missing(rt, served.tables(), client, wanted, query.form)
-    }
+        list_missing(rt, served.tables(), client, wanted, query.form)?
+    };
+    Ok(answer_until(text, setup, query.tables.until))
+}
+
+// What becomes of the routes of all peers, in numbers.
+pub(crate) fn summary<R: AllocGlobal + Files + Threads + Wait + Sync + Print>(
+    rt: &R,
+    query: &SummaryQuery,
+) -> Result<Reply, Unanswered>
+where
+    R::File: Send,
+{
+    let alloc = rt.alloc();
+    let setup = configuration(rt, &query.tables.config)?;
+    let served = served(rt, &setup, &query.tables)?;
+    let tables = served.tables();
+    let tally = rs_survey::summary(alloc, tables)?;
+    let text = written(alloc, &Layout::new(tables.plan(), 0, query.form), &tally)?;
+    Ok(answer_until(text, setup, query.tables.until))
 }
 
 // The number of the sender that is asked for, if one is.
@@ -90,7 +114,7 @@ fn sender<R: AllocGlobal>(
     rt: &R,
     setup: &Setup,
     name: &Option<String>,
-) -> Result<Option<usize>, Ended> {
+) -> Result<Option<usize>, Unanswered> {
     match name {
         Some(name) => Ok(Some(peer_named(rt, setup, name)?)),
         None => Ok(None),
@@ -98,7 +122,7 @@ fn sender<R: AllocGlobal>(
 }
 
 // Prints rows that were gathered, where they are many.
-fn print_page<R: Print>(rt: &R, page: &mut String) -> Result<(), Ended> {
+fn print_page<R: Print>(rt: &R, page: &mut String) -> Result<(), Unanswered> {
     if page.len() < PAGE {
         return Ok(());
     }
@@ -107,7 +131,7 @@ fn print_page<R: Print>(rt: &R, page: &mut String) -> Result<(), Ended> {
             page.clear();
             Ok(())
         }
-        Err(_) => Err(Ended::Output),
+        Err(_) => Err(Unanswered::Output),
     }
 }
 
@@ -118,7 +142,7 @@ fn list_table<R: AllocGlobal + Print>(
     client: usize,
     rows: &Rows,
     form: Form,
-) -> Result<String, Ended> {
+) -> Result<String, Unanswered> {
     let alloc = rt.alloc();
     let layout = Layout::new(tables.plan(), client, form);
     let mut page = String::new(alloc);
@@ -202,7 +226,7 @@ fn list_missing<R: AllocGlobal + Print>(
     client: usize,
     wanted: Wanted<'_>,
     form: Form,
-) -> Result<String, Ended>
+) -> Result<String, Unanswered>
     requires { client < length tables.now.plan.peers }
 {
     let alloc = rt.alloc();

@@ -1,6 +1,6 @@
 //! The commands that list routes of whole tables, as `clap` knows them.
 
-use crate::command::{client, config, errors, flag, json, option, prefix};
+use crate::command::{client, config, errors, flag, json, option, prefix, until};
 use clap::builder::ValueParser;
 use clap::{Arg, ArgAction, Command};
 use std::alloc::{AllocError, Global};
@@ -8,6 +8,8 @@ use std::alloc::{AllocError, Global};
 const TABLE_ABOUT: &str = "Which routes does a client get?";
 
 const MISSING_ABOUT: &str = "Which routes of other peers does a client not get, and why?";
+
+const SUMMARY_ABOUT: &str = "What becomes of the routes of all peers, in numbers?";
 
 // What routes are listed for: an answer, or a reason.
 const REASONS: [&str; 14] = [
@@ -37,6 +39,7 @@ pub(crate) fn table_command<'a>(alloc: Global) -> Result<Command<'a>, AllocError
         .arg(prefix(alloc))?
         .arg(longer(alloc)?)?
         .arg(count(alloc))?
+        .arg(until(alloc))?
         .arg(errors(alloc))?
         .arg(shards(alloc))?
         .arg(csv(alloc)?)?
@@ -52,6 +55,19 @@ pub(crate) fn missing_command<'a>(alloc: Global) -> Result<Command<'a>, AllocErr
         .arg(from(alloc))?
         .arg(because(alloc))?
         .arg(count(alloc))?
+        .arg(until(alloc))?
+        .arg(errors(alloc))?
+        .arg(shards(alloc))?
+        .arg(csv(alloc)?)?
+        .arg(json(alloc))
+}
+
+// `summary`
+pub(crate) fn summary_command<'a>(alloc: Global) -> Result<Command<'a>, AllocError> {
+    Command::new(alloc, "summary")
+        .about(SUMMARY_ABOUT)
+        .arg(config(alloc))?
+        .arg(until(alloc))?
         .arg(errors(alloc))?
         .arg(shards(alloc))?
         .arg(csv(alloc)?)?

@@ -1,8 +1,9 @@
 //! The questions about whole tables that the words of the command line ask.
 
-use crate::words::{errors, prefix, text};
+use crate::query::{Form, MissingQuery, SummaryQuery, TableQuery, TablesQuery};
+use crate::words::{errors, prefix, text, time};
 use clap::ArgMatches;
-use rs_question::{Form, MissingQuery, TableQuery, TablesQuery, WordsFault};
+use rs_host::WordsFault;
 use std::alloc::Global;
 
 // `table`
@@ -36,11 +37,23 @@ pub(crate) fn missing_of(
     })
 }
 
+// `summary`
+pub(crate) fn summary_of(
+    alloc: Global,
+    matches: &ArgMatches<'_>,
+) -> Result<SummaryQuery, WordsFault> {
+    Ok(SummaryQuery {
+        tables: tables_of(alloc, matches)?,
+        form: form_of(matches),
+    })
+}
+
 // Of which exchange the tables are built, and how.
 fn tables_of(alloc: Global, matches: &ArgMatches<'_>) -> Result<TablesQuery, WordsFault> {
     Ok(TablesQuery {
         config: text(alloc, matches, "config")?,
         errors: errors(alloc, matches)?,
+        until: time(alloc, matches, "until")?,
         shards: matches.get_one::<usize>("shards").unwrap_or(1),
     })
 }

@@ -1,10 +1,9 @@
 //! Inventories as a text for people.
 
 use crate::recorded_file::RecordedFile;
-use rs_host::on_one_line;
+use rs_host::{Utc, on_one_line};
 use rs_inventory::{Compression, Inventory, Kind, Peer, PeerRecords, SessionTimes};
 use rs_mrt::MrtFault;
-use rs_question::Utc;
 use std::alloc::{AllocError, Global};
 use std::net::Ipv4Addr;
 

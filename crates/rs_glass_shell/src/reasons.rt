@@ -2,6 +2,7 @@
 
 use crate::clock::Clock;
 use crate::names::{name_at, names_text};
+use crate::starts::Start;
 use rs_choice::{Exchange, Standing, Step};
 use rs_explain::{Condition, EndedBy, Explanation, LastSaid, Refusal, Removal};
 use rs_glass::{Answer, Said};
@@ -92,7 +93,12 @@ pub(crate) fn lost_text(
     let value = standing_text(alloc, removal.step, &removal.loser.standing)?;
     let rival_value = standing_text(alloc, removal.step, &removal.rival.standing)?;
     let rival = name_at(plan, removal.rival.peer);
-    format!(in alloc; "{step} {value}, {rival} has {rival_value}")
+    let mut text = format!(in alloc; "{step} {value}, {rival} has {rival_value}")?;
+    if let Step::Med = removal.step {
+        let neighbour = removal.rival.standing.neighbour;
+        write!(text, " (neighbour AS {neighbour})")?;
+    }
+    Ok(text)
 }
 
 // The condition of eligibility that fails.
@@ -128,11 +134,12 @@ pub(crate) fn because(
     client: usize,
     peer: usize,
     answer: &Answer,
+    start: Option<Start>,
     clock: Clock,
 ) -> Result<String, AllocError> {
     match &answer.explanation {
         Explanation::Own => String::from_str(alloc, "its own"),
-        Explanation::Absent => absent_text(alloc, &answer.said, clock),
+        Explanation::Absent => absent_text(alloc, &answer.said, start, clock),
         Explanation::Ineligible(condition) => condition_text(alloc, plan, *condition),
         Explanation::Refused(refusal) => refused_text(alloc, plan, client, peer, *refusal),
         Explanation::Best(beaten) if beaten.is_empty() => String::from_str(alloc, "alone"),
@@ -162,9 +169,14 @@ pub(crate) fn refused_text(
 }
 
 // Why a peer has no route.
-fn absent_text(alloc: Global, said: &Said, clock: Clock) -> Result<String, AllocError> {
+fn absent_text(
+    alloc: Global,
+    said: &Said,
+    start: Option<Start>,
+    clock: Clock,
+) -> Result<String, AllocError> {
     let LastSaid::Ended(announced, ending) = said.last else {
-        return never_text(alloc, said);
+        return never_text(alloc, said, start, clock);
     };
     let announced = clock.text(alloc, announced)?;
     match ending.by {
@@ -180,14 +192,37 @@ fn absent_text(alloc: Global, said: &Said, clock: Clock) -> Result<String, Alloc
     }
 }
 
-// Why a peer never announced a route, where its session closed but at the end of its file.
-fn never_text(alloc: Global, said: &Said) -> Result<String, AllocError> {
-    match said.close {
-        None => String::from_str(alloc, "never announced"),
-        Some(Reason::EndOfFile) => String::from_str(alloc, "never announced"),
-        Some(reason) => {
-            let reason = close_text(alloc, reason)?;
-            format!(in alloc; "never announced, session closed: {reason}")
+// That a peer never announced a route: since when that is known, and why its session closed, where that was not at the
+// end of its file. A recording that begins later says nothing.
+fn never_text(
+    alloc: Global,
+    said: &Said,
+    start: Option<Start>,
+    clock: Clock,
+) -> Result<String, AllocError> {
+    let mut text = String::from_str(alloc, "never announced")?;
+    match start {
+        Some(Start::InTime(time)) => {
+            let time = clock.text(alloc, time)?;
+            write!(text, " since {time}")?;
         }
+        Some(Start::Later(time)) => {
+            let time = clock.text(alloc, time)?;
+            return format!(in alloc; "not recorded before {time}");
+        }
+        None => {}
+    }
+    if let Some(reason) = fault_of(said) {
+        let reason = close_text(alloc, reason)?;
+        write!(text, ", session closed: {reason}")?;
+    }
+    Ok(text)
+}
+
+// Why a session closed, where that was not at the end of its file.
+pub(crate) fn fault_of(said: &Said) -> Option<Reason> {
+    match said.close {
+        Some(Reason::EndOfFile) => None,
+        close => close,
     }
 }

@@ -106,9 +106,19 @@ fn add_word(text: &mut String, word: &str) -> Result<(), AllocError> {
 }
 
 // The type of LARGE_COMMUNITY, and how many octets a large community has (RFC 8092, section 3).
-const LARGE_COMMUNITY: u8 = 32;
+pub(crate) const LARGE_COMMUNITY: u8 = 32;
 
 pub(crate) const LARGE_LEN: usize = 12;
+
+// Octets as hexadecimal digits.
+pub(crate) fn hex_text(alloc: Global, octets: &[u8]) -> Result<String, AllocError> {
+    let mut text = String::new(alloc);
+    for octet in octets {
+        let octet = *octet;
+        write!(text, "{octet:02x}")?;
+    }
+    Ok(text)
+}
 
 // The octets of a route's large communities; none where it has no such attribute.
 pub(crate) fn large_communities(attributes: &Attributes) -> &[u8] {

@@ -2,7 +2,10 @@
 
 ghost use Rattle.std.specs.Prelude.{◌≡◌, IfOk, length};
 
-use rs_question::{Ended, TablesQuery, WordsFault, open_files};
+use crate::query::TablesQuery;
+use crate::unanswered::Unanswered;
+use rs_host::{Unready, WordsFault, open_files};
+use rs_mrt::{Bounds, Tail};
 use rs_serve::{FloorRefused, Open, Served, serve_by};
 use rs_setup::Setup;
 use std::fs::Files;
@@ -17,29 +20,33 @@ pub(crate) fn served<R: AllocGlobal + Files + Threads + Wait + Sync>(
     rt: &R,
     setup: &Setup,
     query: &TablesQuery,
-) -> Result<Served, Ended>
+) -> Result<Served, Unanswered>
 where
     R::File: Send,
     requires { length setup.now.files.items ≡ length setup.now.plan.value.peers }
     ensures { IfOk result (λ served. served.tables.plan ≡ setup.now.plan.value) }
 {
     let alloc = rt.alloc();
-    let files = open_files(rt, &setup.files)?;
+    let bounds = Bounds {
+        until: query.until,
+        tail: Tail::Strict,
+    };
+    let files = open_files(rt, &setup.files, bounds, |file| file)?;
     let (shards, errors) = (query.shards, query.errors);
     match serve_by(rt, alloc, &setup.plan, files, RING, shards, errors, &Open) {
         Ok(served) => Ok(served),
-        Err(FloorRefused::Memory) => Err(Ended::Memory),
+        Err(FloorRefused::Memory) => Err(Unanswered::Memory),
         Err(FloorRefused::Read(peer)) => match setup.files.get(peer) {
-            Some(path) => Err(Ended::by_path(alloc, path)),
-            None => Err(Ended::Memory),
+            Some(path) => Err(Unanswered::from(Unready::by_path(alloc, path))),
+            None => Err(Unanswered::Memory),
         },
         Err(FloorRefused::Unsettled(peer)) => {
             let name = &setup.plan.peer(peer).name;
-            Err(Ended::Unsettled(String::from_str(alloc, name)?))
+            Err(Unanswered::Unsettled(String::from_str(alloc, name)?))
         }
         Err(FloorRefused::Shards) => {
             let text = format!(in alloc; "looking_glass: --shards {shards} is not from 1 to 16\n")?;
-            Err(Ended::Words(WordsFault::Refused(text)))
+            Err(Unanswered::Words(WordsFault::Refused(text)))
         }
         Err(FloorRefused::Capacity) => unreachable!(),
     }

@@ -5,12 +5,13 @@ use crate::csv_row::{CsvRow, add_csv_titles};
 use crate::history_object;
 use crate::layout::{Layout, add_json_line};
 use crate::names::prefix_text;
+use crate::query::Form;
 use crate::reasons::origin_name;
 use crate::route_text::{
     add_large_communities, add_route, communities_text, large_communities_text, path_text,
 };
 use crate::why_object::put_text;
-use rs_question::{Form, Utc};
+use rs_host::Utc;
 use rs_table::Row;
 use rs_update::Attributes;
 use serde_json::{Map, Value, put};

@@ -1,11 +1,16 @@
 //! What the texts of values stand for.
 
-use rs_question::read_time;
+use crate::query::Destination;
+use rs_host::read_time;
 use rs_setup::slashed_subnet;
 use rs_update::Prefix;
+use std::net::Ipv4Addr;
 
 // How a prefix is written.
 pub(crate) const PREFIX_FORM: &str = "an IPv4 prefix, as 192.0.2.0/24";
+
+// How a prefix or an address is written.
+pub(crate) const DESTINATION_FORM: &str = "an IPv4 prefix or address, as 192.0.2.0/24";
 
 // How a time is written.
 pub(crate) const TIME_FORM: &str = "seconds since 1970 or a time as 2026-11-22T06:36:20Z";
@@ -13,6 +18,15 @@ pub(crate) const TIME_FORM: &str = "seconds since 1970 or a time as 2026-11-22T0
 // The prefix that a text writes. Host bits are cleared.
 pub(crate) fn prefix_of(text: &str) -> Option<Prefix> {
     slashed_subnet(text)
+}
+
+// The prefix or the address that a text writes.
+pub(crate) fn destination_of(text: &str) -> Option<Destination> {
+    if let Some(prefix) = prefix_of(text) {
+        return Some(Destination::Prefix(prefix));
+    }
+    let address = text.parse::<Ipv4Addr>().ok()?;
+    Some(Destination::Address(address.to_bits()))
 }
 
 // The time that a text writes.

@@ -1,12 +1,15 @@
 //! The answers as a text: a line of what the client gets, and a line for each other peer.
 
+use crate::attribute_lines::add_attributes;
 use crate::clock::Clock;
-use crate::columns::add_cell;
+use crate::columns::{add_cell, add_sentence, add_words};
 use crate::names::{add_gets, asn_at, name_at, name_width};
-use crate::reasons::{answer_name, because};
+use crate::reasons::{answer_name, because, fault_of};
+use crate::starts::Start;
 use rs_choice::Exchange;
 use rs_glass::{Answer, Answers, LessSpecific};
-use rs_question::Utc;
+use rs_host::Utc;
+use rs_table::Tables;
 use std::alloc::{AllocError, Global};
 
 // How wide the columns of AS numbers and of answers are.
@@ -23,53 +26,156 @@ struct Layout {
     names: usize,
 }
 
-/// The answers as a text of several lines: what the client gets, and for each other peer its AS, the time at
-/// which its route was announced or taken away, the answer and the reason. Fails where memory is refused.
-pub fn why_text(alloc: Global, plan: &Exchange, answers: &Answers) -> Result<String, AllocError> {
+/// What is shown of answers, beside them.
+#[derive(Clone, Copy)]
+pub struct WhyView<'a> {
+    /// The exchange, whose peers are named.
+    pub plan: &'a Exchange,
+    /// The tables that the answers are about.
+    pub tables: &'a Tables,
+    /// Since when the recording of each peer runs that never announced a route.
+    pub(crate) starts: &'a [Option<Start>],
+    /// Up to when records were read, in seconds since 1970, where that was asked for.
+    pub until: Option<u32>,
+    /// Whether each peer that never announced the prefix has a line of its own.
+    pub all: bool,
+    /// Whether all attributes of the routes are shown.
+    pub attributes: bool,
+}
+
+impl WhyView<'_> {
+    // Since when the recording of a peer runs.
+    pub(crate) fn start(&self, peer: usize) -> Option<Start> {
+        *self.starts.get(peer)?
+    }
+}
+
+/// The answers as a text of several lines: what the client gets, and for each other peer its AS, the time at which its
+/// route was announced or taken away, the answer and the reason; the peer whose route the client gets comes first. Where
+/// several peers never announced the prefix, one line tells how many, unless all are asked for. Fails where memory is
+/// refused.
+pub fn why_text(
+    alloc: Global,
+    view: &WhyView<'_>,
+    answers: &Answers,
+) -> Result<String, AllocError> {
+    let untold = untold(view, answers);
     let layout = Layout {
-        clock: clock_of(answers),
-        names: name_width(plan, "peer"),
+        clock: clock_of(view, answers),
+        names: name_width(view.plan, "peer"),
     };
     let mut text = String::new(alloc);
-    add_head(&mut text, plan, answers, layout.clock)?;
+    add_head(&mut text, alloc, view, answers, layout.clock)?;
     add_titles(&mut text, layout)?;
-    for (peer, answer) in answers.peers.iter().enumerate() {
-        add_answer(&mut text, alloc, plan, answers.client, peer, answer, layout)?;
+    if let Some(best) = answers.best {
+        add_answer(&mut text, alloc, view, answers, best, layout)?;
     }
-    match &answers.less_specific {
-        Some(wide) => add_less_specific(&mut text, plan, answers.client, wide)?,
-        None => {}
+    for peer in 0..answers.peers.len() {
+        if answers.best != Some(peer) && !(untold.is_some() && is_untold(view, answers, peer)) {
+            add_answer(&mut text, alloc, view, answers, peer, layout)?;
+        }
+    }
+    if let Some(untold) = untold {
+        add_untold(&mut text, alloc, untold, layout.clock)?;
+    }
+    if let Some(wide) = &answers.less_specific {
+        add_less_specific(&mut text, alloc, view.plan, answers.client, wide)?;
     }
     Ok(text)
 }
 
-// Adds the line of a peer, unless it is the client itself.
+// Of how many peers it is told in one line that they never announced the prefix, and since when each of them is
+// recorded.
+#[derive(Clone, Copy, Debug, PartialEq, Eq)]
+struct NeverTold {
+    count: usize,
+    since: u32,
+}
+
+// The peers of which that is told; none where it would be told of less than two.
+fn untold(view: &WhyView<'_>, answers: &Answers) -> Option<NeverTold> {
+    let mut untold = NeverTold { count: 0, since: 0 };
+    for peer in 0..answers.peers.len() {
+        if let Some(Start::InTime(time)) = view.start(peer) {
+            if is_untold(view, answers, peer) {
+                untold = NeverTold {
+                    count: untold.count.saturating_add(1),
+                    since: untold.since.max(time),
+                };
+            }
+        }
+    }
+    if untold.count > 1 { Some(untold) } else { None }
+}
+
+// Whether a peer is one of them: one that is recorded and whose session did not close by a fault.
+fn is_untold(view: &WhyView<'_>, answers: &Answers, peer: usize) -> bool {
+    let Some(answer) = answers.peers.get(peer) else {
+        return false;
+    };
+    let is_recorded = matches!(view.start(peer), Some(Start::InTime(_)));
+    !view.all && peer != answers.client && is_recorded && fault_of(&answer.said).is_none()
+}
+
+// Adds the line that tells of them.
+fn add_untold(
+    text: &mut String,
+    alloc: Global,
+    untold: NeverTold,
+    clock: Clock,
+) -> Result<(), AllocError> {
+    let NeverTold { count, since } = untold;
+    let since = clock.text(alloc, since)?;
+    writeln!(text, "{count} peers never announced it since {since}")
+}
+
+// Adds the line of a peer, unless it is the client itself, and those of its route's attributes.
 fn add_answer(
     text: &mut String,
     alloc: Global,
-    plan: &Exchange,
-    client: usize,
+    view: &WhyView<'_>,
+    answers: &Answers,
     peer: usize,
-    answer: &Answer,
     layout: Layout,
 ) -> Result<(), AllocError> {
-    if peer == client {
+    let Some(answer) = answers.peers.get(peer) else {
+        return Ok(());
+    };
+    if peer == answers.client {
         return Ok(());
     }
-    add_cells(text, alloc, plan, peer, answer, layout)?;
-    let because = because(alloc, plan, client, peer, answer, layout.clock)?;
-    writeln!(text, "{because}")
+    let line = text.len();
+    add_cells(text, alloc, view.plan, peer, answer, layout)?;
+    let start = view.start(peer);
+    let because = because(
+        alloc,
+        view.plan,
+        answers.client,
+        peer,
+        answer,
+        start,
+        layout.clock,
+    )?;
+    add_words(text, line, &because)?;
+    text.push('\n')?;
+    if !view.attributes {
+        return Ok(());
+    }
+    match view.tables.route(peer, answers.prefix) {
+        Some(route) => add_attributes(text, alloc, route.attributes),
+        None => Ok(()),
+    }
 }
 
 // How the times of answers are shown.
-fn clock_of(answers: &Answers) -> Clock {
+fn clock_of(view: &WhyView<'_>, answers: &Answers) -> Clock {
     let mut clock = Clock::none();
-    if let Some(until) = answers.until {
+    if let Some(until) = view.until {
         clock = clock.with(until);
     }
     for (peer, answer) in answers.peers.iter().enumerate() {
         if peer != answers.client {
-            clock = clock.with_all(&answer.said);
+            clock = clock.with_all(&answer.said).with_start(view.start(peer));
         }
     }
     clock
@@ -78,19 +184,22 @@ fn clock_of(answers: &Answers) -> Clock {
 // Adds the first line.
 fn add_head(
     text: &mut String,
-    plan: &Exchange,
+    alloc: Global,
+    view: &WhyView<'_>,
     answers: &Answers,
     clock: Clock,
 ) -> Result<(), AllocError> {
-    add_gets(text, plan, (answers.client, answers.best), answers.prefix)?;
-    match answers.until {
+    let mut head = String::new(alloc);
+    let gets = (answers.client, answers.best);
+    add_gets(&mut head, view.plan, gets, answers.prefix)?;
+    match view.until {
         Some(until) => {
             let until = Utc(until);
-            write!(text, " (until {until} UTC)")?;
+            write!(head, " (until {until} UTC)")?;
         }
-        None => clock.add_day(text)?,
+        None => clock.add_day(&mut head)?,
     }
-    text.push('\n')
+    add_sentence(text, &head)
 }
 
 // Adds the line of titles.
@@ -126,11 +235,12 @@ fn add_asn(text: &mut String, alloc: Global, asn: u32) -> Result<(), AllocError>
 // Adds the line of a less specific prefix.
 fn add_less_specific(
     text: &mut String,
+    alloc: Global,
     plan: &Exchange,
     client: usize,
     wide: &LessSpecific,
 ) -> Result<(), AllocError> {
-    text.push_str("less specific: ")?;
-    add_gets(text, plan, (client, wide.best), wide.prefix)?;
-    text.push('\n')
+    let mut line = String::from_str(alloc, "less specific: ")?;
+    add_gets(&mut line, plan, (client, wide.best), wide.prefix)?;
+    add_sentence(text, &line)
 }

@@ -1,20 +1,30 @@
 //! The answers as JSON: one object.
 
+use crate::attribute_object::attributes_object;
 use crate::names::{asn_at, name_at, prefix_text};
 use crate::reasons::{answer_name, close_text, community_text, origin_name};
+use crate::starts::never_announced;
+use crate::why_lines::WhyView;
 use rs_choice::{Exchange, Standing, Step};
 use rs_explain::{Condition, EndedBy, Ending, Explanation, LastSaid, Refusal, Removal};
 use rs_glass::{Answer, Answers, LessSpecific, Said};
 use rs_session::Reason;
+use rs_table::Tables;
+use rs_update::Prefix;
 use serde_json::{Map, Value, json, put};
 use std::alloc::{AllocError, Global};
 use std::net::Ipv4Addr;
 
 /// The answers as one JSON object on one line, with a line break behind it. Fails where memory is refused.
-pub fn why_json(alloc: Global, plan: &Exchange, answers: &Answers) -> Result<String, AllocError> {
+pub fn why_json(
+    alloc: Global,
+    view: &WhyView<'_>,
+    answers: &Answers,
+) -> Result<String, AllocError> {
+    let plan = view.plan;
     let mut peers = Vec::with_capacity(alloc, answers.peers.len())?;
     for (peer, answer) in answers.peers.iter().enumerate() {
-        peers.push(peer_object(alloc, plan, peer, answer)?)?;
+        peers.push(peer_object(alloc, view, answers.prefix, (peer, answer))?)?;
     }
     let mut object = Map::new(alloc);
     put(
@@ -29,7 +39,7 @@ pub fn why_json(alloc: Global, plan: &Exchange, answers: &Answers) -> Result<Str
         "prefix",
         Value::String(prefix_text(alloc, answers.prefix)?),
     )?;
-    put(&mut object, alloc, "until", Value::from(answers.until))?;
+    put(&mut object, alloc, "until", Value::from(view.until))?;
     put(
         &mut object,
         alloc,
@@ -77,10 +87,11 @@ fn less_specific_object(
 // The answer of a peer.
 fn peer_object(
     alloc: Global,
-    plan: &Exchange,
-    peer: usize,
-    answer: &Answer,
+    view: &WhyView<'_>,
+    prefix: Prefix,
+    (peer, answer): (usize, &Answer),
 ) -> Result<Value, AllocError> {
+    let plan = view.plan;
     let mut object = Map::new(alloc);
     put(
         &mut object,
@@ -98,7 +109,28 @@ fn peer_object(
         Value::try_from_str(alloc, name)?,
     )?;
     add_reason(&mut object, alloc, plan, (peer, answer))?;
+    if never_announced(answer) {
+        let since = view.start(peer).map(|start| start.time());
+        put(&mut object, alloc, "recorded_since", Value::from(since))?;
+    }
+    if view.attributes {
+        let shown = shown_attributes(alloc, view.tables, peer, prefix)?;
+        put(&mut object, alloc, "attributes", shown)?;
+    }
     Ok(Value::Object(object))
+}
+
+// All attributes of a peer's route, or null.
+fn shown_attributes(
+    alloc: Global,
+    tables: &Tables,
+    peer: usize,
+    prefix: Prefix,
+) -> Result<Value, AllocError> {
+    match tables.route(peer, prefix) {
+        Some(route) => attributes_object(alloc, route.attributes),
+        None => Ok(Value::Null),
+    }
 }
 
 // Adds a text to an object.
@@ -240,7 +272,12 @@ pub(crate) fn add_removal(
         "rival",
         name_of(alloc, plan, Some(removal.rival.peer))?,
     )?;
-    put(object, alloc, "rival_value", rival_value)
+    put(object, alloc, "rival_value", rival_value)?;
+    if let Step::Med = step {
+        let neighbour = removal.rival.standing.neighbour;
+        put(object, alloc, "neighbour_as", Value::from(neighbour))?;
+    }
+    Ok(())
 }
 
 // The name of a step.

@@ -1,19 +1,19 @@
 //! Reads the words of the command line, with `clap`.
 
 use crate::command::program;
-use crate::list_words::{missing_of, table_of};
-use crate::values::{PREFIX_FORM, TIME_FORM, prefix_of, time_of};
+use crate::list_words::{missing_of, summary_of, table_of};
+use crate::query::{CheckQuery, Destination, HistoryQuery, PeersQuery, Query, Span, WhyQuery};
+use crate::values::{DESTINATION_FORM, PREFIX_FORM, TIME_FORM, destination_of, prefix_of, time_of};
 use clap::error::ErrorKind;
 use clap::{ArgMatches, Error};
-use rs_host::{each_on_one_line, standard_of};
-use rs_question::{HistoryQuery, PeersQuery, Query, WhyQuery, WordsFault};
+use rs_host::{WordsFault, each_on_one_line, standard_of};
 use rs_update::{Errors, Prefix};
 use std::alloc::{AllocError, Global};
 
 // The text where `clap` gives less than it promises.
 const INCOMPLETE: &str = "error: an option has no value\n";
 
-/// Reads the words of the command line, which begin with the program's own name. Fails with `Shown` where they ask for
+/// Reads the words of the command line, which begin with the program's own name. Fails with `Help` where they ask for
 /// help or the version, with `Refused` where they ask no question, with `Memory` where memory is refused. Control
 /// characters of a word are escaped in the text that tells why.
 pub fn read_query(alloc: Global, words: Vec<String>) -> Result<Query, WordsFault> {
@@ -43,8 +43,12 @@ fn query_of(alloc: Global, matches: &ArgMatches<'_>) -> Result<Query, WordsFault
         Some(("why", matches)) => Ok(Query::Why(why_of(alloc, matches)?)),
         Some(("history", matches)) => Ok(Query::History(history_of(alloc, matches)?)),
         Some(("peers", matches)) => Ok(Query::Peers(peers_of(alloc, matches)?)),
+        Some(("check", matches)) => Ok(Query::Check(CheckQuery {
+            config: text(alloc, matches, "config")?,
+        })),
         Some(("table", matches)) => Ok(Query::Table(table_of(alloc, matches)?)),
         Some(("missing", matches)) => Ok(Query::Missing(missing_of(alloc, matches)?)),
+        Some(("summary", matches)) => Ok(Query::Summary(summary_of(alloc, matches)?)),
         _ => Err(WordsFault::Refused(String::from_str(alloc, INCOMPLETE)?)),
     }
 }
@@ -53,9 +57,10 @@ fn why_of(alloc: Global, matches: &ArgMatches<'_>) -> Result<WhyQuery, WordsFaul
     Ok(WhyQuery {
         config: text(alloc, matches, "config")?,
         client: text(alloc, matches, "client")?,
-        prefix: prefix(alloc, matches)?,
-        until: time(alloc, matches, "until")?,
-        errors: errors(alloc, matches)?,
+        prefix: destination(alloc, matches)?,
+        span: span(alloc, matches)?,
+        all: matches.get_flag("all"),
+        attributes: matches.get_flag("attributes"),
         json: matches.get_flag("json"),
     })
 }
@@ -63,14 +68,15 @@ fn why_of(alloc: Global, matches: &ArgMatches<'_>) -> Result<WhyQuery, WordsFaul
 fn history_of(alloc: Global, matches: &ArgMatches<'_>) -> Result<HistoryQuery, WordsFault> {
     Ok(HistoryQuery {
         config: text(alloc, matches, "config")?,
-        prefix: prefix(alloc, matches)?,
+        prefix: destination(alloc, matches)?,
         client: match matches.get_str("client") {
             Some(client) => Some(String::from_str(alloc, client)?),
             None => None,
         },
         from: time(alloc, matches, "from")?,
-        until: time(alloc, matches, "until")?,
-        errors: errors(alloc, matches)?,
+        span: span(alloc, matches)?,
+        ends: matches.get_flag("ends"),
+        attributes: matches.get_flag("attributes"),
         json: matches.get_flag("json"),
     })
 }
@@ -111,7 +117,28 @@ pub(crate) fn prefix(alloc: Global, matches: &ArgMatches<'_>) -> Result<Prefix, 
     }
 }
 
-fn time(alloc: Global, matches: &ArgMatches<'_>, name: &str) -> Result<Option<u32>, WordsFault> {
+// The prefix or the address that is asked about.
+fn destination(alloc: Global, matches: &ArgMatches<'_>) -> Result<Destination, WordsFault> {
+    let value = matches.get_str("prefix").unwrap_or("");
+    match destination_of(value) {
+        Some(destination) => Ok(destination),
+        None => Err(not_a(alloc, "prefix", value, DESTINATION_FORM)),
+    }
+}
+
+// Of which recorded sessions it is asked.
+fn span(alloc: Global, matches: &ArgMatches<'_>) -> Result<Span, WordsFault> {
+    Ok(Span {
+        until: time(alloc, matches, "until")?,
+        errors: errors(alloc, matches)?,
+    })
+}
+
+pub(crate) fn time(
+    alloc: Global,
+    matches: &ArgMatches<'_>,
+    name: &str,
+) -> Result<Option<u32>, WordsFault> {
     let Some(value) = matches.get_str(name) else {
         return Ok(None);
     };
@@ -144,7 +171,7 @@ fn fault_of(alloc: Global, error: &Error) -> WordsFault {
     };
     match error.kind() {
         ErrorKind::OutOfMemory => WordsFault::Memory,
-        ErrorKind::DisplayHelp | ErrorKind::DisplayVersion => WordsFault::Shown(text),
+        ErrorKind::DisplayHelp | ErrorKind::DisplayVersion => WordsFault::Help(text),
         _ => WordsFault::Refused(text),
     }
 }

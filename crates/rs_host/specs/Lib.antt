@@ -1,3 +1,5 @@
 pub mod Line
 pub mod Refusal
 pub mod Standard
+pub mod Status
+pub mod Unready

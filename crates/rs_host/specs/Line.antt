@@ -36,3 +36,10 @@ named program text = program ++ (codes ": " ++ text)
 -- what a program says where memory was refused
 abbrev pub out_of_memory : Text
 out_of_memory = codes "out of memory"
+
+-- a file that can't be read is named
+abbrev pub unread_text : Text → Text
+unread_text path = codes "cannot read " ++ one_line path
+
+abbrev pub unread_line : Text → Text → Text
+unread_line program path = named program (unread_text path)

@@ -1,10 +1,12 @@
--- The line that says why a program refuses a configuration (docs/MANUAL.md, "Texts").
+-- What a program prints where it refuses a command line or a configuration (docs/MANUAL.md, "Texts").
 use Rattle.std.specs.Prelude.{ℕ, ◌++◌, Option, None, Some, codes, string_bytes}
 use Rattle.std.specs.Fmt.{decimal}
 use Rattle.rs_choice.specs.FaultNumber.{number_of_fault, peer_of_fault}
 use Rattle.rs_choice.specs.declared.fault.PlanFault.{PlanFault}
 use Rattle.rs_choice.specs.declared.fault.PlanFault.TheVariants as plan
 use Rattle.rs_host.specs.Line.{Text, named, one_line, out_of_memory}
+use Rattle.rs_host.specs.declared.options.WordsFault.{WordsFault}
+use Rattle.rs_host.specs.declared.options.WordsFault.TheVariants as words
 use Rattle.rs_setup.specs.declared.setup.SetupFault.{SetupFault}
 use Rattle.rs_setup.specs.declared.setup.SetupFault.TheVariants as setup
 
@@ -34,3 +36,9 @@ setup_text setup.Memory = out_of_memory
 -- and the line of a program that says so
 abbrev pub setup_line : Text → SetupFault → Text
 setup_line program fault = named program (setup_text fault)
+
+-- of help, the version and a refused command line the text of `clap`
+abbrev pub words_text : Text → WordsFault → Text
+words_text program (words.Help text) = string_bytes text
+words_text program (words.Refused text) = string_bytes text
+words_text program words.Memory = named program out_of_memory

@@ -16,7 +16,7 @@ pub struct FileIdentity {
 }
 
 impl FileIdentity {
-    /// The file of which this is told.
+    /// The file that has this metadata.
     pub fn of(found: &Metadata) -> FileIdentity {
         FileIdentity {
             device: found.dev(),
@@ -25,7 +25,7 @@ impl FileIdentity {
     }
 }
 
-/// What the path names; none where nothing is there, or nothing that can be told of. Fails where memory is refused.
+/// What the path names; none where nothing is there, or where nothing is known of it. Fails where memory is refused.
 pub fn found_at<R: Files>(rt: &R, path: &str) -> Result<Option<Metadata>, AllocError> {
     match fs::metadata(rt, path) {
         Ok(found) => Ok(Some(found)),

@@ -1,15 +1,26 @@
-//! The line that says why a configuration is refused.
+//! The lines that say why a command line or a configuration is refused.
 
 ghost use Rattle.std.specs.Prelude.{◌≡◌, IfOk, string_bytes};
-ghost use Rattle.rs_host.specs.Refusal.{key_text, plan_text, setup_line, setup_text};
+ghost use Rattle.rs_host.specs.Refusal.{key_text, plan_text, setup_line, setup_text, words_text};
 
 use crate::escaped::on_one_line;
+use crate::line::{MEMORY_TEXT, program_line};
+use crate::options::WordsFault;
 use rs_choice::PlanFault;
 use rs_setup::SetupFault;
 use std::alloc::{AllocError, Global};
 
-// What is said where memory was refused.
-const OUT_OF_MEMORY: &str = "out of memory";
+/// What a program prints where its command line asks for nothing that can be done: the whole text of help and of a
+/// refusal, and the line, without a line break at its end, of want of memory. Fails where memory is refused.
+pub fn words_text(alloc: Global, program: &str, fault: &WordsFault) -> Result<String, AllocError>
+    ensures { IfOk result (λ text. string_bytes text ≡ words_text program.now fault.now) }
+{
+    match fault {
+        WordsFault::Help(text) => String::from_str(alloc, text),
+        WordsFault::Refused(text) => String::from_str(alloc, text),
+        WordsFault::Memory => program_line(alloc, program, MEMORY_TEXT),
+    }
+}
 
 /// The line in which a program says why it refuses a configuration, without a line break at its end. It begins with the
 /// program's name; control characters in a key are escaped, as `on_one_line` shows them. Fails where memory is refused.
@@ -17,7 +28,7 @@ pub fn setup_line(alloc: Global, program: &str, fault: &SetupFault) -> Result<St
     ensures { IfOk result (λ line. string_bytes line ≡ setup_line program.now fault.now) }
 {
     let text = setup_text(alloc, fault)?;
-    format!(in alloc; "{program}: {text}")
+    program_line(alloc, program, &text)
 }
 
 // Why the configuration is refused.
@@ -30,7 +41,7 @@ fn setup_text(alloc: Global, fault: &SetupFault) -> Result<String, AllocError>
         SetupFault::Missing(key) => key_text(alloc, key, "missing"),
         SetupFault::NotValid(key) => key_text(alloc, key, "not valid"),
         SetupFault::Plan(fault) => plan_text(alloc, *fault),
-        SetupFault::Memory => String::from_str(alloc, OUT_OF_MEMORY),
+        SetupFault::Memory => String::from_str(alloc, MEMORY_TEXT),
     }
 }
 
@@ -47,7 +58,7 @@ fn plan_text(alloc: Global, fault: PlanFault) -> Result<String, AllocError>
     ensures { IfOk result (λ text. string_bytes text ≡ plan_text fault) }
 {
     if let PlanFault::Memory = fault {
-        return String::from_str(alloc, OUT_OF_MEMORY);
+        return String::from_str(alloc, MEMORY_TEXT);
     }
     let number = fault.number();
     match fault.peer() {

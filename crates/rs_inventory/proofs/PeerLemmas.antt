@@ -7,9 +7,10 @@ use Rattle.std.proofs.lemmas.List.Elements.{filter_map-append}
 use Rattle.std.proofs.lemmas.List.Sums.{sum_by_push}
 use Rattle.rs_inventory.specs.declared.finding.News.{News}
 use Rattle.rs_inventory.specs.Peer.{Told, announced_by, changing, counted, event_at, identifier_in, is_faulty, is_message, is_same}
-use Rattle.rs_inventory.specs.Peer.{is_state_change, peer_content, with_counts, with_event, with_identifier, with_next, with_session}
+use Rattle.rs_inventory.specs.Peer.{is_state_change, peer_content, with_counts, with_course, with_event, with_identifier, with_next, with_session}
 use Rattle.rs_inventory.specs.Peer.{withdrawn_by}
 use Rattle.rs_inventory.specs.Sessions.{Event, Up, Down, sessions_of}
+use Rattle.rs_inventory.proofs.CourseLemmas.{course-more}
 use Rattle.rs_inventory.proofs.SessionLemmas.{sessions_of-up, sessions_of-down}
 
 -- a count that stopped stays so
@@ -75,7 +76,7 @@ sessions-more events (Some (Down time)) = sessions_of-down time events
 -- ---- a peer
 
 pub peer_content-more : (told : List Told) (time : ℕ) (one : News)
-    → with_session time one (with_identifier one (with_counts one (peer_content told))) ≡ peer_content (told ++ (time, one) ∷ [])
+    → with_course time one (with_session time one (with_identifier one (with_counts one (peer_content told)))) ≡ peer_content (told ++ (time, one) ∷ [])
 unfolding peer_content
 peer_content-more told time one =
     let messages = sum-more (λ t. cond (is_message t.1) 1 0) told (time, one) in
@@ -88,4 +89,4 @@ peer_content-more told time one =
     ∙ changing-more (filter_map (λ t. identifier_in t.1) told) (identifier_in one) in
     let sessions = ap sessions_of (filter_map-append (λ t. event_at t.0 t.1) told ((time, one) ∷ []))
     ∙ sessions-more (filter_map (λ t. event_at t.0 t.1) told) (event_at time one) in
-    rw (messages, state_changes, faulty, announced, withdrawn, identifiers, sessions) refl
+    rw (messages, state_changes, faulty, announced, withdrawn, identifiers, sessions, course-more told time one) refl

@@ -13,24 +13,25 @@ use Rattle.rs_inventory.specs.Finding.{finding_of}
 use Rattle.rs_inventory.specs.Compression.{compression_of}
 use Rattle.rs_inventory.specs.Front.{GivesUnlessEnded, IsFrontOf, ReadMayFail, RewoundGives, Taken, is_done, rewound, rewound_may_come}
 use Rattle.rs_inventory.specs.Inventory.{Content, Holds, TakesFinding}
-use Rattle.rs_inventory.specs.Reading.{Going, IsInventoryOf, MayBeCompressed, MayFail}
+use Rattle.rs_inventory.specs.Reading.{Going, IsReadingOf, MayBeCompressed, MayFail}
+use Rattle.rs_inventory.specs.declared.depth.Depth.{Depth}
 use Rattle.rs_inventory.specs.declared.finding.Finding.{Finding}
 
 -- one record more came
-pub going-more : {S : Type 0} (comes : S → List MrtRecord → Option SourceFault → Type 0) (initial old new : S) (before after : Content)
+pub going-more : {S : Type 0} (depth : Depth) (comes : S → List MrtRecord → Option SourceFault → Type 0) (initial old new : S) (before after : Content)
     (finding : Finding)
-    → Going comes initial old before
-    → ((r : MrtRecord) × (finding ≡ finding_of r) × ((later : List MrtRecord) (fault : Option SourceFault) → comes new later fault
+    → Going depth comes initial old before
+    → ((r : MrtRecord) × (finding ≡ finding_of depth r) × ((later : List MrtRecord) (fault : Option SourceFault) → comes new later fault
     → comes old (r ∷ later) fault))
-    → TakesFinding before finding after → Going comes initial new after
-going-more comes initial old new before after finding going gives takes = record {
+    → TakesFinding before finding after → Going depth comes initial new after
+going-more depth comes initial old new before after finding going gives takes = record {
   done = going.done ++ gives.0 ∷ [];
   behind = λ later fault come.
       subst (λ (records : List MrtRecord). comes initial records fault) (sym (append_assoc going.done (gives.0 ∷ []) later))
       (going.behind (gives.0 ∷ later) fault (gives.2 later fault come));
   holds = subst (λ (findings : List Finding). Holds findings after)
-      (ap (λ f. map finding_of going.done ++ f ∷ []) gives.1 ∙ sym (map_push finding_of going.done gives.0))
-      (takes (map finding_of going.done) going.holds);
+      (ap (λ f. map (finding_of depth) going.done ++ f ∷ []) gives.1 ∙ sym (map_push (finding_of depth) going.done gives.0))
+      (takes (map (finding_of depth) going.done) going.holds);
 }
 
 -- what comes of a reader whose first octets were taken may come of it
@@ -84,10 +85,11 @@ fails-read gives reader fails =
     )
 
 -- what is read of a reader whose first octets were taken may be read of it
-pub inventory-whole : {R : Type 0} (gives : R → List ℕ → ReadEnd → Type 0) (old new : R) (front : Taken) (content : Content)
+pub reading-whole : {R : Type 0} (depth : Depth) (gives : R → List ℕ → ReadEnd → Type 0) (old new : R) (front : Taken) (content : Content)
     → IsFrontOf gives old new front
-    → IsInventoryOf (MayCome (RewoundGives gives)) (unread (rewound front new)) content → IsInventoryOf (MayCome gives) (unread old) content
-inventory-whole gives old new front content is held = record {
+    → IsReadingOf depth (MayCome (RewoundGives gives)) (unread (rewound front new)) content
+    → IsReadingOf depth (MayCome gives) (unread old) content
+reading-whole depth gives old new front content is held = record {
   records = held.records;
   come = come-whole gives old new front held.records (source_end content.end) is held.come;
   holds = held.holds;

@@ -1,6 +1,6 @@
 -- What one record adds to an inventory (RFC 6396, section 4.4; RFC 4271, section 4).
 use Rattle.std.specs.Prelude.{ℕ, ◌+◌, ◌==◌, ◌&&◌, nat_le, nat_lt, not, Bool, true, false, if◌then◌else◌, List, length}
-use Rattle.std.specs.Prelude.{drop, Option, Some, None, Result, Ok, Err}
+use Rattle.std.specs.Prelude.{drop, slice_get, Option, Some, None, Result, Ok, Err}
 use Rattle.std.specs.Option.{option_and_then}
 use Rattle.byteorder.specs.Endian.{big_number}
 use Rattle.rs_mrt.specs.Entry.{Meaning, Message, State, Other, entry_of, message_place, front_len, family_ipv4}
@@ -9,8 +9,10 @@ use Rattle.rs_mrt.specs.declared.fault.MrtFault.{MrtFault}
 use Rattle.rs_update.specs.Message.{MessageContent, IsOpen, IsUpdate, IsTreated, IsNotification, IsKeepAlive}
 use Rattle.rs_update.specs.Message.{IsRefresh, message_of}
 use Rattle.rs_update.specs.declared.fault.MessageFault.{MessageFault}
-use Rattle.rs_inventory.specs.Kind.{fields_of, unread_kind}
+use Rattle.rs_inventory.specs.Kind.{fields_of, is_kind, unread_kind}
 use Rattle.rs_inventory.specs.Opening.{identifier_of, sender_as}
+use Rattle.rs_inventory.specs.declared.depth.Depth.{Depth}
+use Rattle.rs_inventory.specs.declared.depth.Depth.TheVariants as depths
 use Rattle.rs_inventory.specs.declared.finding.Finding.{Finding}
 use Rattle.rs_inventory.specs.declared.finding.News.{News}
 use Rattle.rs_inventory.specs.declared.finding.News.TheVariants as news
@@ -41,10 +43,48 @@ news_of_message octets (Ok IsKeepAlive) = news.Message
 news_of_message octets (Ok IsRefresh) = news.Message
 news_of_message octets (Err fault) = news.Faulty
 
+-- the type of a message stands behind its Marker and Length (RFC 4271, section 4.1)
+abbrev pub type_in : List ℕ → Option ℕ
+type_in octets = slice_get octets 18
+
+-- what a message is by its type alone: OPEN 1, UPDATE 2, NOTIFICATION 3, KEEPALIVE 4 (RFC 4271, section 4.1) and
+-- ROUTE-REFRESH 5 (RFC 2918, section 3)
+abbrev pub kind_of_type : Option ℕ → Kind
+kind_of_type None = kinds.Faulty
+kind_of_type (Some n) =
+    if n == 1 then kinds.Open
+    else if n == 2 then kinds.Update
+    else if n == 3 then kinds.Notification
+    else if n == 4 then kinds.KeepAlive
+    else if n == 5 then kinds.RouteRefresh
+    else kinds.Faulty
+
+-- and what it says then: of an UPDATE no prefixes are counted
+abbrev pub news_of_kind : List ℕ → Kind → News
+news_of_kind octets kinds.Open = news.Open (identifier_of octets)
+news_of_kind octets kinds.Update = news.Update 0 0
+news_of_kind octets kinds.Notification = news.Notification
+news_of_kind octets kinds.KeepAlive = news.Message
+news_of_kind octets kinds.RouteRefresh = news.Message
+news_of_kind octets _ = news.Faulty
+
 -- whether a message is an OPEN
 abbrev pub is_open : Result MessageContent MessageFault → Bool
 is_open (Ok IsOpen) = true
 is_open answer = false
+
+-- the same by how deep messages are read: whole, or no more than their types
+abbrev pub kind_at : Depth → List ℕ → Kind
+kind_at depths.Whole octets = kind_of_message (message_of octets)
+kind_at (depths.Outline recorder) octets = kind_of_type (type_in octets)
+
+abbrev pub news_at : Depth → List ℕ → News
+news_at depths.Whole octets = news_of_message octets (message_of octets)
+news_at (depths.Outline recorder) octets = news_of_kind octets (kind_of_type (type_in octets))
+
+abbrev pub is_open_at : Depth → List ℕ → Bool
+is_open_at depths.Whole octets = is_open (message_of octets)
+is_open_at (depths.Outline recorder) octets = is_kind kinds.Open (kind_of_type (type_in octets))
 
 -- ---- a change of state
 
@@ -73,6 +113,20 @@ recorder_in (Some fields) =
     if nat_lt (length fields) message_place then None
     else Some (record { address = big_number 4 (drop 16 fields); asn = big_number 4 (drop 4 fields) })
 
+-- two peers are the same
+abbrev pub is_peer : Peer → Peer → Bool
+is_peer one other = (one.address == other.address) && (one.asn == other.asn)
+
+-- the recorder, where it is the one that is asked for
+abbrev pub where_asked : Option Peer → Option Peer → Option Peer
+where_asked None found = found
+where_asked (Some asked) None = None
+where_asked (Some asked) (Some found) = if is_peer asked found then Some found else None
+
+abbrev pub recorder_at : Depth → Option Peer → Option Peer
+recorder_at depths.Whole found = found
+recorder_at (depths.Outline asked) found = where_asked asked found
+
 -- the fields of BGP4MP_MESSAGE: Peer AS of two octets at 0, Address Family at 6, Peer IP Address at 8, and of
 -- an IPv4 peer the message at 16 (RFC 6396, section 4.4.2)
 abbrev pub is_ipv4_message : List ℕ → Bool
@@ -85,42 +139,42 @@ opener_of fields =
     (news.TwoOctetOpen (identifier_of (drop 16 fields)))
 
 -- what such fields say where the message is an OPEN
-abbrev pub two_octet_open : List ℕ → Option Note
-two_octet_open fields =
-    if is_ipv4_message fields && is_open (message_of (drop 16 fields)) then Some (opener_of fields) else None
+abbrev pub two_octet_open : Depth → List ℕ → Option Note
+two_octet_open depth fields =
+    if is_ipv4_message fields && is_open_at depth (drop 16 fields) then Some (opener_of fields) else None
 
 -- what a record of a session with two-octet AS numbers says: its messages have Subtype 1, and of those only
 -- an OPEN is read (our choice)
-unfoldable pub two_octet_note : MrtRecord → Option Note
-two_octet_note r = if r.subtype == 1 then option_and_then two_octet_open (fields_of r) else None
+unfoldable pub two_octet_note : Depth → MrtRecord → Option Note
+two_octet_note depth r = if r.subtype == 1 then option_and_then (two_octet_open depth) (fields_of r) else None
 
 -- what a record adds by what it says
-abbrev pub finding_by : MrtRecord → Result Meaning MrtFault → Finding
-finding_by r (Ok (Message asn address octets)) = record {
+abbrev pub finding_by : Depth → MrtRecord → Result Meaning MrtFault → Finding
+finding_by depth r (Ok (Message asn address octets)) = record {
   time = r.time;
-  kind = kind_of_message (message_of octets);
+  kind = kind_at depth octets;
   octets = known_octets r.body;
-  recorder = recorder_in (fields_of r);
-  note = Some (note_of address asn (news_of_message octets (message_of octets)));
+  recorder = recorder_at depth (recorder_in (fields_of r));
+  note = Some (note_of address asn (news_at depth octets));
 }
-finding_by r (Ok (State asn address old new)) = record {
+finding_by depth r (Ok (State asn address old new)) = record {
   time = r.time;
   kind = kinds.StateChange;
   octets = known_octets r.body;
   recorder = None;
   note = Some (note_of address asn (news_of_states old new));
 }
-finding_by r (Ok Other) =
+finding_by depth r (Ok Other) =
     record {
       time = r.time;
       kind = unread_kind r;
       octets = known_octets r.body;
       recorder = None;
-      note = two_octet_note r;
+      note = two_octet_note depth r;
     }
-finding_by r (Err fault) =
+finding_by depth r (Err fault) =
     record { time = r.time; kind = kinds.CutShort; octets = known_octets r.body; recorder = None; note = None }
 
 -- what a record adds
-abbrev pub finding_of : MrtRecord → Finding
-finding_of r = finding_by r (entry_of r)
+abbrev pub finding_of : Depth → MrtRecord → Finding
+finding_of depth r = finding_by depth r (entry_of r)

@@ -2,6 +2,7 @@
 pub mod Kind  -- the kinds of records
 pub mod Opening  -- what an OPEN tells
 pub mod Sessions  -- when sessions came up and went down
+pub mod Course  -- how they begin and go on
 pub mod Peer  -- what one peer says
 pub mod Finding  -- what one record adds
 pub mod Inventory  -- what all of them hold

@@ -1,7 +1,9 @@
 -- What the records of one peer say.
 use Rattle.std.specs.Prelude.{◌≡◌, ℕ, ◌==◌, ◌^◌, ◌+◌, ◌-◌, min, Bool, true, false, if◌then◌else◌, List, [], ◌∷◌, ◌++◌}
 use Rattle.std.specs.Prelude.{length, slice_get, Option, Some, None, sum_by, count_by, filter_map}
+use Rattle.rs_inventory.specs.Course.{course_of, course_with}
 use Rattle.rs_inventory.specs.Sessions.{Event, Up, Down, sessions_of, with_end}
+use Rattle.rs_inventory.specs.declared.course.Course.{Course}
 use Rattle.rs_inventory.specs.declared.finding.News.{News}
 use Rattle.rs_inventory.specs.declared.finding.News.TheVariants as news
 use Rattle.rs_inventory.specs.declared.sessions.SessionTimes.{SessionTimes}
@@ -71,6 +73,7 @@ pub record PeerContent : Type 0 where
   pub withdrawn : ℕ
   pub identifiers : List ℕ
   pub sessions : List SessionTimes
+  pub course : Course
 
 -- what a record says of a peer, with its Timestamp
 abbrev pub Told : Type 0
@@ -86,6 +89,7 @@ peer_content told = record {
   withdrawn = counted (sum_by (λ t. withdrawn_by t.1) told);
   identifiers = changing None (filter_map (λ t. identifier_in t.1) told);
   sessions = sessions_of (filter_map (λ t. event_at t.0 t.1) told);
+  course = course_of told;
 }
 
 -- whatever records said this, with one record more they say that
@@ -127,3 +131,7 @@ with_event (Some (Down time)) sessions = with_end time sessions
 -- the sessions with one record more
 abbrev pub with_session : ℕ → News → PeerContent → PeerContent
 with_session time one p = record p { sessions = with_event (event_at time one) p.sessions }
+
+-- how they go on with one record more
+abbrev pub with_course : ℕ → News → PeerContent → PeerContent
+with_course time one p = record p { course = course_with time one p.course }

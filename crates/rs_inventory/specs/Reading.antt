@@ -10,6 +10,9 @@ use Rattle.rs_inventory.specs.Compression.{compression_of}
 use Rattle.rs_inventory.specs.Finding.{finding_of}
 use Rattle.rs_inventory.specs.Inventory.{Content, Holds}
 use Rattle.rs_inventory.specs.declared.compression.Compression.{Compression}
+use Rattle.rs_inventory.specs.declared.depth.Depth.{Depth}
+use Rattle.rs_inventory.specs.declared.depth.Depth.TheVariants.{Outline, Whole}
+use Rattle.rs_inventory.specs.declared.peer.Peer.{Peer}
 use Rattle.rs_inventory.specs.declared.finding.Finding.{Finding}
 
 -- octets may come of a reader that begin as those of a file which is compressed so
@@ -17,29 +20,39 @@ abbrev pub MayBeCompressed : {R : Type 0} → (R → List ℕ → ReadEnd → Ty
 MayBeCompressed gives reader compression =
     (octets : List ℕ) × (end : ReadEnd) × gives reader octets end × (compression_of octets ≡ compression)
 
--- it is what these records hold, which may come, all of them, and it says how they end
-pub record IsInventoryOf {S : Type 0} (comes : S → List MrtRecord → Option SourceFault → Type 0) (source : S)
+-- it is what these records hold, which may come, all of them, where messages are read so deep, and it says how the
+-- records end
+pub record IsReadingOf {S : Type 0} (depth : Depth) (comes : S → List MrtRecord → Option SourceFault → Type 0) (source : S)
     (content : Content) : Type 0 where
   pub records : List MrtRecord
   pub come : comes source records (source_end content.end)
-  pub holds : Holds (map finding_of records) content
+  pub holds : Holds (map (finding_of depth) records) content
+
+-- the inventory of a source: its messages are read whole
+abbrev pub IsInventoryOf : {S : Type 0} → (S → List MrtRecord → Option SourceFault → Type 0) → S → Content → Type 0
+IsInventoryOf comes source content = IsReadingOf Whole comes source content
+
+-- the outline of a source: of its messages only the types are read, and of recorders the one counts that is asked for
+abbrev pub IsOutlineOf : {S : Type 0} → Option Peer → (S → List MrtRecord → Option SourceFault → Type 0) → S → Content
+    → Type 0
+IsOutlineOf recorder comes source content = IsReadingOf (Outline recorder) comes source content
 
 -- records may come, and after them a failed read
 abbrev pub MayFail : {S : Type 0} → (S → List MrtRecord → Option SourceFault → Type 0) → S → Type 0
 MayFail comes source = (records : List MrtRecord) × comes source records (Some Read)
 
 -- these records came so far, with whatever may still come behind them, and this is what they hold
-pub record Going {S : Type 0} (comes : S → List MrtRecord → Option SourceFault → Type 0) (initial now : S)
+pub record Going {S : Type 0} (depth : Depth) (comes : S → List MrtRecord → Option SourceFault → Type 0) (initial now : S)
     (content : Content) : Type 0 where
   pub done : List MrtRecord
   pub behind : (later : List MrtRecord) (fault : Option SourceFault) → comes now later fault
       → comes initial (done ++ later) fault
-  pub holds : Holds (map finding_of done) content
+  pub holds : Holds (map (finding_of depth) done) content
 
 -- the next record may come, with whatever may come after it, and this is what it adds; or none may, and they end so
-abbrev pub GivesFinding : {S : Type 0} → (S → List MrtRecord → Option SourceFault → Type 0) → S → S
+abbrev pub GivesFinding : {S : Type 0} → Depth → (S → List MrtRecord → Option SourceFault → Type 0) → S → S
     → Option MrtFault → Option Finding → Type 0
-GivesFinding comes old new end (Some finding) =
-    (r : MrtRecord) × (finding ≡ finding_of r)
+GivesFinding depth comes old new end (Some finding) =
+    (r : MrtRecord) × (finding ≡ finding_of depth r)
     × ((later : List MrtRecord) (fault : Option SourceFault) → comes new later fault → comes old (r ∷ later) fault)
-GivesFinding comes old new end None = comes old [] (source_end end)
+GivesFinding depth comes old new end None = comes old [] (source_end end)

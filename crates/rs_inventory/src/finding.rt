@@ -3,13 +3,15 @@
 ghost use Rattle.std.specs.Prelude.{◌≡◌, ◌≤◌, length, IfOk, IsTrue};
 ghost use Rattle.rs_mrt.specs.Record.{record_of};
 ghost use Rattle.rs_update.specs.Message.{message_of};
-ghost use Rattle.rs_inventory.specs.Finding.{finding_of, is_ipv4_message, is_open, kind_of_message, known_octets};
-ghost use Rattle.rs_inventory.specs.Finding.{news_of_message, news_of_states, note_of, opener_of, recorder_in};
-ghost use Rattle.rs_inventory.specs.Finding.{two_octet_note, two_octet_open};
+ghost use Rattle.rs_inventory.specs.Finding.{finding_of, is_ipv4_message, is_open, is_open_at, is_peer, kind_at};
+ghost use Rattle.rs_inventory.specs.Finding.{kind_of_message, kind_of_type, known_octets, news_at, news_of_kind};
+ghost use Rattle.rs_inventory.specs.Finding.{news_of_message, news_of_states, note_of, opener_of, recorder_at};
+ghost use Rattle.rs_inventory.specs.Finding.{recorder_in, two_octet_note, two_octet_open, type_in, where_asked};
 ghost use Rattle.rs_inventory.specs.Kind.{fields_of};
 ghost use Rattle.rs_inventory.specs.Opening.{sender_as};
 ghost use Rattle.rs_inventory.specs.declared.finding.News.TheVariants as news;
 
+use crate::depth::Depth;
 use crate::kind::{Kind, MESSAGE, session_fields};
 use crate::opening::{four_octet_as, identifier};
 use crate::peer::Peer;
@@ -84,6 +86,9 @@ const LOCAL_AT: usize = 16;
 
 const AS4_MESSAGE_AT: usize = 20;
 
+// Where the type of a message stands, behind its Marker and Length (RFC 4271, section 4.1).
+const TYPE_AT: usize = 18;
+
 // Where the fields of BGP4MP_MESSAGE begin (RFC 6396, section 4.4.2).
 const FAMILY_AT: usize = 6;
 
@@ -92,9 +97,13 @@ const PEER_AT: usize = 8;
 const MESSAGE_AT: usize = 16;
 
 impl Finding {
-    /// What a record adds. Refused, nothing is known of it.
-    pub(crate) fn of(alloc: Global, record: &Record<'_>) -> Result<Finding, AllocError>
-        ensures { IfOk result (λ finding. finding ≡ finding_of (record_of «record».now)) }
+    /// What a record adds, where messages are read so deep. Refused, nothing is known of it.
+    pub(crate) fn of(
+        alloc: Global,
+        record: &Record<'_>,
+        depth: Depth,
+    ) -> Result<Finding, AllocError>
+        ensures { IfOk result (λ finding. finding ≡ finding_of depth (record_of «record».now)) }
     {
         let nothing = Finding {
             time: record.time,
@@ -111,10 +120,10 @@ impl Finding {
                     message,
                 },
             ) => {
-                let (kind, news) = message_news(alloc, message)?;
+                let (kind, news) = news_at(alloc, message, depth)?;
                 Ok(Finding {
                     kind,
-                    recorder: recorder(record),
+                    recorder: recorder_at(depth, recorder(record)),
                     note: Some(Note::of(peer, peer_as, news)),
                     ..nothing
                 })
@@ -133,7 +142,7 @@ impl Finding {
             }),
             Ok(Entry::Other) => Ok(Finding {
                 kind: Kind::of_unread(record),
-                note: two_octet_note(alloc, record)?,
+                note: two_octet_note(alloc, record, depth)?,
                 ..nothing
             }),
             Err(_) => Ok(nothing),
@@ -176,6 +185,83 @@ fn recorder(record: &Record<'_>) -> Option<Peer>
         address: BigEndian::read_u32(&fields[LOCAL_AT..]),
         asn: BigEndian::read_u32(&fields[LOCAL_AS_AT..]),
     })
+}
+
+// The recorder, where it counts.
+fn recorder_at(depth: Depth, found: Option<Peer>) -> Option<Peer>
+    ensures { result ≡ recorder_at depth found }
+{
+    match depth {
+        Depth::Whole => found,
+        Depth::Outline(asked) => where_asked(asked, found),
+    }
+}
+
+// The recorder, where it is the one that is asked for, if one is.
+fn where_asked(asked: Option<Peer>, found: Option<Peer>) -> Option<Peer>
+    ensures { result ≡ where_asked asked found }
+{
+    let Some(asked) = asked else {
+        return found;
+    };
+    let found = found?;
+    if is_peer(asked, found) {
+        Some(found)
+    } else {
+        None
+    }
+}
+
+// Whether two peers are the same.
+fn is_peer(one: Peer, other: Peer) -> bool
+    ensures { result ≡ is_peer one other }
+{
+    one.address == other.address && one.asn == other.asn
+}
+
+// What a message is, and what it says of its sender, where it is read so deep.
+fn news_at(alloc: Global, octets: &[u8], depth: Depth) -> Result<(Kind, News), AllocError>
+    ensures kind { IfOk result (λ (kind, news). kind ≡ kind_at depth octets.now) }
+    ensures news { IfOk result (λ (kind, news). news ≡ news_at depth octets.now) }
+{
+    match depth {
+        Depth::Whole => message_news(alloc, octets),
+        Depth::Outline(_) => {
+            let kind = kind_of_type(octets);
+            Ok((kind, news_of_kind(octets, kind)))
+        }
+    }
+}
+
+// What a message is by its type alone.
+fn kind_of_type(octets: &[u8]) -> Kind
+    ensures { result ≡ kind_of_type (type_in octets.now) }
+{
+    match octets.get(TYPE_AT).copied() {
+        Some(1) => Kind::Open,
+        Some(2) => Kind::Update,
+        Some(3) => Kind::Notification,
+        Some(4) => Kind::KeepAlive,
+        Some(5) => Kind::RouteRefresh,
+        _ => Kind::Faulty,
+    }
+}
+
+// What a message says of its sender, of which no more than its type is read.
+fn news_of_kind(octets: &[u8], kind: Kind) -> News
+    ensures { result ≡ news_of_kind octets.now kind }
+{
+    match kind {
+        Kind::Open => News::Open(identifier(octets)),
+        Kind::Update => News::Update {
+            announced: 0,
+            withdrawn: 0,
+        },
+        Kind::Notification => News::Notification,
+        Kind::KeepAlive => News::Message,
+        Kind::RouteRefresh => News::Message,
+        _ => News::Faulty,
+    }
 }
 
 // What a message is, and what it says of its sender.
@@ -227,26 +313,30 @@ fn state_news(old: u16, new: u16) -> News
 // What a record of a session with two-octet AS numbers says of a peer: only an OPEN is read, since some recorders
 // write each OPEN so.
 #[tactic(auto, unfolding(crate::specs::Finding::two_octet_note))]
-fn two_octet_note(alloc: Global, record: &Record<'_>) -> Result<Option<Note>, AllocError>
-    ensures { IfOk result (λ note. note ≡ two_octet_note (record_of «record».now)) }
+fn two_octet_note(
+    alloc: Global,
+    record: &Record<'_>,
+    depth: Depth,
+) -> Result<Option<Note>, AllocError>
+    ensures { IfOk result (λ note. note ≡ two_octet_note depth (record_of «record».now)) }
 {
     if record.subtype != MESSAGE {
         return Ok(None);
     }
     match session_fields(record) {
-        Some(fields) => two_octet_open(alloc, fields),
+        Some(fields) => two_octet_open(alloc, fields, depth),
         None => Ok(None),
     }
 }
 
 // What the OPEN says that stands behind the fields of a session with two-octet AS numbers and an IPv4 peer.
-fn two_octet_open(alloc: Global, fields: &[u8]) -> Result<Option<Note>, AllocError>
-    ensures { IfOk result (λ note. note ≡ two_octet_open fields.now) }
+fn two_octet_open(alloc: Global, fields: &[u8], depth: Depth) -> Result<Option<Note>, AllocError>
+    ensures { IfOk result (λ note. note ≡ two_octet_open depth fields.now) }
 {
     if !is_ipv4_message(fields) {
         return Ok(None);
     }
-    if !is_open(alloc, &fields[MESSAGE_AT..])? {
+    if !is_open_at(alloc, &fields[MESSAGE_AT..], depth)? {
         return Ok(None);
     }
     Ok(Some(opener(fields)))
@@ -272,6 +362,16 @@ fn opener(fields: &[u8]) -> Note
         sender_as(BigEndian::read_u16(fields), message),
         News::TwoOctetOpen(identifier(message)),
     )
+}
+
+// Whether a message is an OPEN, where it is read so deep.
+fn is_open_at(alloc: Global, octets: &[u8], depth: Depth) -> Result<bool, AllocError>
+    ensures { IfOk result (λ is. is ≡ is_open_at depth octets.now) }
+{
+    match depth {
+        Depth::Whole => is_open(alloc, octets),
+        Depth::Outline(_) => Ok(matches!(kind_of_type(octets), Kind::Open)),
+    }
 }
 
 // Whether a message is an OPEN.

@@ -2,11 +2,13 @@
 //! 4271).
 //!
 //! Reading order: `compression` (a file that isn't records), `kind` (what a record is), `opening` (what an OPEN
-//! tells), `finding` (what one record adds), `sessions`, `peer` (what is known of one peer), `inventory` (of one
+//! tells), `depth` and `finding` (what one record adds), `sessions`, `course`, `peer` (what is known of one peer), `inventory` (of one
 //! file), `front` and `reading` (how a file is read).
 #![tactic(auto)]
 
 mod compression;
+mod course;
+mod depth;
 mod finding;
 mod front;
 mod inventory;
@@ -17,8 +19,9 @@ mod reading;
 mod sessions;
 
 pub use compression::Compression;
+pub use course::Course;
 pub use inventory::Inventory;
 pub use kind::Kind;
 pub use peer::{Peer, PeerRecords};
-pub use reading::{InventoryFault, read_inventory};
+pub use reading::{InventoryFault, read_inventory, read_outline};
 pub use sessions::SessionTimes;

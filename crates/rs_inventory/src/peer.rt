@@ -2,9 +2,10 @@
 
 ghost use Rattle.std.specs.Prelude.{◌≡◌, ◌+◌, [], OnOk};
 ghost use Rattle.rs_inventory.specs.Peer.{TellsMore, announced_by, counted, identifier_in, is_faulty, is_message};
-ghost use Rattle.rs_inventory.specs.Peer.{is_same, is_state_change, peer_content, with_counts, with_identifier};
-ghost use Rattle.rs_inventory.specs.Peer.{with_session, withdrawn_by};
+ghost use Rattle.rs_inventory.specs.Peer.{is_same, is_state_change, peer_content, with_counts, with_course};
+ghost use Rattle.rs_inventory.specs.Peer.{with_identifier, with_session, withdrawn_by};
 
+use crate::course::Course;
 use crate::finding::News;
 use crate::sessions::{SessionTimes, Sessions};
 use std::alloc::{AllocError, Global};
@@ -30,6 +31,7 @@ pub struct PeerRecords {
     // The BGP Identifiers of the OPENs, without those that are as the one before.
     identifiers: Vec<u32>,
     sessions: Sessions,
+    course: Course,
 }
 
 impl Model for PeerRecords {
@@ -45,6 +47,7 @@ impl Model for PeerRecords {
       withdrawn = p.withdrawn;
       identifiers = p.identifiers.items;
       sessions = p.sessions;
+      course = p.course;
     } };
 }
 
@@ -62,6 +65,7 @@ impl PeerRecords {
             withdrawn: 0,
             identifiers: Vec::new(alloc),
             sessions: Sessions::none(alloc),
+            course: Course::none(),
         }
     }
 
@@ -72,6 +76,7 @@ impl PeerRecords {
         self.count(news);
         self.take_identifier(news)?;
         self.take_session(time, news)?;
+        self.take_course(time, news);
         Ok(())
     }
 
@@ -111,6 +116,13 @@ impl PeerRecords {
             News::Notification => self.sessions.goes_down(time),
             _ => Ok(()),
         }
+    }
+
+    // Takes how the records go on.
+    fn take_course(&mut self, time: u32, news: News)
+        ensures { self.new ≡ with_course time news self.old }
+    {
+        self.course = self.course.with(time, news);
     }
 
     /// How many of its records a route server reads: messages and changes of state.
@@ -167,6 +179,13 @@ impl PeerRecords {
         ensures { result.now ≡ self.now.sessions }
     {
         self.sessions.times()
+    }
+
+    /// How its records begin and go on; those of OPENs with two-octet AS numbers count too.
+    pub fn course(&self) -> Course
+        ensures { result ≡ self.now.course }
+    {
+        self.course
     }
 }
 

@@ -3,13 +3,16 @@
 ghost use Rattle.std.specs.Prelude.{◌≡◌, ◌+◌, ◌<◌, ◌≤◌, IfOk, IfSome, IsErrOf, None};
 ghost use Rattle.rs_mrt.specs.RecordReading.{MayCome, unread};
 ghost use Rattle.rs_inventory.specs.Inventory.{HoldsNothing};
-ghost use Rattle.rs_inventory.specs.Reading.{GivesFinding, IsInventoryOf, MayBeCompressed, MayFail};
+ghost use Rattle.rs_inventory.specs.Reading.{GivesFinding, IsInventoryOf, IsOutlineOf, IsReadingOf};
+ghost use Rattle.rs_inventory.specs.Reading.{MayBeCompressed, MayFail};
 ghost use Rattle.rs_inventory.specs.declared.reading.InventoryFault.TheVariants.{Memory, Read};
 
 use crate::compression::Compression;
+use crate::depth::Depth;
 use crate::finding::Finding;
 use crate::front::{Front, Whole};
 use crate::inventory::Inventory;
+use crate::peer::Peer;
 use rs_mrt::{Failed, MrtFault, Read, RecordReader, Source, SourceFault};
 use std::alloc::{AllocError, Global};
 use thiserror::Error;
@@ -46,10 +49,7 @@ impl From<Failed> for InventoryFault {
 /// and their sessions, not for its octets.
 ///
 /// `Read` is answered where a read fails, or 2^50 octets come of the reader; `Memory` where memory is refused.
-pub fn read_inventory<R: Read + Drop>(
-    alloc: Global,
-    mut reader: R,
-) -> Result<Inventory, InventoryFault>
+pub fn read_inventory<R: Read + Drop>(alloc: Global, reader: R) -> Result<Inventory, InventoryFault>
     requires { R.failures reader < u64.MAX }
     // It is compressed as octets are that the reader may give.
     ensures compressed { IfOk result (λ held. MayBeCompressed R.gives reader held.compression) }
@@ -61,24 +61,67 @@ pub fn read_inventory<R: Read + Drop>(
     // A read is only said to fail where the reader may fail, or give as many octets as are taken of it.
     ensures read { IsErrOf result Read → MayFail (MayCome R.gives) (unread reader) }
 {
+    read_at(alloc, reader, Depth::Whole)
+}
+
+/// Reads a recorded file as `read_inventory` does, but of each message only its type: whether it has a fault, and how
+/// many prefixes it lists, isn't told. Where a recorder is given, no other one counts.
+///
+/// `Read` is answered where a read fails, or 2^50 octets come of the reader; `Memory` where memory is refused.
+pub fn read_outline<R: Read + Drop>(
+    alloc: Global,
+    reader: R,
+    recorder: Option<Peer>,
+) -> Result<Inventory, InventoryFault>
+    requires { R.failures reader < u64.MAX }
+    // It is compressed as octets are that the reader may give.
+    ensures compressed { IfOk result (λ held. MayBeCompressed R.gives reader held.compression) }
+    // Of a compressed file nothing is counted, no peer is known, and no end.
+    ensures unread { IfOk result (λ held. IfSome held.compression (λ _. HoldsNothing held)) }
+    // Of a file that isn't it is the outline of records that the reader may give, to their end.
+    ensures records { IfOk result (λ held. held.compression ≡ None
+        → IsOutlineOf recorder (MayCome R.gives) (unread reader) held) }
+    // A read is only said to fail where the reader may fail, or give as many octets as are taken of it.
+    ensures read { IsErrOf result Read → MayFail (MayCome R.gives) (unread reader) }
+{
+    read_at(alloc, reader, Depth::Outline(recorder))
+}
+
+// Reads a recorded file, its messages so deep.
+fn read_at<R: Read + Drop>(
+    alloc: Global,
+    mut reader: R,
+    depth: Depth,
+) -> Result<Inventory, InventoryFault>
+    requires { R.failures reader < u64.MAX }
+    ensures compressed { IfOk result (λ held. MayBeCompressed R.gives reader held.compression) }
+    ensures unread { IfOk result (λ held. IfSome held.compression (λ _. HoldsNothing held)) }
+    ensures records { IfOk result (λ held. held.compression ≡ None
+        → IsReadingOf depth (MayCome R.gives) (unread reader) held) }
+    ensures read { IsErrOf result Read → MayFail (MayCome R.gives) (unread reader) }
+{
     let front = Front::of(&mut reader)?;
     if let Some(compression) = Compression::of(front.octets()) {
         return Ok(Inventory::none(alloc, Some(compression)));
     }
     let source = RecordReader::new(Whole::new(front, reader));
-    let inventory = take_records(alloc, source)?;
+    let inventory = take_records(alloc, source, depth)?;
     Ok(inventory)
 }
 
 // The inventory of all records of a source.
-fn take_records<S: Source + Drop>(alloc: Global, mut source: S) -> Result<Inventory, InventoryFault>
-    ensures records { IfOk result (IsInventoryOf S.comes source) }
+fn take_records<S: Source + Drop>(
+    alloc: Global,
+    mut source: S,
+    depth: Depth,
+) -> Result<Inventory, InventoryFault>
+    ensures records { IfOk result (IsReadingOf depth S.comes source) }
     ensures uncompressed { IfOk result (λ held. held.compression ≡ None) }
     ensures read { IsErrOf result Read → MayFail S.comes source }
 {
     let mut inventory = Inventory::none(alloc, None);
     let mut end = None;
-    while let Some(finding) = next_finding(alloc, &mut source, &mut end)? {
+    while let Some(finding) = next_finding(alloc, &mut source, depth, &mut end)? {
         inventory.take(alloc, finding)?;
     }
     inventory.take_end(end);
@@ -89,9 +132,10 @@ fn take_records<S: Source + Drop>(alloc: Global, mut source: S) -> Result<Invent
 fn next_finding<S: Source>(
     alloc: Global,
     source: &mut S,
+    depth: Depth,
     end: &mut Option<MrtFault>,
 ) -> Result<Option<Finding>, InventoryFault>
-    ensures gives { IfOk result (GivesFinding S.comes source.old source.new end.new) }
+    ensures gives { IfOk result (GivesFinding depth S.comes source.old source.new end.new) }
     ensures room { IfOk result (λ found. IfSome found (λ _. S.room source.new + 12 ≤ S.room source.old)) }
     ensures read { IsErrOf result Read → MayFail S.comes source.old }
 {
@@ -110,5 +154,5 @@ fn next_finding<S: Source>(
     let Some(record) = source.shown() else {
         unreachable!();
     };
-    Ok(Some(Finding::of(alloc, &record)?))
+    Ok(Some(Finding::of(alloc, &record, depth)?))
 }

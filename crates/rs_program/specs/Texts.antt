@@ -6,10 +6,9 @@ use Rattle.rs_choice.specs.Plan.{Peer}
 use Rattle.rs_program.specs.Paths.{path_in}
 use Rattle.rs_program.specs.declared.ended.Ended.{Ended}
 use Rattle.rs_program.specs.declared.ended.Ended.TheVariants.{Words, Setup, Unread, Memory, Run}
-use Rattle.rs_host.specs.Line.{Text, named as named_by, one_line, out_of_memory}
-use Rattle.rs_host.specs.Refusal.{setup_line}
+use Rattle.rs_host.specs.Line.{Text, named as named_by, one_line, out_of_memory, unread_line}
+use Rattle.rs_host.specs.Refusal.{setup_line, words_text}
 use Rattle.rs_host.specs.declared.options.Options.{Options}
-use Rattle.rs_host.specs.declared.options.WordsFault.TheVariants as words
 use Rattle.rs_outlet.specs.declared.run_fault.RunFault.{RunFault}
 use Rattle.rs_outlet.specs.declared.run_fault.RunFault.TheVariants as run
 use Rattle.rs_setup.specs.declared.setup.Setup.{Setup as SetUp}
@@ -33,10 +32,6 @@ abbrev pub dump_path : SetUp → Options → ℕ → Text
 dump_path set_up options client =
     path_in (string_bytes options.out) (name_of set_up.plan.value.peers client ++ codes ".mrt")
 
--- a file that can't be read is named
-abbrev pub unread_line : Text → Text
-unread_line path = named (codes "cannot read " ++ one_line path)
-
 -- the path of a peer's recorded file
 abbrev pub file_path : SetUp → ℕ → Text
 file_path set_up peer = unwrap_or (option_map string_bytes (slice_get set_up.files.items peer)) []
@@ -47,15 +42,13 @@ run_line (run.Dump client) set_up options = named (codes "cannot write " ++ one_
 run_line (run.Unsettled peer) set_up options =
     named (codes "peer " ++ (name_of set_up.plan.value.peers peer ++ codes " unsettled"))
 run_line run.Report set_up options = named (codes "cannot write standard output")
-run_line (run.Read peer) set_up options = unread_line (file_path set_up peer)
+run_line (run.Read peer) set_up options = unread_line program (file_path set_up peer)
 
 -- the line of each way to stop short; help, the version and the refusal of a command line are texts of `clap`
 abbrev pub line_of : Ended → Option (Bor SetUp) → Option (Bor Options) → Text
-line_of (Words (words.Help text)) set_up options = string_bytes text
-line_of (Words (words.Refused text)) set_up options = string_bytes text
-line_of (Words words.Memory) set_up options = out_of_memory_line
+line_of (Words fault) set_up options = words_text program fault
 line_of (Setup fault) set_up options = setup_line program fault
-line_of (Unread path) set_up options = unread_line (string_bytes path)
+line_of (Unread path) set_up options = unread_line program (string_bytes path)
 line_of Memory set_up options = out_of_memory_line
 line_of (Run fault) (Some set_up) (Some options) = run_line fault set_up.now options.now
 line_of (Run fault) set_up options = []

@@ -1,7 +1,7 @@
 //! How much of all files was read, and the line that says it.
 //!
-//! Our choices: the line is told at marks, of which files of a known length have a hundred at most;
-//! marks are a MiB apart at least.
+//! Our choices: the line is shown at marks. Files of a known length have a hundred marks at most, and marks are a MiB
+//! apart at least.
 
 ghost use Rattle.std.specs.Prelude.{◌≡◌, Some};
 ghost use Rattle.rs_program.specs.Amount.{line_of, marks_of, marks_within};

@@ -1,9 +1,9 @@
 //! An outlet over a folder: each dump becomes a file in it. It doesn't tell what it has kept, nor what is out.
 //!
 //! Our choice: where nothing or a file stands in the place of a dump, the dump is written beside it, to a part file of
-//! its own, which takes that place once the dump is kept. So a reader finds the older dump there or the new one, never
-//! a part of one, and a dump that isn't kept leaves the older one as it was. Where something else stands there, such as
-//! a link, a pipe or a device, that is opened itself, in the turn of the dump.
+//! its own. The part file takes that place once the dump is kept. So a reader finds the older dump there or the new
+//! one, never a part of one, and a dump that isn't kept leaves the older one as it was. Where something else stands
+//! there, such as a link, a pipe or a device, that is opened itself, in the turn of the dump.
 
 ghost use Rattle.std.specs.Prelude.{◌≡◌, None};
 
@@ -118,7 +118,7 @@ where
     }
 }
 
-/// Whether a dump whose place is this path is written to a part file: nothing is there that can be told of, or a file.
+/// Whether a dump whose place is this path is written to a part file: nothing is known to be there, or a file is.
 /// Fails where memory is refused.
 pub(crate) fn takes_part_file<R: Files>(rt: &R, place: &str) -> Result<bool, AllocError> {
     match fs::symlink_metadata(rt, place) {

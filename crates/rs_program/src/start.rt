@@ -1,42 +1,36 @@
 //! What the program does before the run, and how it ends: all but the run itself.
 
-ghost use Rattle.std.specs.Prelude.{◌≡◌, ◌+◌, ◌<◌, ◌≤◌, All, None, Some, IfErr, IfOk, length};
+ghost use Rattle.std.specs.Prelude.{◌≡◌, ◌+◌, ◌<◌, ◌≤◌, All, Some, IfErr, IfOk, length};
 ghost use Rattle.rs_program.specs.Texts.{CanTell};
 
 use crate::counted::Counted;
-use crate::ended::{Ended, FAILED, OUT_OF_MEMORY, status};
-use crate::files::{ended_at, octets_of, open_files};
+use crate::ended::{Ended, status};
+use crate::files::octets_of;
 use crate::progress::Progress;
-use crate::texts::{MEMORY_LINE, NOT_UTF_8, OUTPUT_LINE, line};
+use crate::texts::{PROGRAM, line};
 use crate::tried::first_unwritable;
 use crate::words::read_words;
-use rs_host::{Bounded, Options, WordsFault, each_on_one_line, read_file};
+use rs_host::{
+    Bounded, Options, WordsFault, each_on_one_line, end_with, open_files, read_arguments,
+};
 use rs_outlet::RunFault;
-use rs_setup::{Setup, a_configuration_has_a_file_for_each_peer, read_setup};
-use std::env;
+use rs_setup::Setup;
 use std::env::Env;
 use std::fs::Files;
-use std::io::{ErrorKind, Stderr};
+use std::io::Stderr;
 use std::process::ExitCode;
+
+// How the text begins that refuses a command line, as those of `clap` do.
+const HEAD: &str = "error";
 
 /// The options of the command line.
 pub fn command_line<R: AllocGlobal + Env>(rt: &R) -> Result<Options, WordsFault>
     ensures ring { IfOk result (λ options. (1 ≤ options.ring) × (options.ring ≤ 65536)) }
     ensures shards { IfOk result (λ options. (1 ≤ options.shards) × (options.shards ≤ 16)) }
 {
-    match read_words(rt.alloc(), words(rt)?) {
+    match read_words(rt.alloc(), read_arguments(rt, HEAD)?) {
         Ok(options) => Ok(options),
         Err(fault) => Err(fault_on_one_line(rt, fault)?),
-    }
-}
-
-// The words of the command line.
-fn words<R: AllocGlobal + Env>(rt: &R) -> Result<Vec<String>, WordsFault> {
-    let alloc = rt.alloc();
-    match env::args(rt) {
-        Ok(words) => Ok(words.collect(alloc)?),
-        Err(error) if error.kind() == ErrorKind::OutOfMemory => Err(WordsFault::Memory),
-        Err(_) => Err(WordsFault::Refused(String::from_str(alloc, NOT_UTF_8)?)),
     }
 }
 
@@ -47,31 +41,14 @@ fn fault_on_one_line<R: AllocGlobal + Env>(
     fault: WordsFault,
 ) -> Result<WordsFault, WordsFault> {
     let alloc = rt.alloc();
-    let escaped = each_on_one_line(alloc, &words(rt)?)?;
+    let escaped = each_on_one_line(alloc, &read_arguments(rt, HEAD)?)?;
     match read_words(alloc, escaped) {
         Ok(_) => Ok(fault),
         Err(told) => Ok(told),
     }
 }
 
-/// The setup of the configuration.
-pub fn configuration<R: AllocGlobal + Files>(rt: &R, options: &Options) -> Result<Setup, Ended>
-    ensures one_for_each { IfOk result (λ setup. length setup.files.items ≡ length setup.plan.value.peers) }
-    ensures refused { IfErr result (λ ended. CanTell ended None None) }
-{
-    a_configuration_has_a_file_for_each_peer();
-    let path = &options.config;
-    let text = match read_file(rt, path) {
-        Ok(text) => text,
-        Err(fault) => return Err(ended_at(rt.alloc(), fault, path)),
-    };
-    match read_setup(rt.alloc(), &text) {
-        Ok(setup) => Ok(setup),
-        Err(fault) => Err(Ended::Setup(fault)),
-    }
-}
-
-/// How far a run over the files of these paths is, shown where there is a terminal.
+/// How much of the files of these paths was read, shown where there is a terminal.
 pub fn progress_on<R: Files>(
     rt: &R,
     terminal: Option<Stderr>,
@@ -97,14 +74,16 @@ pub fn ready_files<'a, R: AllocGlobal + Files>(
         All (λ file. file.reader.failures + file.refused < u64.MAX) files.items) }
     ensures refused { IfErr result (λ ended. CanTell ended (Some setup.entry) (Some options.entry)) }
 {
-    let files = open_files(rt, &setup.files, options.bounds, progress)?;
+    let files = open_files(rt, &setup.files, options.bounds, |file| {
+        Counted::new(file, progress)
+    })?;
     match first_unwritable(rt, setup, options)? {
         Some(client) => Err(Ended::Run(RunFault::Dump(client))),
         None => Ok(files),
     }
 }
 
-/// Says why the program stops short, and gives its status.
+/// Says why the program fails, and gives its status.
 pub fn end<R: AllocGlobal + Print + Eprint>(
     rt: &R,
     ended: &Ended,
@@ -113,21 +92,10 @@ pub fn end<R: AllocGlobal + Print + Eprint>(
 ) -> ExitCode
     requires { CanTell ended.now setup options }
 {
-    let Ok(text) = line(rt.alloc(), ended, setup, options) else {
-        let _ = eprintln!(rt; "{MEMORY_LINE}");
-        return ExitCode::from(OUT_OF_MEMORY);
+    let words = match ended {
+        Ended::Words(fault) => Some(fault),
+        _ => None,
     };
-    let printed = match ended {
-        Ended::Words(WordsFault::Help(_)) => print!(rt; "{text}"),
-        Ended::Words(WordsFault::Refused(_)) => eprint!(rt; "{text}"),
-        _ => eprintln!(rt; "{text}"),
-    };
-    match (status(ended), printed) {
-        // What was asked for can't be shown.
-        (0, Err(_)) => {
-            let _ = eprintln!(rt; "{OUTPUT_LINE}");
-            ExitCode::from(FAILED)
-        }
-        (code, _) => ExitCode::from(code),
-    }
+    let text = line(rt.alloc(), ended, setup, options);
+    end_with(rt, PROGRAM, words, text, status(ended))
 }

@@ -1,29 +1,23 @@
-//! The line that says why the program stops short.
+//! The line that says why the program fails.
 
 ghost use Rattle.std.specs.Prelude.{◌≡◌, ◌<◌, IfOk, length, string_bytes};
-ghost use Rattle.rs_program.specs.Texts.{CanTell, NamesPeer, dump_path, line_of, run_line, unread_line};
+ghost use Rattle.rs_program.specs.Texts.{CanTell, NamesPeer, dump_path, line_of, run_line};
 
 use crate::ended::Ended;
 use crate::paths::path_in;
-use rs_host::{Options, WordsFault, on_one_line, setup_line};
+use rs_host::{
+    MEMORY_TEXT, OUTPUT_TEXT, Options, on_one_line, program_line, setup_line, unread_line,
+    words_text,
+};
 use rs_outlet::RunFault;
 use rs_setup::Setup;
 use std::alloc::{AllocError, Global};
 
-// The program's name, as a line of it begins.
-const PROGRAM: &str = "route_server";
+/// The program's name, as its lines begin.
+pub const PROGRAM: &str = "route_server";
 
-/// The line of want of memory, for where no other line can be made.
-pub const MEMORY_LINE: &str = "route_server: out of memory";
-
-/// The line where standard output can't be written.
-pub const OUTPUT_LINE: &str = "route_server: cannot write standard output";
-
-/// The text that refuses a command line of other words than texts.
-pub const NOT_UTF_8: &str = "error: an argument is not UTF-8\n";
-
-/// The line that says why the program stops short, without a line break at its end; for help, the version and
-/// a refused command line the whole text of `clap`.
+/// The line that says why the program fails, without a line break at its end. For help, the version and a refused
+/// command line it is the whole text of `clap`.
 ///
 /// Of a run that stopped short, `setup` and `options` are those that it was given. Line breaks in a key or a
 /// path are shown as `\n` and `\r`, other control characters as `\u{1b}`. Fails where memory is refused.
@@ -37,12 +31,10 @@ pub fn line(
     ensures { IfOk result (λ line. string_bytes line ≡ line_of ended.now setup.entry options.entry) }
 {
     match ended {
-        Ended::Words(WordsFault::Help(text)) => String::from_str(alloc, text),
-        Ended::Words(WordsFault::Refused(text)) => String::from_str(alloc, text),
-        Ended::Words(WordsFault::Memory) => String::from_str(alloc, MEMORY_LINE),
+        Ended::Words(fault) => words_text(alloc, PROGRAM, fault),
         Ended::Setup(fault) => setup_line(alloc, PROGRAM, fault),
-        Ended::Unread(path) => unread_line(alloc, path),
-        Ended::Memory => String::from_str(alloc, MEMORY_LINE),
+        Ended::Unread(path) => unread_line(alloc, PROGRAM, path),
+        Ended::Memory => program_line(alloc, PROGRAM, MEMORY_TEXT),
         Ended::Run(fault) => match (setup, options) {
             (Some(setup), Some(options)) => run_line(alloc, fault, setup, options),
             _ => unreachable!(),
@@ -61,7 +53,7 @@ fn run_line(
     ensures { IfOk result (λ line. string_bytes line ≡ run_line fault.now setup.now options.now) }
 {
     match fault {
-        RunFault::Memory => String::from_str(alloc, MEMORY_LINE),
+        RunFault::Memory => program_line(alloc, PROGRAM, MEMORY_TEXT),
         RunFault::Dump(client) => {
             let path = dump_path(alloc, setup, options, *client)?;
             let path = on_one_line(alloc, &path)?;
@@ -71,17 +63,9 @@ fn run_line(
             let name = &setup.plan.peer(*peer).name;
             format!(in alloc; "route_server: peer {name} unsettled")
         }
-        RunFault::Report => String::from_str(alloc, "route_server: cannot write standard output"),
-        RunFault::Read(peer) => unread_line(alloc, &setup.files[*peer]),
+        RunFault::Report => program_line(alloc, PROGRAM, OUTPUT_TEXT),
+        RunFault::Read(peer) => unread_line(alloc, PROGRAM, &setup.files[*peer]),
     }
-}
-
-// Names a file that can't be read.
-fn unread_line(alloc: Global, path: &str) -> Result<String, AllocError>
-    ensures { IfOk result (λ line. string_bytes line ≡ unread_line path.now) }
-{
-    let path = on_one_line(alloc, path)?;
-    format!(in alloc; "route_server: cannot read {path}")
 }
 
 /// The path of a client's dump. Fails where memory is refused.

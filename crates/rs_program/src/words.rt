@@ -10,13 +10,9 @@ ghost use Rattle.rs_program.specs.CommandLine.{with_bounds, with_manner};
 use clap::builder::ValueParser;
 use clap::error::ErrorKind;
 use clap::{Arg, ArgAction, ArgMatches, Command, Error, value_parser};
-use rs_host::{Options, WordsFault, standard_of};
+use rs_host::{Options, VERSION, WordsFault, read_time, standard_of};
 use rs_mrt::{Bounds, Tail};
-use rs_time::read_time;
 use std::alloc::{AllocError, Global};
-
-// The program's version.
-const VERSION: &str = "0.1.0";
 
 // What the program does, at the head of its help.
 const ABOUT: &str =
@@ -86,13 +82,15 @@ For more information, try '--help'.
 ";
 
 /// Reads the words of the command line, which begin with the program's own name: `--config FILE --out DIR [--time N]
-/// [--ring N] [--shards N] [--errors rfc4271|rfc7606] [--until TIME] [--tail strict|lenient] [--strict]`. DIR isn't
-/// empty; the time is from 0 to 4,294,967,295, the ring from 1 to 65,536, the shards from 1 to 16; where they aren't
-/// given they are TIME, or 0 without it, 1,024, 1, RFC 4271 and strict. TIME is as `read_time` takes it.
+/// [--ring N] [--shards N] [--errors rfc4271|rfc7606] [--until TIME] [--tail strict|lenient] [--strict]`.
 ///
-/// Answers `Help` where help or the version is asked for, and `Refused` where the words aren't such, each with the text
-/// of `clap`, or with one of our own where `--errors`, `--until` or `--tail` has no such value; `Memory` where memory
-/// is refused.
+/// DIR isn't empty. The time is from 0 to 4,294,967,295, the ring from 1 to 65,536, the shards from 1 to 16. TIME is as
+/// `read_time` takes it. Defaults: the time is TIME, or 0 without it; the ring 1,024, the shards 1, the standard RFC
+/// 4271, the tail strict.
+///
+/// Answers `Help` where help or the version is asked for, with the text of `clap`. Answers `Refused` where the words
+/// aren't such, with the text of `clap`, or one of our own where `--errors`, `--until` or `--tail` has no such value.
+/// Answers `Memory` where memory is refused.
 pub fn read_words(alloc: Global, words: Vec<String>) -> Result<Options, WordsFault>
     ensures options { IfOk result (λ options. AreOptionsOf (map string_bytes words.items) options) }
     ensures taken { OnOk result (faults_in (map string_bytes words.items) ≡ []) }

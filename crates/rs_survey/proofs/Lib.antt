@@ -1,1 +1,11 @@
 pub mod MissingLemmas
+pub mod RowLemmas
+pub mod DifferenceLemmas
+pub mod TallyLemmas
+pub mod GrowthLemmas
+pub mod RemovingLemmas
+pub mod RefusalLemmas
+pub mod SeenLemmas
+pub mod HiddenLemmas
+pub mod CountLemmas
+pub mod SummaryLemmas

@@ -1,20 +1,15 @@
 -- The routes on a prefix that a client does not get, peer after peer: for `missing_on` of on_prefix.rt.
-use Rattle.std.proofs.Common.{◌≡◌, ◌∙◌, sym, ap, subst, refl, ℕ, zero, suc, ◌<◌, ◌+◌, ◌==◌, ◌||◌, Bool, true, false, cond, All, List, []}
-use Rattle.std.proofs.Common.{◌∷◌, ◌++◌, length, map, Option, None, Some, arith}
+use Rattle.std.proofs.Common.{◌≡◌, ◌∙◌, ap, ℕ, zero, suc, ◌<◌, ◌+◌, ◌==◌, ◌||◌, Bool, true, false, cond, List, []}
+use Rattle.std.proofs.Common.{◌∷◌, ◌++◌, length, Option, None, Some, arith}
 use Rattle.std.specs.List.{cons_option, filter_map, range_with_len}
 use Rattle.std.specs.Option.{option_map}
-use Rattle.std.proofs.lemmas.List.{map-append}
-use Rattle.std.proofs.lemmas.List.Elements.{All-push}
 use Rattle.rs_update.specs.IpPrefix.{IpPrefix}
 use Rattle.rs_choice.specs.Decision.{SentRoute}
 use Rattle.rs_table.specs.Content.{TablesContent}
 use Rattle.rs_table.specs.Left.{RouteLeft}
 use Rattle.rs_table.specs.PrefixRoutes.{AreRoutesOf, route_on}
 use Rattle.rs_table.specs.Cell.{CellContent}
-use Rattle.rs_table.specs.RouteView.{sent_route_of}
-use Rattle.rs_table.specs.Table.{best_of, is_from, route_from, sent_by}
-use Rattle.rs_explain.specs.Explanations.{IsExplanation}
-use Rattle.rs_survey.specs.declared.on_prefix.MissingRoute.{MissingRoute}
+use Rattle.rs_table.specs.Table.{best_of, is_from, sent_by}
 use Rattle.rs_survey.specs.Missing.{missing_among, missing_from}
 
 -- one number more

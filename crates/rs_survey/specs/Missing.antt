@@ -9,7 +9,6 @@ use Rattle.rs_table.specs.RouteView.{sent_route_of}
 use Rattle.rs_table.specs.Table.{TableRow, best_of, is_from, prefixes_held, route_from}
 use Rattle.rs_explain.specs.Explanations.{IsExplanation}
 use Rattle.rs_survey.specs.declared.on_prefix.MissingOn.{MissingOn}
-use Rattle.rs_survey.specs.declared.on_prefix.MissingRoute.{MissingRoute}
 
 -- a peer's route, if it has one, where the peer is not the client, and the client gets the route of no peer or of
 -- another one

@@ -1,14 +1,34 @@
-//! Questions over the whole tables of a route server: which routes a client does not get, and why.
+//! Questions over the whole tables of a route server: which routes a client does not get, and why; where a client's
+//! choice differs between two tables.
 //!
 //! Standards: RFC 4271, section 9.1 (eligible routes, decision process); RFC 7947, section 2.3 (a table for each
 //! client, its export policy before its decision).
 //!
 //! Reading order: `on_prefix` (the routes on one prefix that a client does not get), `missing_routes` (those on all
+//! prefixes). Two clients: `choices`, `rows_to_come`, `side_by_side` (the rows of both), `differences`. A summary:
+//! `finding` (what is counted), `tally` (how often), `seen` (the routes on a prefix), `removing` (the step that removes a
+//! candidate), `hidden` (what one decision for all clients would hide), `counting` (one prefix), `summary_of` (all
 //! prefixes).
 #![tactic(auto)]
 
+mod choices;
+mod counting;
+mod differences;
+mod finding;
+mod hidden;
 mod missing_routes;
 mod on_prefix;
+mod removing;
+mod rows_to_come;
+mod seen;
+mod side_by_side;
+mod summary_of;
+mod tally;
 
+pub use choices::Choices;
+pub use differences::Differences;
+pub use finding::{Finding, Flaw};
 pub use missing_routes::MissingRoutes;
 pub use on_prefix::{MissingOn, MissingRoute, missing_on};
+pub use summary_of::summary;
+pub use tally::Tally;

@@ -4,18 +4,16 @@
 //! below both are of that exchange. A row without a colon is a question and its answer after these changes. One with a
 //! colon has three columns: what is asked and of which case, what is given, and the answer.
 //!
-//! The tests go from plans and single routes (`plans`, `routes`) over the choice among routes (`decisions`, `crowds`) and
-//! the tables of clients (`clients`, `tables`, `random_changes`, `refusals`, `parts`) to why a client has a route
-//! (`reasons`, `last_said`) and to dumps (`dumps`, `writers`, `side_by_side`, `kept`).
+//! The tests go from plans and single routes (`plans`, `routes`) over the choice among routes (`decisions`) and the
+//! tables of clients (`clients`, `tables`, `random_changes`, `refusals`, `parts`) to why a client has a route
+//! (`reasons`, `last_said`) and to dumps (`dumps`, `writers`, `side_by_side`).
 
 mod changes;
 mod clients;
-mod crowds;
 mod decisions;
 mod dumps;
 mod exchanges;
 mod held;
-mod kept;
 mod last_said;
 mod parts;
 mod plans;
@@ -53,13 +51,7 @@ fn check(rt: &impl Abort, found: &Option<String>, wanted: &str, row: &str) {
 }
 
 // A row of three columns has its answer in an exchange.
-fn check_case(
-    rt: &impl Abort,
-    alloc: Global,
-    plan: &str,
-    (asked, case, rest): (&str, &str, &str),
-    row: &str,
-) {
+fn check_case(rt: &impl Abort, alloc: Global, plan: &str, (asked, rest): (&str, &str), row: &str) {
     let (given, wanted) = rest.split_once('|').unwrap_or(("", "three columns"));
     let (given, wanted) = (given.trim(), wanted.trim());
     let found = match asked {
@@ -67,7 +59,6 @@ fn check_case(
         "merged" => parts::merged(alloc, plan, given),
         "told" => reasons::told(alloc, plan, given, wanted),
         "said" => last_said::last_said(alloc, given),
-        "taken" => last_said::taken(alloc, case.trim(), given),
         _ => held::answer(rt, alloc, plan, asked, given),
     };
     check(rt, &found, wanted, row);
@@ -98,7 +89,7 @@ fn check_row<T: Abort + Threads + Sync>(
 ) {
     let (head, rest) = row.split_once('|').unwrap_or((row, ""));
     match head.split_once(':') {
-        Some((asked, case)) => check_case(rt, alloc, plan, (asked, case, rest), row),
+        Some((asked, _)) => check_case(rt, alloc, plan, (asked, rest), row),
         None => check_after(rt, alloc, (plan, changes), row),
     }
 }

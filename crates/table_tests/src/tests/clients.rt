@@ -88,6 +88,84 @@ fn each_client_gets_what_the_rules_leave_it(rt: HostRuntime) {
     check_rows(&rt, rt.alloc(), DECISIONS);
 }
 
+// What each client gets of several routes: `bests` has a letter for each, as in DECISIONS.
+const WORKED: &str = "
+exchange 64500 192.0.2.0/24; a,64501,192.0.2.11,192.0.2.11; b,64502,192.0.2.12,192.0.2.12; \
+    c,64503,192.0.2.13,192.0.2.13; d,64504,192.0.2.14,192.0.2.14
+# One choice for all, and the second for its sender.
+after a 100 203.0.113.0/24 igp 64501-65010 hop-a; b 100 203.0.113.0/24 igp 64502-65010 hop-a; \
+    c 100 203.0.113.0/24 igp 64503-65010 hop-a
+bests | baaa
+# The sender of the one route gets none.
+after c 100 203.0.113.0/24 igp 64503-65010 hop-a
+bests | cc-c
+# The server's AS in a's path, which is shorter.
+after a 100 203.0.113.0/24 igp 64500 hop-a; b 100 203.0.113.0/24 igp 64502-65010 hop-a
+bests | b-bb
+# No eligible route.
+after a 100 203.0.113.0/24 igp 64500 hop-a
+bests | ----
+# a's isn't for b.
+after a 100 203.0.113.0/24 igp 64501-65010 hop-a 0:64502; c 100 203.0.113.0/24 igp 64503-65010 hop-a
+bests | ccaa
+# a's, which is shorter, isn't for b.
+after a 100 203.0.113.0/24 igp 64501 hop-a 0:64502; c 100 203.0.113.0/24 igp 64503-65010 hop-a
+bests | ccaa
+# a's is for none, and hides c's from none.
+after a 100 203.0.113.0/24 igp 64501-65010 hop-a 0:64500; c 100 203.0.113.0/24 igp 64503-65010 hop-a
+bests | cc-c
+# a's is for b alone.
+after a 100 203.0.113.0/24 igp 64501-65010 hop-a 0:64500,64500:64502; c 100 203.0.113.0/24 igp 64503-65010 hop-a
+bests | ca-c
+# b's isn't for d, to which it is nothing.
+after a 100 203.0.113.0/24 igp 64501-65010 hop-a; b 100 203.0.113.0/24 igp 64502-65010 hop-a 0:64504; \
+    c 100 203.0.113.0/24 igp 64503-65010 hop-a
+bests | baaa
+
+# b refuses a's routes.
+exchange 64500 192.0.2.0/24; a,64501,192.0.2.11,192.0.2.11; b,64502,192.0.2.12,192.0.2.12,100,a; \
+    c,64503,192.0.2.13,192.0.2.13; d,64504,192.0.2.14,192.0.2.14
+# b gets c's.
+after a 100 203.0.113.0/24 igp 64501-65010 hop-a; c 100 203.0.113.0/24 igp 64503-65010 hop-a
+bests | ccaa
+# b gets none.
+after a 100 203.0.113.0/24 igp 64501-65010 hop-a
+bests | --aa
+
+# Two of one AS, with a lower identifier and a higher one than c's, which is of another AS.
+exchange 64500 192.0.2.0/24; a,64501,192.0.2.11,0.0.0.1; b,64501,192.0.2.12,0.0.0.9; \
+    c,64502,192.0.2.13,0.0.0.5; d,64504,192.0.2.14,192.0.2.14
+# At b a's comes back, which b's keeps out by its MED, and c's doesn't win.
+after a 100 203.0.113.0/24 igp 64501-65010 hop-a med-10; b 100 203.0.113.0/24 igp 64501-65010 hop-a med-5; \
+    c 100 203.0.113.0/24 igp 64502-65010 hop-a
+bests | cabc
+# So it does at d, to which b's is refused.
+after a 100 203.0.113.0/24 igp 64501-65010 hop-a med-10; \
+    b 100 203.0.113.0/24 igp 64501-65010 hop-a med-5 0:64504; c 100 203.0.113.0/24 igp 64502-65010 hop-a
+bests | caba
+# a's and b's of equal MED, c's goes before b's.
+after a 100 203.0.113.0/24 igp 64501-65010 hop-a med-5; b 100 203.0.113.0/24 igp 64501-65010 hop-a med-5; \
+    c 100 203.0.113.0/24 igp 64502-65010 hop-a
+bests | caaa
+
+# Three of one AS, and d of another, whose identifier is the second.
+exchange 64500 192.0.2.0/24; a,64501,192.0.2.11,0.0.0.1; b,64501,192.0.2.12,0.0.0.9; \
+    c,64501,192.0.2.13,0.0.0.8; d,64502,192.0.2.14,0.0.0.5
+# Either of two of the least MED keeps a's out without the other.
+after a 100 203.0.113.0/24 igp 64501-65010 hop-a med-10; b 100 203.0.113.0/24 igp 64501-65010 hop-a med-5; \
+    c 100 203.0.113.0/24 igp 64501-65010 hop-a med-5; d 100 203.0.113.0/24 igp 64502-65010 hop-a
+bests | dddc
+# At b a's comes back, where c's is refused too.
+after a 100 203.0.113.0/24 igp 64501-65010 hop-a med-10; b 100 203.0.113.0/24 igp 64501-65010 hop-a med-5; \
+    c 100 203.0.113.0/24 igp 64501-65010 hop-a med-5 0:64501; d 100 203.0.113.0/24 igp 64502-65010 hop-a
+bests | dadc
+";
+
+#[test]
+fn each_client_gets_its_own_best(rt: HostRuntime) {
+    check_rows(&rt, rt.alloc(), WORKED);
+}
+
 const SESSIONS: &str = "
 # Routes stay at the end of the file, and go at any other close (our choice).
 exchange 64500 192.0.2.0/24; a,64501,192.0.2.11,192.0.2.11; b,64502,192.0.2.12,192.0.2.12; \

@@ -1,9 +1,7 @@
-//! Worked decisions: the choice among routes by both bodies, and what each client of an exchange gets (RFC 4271,
-//! sections 9.1.1 and 9.1.2.2; RFC 7947, section 2.3.2.1: each client's decision comes after its export policy).
+//! Worked decisions: the choice among routes by both bodies (RFC 4271, sections 9.1.1 and 9.1.2.2).
 
 ghost use Rattle.std.specs.Prelude.{◌<◌, ◌↔◌, IsTrue, length};
 ghost use Rattle.std.specs.List.{All};
-ghost use Rattle.rs_choice.specs.Held.{IsJudged};
 
 use super::check_rows;
 use rs_choice::{Candidate, Exchange, HeldRoute, MAX_PEERS};
@@ -46,92 +44,6 @@ pub fn chosen(
     let candidates: Vec<Candidate> = held.iter().map(candidate).collect(alloc).ok()?;
     let place = choice(rt, exchange, &candidates);
     format!(in alloc; "{place:?}").ok()
-}
-
-// Whether a client may get a route.
-fn may_get(exchange: &Exchange, held: &HeldRoute, client: usize) -> bool {
-    let peer = usize::from(held.peer);
-    let count = exchange.count();
-    peer < count
-        && client < count
-        && exchange.eligible(peer, &held.attributes)
-        && exchange.permits(client, peer, &held.attributes)
-}
-
-// The routes that a client may get.
-fn candidates_for<'a>(
-    alloc: Global,
-    exchange: &Exchange,
-    held: &'a [HeldRoute],
-    client: usize,
-) -> Option<Vec<Candidate<'a>>> {
-    let mut candidates = Vec::new(alloc);
-    for held in held {
-        if may_get(exchange, held, client) {
-            candidates.push(candidate(held)).ok()?;
-        }
-    }
-    Some(candidates)
-}
-
-// The number of the peer whose route is the choice among those that a client may get, or its own number where there is
-// none.
-fn best_of_one(
-    rt: &impl Abort,
-    alloc: Global,
-    exchange: &Exchange,
-    held: &[HeldRoute],
-    client: usize,
-) -> Option<usize> {
-    let candidates = candidates_for(alloc, exchange, held, client)?;
-    match choice(rt, exchange, &candidates) {
-        Some(place) => Some(candidates.get(place)?.peer),
-        None => Some(client),
-    }
-}
-
-/// What each client gets, decided for one after another.
-pub fn best_of_each(
-    rt: &impl Abort,
-    alloc: Global,
-    exchange: &Exchange,
-    held: &[HeldRoute],
-) -> Option<Vec<u8>> {
-    let mut bests = Vec::new(alloc);
-    for client in 0..exchange.count() {
-        let best = best_of_one(rt, alloc, exchange, held, client)?;
-        bests.push(u8::try_from(best).ok()?).ok()?;
-    }
-    Some(bests)
-}
-
-/// For each client the number of the peer whose route it gets, or its own number where it gets none.
-pub fn bests(alloc: Global, exchange: &Exchange, held: &[HeldRoute]) -> Option<Vec<u8>>
-    requires { All (IsJudged exchange.now) held.now }
-{
-    if held.len() > MAX_PEERS {
-        return None;
-    }
-    let mut bests = vec![in alloc; 0u8; exchange.count()].ok()?;
-    exchange.choose_for_all(held, &mut bests);
-    Some(bests)
-}
-
-/// What each client gets, decided at once and one after another.
-pub fn shown_bests(
-    rt: &impl Abort,
-    alloc: Global,
-    exchange: &Exchange,
-    held: &[HeldRoute],
-) -> Option<String>
-    requires { All (IsJudged exchange.now) held.now }
-{
-    let at_once = bests(alloc, exchange, held)?;
-    let each = best_of_each(rt, alloc, exchange, held)?;
-    if at_once != each {
-        return format!(in alloc; "{at_once:?}, but {each:?}").ok();
-    }
-    format!(in alloc; "{at_once:?}").ok()
 }
 
 // Routes by their senders, and the place of the choice among them.
@@ -181,51 +93,4 @@ chosen: b is preferred | a igp 64501 hop-a; b igp 64501-65010-65011-65012 hop-a 
 #[test]
 fn both_bodies_choose_what_the_steps_leave(rt: HostRuntime) {
     check_rows(&rt, rt.alloc(), CHOICES);
-}
-
-// Routes by their senders, and for each client the number of the peer whose route it gets, or its own number.
-const WORKED: &str = "
-exchange 64500 192.0.2.0/24; a,64501,192.0.2.11,192.0.2.11; b,64502,192.0.2.12,192.0.2.12; \
-    c,64503,192.0.2.13,192.0.2.13; d,64504,192.0.2.14,192.0.2.14
-bests: one choice for all, and the second for its sender | a igp 64501-65010 hop-a; b igp 64502-65010 hop-a; \
-    c igp 64503-65010 hop-a | [1, 0, 0, 0]
-bests: the sender of the one route gets none | c igp 64503-65010 hop-a | [2, 2, 2, 2]
-bests: no route | | [0, 1, 2, 3]
-bests: the server's AS in a's path, which is shorter | a igp 64500 hop-a; b igp 64502-65010 hop-a | [1, 1, 1, 1]
-bests: no eligible route | a igp 64500 hop-a | [0, 1, 2, 3]
-bests: a's isn't for b | a igp 64501-65010 hop-a 0:64502; c igp 64503-65010 hop-a | [2, 2, 0, 0]
-bests: a's, which is shorter, isn't for b | a igp 64501 hop-a 0:64502; c igp 64503-65010 hop-a | [2, 2, 0, 0]
-bests: a's is for none, and hides c's from none | a igp 64501-65010 hop-a 0:64500; c igp 64503-65010 hop-a | [2, 2, 2, 2]
-bests: a's is for b alone | a igp 64501-65010 hop-a 0:64500,64500:64502; c igp 64503-65010 hop-a | [2, 0, 2, 2]
-bests: b's isn't for d, to which it is nothing | a igp 64501-65010 hop-a; b igp 64502-65010 hop-a 0:64504; \
-    c igp 64503-65010 hop-a | [1, 0, 0, 0]
-
-# b refuses a's routes.
-exchange 64500 192.0.2.0/24; a,64501,192.0.2.11,192.0.2.11; b,64502,192.0.2.12,192.0.2.12,100,a; \
-    c,64503,192.0.2.13,192.0.2.13; d,64504,192.0.2.14,192.0.2.14
-bests: b gets c's | a igp 64501-65010 hop-a; c igp 64503-65010 hop-a | [2, 2, 0, 0]
-bests: b gets none | a igp 64501-65010 hop-a | [0, 1, 0, 0]
-
-# Two of one AS, with a lower identifier and a higher one than c's, which is of another AS.
-exchange 64500 192.0.2.0/24; a,64501,192.0.2.11,0.0.0.1; b,64501,192.0.2.12,0.0.0.9; \
-    c,64502,192.0.2.13,0.0.0.5; d,64504,192.0.2.14,192.0.2.14
-bests: at b a's comes back, which b's keeps out by its MED, and c's doesn't win | a igp 64501-65010 hop-a med-10; \
-    b igp 64501-65010 hop-a med-5; c igp 64502-65010 hop-a | [2, 0, 1, 2]
-bests: so it does at d, to which b's is refused | a igp 64501-65010 hop-a med-10; \
-    b igp 64501-65010 hop-a med-5 0:64504; c igp 64502-65010 hop-a | [2, 0, 1, 0]
-bests: a's and b's of equal MED, c's goes before b's | a igp 64501-65010 hop-a med-5; \
-    b igp 64501-65010 hop-a med-5; c igp 64502-65010 hop-a | [2, 0, 0, 0]
-
-# Three of one AS, and d of another, whose identifier is the second.
-exchange 64500 192.0.2.0/24; a,64501,192.0.2.11,0.0.0.1; b,64501,192.0.2.12,0.0.0.9; \
-    c,64501,192.0.2.13,0.0.0.8; d,64502,192.0.2.14,0.0.0.5
-bests: either of two of the least MED keeps a's out without the other | a igp 64501-65010 hop-a med-10; \
-    b igp 64501-65010 hop-a med-5; c igp 64501-65010 hop-a med-5; d igp 64502-65010 hop-a | [3, 3, 3, 2]
-bests: at b a's comes back, where c's is refused too | a igp 64501-65010 hop-a med-10; \
-    b igp 64501-65010 hop-a med-5; c igp 64501-65010 hop-a med-5 0:64501; d igp 64502-65010 hop-a | [3, 0, 3, 2]
-";
-
-#[test]
-fn each_client_gets_its_own_best(rt: HostRuntime) {
-    check_rows(&rt, rt.alloc(), WORKED);
 }

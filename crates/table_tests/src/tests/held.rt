@@ -2,10 +2,6 @@
 //!
 //! A route is the name of its peer and words for its attributes.
 
-ghost use Rattle.std.specs.Prelude.{◌<◌, IfSome, length};
-ghost use Rattle.std.specs.List.{All};
-ghost use Rattle.rs_choice.specs.Held.{IsJudged};
-
 use super::exchanges::{attributes, exchange, peer_of};
 use super::{decisions, plans, routes};
 use rs_choice::{Exchange, HeldRoute};
@@ -16,18 +12,14 @@ use std::process::Abort;
 const TIME: u32 = 100;
 
 // A route as it is held.
-fn hold(alloc: Global, exchange: &Exchange, text: &str) -> Option<HeldRoute>
-    ensures { IfSome result (IsJudged exchange.now) }
-{
+fn hold(alloc: Global, exchange: &Exchange, text: &str) -> Option<HeldRoute> {
     let (name, words) = text.trim().split_once(' ')?;
     let peer = peer_of(exchange, name)?;
     Some(exchange.hold(peer, TIME, attributes(alloc, words)?))
 }
 
-/// The routes of a text as they are held, in their order.
-pub fn hold_all(alloc: Global, exchange: &Exchange, text: &str) -> Option<Vec<HeldRoute>>
-    ensures { IfSome result (λ all. All (IsJudged exchange.now) all.items) }
-{
+// The routes of a text as they are held, in their order.
+fn hold_all(alloc: Global, exchange: &Exchange, text: &str) -> Option<Vec<HeldRoute>> {
     let mut all = Vec::new(alloc);
     for route in text.split(';') {
         if !route.trim().is_empty() {
@@ -49,7 +41,6 @@ pub fn answer(
     let held = hold_all(alloc, &exchange, routes)?;
     match asked {
         "chosen" => decisions::chosen(rt, alloc, &exchange, &held),
-        "bests" => decisions::shown_bests(rt, alloc, &exchange, &held),
         "held" => routes::shown(alloc, &exchange, held.first()?),
         "eligible" => routes::shown_eligible(alloc, &exchange, held.first()?),
         "exported" => routes::shown_clients(alloc, &exchange, held.first()?),

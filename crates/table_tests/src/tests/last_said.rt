@@ -1,10 +1,9 @@
-//! What a peer's changes say last of a prefix, and which of them come up to a time.
+//! What a peer's changes say last of a prefix.
 
 use super::changes::word;
 use super::check_rows;
-use super::exchanges::{number, prefix};
-use rs_explain::{LastSaid, Until};
-use rs_session::{Body, Word};
+use super::exchanges::prefix;
+use rs_explain::LastSaid;
 use std::alloc::Global;
 use std::test::*;
 
@@ -18,17 +17,6 @@ pub fn last_said(alloc: Global, changes: &str) -> Option<String> {
         }
     }
     format!(in alloc; "{last:?}").ok()
-}
-
-/// Which losses of a session at some times come up to a time, or to none.
-pub fn taken(alloc: Global, until: &str, times: &str) -> Option<String> {
-    let mut cut = Until::new(number(until));
-    let mut taken = Vec::new(alloc);
-    for time in times.split_whitespace() {
-        let (time, body) = (number(time)?, Body::Down);
-        taken.push(cut.takes(&Word { time, body })).ok()?;
-    }
-    format!(in alloc; "{taken:?}").ok()
 }
 
 // Changes, and what they say last of 203.0.113.0/24. 192.0.2.0/24 is another prefix.
@@ -57,19 +45,4 @@ said: back without the prefix | 100 203.0.113.0/24 plain; 101 lost; 102 192.0.2.
 #[test]
 fn what_is_said_last_is_named_with_its_time(rt: HostRuntime) {
     check_rows(&rt, rt.alloc(), SAID);
-}
-
-// A time, the times of changes, and which of these are taken: none behind one that is later.
-const BEGINNINGS: &str = "
-taken: all | 100 101 102 101 0 | [true, true, true, true, true]
-taken: 99 | 100 101 102 101 0 | [false, false, false, false, false]
-taken: 100 | 100 101 102 101 0 | [true, false, false, false, false]
-taken: 101 | 100 101 102 101 0 | [true, true, false, false, false]
-taken: 102 | 100 101 102 101 0 | [true, true, true, true, true]
-taken: 0 | 0 0 1 0 | [true, true, false, false]
-";
-
-#[test]
-fn changes_are_taken_up_to_a_time_and_none_after_a_later_one(rt: HostRuntime) {
-    check_rows(&rt, rt.alloc(), BEGINNINGS);
 }

@@ -1,13 +1,17 @@
 //! Memory that is refused, whichever allocation of the process it is: a change that wants it changes nothing, and the same
-//! change again is taken. One allocation is refused in a run at most, so what is asked a second time comes.
+//! change again is taken; of gathered changes no tables come, or the right ones. One allocation is refused in a run at
+//! most, so what is asked a second time comes.
 
-use super::FOUR_PEERS;
 use super::changes::{after, change, take};
+use super::exchanges::exchange;
 use super::tables::{name, table};
-use rs_table::Tables;
+use super::{FOUR_PEERS, check};
+use rs_choice::Exchange;
+use rs_table::{Gathering, Tables};
 use std::alloc::Global;
 use std::fmt::Write;
 use std::process::Abort;
+use std::sync::Arc;
 use std::test::*;
 
 // Changes, and behind each the table of each client. Memory may be refused for a change behind a +, which announces a
@@ -98,4 +102,55 @@ fn a_refused_change_changes_nothing_and_comes_when_taken_again(rt: HostRuntime) 
     let alloc = rt.alloc();
     let checked = check_changes(&rt, alloc).or_else(|| check_changes(&rt, alloc));
     assert!(rt; checked.is_some());
+}
+
+// Changes most of which are on prefixes of one first octet. At the end b's session was lost after its first route, and a
+// has withdrawn one of its own.
+const GATHERED: &str =
+    "a 1 10.0.0.0/8 plain; a 2 10.1.0.0/16 plain; c 3 10.1.0.0/16 igp 64503-65010 hop-a; \
+    a 4 10.2.0.0/16 plain; a 5 10.3.0.0/16 plain 0:64502; a 6 10.4.0.0/16 plain; \
+    b 7 203.0.0.0/8 igp 64502-65010 hop-a; b 8 lost; c 9 10.4.0.0/16 igp 64503-65010 hop-a; \
+    a 10 withdraw 10.2.0.0/16; b 11 198.0.0.0/8 igp 64502-65010 hop-a; a 12 10.0.0.0/8 plain; c 13 ended";
+
+// What they leave.
+const SETTLED: &str = "a[10.1.0.0/16 c 3, 10.4.0.0/16 c 9, 198.0.0.0/8 b 11] \
+    b[10.0.0.0/8 a 12, 10.1.0.0/16 a 2, 10.4.0.0/16 a 6] \
+    c[10.0.0.0/8 a 12, 10.1.0.0/16 a 2, 10.3.0.0/16 a 5, 10.4.0.0/16 a 6, 198.0.0.0/8 b 11] \
+    d[10.0.0.0/8 a 12, 10.1.0.0/16 a 2, 10.3.0.0/16 a 5, 10.4.0.0/16 a 6, 198.0.0.0/8 b 11]";
+
+// Gathers a change of a peer whose session is open. None where memory is refused.
+fn gather(alloc: Global, plan: &Exchange, gathering: &mut Gathering, text: &str) -> Option<()> {
+    let (peer, word) = change(alloc, plan, text)?;
+    if peer >= gathering.count() || gathering.is_closed(peer) {
+        return None;
+    }
+    gathering.receive(peer, word).ok()
+}
+
+// Gathers those changes, in lists that are compacted once they have so many entries. None where memory is refused.
+fn gathered(alloc: Global, plan: &Arc<Exchange>, few: usize) -> Option<Gathering> {
+    let Ok(tables) = Tables::new(alloc, plan.clone().ok()?) else {
+        return None;
+    };
+    let mut gathering = Gathering::new(tables, few).ok()?;
+    for text in GATHERED.split(';') {
+        gather(alloc, plan, &mut gathering, text)?;
+    }
+    Some(gathering)
+}
+
+// The tables of all clients that are made of them. None where memory is refused.
+fn settled(alloc: Global, few: usize) -> Option<String> {
+    let plan = exchange(alloc, FOUR_PEERS)?;
+    let tables = gathered(alloc, &plan, few)?.settle().ok()?;
+    all_tables(alloc, &tables)
+}
+
+// Lists of two are compacted three times while they grow, those of 64 when they are settled.
+#[test]
+fn gathered_changes_are_refused_memory_or_leave_the_right_tables(rt: HostRuntime) {
+    for few in [2, 64] {
+        let found = settled(rt.alloc(), few).or_else(|| settled(rt.alloc(), few));
+        check(&rt, &found, SETTLED, "gathered");
+    }
 }

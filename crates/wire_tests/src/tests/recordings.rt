@@ -53,10 +53,18 @@ fn heading(line: &str) -> Option<(u32, u16, u16, &str)> {
 // Appends the record of a line, its Length counted.
 fn add_record(file: &mut Vec<u8>, alloc: Global, line: &str) -> Result<(), Fail> {
     let (time, kind, subtype, words) = heading(line).ok_or("a record")?;
-    let body = spelled(alloc, words)?;
-    write_header(file, time, kind, subtype, u32::try_from(body.len())?)?;
-    file.extend_from_slice(&body)?;
-    Ok(())
+    Ok(add_body(file, (time, kind, subtype), &spelled(alloc, words)?)?)
+}
+
+// Appends a record of a time, a Type and a Subtype with a body.
+fn add_body(
+    file: &mut Vec<u8>,
+    (time, kind, subtype): (u32, u16, u16),
+    body: &[u8],
+) -> Result<(), AllocError> {
+    let len = u32::try_from(body.len()).unwrap_or(u32::MAX);
+    write_header(file, time, kind, subtype, len)?;
+    file.extend_from_slice(body)
 }
 
 // Appends the octets or the record of a line.
@@ -130,25 +138,36 @@ fn next<S: Source>(
 
 /// Appends what a session says in its first thousand changes, and how many records are passed over, where there are any.
 /// After its last change there is none, also where it is asked again.
-pub fn add_session<S: Source + Drop>(
+pub fn add_session<S: Source>(
     said: &mut String,
-    session: Session<S>,
-    prefix: Option<Prefix>,
-    until: Option<u32>,
+    session: &mut Session<S>,
+    asked: (Option<Prefix>, Option<u32>),
 ) -> Result<(), AllocError> {
-    let mut session = session;
     for _ in 0..1000 {
-        match next(&mut session, prefix, until)? {
-            Some(word) => add_change(said, &word)?,
-            None => break,
+        if !add_next(said, session, asked)? {
+            break;
         }
     }
-    if next(&mut session, prefix, until)?.is_some() {
-        said.push_str("\n    a change after the close")?;
-    }
+    add_next(said, session, asked)?;
     match session.passed_over() {
         0 => Ok(()),
         passed => write!(said, "\n    passed over {passed}"),
+    }
+}
+
+// Appends the next change of a session, and answers whether there is one.
+fn add_next<S: Source>(
+    said: &mut String,
+    session: &mut Session<S>,
+    asked: (Option<Prefix>, Option<u32>),
+) -> Result<bool, AllocError> {
+    let (prefix, until) = asked;
+    match next(session, prefix, until)? {
+        Some(word) => {
+            add_change(said, &word)?;
+            Ok(true)
+        }
+        None => Ok(false),
     }
 }
 
@@ -275,16 +294,20 @@ fn asked(way: &str) -> (Option<Prefix>, Option<u32>) {
     (Prefix::new(0xCB00_7100, 24), until)
 }
 
+// The session of a source: by RFC 4271 where no standard is named.
+fn session_of<S: Source>(alloc: Global, source: S, way: &str) -> Session<S> {
+    if way == "session" {
+        Session::over(alloc, source, PEER)
+    } else {
+        Session::over_by(alloc, source, PEER, standard(way))
+    }
+}
+
 // What a source says to the one who reads it so.
 fn said_by<S: Source + Drop>(alloc: Global, source: S, way: &str) -> Result<String, Fail> {
     let mut said = String::new(alloc);
-    if way == "session" {
-        let session = Session::over(alloc, source, PEER);
-        add_session(&mut said, session, None, None)?;
-    } else if way.starts_with("session") || way.starts_with("prefix") {
-        let session = Session::over_by(alloc, source, PEER, standard(way));
-        let (prefix, until) = asked(way);
-        add_session(&mut said, session, prefix, until)?;
+    if way.starts_with("session") || way.starts_with("prefix") {
+        add_session(&mut said, &mut session_of(alloc, source, way), asked(way))?;
     } else {
         add_source(&mut said, source, way)?;
     }
@@ -317,17 +340,19 @@ fn read(alloc: Global, file: &[u8], way: &str, piece: usize) -> Result<String, F
     }
 }
 
+// The first of some lines that a text lacks.
+fn lacking<'a>(said: &str, lines: &'a str) -> Option<&'a str> {
+    lines
+        .lines()
+        .find(|line| !said.lines().any(|told| told == *line))
+}
+
 // What is said in a way to read a file is what its lines want: that they are all, or of an inventory some.
 fn check_said(rt: &impl Abort, said: &str, way: &str, wanted: &str, row: &str) {
-    if !way.starts_with("inventory") {
+    if way.starts_with("inventory") {
+        assert_eq!(rt; lacking(said, wanted), None, "{row}, by {way}: {said}");
+    } else {
         assert_eq!(rt; said.trim(), wanted.trim(), "{row}, by {way}");
-        return;
-    }
-    for line in wanted.lines() {
-        assert!(rt;
-            said.lines().any(|told| told == line),
-            "{row}, by {way}: {line} in {said}"
-        );
     }
 }
 

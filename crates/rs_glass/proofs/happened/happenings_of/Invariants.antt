@@ -9,7 +9,7 @@ use Rattle.rs_glass.proofs.happened.happenings_of.Given as goal
 abbrev pub invariant-loop-all : goal.invariant-loop-all
 invariant-loop-all g l =
     IsListing (MayCome g.R.Read.gives) (λ r. r.shown) (fresh (unread l.fn.recording.reader) l.fn.recording.id l.question.errors)
-    l.question.until l.question.prefix l.fn.recording.peer l.session l.until l.latest (contents_of l.all.items)
+    l.question.prefix l.fn.recording.peer l.session l.latest (contents_of l.all.items)
 
 -- the changes that may still come before the close, and the close
 abbrev pub decreases-loop-all : goal.decreases-loop-all

@@ -1,12 +1,12 @@
 -- A change that is given comes before whatever may come, behind those that were passed over, and the routes take it where it concerns the
--- prefix; once none is given, or one is too late, all that are in time were given or passed over.
+-- prefix; once none is given, all were given or passed over.
 use Rattle.std.proofs.Common.{◌≡◌, ◌∙◌, ◌++◌, ◌∷◌, [], false, refl, sym}
 use Rattle.std.specs.List.{list_any}
 use Rattle.rs_mrt.specs.RecordReading.{MayCome, room_left}
 use Rattle.rs_session.specs.Change.{change_of, is_close}
 use Rattle.rs_session.specs.Stage.{most_changes}
 use Rattle.rs_glass.proofs.GivenLemmas.{few-smaller, given-all, given-none}
-use Rattle.rs_glass.proofs.PassedOverLemmas.{given-late-behind, given-more-behind, open-over, taken-over, takes-over}
+use Rattle.rs_glass.proofs.PassedOverLemmas.{given-more-behind, open-over, taken-over}
 use Rattle.rs_glass.proofs.ReadingLemmas.{taken-more, taken-none, taken-said}
 use Rattle.rs_glass.proofs.hearing.hear_changes.Goals as goal
 
@@ -15,8 +15,7 @@ loop-routes-init g c =
     let question = c.args.question.now in
     rw (c.over_by-session.ensures, c.new.ensures) (record {
       given = [];
-      is_given = given-none (MayCome g.R.Read.gives) (λ r. r.shown)
-          _ _ c.new-until.result refl c.new-until.ensures.nothing c.new-until.ensures.time;
+      is_given = given-none (MayCome g.R.Read.gives) (λ r. r.shown) _ refl;
       is_taken = taken-none question.prefix c.none-routes.result c.nothing-said.result c.none-routes.ensures
           (c.nothing-said.ensures question.prefix);
     })
@@ -37,8 +36,6 @@ loop-routes-preserved g c =
     let r = c.loop-routes.invariant in
     let over = says.over in
     let given = r.given ++ over in
-    let takes = takes-over c.loop-routes.until question.until r.given over r.is_given.time says.are_over.in_time r.is_given.takes in
-    let taken = rw c.if-not-takes.false at c.takes.ensures.taken in
     let held = taken-over question.prefix c.a_prefix_covers_itself.ensures r.given over c.loop-routes.routes c.loop-routes.said
     says.are_over.beside r.is_taken in
     let none : list_any is_close given ≡ false =
@@ -46,40 +43,20 @@ loop-routes-preserved g c =
     record {
       given = given ++ change_of c.in-Some.word ∷ [];
       is_given = given-more-behind (MayCome g.R.Read.gives) (λ r. r.shown)
-          _ _ question.prefix r.given over c.loop-routes.session c.next_word_on.new.self c.loop-routes.until c.takes.new.self c.in-Some.word
-          says.are_over.beside
-          r.is_given says.says closes (taken given given takes) c.takes.ensures.time;
+          _ question.prefix r.given over c.loop-routes.session c.next_word_on.new.self c.in-Some.word says.are_over.beside
+          r.is_given says.says closes;
       is_taken = taken-more question.prefix given (change_of c.in-Some.word)
           c.loop-routes.routes c.take_change.new.routes c.loop-routes.said c.after-said.result c.left_after_one_more.ensures held none
           (c.after-said.ensures given held.is_said) c.in_ok-take_change.ensures;
     }
-
-pub returns-then-not-takes : goal.returns-then-not-takes
-returns-then-not-takes g c =
-    let question = c.args.question.now in
-    let says = rw c.in-Some.is at c.in_ok-word.ensures.says in
-    let r = c.loop-routes.invariant in
-    let over = says.over in
-    let given = r.given ++ over in
-    let takes = takes-over c.loop-routes.until question.until r.given over r.is_given.time says.are_over.in_time r.is_given.takes in
-    let taken = rw c.if-not-takes.true at c.takes.ensures.taken in
-    let held = taken-over question.prefix c.a_prefix_covers_itself.ensures r.given over c.loop-routes.routes c.loop-routes.said
-    says.are_over.beside r.is_taken in
-    let late = given-late-behind (MayCome g.R.Read.gives) (λ r. r.shown) _ _ g.R.Read.gives question c.args.id c.args.reader refl
-    (c.a_reader_gives_a_file_or_fails.ensures question.errors c.args.id)
-    c.what_is_taken_is_the_longest_beginning.ensures r.given over c.loop-routes.session c.next_word_on.new.self c.loop-routes.until
-    c.takes.new.self c.in-Some.word r.is_given says.says c.in_ok-word.ensures.more (taken given given takes)
-    c.takes.ensures.time in
-    taken-said question.prefix g.R.Read.gives question c.args.id c.args.reader refl given c.loop-routes.routes c.loop-routes.said held late
-    c.left_by_part.ensures c.left_by_last_changes.ensures
 
 pub returns : goal.returns
 returns g c =
     let question = c.args.question.now in
     let says = rw c.in_default.is at c.in_ok-word.ensures.says in
     let r = c.loop-routes.invariant in
-    let all = given-all (MayCome g.R.Read.gives) (λ r. r.shown) _ _ g.R.Read.gives question c.args.id c.args.reader refl
-    (c.a_reader_gives_a_file_or_fails.ensures question.errors c.args.id) c.what_is_taken_is_the_longest_beginning.ensures
-    r.given c.loop-routes.session c.next_word_on.new.self c.loop-routes.until r.is_given says.says c.in_ok-word.ensures.more in
+    let all = given-all (MayCome g.R.Read.gives) (λ r. r.shown) _ g.R.Read.gives question c.args.id c.args.reader
+    (c.a_reader_gives_a_file_or_fails.ensures question.errors c.args.id)
+    r.given c.loop-routes.session c.next_word_on.new.self r.is_given says.says c.in_ok-word.ensures.more in
     taken-said question.prefix g.R.Read.gives question c.args.id c.args.reader refl r.given c.loop-routes.routes c.loop-routes.said
     r.is_taken all c.left_by_part.ensures c.left_by_last_changes.ensures

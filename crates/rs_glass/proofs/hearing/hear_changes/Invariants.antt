@@ -8,7 +8,7 @@ use Rattle.rs_glass.proofs.hearing.hear_changes.Given as goal
 abbrev pub invariant-loop-routes : goal.invariant-loop-routes
 invariant-loop-routes g l =
     IsReading (MayCome g.R.Read.gives) (λ r. r.shown) (fresh (unread l.fn.reader) l.fn.id l.question.errors)
-    l.question.prefix l.question.until l.session l.routes l.said l.until
+    l.question.prefix l.session l.routes l.said
 
 -- the changes that may still come before the close, and the close
 abbrev pub decreases-loop-routes : goal.decreases-loop-routes

@@ -6,7 +6,7 @@ use Rattle.rs_inventory.proofs.reading.take_records.Given as goal
 
 abbrev pub invariant-loop-inventory : goal.invariant-loop-inventory
 invariant-loop-inventory g l = record {
-  going : Going g.S.Source.comes l.initial.source l.source l.inventory;
+  going : Going l.initial.depth g.S.Source.comes l.initial.source l.source l.inventory;
   uncompressed : l.inventory.compression ≡ None;
 }
 

@@ -1,12 +1,11 @@
 -- One peer more: its route is missing, or not.
-use Rattle.std.proofs.Common.{◌≡◌, ◌∙◌, ◌<◌, ◌++◌, ◌∷◌, [], ◌+◌, sym, ap, arith, length, subst, refl}
-use Rattle.std.specs.Prelude.{Option, None, Some, map}
+use Rattle.std.proofs.Common.{◌≡◌, ◌∙◌, ◌<◌, ◌++◌, ◌∷◌, [], sym, ap, arith, length, subst, refl}
+use Rattle.std.specs.Prelude.{None, Some}
 use Rattle.std.specs.FinMap.{get}
 use Rattle.std.specs.List.{cons_option, filter_map, range_with_len}
 use Rattle.std.specs.Option.{option_map}
 use Rattle.std.proofs.lemmas.List.{append-nil, map-append}
 use Rattle.std.proofs.lemmas.List.Elements.{All-push}
-use Rattle.rs_choice.specs.Decision.{SentRoute}
 use Rattle.rs_table.specs.Content.{rib_of}
 use Rattle.rs_table.specs.PrefixRoutes.{entry_of}
 use Rattle.rs_table.specs.RouteView.{sent_route_of}

@@ -1,9 +1,6 @@
 //! The records of recorded files, and what single records say.
 
-use super::{add_fault, add_shown, check_rows};
-use rs_mrt::{Records, write_header};
-use spelled_in_hex::octets;
-use std::alloc::AllocError;
+use super::check_rows;
 use std::test::*;
 
 // The rows: the head of `recordings` says how they are read.
@@ -299,42 +296,4 @@ a record of 10,012 octets and two after it
 #[test]
 fn records_say_what_their_rows_want(rt: HostRuntime) -> Result<(), Fail> {
     check_rows(&rt, rt.alloc(), RECORDS)
-}
-
-#[test]
-fn a_header_is_appended(rt: HostRuntime) -> Result<(), Fail> {
-    let mut out = octets(rt.alloc(), &["FF"])?;
-    write_header(&mut out, 0x0102_0304, 13, 2, 38)?;
-    let wanted = octets(rt.alloc(), &["FF 01020304 000D 0002 00000026"])?;
-    assert_eq!(rt; out.as_slice(), wanted.as_slice());
-    Ok(())
-}
-
-// Appends what the records of a file give next.
-fn add_next(said: &mut String, records: &mut Records<'_>) -> Result<(), AllocError> {
-    match records.next() {
-        Ok(Some(record)) => add_shown(said, &record, "bodies"),
-        Ok(None) => said.push_str(" end"),
-        Err(fault) => add_fault(said, fault),
-    }
-}
-
-// Two records.
-const TWO_RECORDS: &[u8] = &[
-    0, 0, 0, 1, 0, 13, 0, 1, 0, 0, 0, 1, 255, 0, 0, 0, 2, 0, 16, 0, 4, 0, 0, 0, 2, 0,
-];
-
-// The second record, of Length 2, has one octet; and an empty file has none.
-#[test]
-fn a_fault_comes_after_the_records_before_it(rt: HostRuntime) -> Result<(), Fail> {
-    let mut said = String::new(rt.alloc());
-    let mut records = Records::new(TWO_RECORDS);
-    add_next(&mut said, &mut records)?;
-    add_next(&mut said, &mut records)?;
-    add_next(&mut said, &mut records)?;
-    add_next(&mut said, &mut Records::new(&[]))?;
-    let fault = " fault 2: the file ends in the body of a record";
-    let wanted = format!(in rt.alloc(); "1 13.1 FF{fault}{fault} end")?;
-    assert_eq!(rt; said.trim(), wanted.as_str());
-    Ok(())
 }

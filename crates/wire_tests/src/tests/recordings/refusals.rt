@@ -41,8 +41,8 @@ impl Source for Unreadable {
 #[test]
 fn a_failed_read_closes(rt: HostRuntime) -> Result<(), Fail> {
     let mut said = String::new(rt.alloc());
-    let session = Session::over(rt.alloc(), Unreadable, PEER);
-    add_session(&mut said, session, None, None)?;
+    let mut session = Session::over(rt.alloc(), Unreadable, PEER);
+    add_session(&mut said, &mut session, (None, None))?;
     assert_eq!(rt; said.trim(), "0 closed: failed read");
     Ok(())
 }

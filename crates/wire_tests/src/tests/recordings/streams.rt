@@ -1,82 +1,14 @@
-//! Readers and writers over memory, with limits and without, and those of std.
+//! Writers over memory, with limits and without, and readers and writers of std.
 
 ghost use Rattle.std.specs.Prelude.{◌≡◌, ◌++◌, ◌<◌, OnOk};
 
 use rs_mrt::{
-    Failed, IoReader, IoWriter, Limits, MemoryReader, MemoryWriter, Read, ReadLimits, RecordReader,
-    Source, Write, write_all,
+    Failed, IoReader, IoWriter, Limits, MemoryWriter, Read, RecordReader, Source, Write, write_all,
 };
-use std::alloc::{AllocError, Global};
+use std::alloc::Global;
 use std::io;
 use std::sync::atomic::{AtomicUsize, Ordering};
 use std::test::*;
-
-// Appends what a read answers, and the octets into which it reads.
-fn add_read(
-    said: &mut String,
-    answer: Result<usize, Failed>,
-    into: &[u8],
-) -> Result<(), AllocError> {
-    match answer {
-        Ok(count) => write!(said, "{count} {into:?}; "),
-        Err(failed) => write!(said, "{failed} {into:?}; "),
-    }
-}
-
-// What comes of reading seven octets, three at once, of which five come before a read fails, and of reading nothing.
-fn read_seven(said: &mut String) -> Result<(), AllocError> {
-    let limits = ReadLimits {
-        octets_before_failure: Some(5),
-        piece: 3,
-        ..ReadLimits::none()
-    };
-    let mut reader = MemoryReader::new(&[1, 2, 3, 4, 5, 6, 7], limits);
-    let mut into = [0; 4];
-    add_read(said, reader.read(&mut into), &into)?;
-    add_read(said, reader.read(&mut into), &into)?;
-    add_read(said, reader.read(&mut into), &into)?;
-    add_read(said, reader.read(&mut []), &into)?;
-    add_read(said, reader.read(&mut into), &into)?;
-    let mut ended = MemoryReader::new(&[], ReadLimits::none());
-    add_read(said, ended.read(&mut into), &into)
-}
-
-#[test]
-fn a_reader_over_memory_gives_its_octets_in_pieces(rt: HostRuntime) -> Result<(), Fail> {
-    let mut said = String::new(rt.alloc());
-    read_seven(&mut said)?;
-    assert_eq!(rt;
-        said.trim(),
-        "3 [1, 2, 3, 0]; 2 [4, 5, 3, 0]; the call failed [4, 5, 3, 0]; 0 [4, 5, 3, 0]; 2 [6, 7, 3, 0]; 0 [6, 7, 3, 0];"
-    );
-    Ok(())
-}
-
-// What comes of reading seven octets, three at once, where the second call fails, and then one after four octets.
-fn read_in_calls(said: &mut String) -> Result<(), AllocError> {
-    let limits = ReadLimits {
-        calls_before_failure: Some(1),
-        octets_before_failure: Some(4),
-        piece: 3,
-    };
-    let mut reader = MemoryReader::new(&[1, 2, 3, 4, 5, 6, 7], limits);
-    let mut into = [0; 4];
-    add_read(said, reader.read(&mut into), &into)?;
-    add_read(said, reader.read(&mut into), &into)?;
-    add_read(said, reader.read(&mut into), &into)?;
-    add_read(said, reader.read(&mut into), &into)
-}
-
-#[test]
-fn a_reader_over_memory_fails_at_a_chosen_call(rt: HostRuntime) -> Result<(), Fail> {
-    let mut said = String::new(rt.alloc());
-    read_in_calls(&mut said)?;
-    assert_eq!(rt;
-        said.trim(),
-        "3 [1, 2, 3, 0]; the call failed [1, 2, 3, 0]; 1 [4, 2, 3, 0]; the call failed [4, 2, 3, 0];"
-    );
-    Ok(())
-}
 
 // A reader of std whose every call fails.
 #[derive(Drop)]
@@ -88,27 +20,18 @@ impl io::Read for Broken {
     }
 }
 
-// What comes of reading three octets, two at once, and of a call that fails.
-fn read_three(said: &mut String) -> Result<(), AllocError> {
+#[test]
+fn a_reader_of_std_is_a_reader(rt: HostRuntime) {
     let mut into = [0; 2];
     let mut reader = IoReader::new([1, 2, 3].as_slice());
-    add_read(said, reader.read(&mut into), &into)?;
-    add_read(said, reader.read(&mut into), &into)?;
-    add_read(said, reader.read(&mut into), &into)?;
-    add_read(said, IoReader::new(Broken).read(&mut into), &into)?;
-    let left = reader.into_inner().len();
-    write!(said, "{left} left")
-}
-
-#[test]
-fn a_reader_of_std_is_a_reader(rt: HostRuntime) -> Result<(), Fail> {
-    let mut said = String::new(rt.alloc());
-    read_three(&mut said)?;
-    assert_eq!(rt;
-        said.as_str(),
-        "2 [1, 2]; 1 [3, 2]; 0 [3, 2]; the call failed [3, 2]; 0 left"
-    );
-    Ok(())
+    let counts = [
+        reader.read(&mut into),
+        reader.read(&mut into),
+        reader.read(&mut into),
+    ];
+    assert_eq!(rt; (counts, into), ([Ok(2), Ok(1), Ok(0)], [3, 2]));
+    let failed = IoReader::new(Broken).read(&mut into);
+    assert_eq!(rt; (failed, reader.into_inner().len()), (Err(Failed), 0));
 }
 
 // A reader of std over octets at hand, whose calls are counted.

@@ -1,6 +1,6 @@
 //! What is told of what a recorded file holds.
 
-use rs_inventory::{Inventory, Kind, read_inventory};
+use rs_inventory::{Inventory, Kind, Peer, PeerRecords, read_inventory};
 use rs_mrt::{MemoryReader, ReadLimits};
 use std::alloc::{AllocError, Global};
 use std::net::Ipv4Addr;
@@ -10,25 +10,30 @@ use std::test::Fail;
 // prefixes announced and withdrawn; its BGP Identifiers; when its sessions came up and went down.
 fn push_peers(text: &mut String, held: &Inventory) -> Result<(), AllocError> {
     for (peer, of) in held.peers() {
-        let (address, asn) = (Ipv4Addr::from_bits(peer.address), peer.asn);
-        let (messages, changes, faulty) = (of.messages(), of.state_changes(), of.faulty());
-        let counts = [
-            of.records(),
-            messages,
-            changes,
-            faulty,
-            of.announced(),
-            of.withdrawn(),
-        ];
-        write!(text, "\n    {address} {asn} counts {counts:?}")?;
-        write!(
-            text,
-            "\n    {address} {asn} identifiers {:?}",
-            of.identifiers()
-        )?;
-        write!(text, "\n    {address} {asn} sessions {:?}", of.sessions())?;
+        push_peer(text, peer, of)?;
     }
     Ok(())
+}
+
+// Appends what is known of one peer.
+fn push_peer(text: &mut String, peer: &Peer, of: &PeerRecords) -> Result<(), AllocError> {
+    let (address, asn) = (Ipv4Addr::from_bits(peer.address), peer.asn);
+    let counts = [
+        of.records(),
+        of.messages(),
+        of.state_changes(),
+        of.faulty(),
+        of.announced(),
+        of.withdrawn(),
+    ];
+    let (identifiers, sessions) = (of.identifiers(), of.sessions());
+    write!(
+        text,
+        "
+    {address} {asn} counts {counts:?}
+    {address} {asn} identifiers {identifiers:?}
+    {address} {asn} sessions {sessions:?}"
+    )
 }
 
 // Appends how many records there are of each kind of which there are any.
@@ -42,19 +47,27 @@ fn push_kinds(text: &mut String, held: &Inventory) -> Result<(), AllocError> {
     Ok(())
 }
 
+// Appends how a file begins and ends, and how many peers it has.
+fn push_ends(text: &mut String, held: &Inventory) -> Result<(), AllocError> {
+    let (octets, end, recorder) = (held.octets(), held.end(), held.recorder());
+    let (first, last, compression) = (held.first(), held.last(), held.compression());
+    let peers = held.peers().len();
+    write!(
+        text,
+        "
+    octets {octets:?} end {end:?}
+    times {first:?} {last:?}
+    compression {compression:?}
+    {recorder:?}
+    peers {peers}"
+    )
+}
+
 // What is told of what a file holds.
 fn told(alloc: Global, held: &Inventory) -> Result<String, AllocError> {
     let mut text = format!(in alloc; "\n    records {}", held.records())?;
     push_kinds(&mut text, held)?;
-    let (octets, end, recorder) = (held.octets(), held.end(), held.recorder());
-    write!(text, "\n    octets {octets:?} end {end:?}")?;
-    write!(text, "\n    times {:?} {:?}", held.first(), held.last())?;
-    write!(
-        text,
-        "\n    compression {:?}\n    {recorder:?}",
-        held.compression()
-    )?;
-    write!(text, "\n    peers {}", held.peers().len())?;
+    push_ends(&mut text, held)?;
     push_peers(&mut text, held)?;
     Ok(text)
 }

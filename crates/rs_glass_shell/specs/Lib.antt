@@ -1,0 +1,4 @@
+pub mod Files
+pub mod Lines
+pub mod Named
+pub mod Status

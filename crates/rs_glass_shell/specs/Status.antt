@@ -1,0 +1,26 @@
+-- The statuses with which the program ends where a question isn't answered (docs/LOOKING_GLASS.md, "Statuses and
+-- texts").
+use Rattle.std.specs.Prelude.{ℕ}
+use Rattle.rs_glass_shell.specs.declared.unanswered.Unanswered.{Unanswered}
+use Rattle.rs_glass_shell.specs.declared.unanswered.Unanswered.TheVariants.{Words, Setup, NoPeer, SeveralPeers, Unread}
+use Rattle.rs_glass_shell.specs.declared.unanswered.Unanswered.TheVariants.{Unsettled, Output, Memory}
+use Rattle.rs_host.specs.Status.{failed, out_of_memory, refused, setup_status, words_status}
+use Rattle.rs_host.specs.declared.unready.Unready.{Unready}
+use Rattle.rs_host.specs.declared.unready.Unready.TheVariants as unready
+
+-- the status of each way to stop short
+abbrev pub status_of : Unanswered → ℕ
+status_of (Words fault) = words_status fault
+status_of (Setup fault) = setup_status fault
+status_of (NoPeer name) = refused
+status_of (SeveralPeers word) = refused
+status_of (Unread path) = failed
+status_of (Unsettled name) = failed
+status_of Output = failed
+status_of Memory = out_of_memory
+
+-- what isn't ready before an answer, as a reason for which there is none
+abbrev pub unanswered_by : Unready → Unanswered
+unanswered_by (unready.Setup fault) = Setup fault
+unanswered_by (unready.Unread path) = Unread path
+unanswered_by unready.Memory = Memory

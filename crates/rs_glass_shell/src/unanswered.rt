@@ -1,0 +1,88 @@
+//! Why a question isn't answered, and with which status the program ends then.
+
+ghost use Rattle.std.specs.Prelude.{◌≡◌};
+ghost use Rattle.rs_glass_shell.specs.Files.{EndsReading};
+ghost use Rattle.rs_glass_shell.specs.Status.{status_of, unanswered_by};
+
+use rs_glass::GlassFault;
+use rs_host::{FAILED, OUT_OF_MEMORY, REFUSED, Unready, WordsFault, setup_status, words_status};
+use rs_setup::{Setup, SetupFault};
+use std::alloc::{AllocError, Global};
+
+/// Why a question isn't answered.
+#[derive(Drop)]
+pub enum Unanswered {
+    /// Help or the version was asked for, or the command line is refused, with this text.
+    Words(WordsFault),
+    /// The configuration is refused.
+    Setup(SetupFault),
+    /// No peer of the configuration has this name, address or AS number.
+    NoPeer(String),
+    /// Several peers of the configuration have this AS number.
+    SeveralPeers(String),
+    /// The file at this path can't be read.
+    Unread(String),
+    /// Not all changes of the peer of this name are known to be in the tables.
+    Unsettled(String),
+    /// Standard output can't be written.
+    Output,
+    /// Memory was refused.
+    Memory,
+}
+
+impl Unanswered {
+    /// What ends the reading of the recorded files of a setup: a file that can't be read is named, unless memory for
+    /// that is refused.
+    pub fn by_reading(alloc: Global, fault: GlassFault, setup: &Setup) -> Unanswered
+        ensures { EndsReading fault setup.now result }
+    {
+        match fault {
+            GlassFault::Memory => Unanswered::Memory,
+            GlassFault::Read(peer) => match setup.files.get(peer) {
+                Some(path) => Unanswered::from(Unready::by_path(alloc, path)),
+                None => Unanswered::Memory,
+            },
+        }
+    }
+
+    /// The status with which the program ends. 0: help or the version was asked for. 1: the command line or the
+    /// configuration is refused. 2: a file or a device failed. 3: memory was refused.
+    pub fn status(&self) -> u8
+        ensures { result ≡ status_of self.now }
+    {
+        match self {
+            Unanswered::Words(fault) => words_status(fault),
+            Unanswered::Setup(fault) => setup_status(fault),
+            Unanswered::NoPeer(_) => REFUSED,
+            Unanswered::SeveralPeers(_) => REFUSED,
+            Unanswered::Unread(_) => FAILED,
+            Unanswered::Unsettled(_) => FAILED,
+            Unanswered::Output => FAILED,
+            Unanswered::Memory => OUT_OF_MEMORY,
+        }
+    }
+}
+
+impl From<AllocError> for Unanswered {
+    fn from(_refused: AllocError) -> Unanswered {
+        Unanswered::Memory
+    }
+}
+
+impl From<WordsFault> for Unanswered {
+    fn from(fault: WordsFault) -> Unanswered {
+        Unanswered::Words(fault)
+    }
+}
+
+impl From<Unready> for Unanswered {
+    ghost from_gives = { λ unready unanswered. unanswered ≡ unanswered_by unready };
+
+    fn from(unready: Unready) -> Unanswered {
+        match unready {
+            Unready::Setup(fault) => Unanswered::Setup(fault),
+            Unready::Unread(path) => Unanswered::Unread(path),
+            Unready::Memory => Unanswered::Memory,
+        }
+    }
+}

@@ -1,0 +1,25 @@
+-- One file more, which hasn't failed either.
+use Rattle.std.proofs.Common.{◌≡◌, ◌+◌, ◌<◌, ◌^◌, ◌-◌, All, List, [], ◌∷◌, ◌++◌, length, length-append, ap, arith, rules}
+use Rattle.std.proofs.lemmas.List.Elements.{All-push}
+use Rattle.rs_host.proofs.files.open_files.Goals as goal
+
+all-one_more : {X : Type 0} (xs : List X) (x : X) (P : X → Type 0) → All P xs → P x → All P (xs ++ x ∷ [])
+all-one_more xs x P = All-push P xs x
+
+pub loop-path-preserved : goal.loop-path-preserved
+loop-path-preserved g c =
+    let pushed : c.push.new.self.items ≡ c.loop-path.files.items ++ c.in-Ok.file ∷ [] = search rules in
+    let fresh : c.in-Ok.file.reader.failures + c.in-Ok.file.refused < 2 ^ 64 - 1 = search rules in
+    record {
+      one_for_each = omega (
+        arith,
+        ap length pushed,
+        length-append c.loop-path.files.items (c.in-Ok.file ∷ []),
+        c.loop-path.invariant.one_for_each,
+      );
+      no_failure = rw pushed (all-one_more c.loop-path.files.items c.in-Ok.file (λ file. file.reader.failures + file.refused < 2 ^ 64 - 1)
+          c.loop-path.invariant.no_failure fresh);
+    }
+
+pub returns-clause-one_for_each : goal.returns-clause-one_for_each
+returns-clause-one_for_each g c = search rules

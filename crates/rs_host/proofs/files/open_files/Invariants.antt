@@ -1,0 +1,8 @@
+use Rattle.std.proofs.Common.{◌≡◌, ◌+◌, ◌<◌, ◌^◌, ◌-◌, All, length}
+use Rattle.rs_host.proofs.files.open_files.Given as goal
+
+abbrev pub invariant-loop-path : goal.invariant-loop-path
+invariant-loop-path g l = record {
+  one_for_each : length l.files.items ≡ l.path-index;
+  no_failure : All (λ file. file.reader.failures + file.refused < 2 ^ 64 - 1) l.files.items;
+}

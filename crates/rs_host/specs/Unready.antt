@@ -1,0 +1,16 @@
+-- What a fault of a file keeps a program from (docs/MANUAL.md, "Statuses"); ours.
+use Rattle.std.specs.Prelude.{◌≡◌, ⊤, ℕ, List, string_bytes}
+use Rattle.rs_host.specs.declared.fault.FileFault.{FileFault}
+use Rattle.rs_host.specs.declared.fault.FileFault.TheVariants as file
+use Rattle.rs_host.specs.declared.unready.Unready.{Unready}
+use Rattle.rs_host.specs.declared.unready.Unready.TheVariants.{Unread, Memory}
+
+-- the file at this path is named, unless memory for that is refused
+abbrev pub NamesFile : List ℕ → Unready → Type 0
+NamesFile path (Unread named) = string_bytes named ≡ path
+NamesFile path Memory = ⊤
+NamesFile path unready = ⊥
+
+abbrev pub EndsAt : FileFault → List ℕ → Unready → Type 0
+EndsAt file.Unread path unready = NamesFile path unready
+EndsAt file.Memory path unready = unready ≡ Memory

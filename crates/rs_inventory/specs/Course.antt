@@ -1,0 +1,95 @@
+-- How the records of a peer begin and go on (RFC 4271, sections 4 and 8; RFC 6396, section 4.4.4). What shows that a
+-- session begins, is up or is lost is our choice.
+use Rattle.std.specs.Prelude.{ℕ, ◌&&◌, ◌||◌, not, Bool, true, false, if◌then◌else◌, List, [], ◌∷◌, Option, Some, None}
+use Rattle.std.specs.Prelude.{reverse}
+use Rattle.std.specs.Option.{option_map}
+use Rattle.rs_inventory.specs.declared.course.Course.{Course}
+use Rattle.rs_inventory.specs.declared.finding.News.{News}
+use Rattle.rs_inventory.specs.declared.finding.News.TheVariants as news
+
+-- what a record says of a peer, with its Timestamp
+abbrev pub Timed : Type 0
+Timed = ℕ × News
+
+-- a session begins with an OPEN or with a change to Established
+abbrev pub begins : News → Bool
+begins (news.Open identifier) = true
+begins (news.TwoOctetOpen identifier) = true
+begins news.Up = true
+begins other = false
+
+-- an UPDATE comes only of a session that is up (RFC 4271, section 8.2.2)
+abbrev pub shows_up : News → Bool
+shows_up (news.Update announced withdrawn) = true
+shows_up news.Up = true
+shows_up other = false
+
+-- a session is lost with a change from Established, and with a NOTIFICATION (RFC 4271, section 6.4)
+abbrev pub is_loss : News → Bool
+is_loss news.Notification = true
+is_loss news.Down = true
+is_loss other = false
+
+-- a recording that begins so misses nothing of the session: with an OPEN or a change of state
+abbrev pub is_start : News → Bool
+is_start (news.Open identifier) = true
+is_start (news.TwoOctetOpen identifier) = true
+is_start news.Up = true
+is_start news.Down = true
+is_start news.State = true
+is_start other = false
+
+-- the first of some records
+abbrev pub first_one : List Timed → Option Timed
+first_one [] = None
+first_one (one ∷ later) = Some one
+
+-- the recording begins in mid-session
+abbrev pub begins_inside : Option Timed → Bool
+begins_inside None = false
+begins_inside (Some one) = not (is_start one.1)
+
+-- ---- records, the last one first
+
+-- the session is up: since its last loss a record shows so
+abbrev pub is_up : List Timed → Bool
+is_up [] = false
+is_up (one ∷ earlier) = if is_loss one.1 then false else shows_up one.1 || is_up earlier
+
+-- when it began while it was up, the last time since its last loss
+abbrev pub again_at : List Timed → Option ℕ
+again_at [] = None
+again_at (one ∷ earlier) =
+    if is_loss one.1 then None else if begins one.1 && is_up earlier then Some one.0 else again_at earlier
+
+-- ---- all records of a peer
+
+unfoldable pub course_of : List Timed → Course
+course_of told = record {
+  first = option_map (λ t. t.0) (first_one told);
+  last = option_map (λ t. t.0) (first_one (reverse told));
+  inside = begins_inside (first_one told);
+  up = is_up (reverse told);
+  again = again_at (reverse told);
+}
+
+-- ---- one record more
+
+-- the first time, with one more
+abbrev pub first_with : ℕ → Option ℕ → ℕ
+first_with time None = time
+first_with time (Some first) = first
+
+-- whether the recording begins in mid-session, with one record more
+abbrev pub inside_with : News → Option ℕ → Bool → Bool
+inside_with one None inside = not (is_start one)
+inside_with one (Some first) inside = inside
+
+abbrev pub course_with : ℕ → News → Course → Course
+course_with time one c = record {
+  first = Some (first_with time c.first);
+  last = Some time;
+  inside = inside_with one c.first c.inside;
+  up = if is_loss one then false else shows_up one || c.up;
+  again = if is_loss one then None else if begins one && c.up then Some time else c.again;
+}

@@ -1,0 +1,94 @@
+//! What recorded files hold, as notes tell of it.
+//!
+//! Our choices: each file is read once more for its notes, however many peers name it, and of each message only the
+//! type. So a pipe gets no note, nor does a file that cannot be read.
+
+use crate::format::FRONT_LEN;
+use rs_host::{found_at, open_file};
+use rs_inventory::{Inventory, Peer, read_outline};
+use rs_mrt::{BoundedReader, Bounds};
+use std::alloc::AllocFailed;
+use std::fs::{File, Files};
+use std::io::Read;
+
+/// What the recorded file at a path holds, and its first octets.
+#[derive(Drop)]
+pub(crate) struct Contents<'a> {
+    /// The path.
+    pub(crate) path: &'a str,
+    /// The first octets.
+    pub(crate) front: Vec<u8>,
+    /// What its records hold.
+    pub(crate) held: Inventory,
+}
+
+/// What the files of these paths hold, each within bounds, without those that cannot be read again.
+pub(crate) fn contents_at<'a, R: AllocGlobal + Files>(
+    rt: &R,
+    paths: &'a [String],
+    bounds: Bounds,
+) -> Vec<Contents<'a>> {
+    let mut all = Vec::new(rt.alloc());
+    for path in paths {
+        if contents_of(&all, path).is_none() {
+            add_contents(rt, &mut all, path, bounds);
+        }
+    }
+    all
+}
+
+/// What the file at a path holds, where that is known.
+pub(crate) fn contents_of<'b, 'a>(all: &'b [Contents<'a>], path: &str) -> Option<&'b Contents<'a>> {
+    all.iter().find(|contents| contents.path == path)
+}
+
+// Adds what the file at a path holds, where it can be read again.
+fn add_contents<'a, R: AllocGlobal + Files>(
+    rt: &R,
+    all: &mut Vec<Contents<'a>>,
+    path: &'a str,
+    bounds: Bounds,
+) {
+    let Some(front) = front_at(rt, path) else {
+        return;
+    };
+    let Some(held) = outline_at(rt, path, bounds, None) else {
+        return;
+    };
+    let _: Result<(), AllocFailed<Contents<'a>>> = all.push(Contents { path, front, held });
+}
+
+/// The outline of the file at a path, where it gives its octets each time it is read. Where a recorder is given, no
+/// other one counts.
+pub(crate) fn outline_at<R: AllocGlobal + Files>(
+    rt: &R,
+    path: &str,
+    bounds: Bounds,
+    recorder: Option<Peer>,
+) -> Option<Inventory> {
+    if !is_file(rt, path) {
+        return None;
+    }
+    let file = open_file(rt, path).ok()?;
+    let reader = BoundedReader::new(rt.alloc(), file, bounds);
+    read_outline(rt.alloc(), reader, recorder).ok()
+}
+
+/// Whether the path names a file that gives its octets each time it is read.
+pub(crate) fn is_file<R: Files>(rt: &R, path: &str) -> bool {
+    match found_at(rt, path) {
+        Ok(Some(found)) => found.is_file(),
+        _ => false,
+    }
+}
+
+// The first octets of the file at a path, where it gives its octets each time it is read.
+fn front_at<R: AllocGlobal + Files>(rt: &R, path: &str) -> Option<Vec<u8>> {
+    if !is_file(rt, path) {
+        return None;
+    }
+    let mut front = Vec::new(rt.alloc());
+    let file = File::open(rt, path).ok()?;
+    file.take(FRONT_LEN as u64).read_to_end(&mut front).ok()?;
+    Some(front)
+}

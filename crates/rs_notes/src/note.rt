@@ -1,0 +1,147 @@
+//! The texts of notes.
+
+ghost use Rattle.std.specs.Prelude.{◌≡◌, IfOk, string_bytes};
+ghost use Rattle.std.specs.Int.{to_be_bytes, w32};
+ghost use Rattle.std.specs.Net.Addr.{ipv4_octets};
+ghost use Rattle.rs_notes.specs.Note.{count_text, cut_note, format_text, kind_text};
+ghost use Rattle.rs_notes.specs.Note.{loss_text, note_of, others_text, text_of, whose_text};
+
+use crate::cut::Cut;
+use crate::hint::Hint;
+use rs_host::{Utc, on_one_line};
+use rs_inventory::{Kind, Peer};
+use rs_mrt::Tail;
+use std::alloc::{AllocError, Global};
+use std::net::Ipv4Addr;
+
+/// The text of what is noted of a peer's recorded file, without a line break at its end: `name` is the peer's, `path`
+/// that of its file, whose control characters are escaped. Fails where memory is refused.
+pub fn note_line(
+    alloc: Global,
+    name: &str,
+    path: &str,
+    peer: Peer,
+    hint: Hint,
+) -> Result<String, AllocError>
+    ensures { IfOk result (λ line. string_bytes line ≡ note_of name.now path.now peer hint) }
+{
+    let text = text_of(alloc, path, peer, hint)?;
+    format!(in alloc; "peer {name}: {text}")
+}
+
+/// The text of the note on a recorded file that ends within a record, without a line break at its end: `path` is that
+/// of the file, whose control characters are escaped. Fails where memory is refused.
+pub fn cut_line(alloc: Global, path: &str, cut: Cut, tail: Tail) -> Result<String, AllocError>
+    ensures { IfOk result (λ line. string_bytes line ≡ cut_note path.now cut tail) }
+{
+    let path = on_one_line(alloc, path)?;
+    let (octet, len, loss) = (cut.octet, cut.len, loss_text(tail));
+    format!(in alloc;
+        "{path} ends within its last record, which begins at octet {octet} (octets {loss}: {len})"
+    )
+}
+
+// What becomes of the octets of a record that is cut short.
+fn loss_text(tail: Tail) -> &'static str
+    ensures { result.now ≡ loss_text tail }
+{
+    match tail {
+        Tail::Strict => "lost",
+        Tail::Lenient => "left out",
+    }
+}
+
+// What is noted.
+fn text_of(alloc: Global, path: &str, peer: Peer, hint: Hint) -> Result<String, AllocError>
+    ensures { IfOk result (λ text. string_bytes text ≡ text_of path.now peer hint) }
+{
+    match hint {
+        Hint::NotMrt(format) => format_text(alloc, path, format.name()),
+        Hint::NoRecord { others, kind } => {
+            let whose = whose_text(alloc, peer)?;
+            let count = count_text(alloc, others, kind)?;
+            others_text(alloc, path, &whose, &count)
+        }
+    }
+}
+
+// A file is of another format.
+fn format_text(alloc: Global, path: &str, format: &str) -> Result<String, AllocError>
+    ensures { IfOk result (λ text. string_bytes text ≡ format_text path.now format.now) }
+{
+    let path = on_one_line(alloc, path)?;
+    format!(in alloc; "{path} is {format}; only uncompressed MRT is read")
+}
+
+// A file's records are all of others.
+fn others_text(alloc: Global, path: &str, whose: &str, count: &str) -> Result<String, AllocError>
+    ensures { IfOk result (λ text. string_bytes text ≡ others_text path.now whose.now count.now) }
+{
+    let path = on_one_line(alloc, path)?;
+    format!(in alloc; "no record of {whose} in {path} ({count})")
+}
+
+// Whose records are looked for.
+fn whose_text(alloc: Global, peer: Peer) -> Result<String, AllocError>
+    ensures { IfOk result (λ text. string_bytes text ≡ whose_text peer) }
+{
+    let (address, asn) = (address_of(peer.address), peer.asn);
+    format!(in alloc; "{address} AS {asn}")
+}
+
+// How many records there are, and of what kind.
+fn count_text(alloc: Global, others: u64, kind: Option<Kind>) -> Result<String, AllocError>
+    ensures { IfOk result (λ text. string_bytes text ≡ count_text others kind) }
+{
+    let kind = kind_text(kind);
+    format!(in alloc; "{others} of others{kind}")
+}
+
+// An address as std has it.
+#[tactic(auto, unfolding(std::specs::Net::Addr::IsIpv4OfBits))]
+fn address_of(address: u32) -> Ipv4Addr
+    ensures { ipv4_octets result ≡ to_be_bytes w32 address }
+{
+    Ipv4Addr::from(address)
+}
+
+// What all records are, where one kind explains them.
+fn kind_text(kind: Option<Kind>) -> &'static str
+    ensures { result.now ≡ kind_text kind }
+{
+    match kind {
+        Some(Kind::TableDumpV2) => ", all TABLE_DUMP_V2",
+        Some(Kind::TwoOctet) => ", all of two-octet sessions",
+        Some(Kind::AddPath) => ", all of ADD-PATH sessions",
+        Some(Kind::Ipv6) => ", all of IPv6 peers",
+        _ => "",
+    }
+}
+
+/// The text of the note on a peer whose recording begins in mid-session. Fails where memory is refused.
+pub(crate) fn inside_line(alloc: Global, name: &str) -> Result<String, AllocError> {
+    format!(in alloc;
+        "peer {name}: the recording begins in mid-session; routes announced before are missing"
+    )
+}
+
+/// The text of the note on a peer whose session began again at a time. Fails where memory is refused.
+pub(crate) fn again_line(alloc: Global, name: &str, time: u32) -> Result<String, AllocError> {
+    let time = Utc(time);
+    format!(in alloc;
+        "peer {name}: a session began again at {time} UTC without a recorded loss; its earlier routes stay"
+    )
+}
+
+/// The text of the note on files of which no record names the server as their recorder; the first message of the file
+/// at a path names another one. Fails where memory is refused.
+pub(crate) fn server_line(
+    alloc: Global,
+    server: Peer,
+    path: &str,
+    recorder: Peer,
+) -> Result<String, AllocError> {
+    let (server, recorder) = (whose_text(alloc, server)?, whose_text(alloc, recorder)?);
+    let path = on_one_line(alloc, path)?;
+    format!(in alloc; "no record is of the server {server}; {path} is of {recorder}")
+}

@@ -1,0 +1,66 @@
+-- The routes on a prefix, peer after peer, and what is seen of each: for seen.rt and removing.rt.
+use Rattle.std.proofs.Common.{◌≡◌, ◌∙◌, sym, ap, refl, ℕ, ◌<◌, ◌+◌, Bool, true, false, ◌&&◌, List, [], ◌∷◌, ◌++◌, length, map, drop, drop-cons, add-one, append_assoc}
+use Rattle.std.specs.Prelude.{Option, None, Some, is_none, is_some}
+use Rattle.std.specs.List.{cons_option, enumerate_from, filter_map}
+use Rattle.std.specs.Option.{option_map}
+use Rattle.std.specs.FinMap.{get}
+use Rattle.std.proofs.lemmas.Bool.{and_left, and_right}
+use Rattle.std.proofs.lemmas.List.{map-append}
+use Rattle.rs_update.specs.IpPrefix.{IpPrefix}
+use Rattle.rs_choice.specs.Decision.{SentRoute}
+use Rattle.rs_choice.specs.Eligibility.{is_eligible}
+use Rattle.rs_choice.specs.Plan.{Plan}
+use Rattle.rs_table.specs.Content.{RibContent, TablesContent, nothing_held, rib_of}
+use Rattle.rs_table.specs.Table.{route_from, sent_by}
+use Rattle.rs_explain.specs.Reasons.{failed_condition}
+use Rattle.rs_explain.proofs.AgreementLemmas.{eligible_unless}
+use Rattle.rs_survey.specs.declared.seen.Seen.{Seen}
+use Rattle.rs_survey.specs.Findings.{flaw_of}
+use Rattle.rs_survey.specs.Seen.{IsSeen}
+
+-- the routes of the peers from one number on
+abbrev pub routes_from : IpPrefix → ℕ → List RibContent → List SentRoute
+routes_from prefix first ribs =
+    filter_map (λ (peer, rib). option_map (sent_by peer) (get rib.routes prefix)) (enumerate_from first ribs)
+
+pub routes_from-more : (tables : TablesContent) (prefix : IpPrefix) (peer : ℕ) → peer < length tables.ribs →
+    routes_from prefix peer (drop peer tables.ribs)
+    ≡ cons_option (route_from tables prefix peer) (routes_from prefix (peer + 1) (drop (peer + 1) tables.ribs))
+routes_from-more tables prefix peer within =
+    let rest : drop peer tables.ribs ≡ rib_of tables peer ∷ drop (peer + 1) tables.ribs =
+    rw (add-one, drop-cons tables.ribs peer nothing_held) refl in
+    ap (routes_from prefix peer) rest
+
+-- a route is eligible where no condition is found that it fails
+none-map : {A B : Type 0} (f : A → B) (o : Option A) → is_none (option_map f o) ≡ is_none o
+none-map f None = refl
+none-map f (Some x) = refl
+
+pub eligible_seen : (plan : Plan) (seen : Seen) → IsSeen plan seen →
+    is_eligible plan seen.route.peer seen.route.attributes.now ≡ is_none seen.flaw
+eligible_seen plan seen is =
+    eligible_unless plan seen.route.peer seen.route.attributes.now is.known
+    ∙ sym (none-map flaw_of (failed_condition plan seen.route.peer seen.route.attributes.now)) ∙ ap is_none (sym is.flaw)
+
+pub some_not_none : {A : Type 0} (o : Option A) → is_some o ≡ true → is_none o ≡ false
+some_not_none None is = absurd (cc is)
+some_not_none (Some x) is = refl
+
+pub not_some_none : {A : Type 0} (o : Option A) → is_some o ≡ false → is_none o ≡ true
+not_some_none None is = refl
+not_some_none (Some x) is = absurd (cc is)
+
+pub first_fails : (x y z : Bool) → x ≡ false → false ≡ (x && (y && z))
+first_fails x y z fails = sym (and_left x (y && z) fails)
+
+pub second_fails : (x y z : Bool) → y ≡ false → false ≡ (x && (y && z))
+second_fails x y z fails = sym (and_right x (y && z) (and_left y z fails))
+
+pub third_decides : (x y z : Bool) → x ≡ true → y ≡ true → z ≡ (x && (y && z))
+third_decides x y z first second = rw (first, second) refl
+
+pub next_listed : {A B : Type 0} (f : A → B) (items : List A) (all rest total : List B) (one : A) → map f items ++ all ≡ total →
+    all ≡ f one ∷ rest → map f (items ++ one ∷ []) ++ rest ≡ total
+next_listed f items all rest total one listed is =
+    ap (λ front. front ++ rest) (map-append f items (one ∷ [])) ∙ append_assoc (map f items) (f one ∷ []) rest
+    ∙ ap (λ later. map f items ++ later) (sym is) ∙ listed

@@ -1,0 +1,13 @@
+use Rattle.std.specs.Prelude.{map}
+use Rattle.std.proofs.Common.{take}
+use Rattle.std.specs.List.{flat_map}
+use Rattle.rs_survey.specs.Grows.{Grows}
+use Rattle.rs_survey.specs.Seen.{sent_of_seen}
+use Rattle.rs_survey.specs.Summary.{to_client}
+use Rattle.rs_survey.proofs.counting.count_for.Given as goal
+
+-- what is found of the routes so far is counted
+abbrev pub invariant-loop-one : goal.invariant-loop-one
+invariant-loop-one l =
+    Grows l.initial.tally l.tally
+    (flat_map (to_client l.plan (map sent_of_seen l.seen) l.client) (map sent_of_seen (take l.one-index l.seen)))

@@ -1,0 +1,58 @@
+-- What a summary counts on a prefix, and which findings are the same (our choice).
+use Rattle.std.specs.Prelude.{◌<◌, ℕ, ◌==◌, ◌&&◌, Bool}
+use Rattle.rs_choice.specs.declared.step.Step.{Step}
+use Rattle.rs_choice.specs.declared.step.Step.TheVariants.{Preference, PathLength, Origin, Med, Identifier, Address}
+use Rattle.rs_explain.specs.declared.condition.Condition.{Condition}
+use Rattle.rs_explain.specs.declared.condition.Condition.TheVariants as conditions
+use Rattle.rs_survey.specs.declared.finding.Finding.{Finding}
+use Rattle.rs_survey.specs.declared.finding.Finding.TheVariants.{Left, Ineligible, Refused, Lost, Best, Removed, Hidden}
+use Rattle.rs_survey.specs.declared.finding.Flaw.{Flaw}
+use Rattle.rs_survey.specs.declared.finding.Flaw.TheVariants.{OwnAs, ServerAsNextHop, NextHopOffExchange}
+use Rattle.rs_survey.specs.declared.finding.Key.{Key}
+
+-- a condition without its value
+abbrev pub flaw_of : Condition → Flaw
+flaw_of (conditions.OwnAs asn) = OwnAs
+flaw_of (conditions.ServerAsNextHop address) = ServerAsNextHop
+flaw_of (conditions.NextHopOffExchange address) = NextHopOffExchange
+
+-- the conditions and the steps by their places in the standard's order
+abbrev pub flaw_number : Flaw → ℕ
+flaw_number OwnAs = 0
+flaw_number ServerAsNextHop = 1
+flaw_number NextHopOffExchange = 2
+
+abbrev pub step_number : Step → ℕ
+step_number Preference = 0
+step_number PathLength = 1
+step_number Origin = 2
+step_number Med = 3
+step_number Identifier = 4
+step_number Address = 5
+
+-- three numbers that tell a finding from every other one: of its kind, and what it is about
+abbrev pub key_of : Finding → Key
+key_of (Left sender) = record { kind = 0; first = sender; second = 0 }
+key_of (Ineligible sender flaw) = record { kind = 1; first = sender; second = flaw_number flaw }
+key_of (Refused client sender) = record { kind = 2; first = client; second = sender }
+key_of (Lost client sender) = record { kind = 3; first = client; second = sender }
+key_of (Best client sender) = record { kind = 4; first = client; second = sender }
+key_of (Removed step) = record { kind = 5; first = step_number step; second = 0 }
+key_of Hidden = record { kind = 6; first = 0; second = 0 }
+
+-- two findings are the same
+abbrev pub is_same_key : Key → Key → Bool
+is_same_key one other = one.kind == other.kind && (one.first == other.first && one.second == other.second)
+
+abbrev pub is_same : Finding → Finding → Bool
+is_same one other = is_same_key (key_of one) (key_of other)
+
+-- its peers are of an exchange of so many peers
+abbrev pub IsKnown : ℕ → Finding → Type 0
+IsKnown peers (Left sender) = sender < peers
+IsKnown peers (Ineligible sender flaw) = sender < peers
+IsKnown peers (Refused client sender) = (client < peers) × (sender < peers)
+IsKnown peers (Lost client sender) = (client < peers) × (sender < peers)
+IsKnown peers (Best client sender) = (client < peers) × (sender < peers)
+IsKnown peers (Removed step) = Unit {0}
+IsKnown peers Hidden = Unit {0}

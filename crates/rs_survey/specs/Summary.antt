@@ -1,0 +1,79 @@
+-- The findings of a summary: on one prefix, and on all (RFC 4271, section 9.1; RFC 7947, sections 2.3 and 2.3.1).
+use Rattle.std.specs.Prelude.{ℕ, ◌==◌, ◌&&◌, ◌||◌, ◌++◌, Bool, false, not, if◌then◌else◌, List, [], ◌∷◌, length}
+use Rattle.std.specs.Prelude.{Option, None, Some, is_some}
+use Rattle.std.specs.List.{flat_map, list_any, range_with_len}
+use Rattle.std.specs.Option.{option_map, option_map_or, option_to_list}
+use Rattle.rs_update.specs.IpPrefix.{IpPrefix}
+use Rattle.rs_choice.specs.declared.candidate.Standing.{Standing}
+use Rattle.rs_choice.specs.declared.step.Step.{Step}
+use Rattle.rs_choice.specs.Clients.{candidates_among, chosen_for, eligible_among, is_sent_to}
+use Rattle.rs_choice.specs.Decision.{SentRoute, beats, choice, decision_steps, standing_of, unbeaten}
+use Rattle.rs_choice.specs.Plan.{Plan}
+use Rattle.rs_table.specs.Content.{TablesContent}
+use Rattle.rs_table.specs.Table.{is_from, prefixes_held, routes_on}
+use Rattle.rs_explain.specs.Reasons.{failed_condition}
+use Rattle.rs_survey.specs.declared.finding.Finding.{Finding}
+use Rattle.rs_survey.specs.declared.finding.Finding.TheVariants.{Left, Ineligible, Refused, Lost, Best, Removed, Hidden}
+use Rattle.rs_survey.specs.Findings.{flaw_of}
+
+-- the step that removes a member of a set: the first at which some member that the steps before left beats it
+unfoldable pub removed_at : {M : Type 0} → (M → Standing) → List Step → List M → M → Option Step
+removed_at standing [] set one = None
+removed_at standing (step ∷ later) set one =
+    if list_any (λ other. beats step (standing other) (standing one)) set then Some step
+    else removed_at standing later (unbeaten standing step set) one
+
+-- of a route by itself: it is left, and may fail a condition of eligibility
+abbrev pub of_route : Plan → SentRoute → List Finding
+of_route plan route =
+    Left route.peer ∷ option_to_list (option_map (λ flaw. Ineligible route.peer flaw)
+    (option_map flaw_of (failed_condition plan route.peer route.attributes)))
+
+-- of a candidate of a client: the client gets it, or a step removes it
+abbrev pub of_candidate : Plan → List SentRoute → ℕ → SentRoute → List Finding
+of_candidate plan routes client route =
+    if is_from route.peer (chosen_for plan client routes) then Best client route.peer ∷ []
+    else Lost client route.peer ∷ option_to_list (option_map (λ step. Removed step)
+    (removed_at (standing_of plan) decision_steps (candidates_among plan client routes) route))
+
+-- of a route to a client, of all routes on the prefix: nothing of the client's own route nor of an ineligible one
+abbrev pub to_client : Plan → List SentRoute → ℕ → SentRoute → List Finding
+to_client plan routes client route =
+    if (client == route.peer) || is_some (failed_condition plan route.peer route.attributes) then []
+    else if not (is_sent_to plan client route) then Refused client route.peer ∷ []
+    else of_candidate plan routes client route
+
+unfoldable pub for_client : Plan → List SentRoute → ℕ → List Finding
+for_client plan routes client = flat_map (to_client plan routes client) routes
+
+-- the choice if there were one decision for all clients: among all eligible routes
+abbrev pub shared_choice : Plan → List SentRoute → Option SentRoute
+shared_choice plan routes = choice (standing_of plan) (eligible_among plan routes)
+
+-- a client gets a route, and it would get none if only that choice were sent, to those to which it is permitted
+abbrev pub is_hidden_from : Plan → List SentRoute → ℕ → Bool
+is_hidden_from plan routes client =
+    is_some (chosen_for plan client routes)
+    && not (option_map_or (is_sent_to plan client) (shared_choice plan routes) false)
+
+abbrev pub all_clients : Plan → List ℕ
+all_clients plan = range_with_len 0 (length plan.peers)
+
+unfoldable pub is_hiding : Plan → List SentRoute → Bool
+is_hiding plan routes = list_any (is_hidden_from plan routes) (all_clients plan)
+
+abbrev pub hidden_if : Bool → List Finding
+hidden_if hides = if hides then Hidden ∷ [] else []
+
+-- of the routes on one prefix
+unfoldable pub findings_among : Plan → List SentRoute → List Finding
+findings_among plan routes =
+    flat_map (of_route plan) routes ++ (flat_map (for_client plan routes) (all_clients plan)
+    ++ hidden_if (is_hiding plan routes))
+
+unfoldable pub findings_on : TablesContent → IpPrefix → List Finding
+findings_on tables prefix = findings_among tables.plan (routes_on prefix tables.ribs)
+
+-- of all prefixes on which some peer has left a route
+unfoldable pub findings_of : TablesContent → List Finding
+findings_of tables = flat_map (findings_on tables) (prefixes_held tables.ribs)

@@ -1,0 +1,93 @@
+//! What a summary counts on each prefix.
+
+ghost use Rattle.std.specs.Prelude.{◌≡◌};
+ghost use Rattle.rs_survey.specs.Findings.{flaw_of, key_of, step_number};
+
+use rs_choice::Step;
+use rs_explain::Condition;
+
+/// A condition of eligibility that a route fails.
+#[derive(Clone, Copy, Debug, PartialEq, Eq)]
+pub enum Flaw {
+    /// The server's AS is in its AS_PATH (RFC 4271, section 9.1.2).
+    OwnAs,
+    /// Its NEXT_HOP is the server's address (RFC 4271, section 6.3).
+    ServerAsNextHop,
+    /// Its NEXT_HOP is neither the sender's address nor inside the subnet of the exchange (RFC 4271, section 6.3).
+    NextHopOffExchange,
+}
+
+/// What a summary counts on a prefix. Peers stand by their numbers.
+#[derive(Clone, Copy, Debug, PartialEq, Eq)]
+pub enum Finding {
+    /// This peer has left a route.
+    Left(usize),
+    /// The route of this peer is not eligible: the first condition that it fails.
+    Ineligible(usize, Flaw),
+    /// Export policy refuses to this client, which is given first, the eligible route of this sender.
+    Refused(usize, usize),
+    /// This client, which is given first, gets another route than the candidate of this sender.
+    Lost(usize, usize),
+    /// This client, which is given first, gets the route of this sender.
+    Best(usize, usize),
+    /// This step of the decision process removes a candidate of some client.
+    Removed(Step),
+    /// Some client gets a route now, and would get none if there were one decision for all clients.
+    Hidden,
+}
+
+impl Flaw {
+    // The condition without its value.
+    pub(crate) fn of(condition: Condition) -> Flaw
+        ensures { result ≡ flaw_of condition }
+    {
+        match condition {
+            Condition::OwnAs(_) => Flaw::OwnAs,
+            Condition::ServerAsNextHop(_) => Flaw::ServerAsNextHop,
+            Condition::NextHopOffExchange(_) => Flaw::NextHopOffExchange,
+        }
+    }
+}
+
+// Three numbers that tell a finding from every other one: of its kind, and what it is about.
+#[derive(Clone, Copy)]
+pub(crate) struct Key {
+    pub(crate) kind: usize,
+    pub(crate) first: usize,
+    pub(crate) second: usize,
+}
+
+impl Finding {
+    // The numbers that tell it from others.
+    pub(crate) fn key(self) -> Key
+        ensures { result ≡ key_of self }
+    {
+        match self {
+            Finding::Left(sender) => make_key(0, sender, 0),
+            Finding::Ineligible(sender, flaw) => make_key(1, sender, flaw as usize),
+            Finding::Refused(client, sender) => make_key(2, client, sender),
+            Finding::Lost(client, sender) => make_key(3, client, sender),
+            Finding::Best(client, sender) => make_key(4, client, sender),
+            Finding::Removed(step) => make_key(5, step_number(step), 0),
+            Finding::Hidden => make_key(6, 0, 0),
+        }
+    }
+}
+
+// The key of these numbers.
+fn make_key(kind: usize, first: usize, second: usize) -> Key
+    ensures { result ≡ record { kind = kind; first = first; second = second } }
+{
+    Key {
+        kind,
+        first,
+        second,
+    }
+}
+
+// The place of a step in the decision process.
+fn step_number(step: Step) -> usize
+    ensures { result ≡ step_number step }
+{
+    step as usize
+}

@@ -1,0 +1,82 @@
+//! The routes on a prefix, each with what a summary asks of it: that is found once for all clients.
+
+ghost use Rattle.std.specs.Prelude.{◌≡◌, ◌<◌, ◌≤◌, IfOk, length, map};
+ghost use Rattle.std.specs.List.{All};
+ghost use Rattle.rs_choice.specs.Policy.{is_permitted};
+ghost use Rattle.rs_table.specs.PrefixRoutes.{AreRoutesOf, entry_of};
+ghost use Rattle.rs_table.specs.RouteView.{sent_route_of};
+ghost use Rattle.rs_table.specs.Table.{routes_on};
+ghost use Rattle.rs_survey.specs.Seen.{IsSeen, sent_of_seen};
+
+use crate::finding::Flaw;
+use rs_choice::{Candidate, Exchange, MAX_PEERS, Standing};
+use rs_explain::failed_condition;
+use rs_table::{PrefixRoutes, Route, Tables};
+use std::alloc::{AllocError, Global};
+
+// A route with what is asked of it.
+#[derive(Clone, Copy)]
+pub(crate) struct Seen<'a> {
+    pub(crate) route: Route<'a>,
+    // What the decision process asks of it.
+    pub(crate) standing: Standing,
+    // The first condition of eligibility that it fails.
+    pub(crate) flaw: Option<Flaw>,
+    // Whether it has a community (0, AS): without one only its sender's name can be refused.
+    pub(crate) restricted: bool,
+}
+
+// The routes on a prefix, in the order of the peers.
+pub(crate) fn routes_seen<'a>(
+    alloc: Global,
+    tables: &Tables,
+    on: &PrefixRoutes<'a>,
+) -> Result<Vec<Seen<'a>>, AllocError>
+    requires { AreRoutesOf tables.now (entry_of on.now) }
+    ensures routes { IfOk result (λ seen. map sent_of_seen seen.items ≡ routes_on on.now.prefix tables.now.ribs) }
+    ensures seen { IfOk result (λ seen. All (IsSeen tables.now.plan) seen.items) }
+    ensures bound { IfOk result (λ seen. length seen.items ≤ MAX_PEERS) }
+{
+    let mut seen = Vec::with_capacity(alloc, tables.count())?;
+    for peer in 0..tables.count() {
+        if let Some(route) = on.route(peer) {
+            seen.push(route_seen(tables.plan(), peer, route))?;
+        }
+    }
+    Ok(seen)
+}
+
+// The route of a peer, with what is asked of it.
+fn route_seen<'a>(plan: &Exchange, peer: usize, route: Route<'a>) -> Seen<'a>
+    requires known { peer < length plan.now.peers }
+    requires own { route.peer ≡ peer }
+    ensures route { sent_of_seen result ≡ sent_route_of route.entry }
+    ensures seen { IsSeen plan.now result }
+{
+    Seen {
+        route,
+        standing: plan.standing(&Candidate {
+            peer,
+            attributes: route.attributes,
+        }),
+        flaw: failed_condition(plan, peer, route.attributes).map(Flaw::of),
+        restricted: route.attributes.has_community_of(0),
+    }
+}
+
+// Whether export policy permits a route to another peer as its client. Most routes have no community (0, AS), and then
+// no other community is looked at.
+pub(crate) fn permits(plan: &Exchange, client: usize, one: &Seen) -> bool
+    requires client_known { client < length plan.now.peers }
+    requires seen { IsSeen plan.now one.now }
+    ensures { result ≡ is_permitted plan.now client one.now.route.peer one.now.route.attributes.now }
+{
+    let peer = one.route.peer;
+    if one.restricted {
+        return plan.permits(client, peer, one.route.attributes);
+    }
+    if client == peer {
+        return false;
+    }
+    !plan.refuses(client, peer)
+}
