@@ -2,3 +2,6 @@ pub mod PrefixLemmas
 pub mod UpdateLemmas
 pub mod RecordLemmas
 pub mod SaidLemmas
+pub mod AddLemmas
+pub mod WritingLemmas
+pub mod TableLemmas

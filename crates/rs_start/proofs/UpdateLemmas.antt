@@ -177,7 +177,7 @@ module _ (section nlri : List ℕ) (fits : fixed_len + length section + length n
       ≡ Ok (IsUpdate (record { withdrawn = []; attributes = Some attributes; nlri = prefixes }))
   message_by_either before agree errors attributes prefixes some lists faultless says =
       let said : message_of (update_spelling section nlri)
-          ≡ Ok (IsUpdate (record { withdrawn = []; attributes = Some attributes; nlri = prefixes })) =
+      ≡ Ok (IsUpdate (record { withdrawn = []; attributes = Some attributes; nlri = prefixes })) =
       message_is prefixes some lists
       ∙ ap (λ fault. update_message (announces_by fault (attributes_of (items_of section)) prefixes)) faultless
       ∙ ap (λ found. update_message (announces_by None found prefixes)) says in

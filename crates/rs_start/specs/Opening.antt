@@ -1,11 +1,11 @@
 -- The beginning of a peer's session that a table gives: the session comes up, and UPDATEs announce the routes that the
 -- peer has in the table (RFC 6396, sections 4.4.3 and 4.4.4; RFC 4271, section 4.3).
 use Rattle.std.specs.Prelude.{◌≡◌, ℕ, ◌+◌, ◌^◌, ◌<◌, ◌≤◌, Bool, false, List, [], ◌∷◌, ◌++◌, length, take, map}
-use Rattle.std.specs.Prelude.{Option, Some, None, replicate}
+use Rattle.std.specs.Prelude.{Option, Some, None, replicate, nat_lt, if◌then◌else◌}
 use Rattle.std.specs.List.{flat_map, AllByRecursion}
 use Rattle.byteorder.specs.Endian.{big_bytes}
 use Rattle.rs_mrt.specs.Entry.{type_bgp4mp, subtype_message_as4, subtype_state_change_as4, family_ipv4}
-use Rattle.rs_mrt.specs.Record.{MrtRecord, record_spelling}
+use Rattle.rs_mrt.specs.Record.{MrtRecord, header_spelling, record_spelling}
 use Rattle.rs_session.specs.Change.{Change}
 use Rattle.rs_session.specs.UpdateChanges.{announces}
 use Rattle.rs_update.specs.Gathered.{attributes_of}
@@ -13,6 +13,10 @@ use Rattle.rs_update.specs.IpPrefix.{IpPrefix, IsPrefix}
 use Rattle.rs_update.specs.PathAttributes.{PathAttributes}
 use Rattle.rs_update.specs.Prefix.{octets_for, is_multicast}
 use Rattle.rs_update.specs.Section.{items_of, section_fault}
+use Rattle.rs_update.specs.declared.fault.UpdateFault.{UpdateFault}
+use Rattle.rs_start.specs.declared.added.Added.{Added}
+use Rattle.rs_start.specs.declared.added.Added.TheVariants.{Written, LeftOut}
+use Rattle.rs_start.specs.declared.added.Reason.TheVariants.{Multicast, TooLong, AttributesAtFault}
 use Rattle.rs_start.specs.declared.start.Start.{Start}
 
 -- ---- what is announced
@@ -53,11 +57,14 @@ nlri_spelling prefixes = flat_map spelled_prefix prefixes
 abbrev pub fixed_len : ℕ
 fixed_len = 23
 
--- Marker, Length, Type; no Withdrawn Routes; path attributes; NLRI
+-- Marker, Length, Type; no Withdrawn Routes; how many octets of path attributes
+abbrev pub update_head : ℕ → ℕ → List ℕ
+update_head section_len nlri_len =
+    replicate 16 0xFF ++ big_bytes 2 (fixed_len + section_len + nlri_len) ++ 2 ∷ (big_bytes 2 0 ++ big_bytes 2 section_len)
+
+-- the same, path attributes, NLRI
 unfoldable pub update_spelling : List ℕ → List ℕ → List ℕ
-update_spelling section nlri =
-    replicate 16 0xFF ++ big_bytes 2 (fixed_len + length section + length nlri) ++ 2 ∷ (
-    big_bytes 2 0 ++ big_bytes 2 (length section) ++ section ++ nlri)
+update_spelling section nlri = update_head (length section) (length nlri) ++ section ++ nlri
 
 abbrev pub announcing_spelling : Announcing → List ℕ
 announcing_spelling update = update_spelling update.section (nlri_spelling update.prefixes)
@@ -90,6 +97,10 @@ parties start =
     big_bytes 4 start.peer.asn ++ big_bytes 4 start.local.asn ++ big_bytes 2 0 ++ big_bytes 2 family_ipv4
     ++ big_bytes 4 start.peer.address ++ big_bytes 4 start.local.address
 
+-- the octets of a record before its states or its message
+abbrev pub record_head : Start → ℕ → ℕ → List ℕ
+record_head start subtype body_len = header_spelling start.time type_bgp4mp subtype body_len ++ parties start
+
 -- from OpenConfirm to Established
 abbrev pub up_record : Start → MrtRecord
 up_record start = record {
@@ -118,3 +129,36 @@ updates_spelling start updates = flat_map (λ update. record_spelling (announcin
 -- the beginning of a session: it comes up, and these UPDATEs follow
 abbrev pub opening_spelling : Start → List Announcing → List ℕ
 opening_spelling start updates = record_spelling (up_record start) ++ updates_spelling start updates
+
+-- ---- an entry of a table
+
+-- the attributes that a section gives announced routes, where it has no fault (RFC 4271, section 6.3)
+abbrev pub attributes_by : Option UpdateFault → List ℕ → Option PathAttributes
+attributes_by None section = attributes_of (items_of section)
+attributes_by (Some fault) section = None
+
+abbrev pub sound_attributes : List ℕ → Option PathAttributes
+sound_attributes section = attributes_by (section_fault section) section
+
+-- what becomes of an entry by its attributes
+abbrev pub added_by : Option PathAttributes → Added
+added_by None = LeftOut AttributesAtFault
+added_by (Some attributes) = Written
+
+-- What becomes of an entry, by its prefix and path attributes: it is written, or left out, since the prefix is multicast,
+-- since no message holds the attributes beside the prefix, or since the attributes are at fault; in this order (our
+-- choice).
+abbrev pub added_of : IpPrefix → List ℕ → Added
+added_of prefix section =
+    if is_multicast prefix then LeftOut Multicast
+    else if nat_lt 4096 (fixed_len + length section + length (spelled_prefix prefix)) then LeftOut TooLong
+    else added_by (sound_attributes section)
+
+-- the route that is written, if it is
+abbrev pub route_with : Option PathAttributes → IpPrefix → List TableRoute
+route_with None prefix = []
+route_with (Some attributes) prefix = record { prefix = prefix; attributes = attributes } ∷ []
+
+abbrev pub route_by : Added → IpPrefix → List ℕ → List TableRoute
+route_by Written prefix section = route_with (sound_attributes section) prefix
+route_by (LeftOut reason) prefix section = []
