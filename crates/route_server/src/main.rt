@@ -10,7 +10,7 @@ ghost use Rattle.std.specs.Prelude.{◌≡◌, ◌<◌, ◌≤◌, All, Some, If
 ghost use Rattle.rs_program.specs.Texts.{CanTell};
 
 use rs_host::{Options, configuration};
-use rs_mrt::{IoWriter, Read};
+use rs_mrt::{Bounds, IoWriter, Read};
 use rs_notes::{Close, Ending, Subject, print_notes};
 use rs_program::{
     Cleared, Ended, FolderOutlet, Progress, command_line, end, progress_on, ready_files, run_status,
@@ -71,18 +71,25 @@ where
     let files = ready_files(rt, setup, options, &progress)?;
     let ends = run_over(rt, setup, options, files, &progress)?;
     let noted = match endings_of(rt.alloc(), &ends) {
-        Ok(endings) => print_notes(
-            rt,
-            "route_server",
-            Subject {
-                setup,
-                bounds: options.bounds,
-                endings: Some(&endings),
-            },
-        ),
+        Ok(endings) => note(rt, setup, options.bounds, &endings),
         Err(_) => false,
     };
     Ok(!noted && all_close_at_end(&ends))
+}
+
+// Prints the notes on a run in which the session of each peer ended so. Answers whether there is a note.
+fn note<'a, R: AllocGlobal + Files + Eprint>(
+    rt: &R,
+    setup: &'a Setup,
+    bounds: Bounds,
+    endings: &'a [Ending],
+) -> bool {
+    let subject = Subject {
+        setup,
+        bounds,
+        endings: Some(endings),
+    };
+    print_notes(rt, "route_server", subject)
 }
 
 // Runs over opened files: dumps go to the folder of the options, the report to standard output. Answers how the session

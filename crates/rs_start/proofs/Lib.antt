@@ -1,0 +1,7 @@
+pub mod PrefixLemmas
+pub mod UpdateLemmas
+pub mod RecordLemmas
+pub mod SaidLemmas
+pub mod AddLemmas
+pub mod WritingLemmas
+pub mod TableLemmas

@@ -1,0 +1,7 @@
+-- What is read of a table, without where it lies in memory.
+use Rattle.std.specs.Prelude.{ℕ, List}
+use Rattle.rs_start.specs.declared.rib.RibEntry.{RibEntry}
+use Rattle.rs_start.specs.Table.{TableEntry}
+
+abbrev pub entry_of : RibEntry → TableEntry
+entry_of entry = record { peer = entry.peer; time = entry.time; section = entry.section.now }

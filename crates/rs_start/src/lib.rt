@@ -1,0 +1,30 @@
+//! The beginning of each peer's session, made of a table that a collector dumped (RFC 6396, section 4.3).
+//!
+//! Reading order: `start`, `added`, `fault`, `spelling`, `held`, `writer` (a session that is written); `index`, `rib`,
+//! `table_reader` (a table that is read); `counts`, `sessions` (a table read into sessions), `laws`.
+//! Standards: RFC 6396, sections 2, 4.3.1, 4.3.2, 4.3.4, 4.4.3 and 4.4.4; RFC 4271, sections 4.1 and 4.3.
+#![tactic(auto)]
+
+mod added;
+mod counts;
+mod fault;
+mod held;
+mod index;
+mod laws;
+mod rib;
+mod sessions;
+mod spelling;
+mod start;
+mod table_reader;
+mod writer;
+
+pub use added::{Added, Reason};
+pub use counts::{Counts, LeftOut};
+pub use fault::{Broken, RoutesFault, StartFault, TableFault};
+pub use index::{Index, IndexPeer};
+pub use laws::a_session_begins_with_the_routes_of_the_table;
+pub use rib::RibEntry;
+pub use sessions::PeerSession;
+pub use start::Start;
+pub use table_reader::TableReader;
+pub use writer::SessionWriter;
