@@ -17,8 +17,8 @@ pub enum Condition {
     NextHopOffExchange(u32),
 }
 
-/// The first condition of eligibility that a route of the peer of number `peer` fails; none of an eligible route. It takes
-/// no memory.
+/// The first condition of eligibility that a route of the peer of number `peer` fails; none of an eligible route. It
+/// takes no memory.
 pub fn failed_condition(
     plan: &Exchange,
     peer: usize,

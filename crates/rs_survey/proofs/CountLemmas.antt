@@ -1,5 +1,6 @@
 -- What is found of a route to a client, case by case: for counting.rt.
-use Rattle.std.proofs.Common.{◌≡◌, ◌≢◌, ◌∙◌, sym, ap, refl, arith, ℕ, ◌<◌, ◌==◌, Bool, true, false, cond, ◌||◌, ◌&&◌, not, List, [], ◌∷◌, length}
+use Rattle.std.proofs.Common.{◌≡◌, ◌≢◌, ◌∙◌, sym, ap, refl, arith, ℕ, ◌<◌, ◌==◌, Bool, true, false, cond, ◌||◌, ◌&&◌, not, List, [], ◌∷◌}
+use Rattle.std.proofs.Common.{length}
 use Rattle.std.specs.Prelude.{Option, None, Some, IfSome, is_some, slice_get}
 use Rattle.std.specs.Option.{option_map, option_map_or, option_to_list}
 use Rattle.std.proofs.lemmas.Bool.{ne_eqb}
@@ -89,12 +90,14 @@ is_best_from plan peer best contender answer says is =
     says ∙ ap (λ (one : Option Contender). option_map_or (λ one. one.peer == peer) one false) is ∙ from-contender plan peer best
 
 -- it is a known peer's
-permitted_known : (plan : Plan) (client number : ℕ) (attributes : PathAttributes) → is_permitted plan client number attributes ≡ true → number < length plan.peers
+permitted_known : (plan : Plan) (client number : ℕ) (attributes : PathAttributes) → is_permitted plan client number attributes ≡ true →
+    number < length plan.peers
 permitted_known plan client number attributes permitted =
     by_peers (client == number) (slice_get plan.peers client) (slice_get plan.peers number) refl permitted
   where
     by_peers : (own : Bool) (one other : Option Peer) → slice_get plan.peers number ≡ other →
-        (not own && option_map_or (λ receiver. option_map_or (λ sender. is_permitted_from plan.local receiver sender attributes) other false)
+        (not own && option_map_or (λ receiver. option_map_or
+        (λ sender. is_permitted_from plan.local receiver sender attributes) other false)
         one false) ≡ true → number < length plan.peers
     by_peers true one other at is = absurd (cc is)
     by_peers false None other at is = absurd (cc is)

@@ -1,5 +1,6 @@
 -- Findings counted one after another: for the loops of counting.rt and summary_of.rt.
-use Rattle.std.proofs.Common.{◌≡◌, ◌∙◌, sym, ap, subst, refl, arith, ℕ, zero, suc, ◌<◌, ◌+◌, List, [], ◌∷◌, ◌++◌, length, map, get_or, take, append_assoc}
+use Rattle.std.proofs.Common.{◌≡◌, ◌∙◌, sym, ap, subst, refl, arith, ℕ, zero, suc, ◌<◌, ◌+◌, List, [], ◌∷◌, ◌++◌, length, map, get_or, take}
+use Rattle.std.proofs.Common.{append_assoc}
 use Rattle.std.specs.Prelude.{Bool, ◌||◌, false}
 use Rattle.std.specs.List.{flat_map, list_any, range_with_len}
 use Rattle.std.proofs.lemmas.Grind.{flat_map-append}
@@ -68,4 +69,5 @@ or-false x y = grind arith
 
 pub any-number : (p : ℕ → Bool) (n : ℕ) → (list_any p (range_with_len 0 n) || p n) ≡ list_any p (range_with_len 0 (n + 1))
 any-number p n =
-    sym (ap (list_any p) (range-more n) ∙ list_any-append p (range_with_len 0 n) (n ∷ []) ∙ or-false (list_any p (range_with_len 0 n)) (p n))
+    sym (ap (list_any p) (range-more n) ∙ list_any-append p (range_with_len 0 n) (n ∷ []) ∙ or-false (list_any p (range_with_len 0 n))
+    (p n))

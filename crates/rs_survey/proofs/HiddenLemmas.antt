@@ -63,7 +63,8 @@ shared_by_all plan seen client chosen all is =
     let as_candidate : chosen ≡ option_map candidate_of_seen first =
     is ∙ choice-map candidate_of_seen (standing_of_candidate plan) (fit seen) in
     let eligible : eligible_among plan (map sent_of_seen seen) ≡ map sent_of_seen (fit seen) =
-    filter-map sent_of_seen (λ sent. is_eligible plan sent.peer sent.attributes) seen ∙ ap (map sent_of_seen) (eligible_are plan seen all) in
+    filter-map sent_of_seen (λ sent. is_eligible plan sent.peer sent.attributes) seen ∙ ap (map sent_of_seen)
+    (eligible_are plan seen all) in
     let as_sent : shared_choice plan (map sent_of_seen seen) ≡ option_map sent_of_seen first =
     ap (choice (standing_of plan)) eligible ∙ choice-map sent_of_seen (standing_of plan) (fit seen) in
     ap (λ (one : Option Candidate). is_open_to plan one client) as_candidate ∙ open_to_both plan client first

@@ -80,7 +80,8 @@ any-filter p q (x ∷ xs) = elim (cases_Bool (q x)) [
   | inr dropped ↦ rw dropped (any-filter p q xs)
 ]
 
-module _ (law : ChoiceIsUnbeaten) (plan : Plan) (set : List SentRoute) (best : SentRoute) (is : choice (standing_of plan) set ≡ Some best) where
+module _ (law : ChoiceIsUnbeaten) (plan : Plan) (set : List SentRoute) (best : SentRoute) (is : choice
+    (standing_of plan) set ≡ Some best) where
   stands : (before : List Step) (step : Step) (later : List Step) → decision_steps ≡ before ++ step ∷ later →
       IsUnbeaten (standing_of plan) step (remaining (standing_of plan) before set) best
   stands before step later order =
@@ -201,7 +202,8 @@ never_kept_out plan client best one seen none =
     sym (none-list_any (λ other. keeps_out plan client best one (sent_of_seen other)) seen (λ other there.
     let other = sent_of_seen other in
     let st = standing_of plan other in
-    let by_med : beats Med st one ≡ false = and_right (st.neighbour == one.neighbour) (nat_lt st.med one.med) (lt_zero st.med one.med none) in
+    let by_med : beats Med st one ≡ false = and_right (st.neighbour == one.neighbour) (nat_lt st.med one.med)
+    (lt_zero st.med one.med none) in
     and_right (is_eligible plan other.peer other.attributes) _ (and_left _ (is_sent_to plan client other)
     (and_right (not (beats Preference best st)) _ (and_right (not (beats PathLength best st)) _
     (and_right (not (beats Origin best st)) (beats Med st one) by_med))))))

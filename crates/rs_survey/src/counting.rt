@@ -111,7 +111,8 @@ fn count_for(
 )
     requires client_known { client < length plan.now.peers }
     requires seen { All (IsSeen plan.now) seen.now }
-    requires best { best.now ≡ option_map (contender_of plan.now) (chosen_for plan.now client (map sent_of_seen seen.now)) }
+    requires best { best.now ≡ option_map (contender_of plan.now)
+        (chosen_for plan.now client (map sent_of_seen seen.now)) }
     requires peers { tally.old.peers ≡ length plan.now.peers }
     ensures { Grows tally.old tally.new (for_client plan.now (map sent_of_seen seen.now) client) }
 {
@@ -132,7 +133,8 @@ fn count_to(
     requires client_known { client < length plan.now.peers }
     requires seen { All (IsSeen plan.now) seen.now }
     requires one { IsSeen plan.now one.now }
-    requires best { best.now ≡ option_map (contender_of plan.now) (chosen_for plan.now client (map sent_of_seen seen.now)) }
+    requires best { best.now ≡ option_map (contender_of plan.now)
+        (chosen_for plan.now client (map sent_of_seen seen.now)) }
     requires peers { tally.old.peers ≡ length plan.now.peers }
     ensures { Grows tally.old tally.new (to_client plan.now (map sent_of_seen seen.now) client (sent_of_seen one.now)) }
 {
@@ -162,7 +164,8 @@ fn count_candidate(
     requires client_known { client < length plan.now.peers }
     requires seen { All (IsSeen plan.now) seen.now }
     requires one { IsSeen plan.now one.now }
-    requires best { best.now ≡ option_map (contender_of plan.now) (chosen_for plan.now client (map sent_of_seen seen.now)) }
+    requires best { best.now ≡ option_map (contender_of plan.now)
+        (chosen_for plan.now client (map sent_of_seen seen.now)) }
     requires peers { tally.old.peers ≡ length plan.now.peers }
     ensures { Grows tally.old tally.new
         (of_candidate plan.now (map sent_of_seen seen.now) client (sent_of_seen one.now)) }

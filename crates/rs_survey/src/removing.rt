@@ -25,7 +25,8 @@ pub(crate) fn removing_step(
     requires client_known { client < length plan.now.peers }
     requires seen { All (IsSeen plan.now) seen.now }
     requires one { IsSeen plan.now one.now }
-    requires best { best.now ≡ option_map (contender_of plan.now) (chosen_for plan.now client (map sent_of_seen seen.now)) }
+    requires best { best.now ≡ option_map (contender_of plan.now)
+        (chosen_for plan.now client (map sent_of_seen seen.now)) }
     ensures { result ≡ removed_at (standing_of plan.now) decision_steps
         (candidates_among plan.now client (map sent_of_seen seen.now)) (sent_of_seen one.now) }
 {

@@ -20,7 +20,8 @@ returns c =
     let second = c.count_clients.new.tally in
     let third = c.if-is_hiding.tally in
     let listed : map sent_of_seen c.deref.result.now ≡ routes = ap (map sent_of_seen) c.deref.ensures.value ∙ c.in_ok-seen.ensures.routes in
-    let again : map sent_of_seen c.deref-2.result.now ≡ routes = ap (map sent_of_seen) c.deref-2.ensures.value ∙ c.in_ok-seen.ensures.routes in
+    let again : map sent_of_seen c.deref-2.result.now ≡ routes = ap (map sent_of_seen) c.deref-2.ensures.value
+    ∙ c.in_ok-seen.ensures.routes in
     let by_routes : Grows before first (flat_map (of_route plan) routes) =
     subst (Grows before first) (λ i. flat_map (of_route (c.plan-plan.ensures i)) (listed i)) c.count_routes.ensures in
     let by_clients : Grows first second (flat_map (for_client plan routes) (all_clients plan)) =

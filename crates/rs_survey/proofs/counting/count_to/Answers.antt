@@ -8,7 +8,8 @@ use Rattle.rs_survey.proofs.counting.count_to.Goals as goal
 pub returns-then-client-sender : goal.returns-then-client-sender
 returns-then-client-sender c =
     subst (Grows c.args.tally.now c.args.tally.now)
-    (sym (nothing_own c.args.plan.now (map sent_of_seen c.args.seen.now) c.args.client (sent_of_seen c.args.one.now) c.if-client-sender.true))
+    (sym (nothing_own c.args.plan.now (map sent_of_seen c.args.seen.now) c.args.client
+    (sent_of_seen c.args.one.now) c.if-client-sender.true))
     (grows_none c.args.tally.now)
 
 pub returns-then-is_some : goal.returns-then-is_some

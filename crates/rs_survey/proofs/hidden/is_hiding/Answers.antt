@@ -29,7 +29,8 @@ loop-client-preserved c =
           sym (ap is_some (w.best.ensures ∙ c.requires.routes.bests n)) ∙ some_made sent_route_of w.best.result
           ∙ sym w.is_some.ensures ∙ w.if-is_some.true in
           w.hides-is ∙ ap not (w.is_open_to.ensures
-          ∙ ap (λ (plan : Plan). is_open_to plan c.args.shared.now n) c.plan-plan.ensures ∙ c.requires.shared n) ∙ ap (λ b. b && not shared) (sym gets)
+          ∙ ap (λ (plan : Plan). is_open_to plan c.args.shared.now n) c.plan-plan.ensures ∙ c.requires.shared n) ∙ ap
+          (λ b. b && not shared) (sym gets)
           ∙ ap (λ b. b || hidden n) (sym w.if-hides.false ∙ so_far)
       | else-hides+else-is_some w ↦
           let gets : is_some (chosen_for plan n routes) ≡ false =

@@ -11,7 +11,8 @@ returns-then-is_some c =
     let plan = c.args.plan.now in
     let other = c.args.other.now in
     first_fails (is_eligible plan other.route.peer other.route.attributes.now)
-    (beats_by_med c.args.best.now c.args.one.now (standing_of plan (sent_of_seen other))) (is_sent_to plan c.args.client (sent_of_seen other))
+    (beats_by_med c.args.best.now c.args.one.now (standing_of plan (sent_of_seen other))) (is_sent_to plan c.args.client
+    (sent_of_seen other))
     (eligible_seen plan other c.requires.seen ∙ some_not_none other.flaw (sym c.is_some.ensures ∙ c.if-is_some.true))
 
 pub returns-then-not-beats_by_med : goal.returns-then-not-beats_by_med
@@ -19,7 +20,8 @@ returns-then-not-beats_by_med c =
     let plan = c.args.plan.now in
     let other = c.args.other.now in
     second_fails (is_eligible plan other.route.peer other.route.attributes.now)
-    (beats_by_med c.args.best.now c.args.one.now (standing_of plan (sent_of_seen other))) (is_sent_to plan c.args.client (sent_of_seen other))
+    (beats_by_med c.args.best.now c.args.one.now (standing_of plan (sent_of_seen other))) (is_sent_to plan c.args.client
+    (sent_of_seen other))
     (ap (beats_by_med c.args.best.now c.args.one.now) (sym c.requires.seen.standing) ∙ sym c.beats_by_med.ensures
     ∙ c.if-not-beats_by_med.true)
 
