@@ -1,6 +1,8 @@
 //! Where the recorded session of a peer closes before the end of its file, by RFC 4271 (docs/MANUAL.md, "Report and
 //! dumps").
 
+ghost use Rattle.std.specs.Prelude.{◌<◌};
+
 use crate::unanswered::Unanswered;
 use rs_host::Unready;
 use rs_inventory::Peer;
