@@ -1,4 +1,4 @@
-use Rattle.std.proofs.Common.{◌≡◌, ◌≤◌, ℕ, vec_capacity}
+use Rattle.std.proofs.Common.{◌≡◌, ◌≤◌, vec_capacity}
 use Rattle.rs_survey.proofs.DifferenceLemmas.{IsPassed}
 use Rattle.rs_survey.proofs.differences.DifferencesIterator.next.Given as goal
 

@@ -1,8 +1,7 @@
 -- The first row is taken where it is on the prefix, and else stays.
-use Rattle.std.proofs.Common.{◌≡◌, ◌∙◌, Option, None, Some, ap, rules, subst, sym, true, false}
-use Rattle.rs_update.specs.IpPrefix.{IpPrefix}
+use Rattle.std.proofs.Common.{◌≡◌, ◌∙◌, None, Some, ap, rules, subst, sym}
 use Rattle.rs_survey.specs.Differences.{IsBehind, route_of}
-use Rattle.rs_survey.specs.RowsToCome.{Ahead, GetsNoneBetween, ahead_view}
+use Rattle.rs_survey.specs.RowsToCome.{Ahead, GetsNoneBetween}
 use Rattle.rs_survey.proofs.RowLemmas.{after-none, after-other, after-taken, none-on}
 use Rattle.rs_survey.proofs.rows_to_come.RowsToCome.take.Goals as goal
 
