@@ -19,11 +19,7 @@ pub enum Condition {
 
 /// The first condition of eligibility that a route of the peer of number `peer` fails; none of an eligible route. It
 /// takes no memory.
-pub fn failed_condition(
-    plan: &Exchange,
-    peer: usize,
-    attributes: &Attributes,
-) -> Option<Condition>
+pub fn failed_condition(plan: &Exchange, peer: usize, attributes: &Attributes) -> Option<Condition>
     requires { peer < length plan.now.peers }
     ensures { result ≡ failed_condition plan.now peer attributes.now }
 {
