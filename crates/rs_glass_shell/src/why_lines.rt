@@ -9,7 +9,8 @@ use crate::starts::Start;
 use rs_choice::Exchange;
 use rs_glass::{Answer, Answers, LessSpecific};
 use rs_host::Utc;
-use rs_table::Tables;
+use rs_table::{Route, Tables};
+use rs_update::Prefix;
 use std::alloc::{AllocError, Global};
 
 // How wide the columns of AS numbers and of answers are.
@@ -47,6 +48,15 @@ impl WhyView<'_> {
     // Since when the recording of a peer runs.
     pub(crate) fn start(&self, peer: usize) -> Option<Start> {
         *self.starts.get(peer)?
+    }
+
+    // The route that a peer has left on a prefix; none where no peer has this number.
+    pub(crate) fn route(&self, peer: usize, prefix: Prefix) -> Option<Route<'_>> {
+        if peer < self.tables.count() {
+            self.tables.route(peer, prefix)
+        } else {
+            None
+        }
     }
 }
 
@@ -161,7 +171,7 @@ fn add_answer(
     if !view.attributes {
         return Ok(());
     }
-    match view.tables.route(peer, answers.prefix) {
+    match view.route(peer, answers.prefix) {
         Some(route) => add_attributes(text, alloc, route.attributes),
         None => Ok(()),
     }

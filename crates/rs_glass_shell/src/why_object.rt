@@ -9,7 +9,6 @@ use rs_choice::{Exchange, Standing, Step};
 use rs_explain::{Condition, EndedBy, Ending, Explanation, LastSaid, Refusal, Removal};
 use rs_glass::{Answer, Answers, LessSpecific, Said};
 use rs_session::Reason;
-use rs_table::Tables;
 use rs_update::Prefix;
 use serde_json::{Map, Value, json, put};
 use std::alloc::{AllocError, Global};
@@ -114,7 +113,7 @@ fn peer_object(
         put(&mut object, alloc, "recorded_since", Value::from(since))?;
     }
     if view.attributes {
-        let shown = shown_attributes(alloc, view.tables, peer, prefix)?;
+        let shown = shown_attributes(alloc, view, peer, prefix)?;
         put(&mut object, alloc, "attributes", shown)?;
     }
     Ok(Value::Object(object))
@@ -123,11 +122,11 @@ fn peer_object(
 // All attributes of a peer's route, or null.
 fn shown_attributes(
     alloc: Global,
-    tables: &Tables,
+    view: &WhyView<'_>,
     peer: usize,
     prefix: Prefix,
 ) -> Result<Value, AllocError> {
-    match tables.route(peer, prefix) {
+    match view.route(peer, prefix) {
         Some(route) => attributes_object(alloc, route.attributes),
         None => Ok(Value::Null),
     }
