@@ -10,6 +10,7 @@ pub mod Examples  -- worked examples
 pub mod ByPeer  -- routes on one prefix, by their peers
 pub mod Cell  -- what is kept of one prefix
 pub mod Cells  -- the cells of all prefixes
+pub mod Counts  -- how many routes each peer has left
 pub mod Logged  -- a change in a list
 pub mod LoggedView  -- the same by its fields
 pub mod Gathered  -- changes in lists, and what they leave

@@ -4,7 +4,9 @@ use Rattle.std.specs.List.{enumerate_from}
 use Rattle.rs_table.specs.declared.tables.Tables.TheInside.{Inside}
 use Rattle.rs_table.specs.Content.{RibContent, TablesContent}
 use Rattle.rs_table.specs.Cells.{Entries, AreCells, AreKeptCells, routes_from}
+use Rattle.rs_table.specs.Counts.{AreCounts}
 use Rattle.rs_table.specs.Left.{Routes}
+use Rattle.rs_choice.specs.Plan.{Plan}
 
 -- what is held of each peer, from one number on, by each peer's routes
 abbrev pub ribs_by : (ℕ → Routes) → ℕ → List Bool → List RibContent
@@ -21,8 +23,14 @@ tables_view fields = record { plan = fields.plan.value; ribs = ribs_from fields.
 abbrev pub AllClosed : List Bool → Type 0
 AllClosed closed = All (λ is_closed. is_closed ≡ true) closed
 
--- each peer of the plan is open or closed, and the cells are the plan's, with room for every change that can come
+-- changes may come: the cells have room for every one, and of each peer the routes are counted
+pub record TakeChanges (plan : Plan) (entries : Entries) (counts : List ℕ) : Type 0 where
+  pub room : AreKeptCells true plan entries
+  pub counted : AreCounts entries (length plan.peers) counts
+
+-- each peer of the plan is open or closed, and the cells are the plan's; they take changes while a session is open
 pub record AreTables (fields : Inside) : Type 0 where
   pub peers : length fields.closed.items ≡ length fields.plan.value.peers
   pub cells : AreCells fields.plan.value fields.cells.entries
-  pub room : AllClosed fields.closed.items ⊎ AreKeptCells true fields.plan.value fields.cells.entries
+  pub open_or_not : AllClosed fields.closed.items
+      ⊎ TakeChanges fields.plan.value fields.cells.entries fields.counts.items

@@ -6,7 +6,7 @@
 
 ghost use Rattle.std.specs.Prelude.{◌≡◌, ◌<◌, ◌≤◌, ◌∷◌, [], true, IfOk, IsTrue, IsFalse, OnOk, length, map};
 ghost use Rattle.std.specs.Prelude.{vec_capacity};
-ghost use Rattle.std.specs.Option.{option_map};
+ghost use Rattle.std.specs.Option.{is_some, option_map};
 ghost use Rattle.rs_choice.specs.Held.{sent_of_held, IsJudged};
 ghost use Rattle.rs_table.specs.ByPeer.{place_of, route_at, with_one, with_route, without_one, without_route};
 ghost use Rattle.rs_table.specs.ByPeer.{IsAscending};
@@ -154,6 +154,7 @@ impl Cell {
         ensures room { self.new.room ≡ self.old.room }
         ensures cell { IsCell plan.now self.new }
     {
+        // For the prover: there are at most 256 peers, so there are no more routes on a prefix.
         let _peers = plan.count();
         plan.choose_for_all(&self.held, &mut self.bests);
     }
@@ -171,6 +172,13 @@ impl Cell {
             time: route.time,
             attributes: &route.attributes,
         })
+    }
+
+    // Whether a peer has a route.
+    pub(crate) fn has_route(&self, peer: usize) -> bool
+        ensures { result ≡ is_some (route_at (routes_in self.now) peer) }
+    {
+        self.route(peer).is_some()
     }
 
     // The route that a client gets.

@@ -3,15 +3,15 @@
 //! A change is appended to the list of its prefix's first octet, and a loss of a session is counted: what each
 //! peer has left, and what each client gets, is found once, when all changes came (our choice).
 
-ghost use Rattle.std.specs.Prelude.{◌≡◌, ◌≢◌, ◌+◌, ◌<◌, ◌≤◌, ℕ, false, [], IfOk, IsFalse, OnOk, OnErr, length};
+ghost use Rattle.std.specs.Prelude.{◌≡◌, ◌≢◌, ◌+◌, ◌<◌, ◌≤◌, ℕ, false, [], IfOk, OnOk, OnErr, length};
 ghost use Rattle.std.specs.Prelude.{slice_index_or, slice_set};
 ghost use Rattle.std.specs.Option.{option_map};
 ghost use Rattle.rs_session.specs.Change.{change_of, is_close};
 ghost use Rattle.rs_table.specs.Content.{nothing_held, rib_of};
 ghost use Rattle.rs_table.specs.Gathered.{AreLogs, GathersTo, IsAdded, lists_of};
 ghost use Rattle.rs_table.specs.Left.{BecomeBy};
-ghost use Rattle.rs_table.specs.TablesView.{AllClosed};
 
+use crate::counts::is_some_open;
 use crate::log::{Log, first_octet};
 use crate::logged::LoggedChange;
 use crate::settling::settle;
@@ -87,6 +87,7 @@ impl Gathering {
         ensures ribs { result ≡ length self.now.ribs }
         ensures bound { result ≤ MAX_PEERS }
     {
+        // For the prover: each peer of the plan is open or closed, so there are as many RIBs as peers.
         let _closed = &self.closed;
         self.plan.count()
     }
@@ -115,7 +116,7 @@ impl Gathering {
         ensures plan { OnOk result (self.new.plan ≡ self.old.plan) }
         ensures count { OnOk result (length self.new.ribs ≡ length self.old.ribs) }
     {
-        // So few peers that a number of one is an octet.
+        // For the prover: there are at most 256 peers, so the number of each is an octet.
         let _count = self.plan.count();
         let closes = closes(&word);
         take_in(&mut self.logs, &mut self.losses, peer, word)?;
@@ -140,15 +141,8 @@ impl Gathering {
         } = self;
         let keeps_room = is_some_open(&closed);
         let cells = settle(*closed.allocator(), &plan, &losses, logs, keeps_room)?;
-        Ok(Tables::of_cells(plan, closed, cells))
+        Tables::of_cells(plan, closed, cells)
     }
-}
-
-// Whether some session is open, so that changes may come.
-fn is_some_open(closed: &[bool]) -> bool
-    ensures { IsFalse result → AllClosed closed.now }
-{
-    closed.iter().any(|closed| !*closed)
 }
 
 // A list without entries for each first octet.

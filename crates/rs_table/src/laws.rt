@@ -4,8 +4,8 @@ ghost use Rattle.rs_table.specs.Examples.{LeftExamples, TableExamples};
 ghost use Rattle.rs_table.specs.Laws.{LeftAfterOneMore, LeftByLastChanges, LeftByLastEntries, LeftByPart};
 ghost use Rattle.rs_table.specs.Laws.{TableIsComputed};
 
-/// The routes that a list of changes leaves are those announced last on their prefix and since the session
-/// was last lost (RFC 4271, section 9.1), none where the list closes but at the end of its file.
+/// A list of changes leaves the routes that were announced last on their prefix and since the session was last lost
+/// (RFC 4271, section 9.1). It leaves none where the list closes for another reason than the end of its file.
 pub fn left_by_last_changes()
     ensures { LeftByLastChanges }
 {}
@@ -15,15 +15,15 @@ pub fn left_after_one_more()
     ensures { LeftAfterOneMore }
 {}
 
-/// On a prefix a list of changes leaves what its part leaves that has every change on that prefix and every
-/// change on none: the losses and closes. So each of several workers may hold the routes of prefixes of its
-/// own.
+/// Take the part of a list that has every change on a prefix, and every change on no prefix: the losses and closes. On
+/// that prefix the part leaves what the whole list leaves. So each of several workers may have the routes of prefixes
+/// of its own.
 pub fn left_by_part()
     ensures { LeftByPart }
 {}
 
-/// A list of gathered changes leaves a peer on a prefix what the last of its entries says that is of both and not
-/// void.
+/// A list of gathered changes leaves a peer on a prefix what one of its entries says. That entry is the last one of
+/// this peer on this prefix that isn't void.
 pub fn left_by_last_entries()
     ensures { LeftByLastEntries }
 {}

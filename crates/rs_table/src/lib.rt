@@ -3,16 +3,20 @@
 //! Standards: RFC 4271, sections 3.2 (Adj-RIB-In) and 9.1 (decision process); RFC 7947, section 2.3 (a table
 //! for each client, its export policy before its decision).
 //!
-//! Reading order: `tables` (what each peer has left, and what a client gets on a prefix), `route` (what is
-//! answered), `client_rows` and `listing` (a client's whole table), `prefixes` and `prefix_routes` (all prefixes,
-//! each with its routes), `why` (and why not), `merge` (parts made one), `gathering` (changes before tables are made of
-//! them), `laws` (of the definitions). Below them `cells` (of all prefixes), `cell` (of one; who gets which route on it
-//! is decided in `rs_choice`), `logged` (a change in a list), `log` (a list) and `settling` (the cells of such lists).
+//! Reading order, for one prefix: `tables` (what each peer has left, and what a client gets), `route` (the answer),
+//! `why` (why a client gets a route or not). For all prefixes: `client_rows` and `listing` (a client's whole table),
+//! `prefixes` and `prefix_routes` (each prefix with its routes). Whole tables: `merge` (parts made one), `gathering`
+//! (changes before tables are made of them). Then `laws` (of the definitions).
+//!
+//! Below them are `counts` (how many routes each peer has), `cells` (of all prefixes) and `cell` (of one prefix).
+//! `rs_choice` decides who gets which route on it.
+//! Below `gathering` are `logged` (a change in a list), `log` (a list) and `settling` (the cells of such lists).
 #![tactic(auto)]
 
 mod cell;
 mod cells;
 mod client_rows;
+mod counts;
 mod gathering;
 mod laws;
 mod listing;

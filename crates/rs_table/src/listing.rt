@@ -18,6 +18,7 @@ impl Tables {
         ensures table { IsTable self.now client result }
         ensures known { All (λ row. row.route.peer < length self.now.plan.peers) result }
     {
+        // For the prover: there are as many RIBs as peers, and at most 256.
         let _peers = self.count();
         let cells = self.cells();
         ClientRows {

@@ -70,7 +70,7 @@ impl LoggedChange {
           attributes = option_map (λ attributes. attributes.value) attributes;
         } }
     {
-        // Its host bits are clear.
+        // For the prover: the host bits of its address are clear.
         a_prefix_covers_itself(prefix);
         let address = prefix.address();
         let len = prefix.len();
@@ -98,7 +98,7 @@ impl LoggedChange {
     pub(crate) fn prefix(&self) -> Prefix
         ensures { result ≡ self.now.prefix }
     {
-        // Its host bits are clear.
+        // For the prover: the host bits of its address are clear.
         let _ = &self.change;
         let ((address, len), _) = self.key();
         match Prefix::new(address, len) {

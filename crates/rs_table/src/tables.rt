@@ -21,7 +21,8 @@ ghost use Rattle.rs_table.specs.Table.{best_of, route_from, sent_by};
 ghost use Rattle.rs_table.specs.TablesView.{ribs_from, AllClosed};
 
 use crate::cell::Cell;
-use crate::cells::{change, join};
+use crate::cells::join;
+use crate::counts::{change_and_count, count_all};
 use crate::route::Route;
 use rs_choice::{Exchange, MAX_PEERS};
 use rs_session::{Body, Word};
@@ -41,6 +42,8 @@ pub struct Tables {
     // Of each peer, whether its session closed.
     closed: Vec<bool>,
     cells: BTreeMap<Prefix, Cell>,
+    // Of each peer, how many routes it has left. They are counted while a session is open.
+    counts: Vec<usize>,
 }
 
 impl Model for Tables {
@@ -69,11 +72,14 @@ impl Tables {
     {
         let mut closed = Vec::with_capacity(alloc, plan.count())?;
         closed.resize(plan.count(), false)?;
+        let mut counts = Vec::with_capacity(alloc, plan.count())?;
+        counts.resize(plan.count(), 0)?;
         let cells = BTreeMap::new(alloc);
         Ok(Tables {
             plan,
             closed,
             cells,
+            counts,
         })
     }
 
@@ -108,26 +114,29 @@ impl Tables {
     {
         let closes = closes(&word);
         let alloc = *self.closed.allocator();
-        change(alloc, &mut self.cells, &self.plan, peer, word)?;
+        let before = self.counts[peer];
+        let count = change_and_count(alloc, &mut self.cells, &self.plan, peer, before, word)?;
+        self.counts[peer] = count;
         if closes {
             self.closed[peer] = true;
         }
         Ok(())
     }
 
-    /// How many peers there are: as many as the plan has, and something is held of each one.
+    /// How many peers there are: as many as the plan has. The tables have an Adj-RIB-In of each one.
     pub fn count(&self) -> usize
         ensures peers { result ≡ length self.now.plan.peers }
         ensures ribs { result ≡ length self.now.ribs }
         ensures bound { result ≤ MAX_PEERS }
     {
+        // For the prover: each peer of the plan is open or closed, so there are as many RIBs as peers.
         let _closed = &self.closed;
         self.plan.count()
     }
 
-    /// The route that the peer of number `client` gets on a prefix: the choice of the decision process among
-    /// the routes that other peers have left there, that are eligible and that export policy permits to the
-    /// client. None where there is none, or no such peer. It takes no memory.
+    /// The route that the peer of number `client` gets on a prefix. The decision process chooses it among the routes
+    /// that other peers have left there. They are the eligible ones that export policy permits to the client. None
+    /// where there is no such route or no such peer. It takes no memory.
     pub fn best(&self, client: usize, prefix: Prefix) -> Option<Route<'_>>
         ensures { option_map sent_route_of result ≡ best_of self.now client prefix }
     {
@@ -165,11 +174,7 @@ impl Tables {
         ensures { IfOk result (IsJoined self other) }
     {
         let cells = join(self.allocator(), self.cells, other.cells)?;
-        Ok(Tables {
-            plan: self.plan,
-            closed: self.closed,
-            cells,
-        })
+        Tables::of_cells(self.plan, self.closed, cells)
     }
 
     // The plan, and of each peer whether its session closed.
@@ -182,22 +187,25 @@ impl Tables {
         (self.plan, self.closed)
     }
 
-    // Tables of a plan by whose sessions closed and their cells.
+    // Tables of a plan by whose sessions closed and their cells. Refused memory, these are dropped.
     pub(crate) fn of_cells(
         plan: Arc<Exchange>,
         closed: Vec<bool>,
         cells: BTreeMap<Prefix, Cell>,
-    ) -> Tables
+    ) -> Result<Tables, AllocError>
         requires peers { length closed.items ≡ length plan.value.peers }
         requires cells { AreCells plan.value cells.entries }
         requires room { AllClosed closed.items ⊎ AreKeptCells true plan.value cells.entries }
-        ensures { result ≡ record { plan = plan.value; ribs = ribs_from cells.entries 0 closed.items } }
+        ensures { IfOk result (λ tables. tables
+            ≡ record { plan = plan.value; ribs = ribs_from cells.entries 0 closed.items }) }
     {
-        Tables {
+        let counts = count_all(*closed.allocator(), &closed, &cells)?;
+        Ok(Tables {
             plan,
             closed,
             cells,
-        }
+            counts,
+        })
     }
 
     // The allocator.

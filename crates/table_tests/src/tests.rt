@@ -4,9 +4,9 @@
 //! below both are of that exchange. A row without a colon is a question and its answer after these changes. One with a
 //! colon has three columns: what is asked and of which case, what is given, and the answer.
 //!
-//! The tests go from plans and single routes (`plans`, `routes`) over the choice among routes (`decisions`) and the
-//! tables of clients (`clients`, `tables`, `random_changes`, `refusals`, `parts`) to why a client has a route
-//! (`reasons`, `last_said`) and to dumps (`dumps`, `writers`, `side_by_side`).
+//! The first tests are of plans and single routes (`plans`, `routes`), and of the choice among routes (`decisions`).
+//! Then come the tables of clients (`clients`, `tables`, `random_changes`, `refusals`, `parts`). Then comes why a
+//! client has a route (`reasons`, `last_said`). The last ones are of dumps (`dumps`, `writers`, `side_by_side`).
 
 mod changes;
 mod clients;

@@ -1,5 +1,5 @@
-//! Which condition of eligibility fails, which rule of export policy refuses, and at which of the six steps a route loses,
-//! and to whom; `why` says the same in a word.
+//! Which condition of eligibility fails, and which rule of export policy refuses. At which of the six steps a route
+//! loses, and to which peer. `why` gives the same answers in short.
 
 use super::changes::after;
 use super::check_rows;
@@ -67,7 +67,7 @@ fn announced(alloc: Global, plan: &str, routes: &str) -> Option<Tables> {
     after(alloc, plan, &changes)
 }
 
-/// What is told of some routes, for each client and peer whose names stand behind a semicolon.
+/// The explanations of some routes, for each client and peer whose names stand behind a semicolon.
 pub fn told(alloc: Global, plan: &str, routes: &str, questions: &str) -> Option<String> {
     let tables = announced(alloc, plan, routes)?;
     let mut text = String::new(alloc);

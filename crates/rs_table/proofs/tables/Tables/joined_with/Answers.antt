@@ -1,5 +1,6 @@
 use Rattle.std.proofs.Common.{◌≡◌, ℕ, true, false, length, arith, sym, ap, subst, ◌∙◌, inl, inr, rules}
 use Rattle.std.proofs.lemmas.List.Elements.{All-from_get_or}
+use Rattle.std.proofs.lemmas.Result.{IfOk-weaker}
 use Rattle.rs_table.specs.declared.tables.Tables.TheInside.{Inside}
 use Rattle.rs_table.specs.Cell.{IsCell, IsKeptCell}
 use Rattle.rs_table.specs.Content.{TablesContent, rib_of}
@@ -21,38 +22,45 @@ closed-too one other is others all same long =
     ∙ rib-closed other.plan.value other.cells.entries other.closed.items peer
     ∙ all peer false (omega (arith, known, is.peers, others.peers, long)))
 
-pub invariant_of-result : goal.invariant_of-result
-invariant_of-result c =
+-- the other part is over the same plan
+same-plan : (one other : Inside) (t u : TablesContent) → tables_view one ≡ t → tables_view other ≡ u → t.plan ≡ u.plan
+    → other.plan.value ≡ one.plan.value
+same-plan one other t u one_is other_is plans =
+    ap (λ t. t.plan) other_is ∙ sym plans ∙ sym (ap (λ t. t.plan) one_is)
+
+pub of_cells-requires-clause-cells : goal.of_cells-requires-clause-cells
+of_cells-requires-clause-cells c =
     let one = c.self.inside in
     let other = c.other.inside in
-    let plans : other.plan.value ≡ one.plan.value =
-    ap (λ t. t.plan) c.other.view_is ∙ sym c.requires.plan ∙ sym (ap (λ t. t.plan) c.self.view_is) in
-    let joined = c.in_ok-cells.cells.entries in
-    record {
-      peers = c.self.invariant.peers;
-      cells = each-joined (IsCell one.plan.value) one.cells.entries other.cells.entries joined c.self.invariant.cells
-          (subst (λ plan. AreCells plan other.cells.entries) plans c.other.invariant.cells)
-          c.in_ok-cells.ensures.cells c.in_ok-cells.ensures.ordered;
-      room = elim c.self.invariant.room [
-        | inl closed ↦ inl closed
-        | inr room ↦ elim c.other.invariant.room [
-          | inl closed ↦ inl (closed-too c.self.inside c.other.inside c.self.invariant c.other.invariant closed
-              (λ peer. ap (λ t. (rib_of t peer).closed) c.self.view_is ∙ c.requires.closed peer
-              ∙ sym (ap (λ t. (rib_of t peer).closed) c.other.view_is))
-              (ap (λ plan. length plan.peers) plans))
-          | inr others ↦ inr (each-joined (IsKeptCell true one.plan.value) one.cells.entries other.cells.entries joined room
-              (subst (λ plan. AreKeptCells true plan other.cells.entries) plans others)
-              c.in_ok-cells.ensures.cells c.in_ok-cells.ensures.ordered)
-        ]
-      ];
-    }
+    let plans = same-plan one other c.args.self c.args.other c.self.view_is c.other.view_is c.requires.plan in
+    each-joined (IsCell one.plan.value) one.cells.entries other.cells.entries c.in_ok-cells.cells.entries c.self.invariant.cells
+    (subst (λ plan. AreCells plan other.cells.entries) plans c.other.invariant.cells)
+    c.in_ok-cells.ensures.cells c.in_ok-cells.ensures.ordered
+
+pub of_cells-requires-clause-room : goal.of_cells-requires-clause-room
+of_cells-requires-clause-room c =
+    let one = c.self.inside in
+    let other = c.other.inside in
+    let plans = same-plan one other c.args.self c.args.other c.self.view_is c.other.view_is c.requires.plan in
+    elim c.self.invariant.open_or_not [
+      | inl closed ↦ inl closed
+      | inr takes ↦ elim c.other.invariant.open_or_not [
+        | inl closed ↦ inl (closed-too one other c.self.invariant c.other.invariant closed
+            (λ peer. ap (λ t. (rib_of t peer).closed) c.self.view_is ∙ c.requires.closed peer
+            ∙ sym (ap (λ t. (rib_of t peer).closed) c.other.view_is))
+            (ap (λ plan. length plan.peers) plans))
+        | inr others ↦ inr (each-joined (IsKeptCell true one.plan.value) one.cells.entries other.cells.entries
+            c.in_ok-cells.cells.entries takes.room
+            (subst (λ plan. AreKeptCells true plan other.cells.entries) plans others.room)
+            c.in_ok-cells.ensures.cells c.in_ok-cells.ensures.ordered)
+      ]
+    ]
 
 pub returns : goal.returns
 returns c =
     let one = c.self.inside in
     let other = c.other.inside in
-    let plans : other.plan.value ≡ one.plan.value =
-    ap (λ t. t.plan) c.other.view_is ∙ sym c.requires.plan ∙ sym (ap (λ t. t.plan) c.self.view_is) in
+    let plans = same-plan one other c.args.self c.args.other c.self.view_is c.other.view_is c.requires.plan in
     let joined : TablesContent = tables one.plan.value c.in_ok-cells.cells.entries one.closed.items in
     let is : IsJoined (tables one.plan.value one.cells.entries one.closed.items)
     (tables one.plan.value other.cells.entries other.closed.items) joined =
@@ -60,9 +68,12 @@ returns c =
     c.self.invariant.peers (c.other.invariant.peers ∙ ap (λ plan. length plan.peers) plans)
     c.self.invariant.cells (subst (λ plan. AreCells plan other.cells.entries) plans c.other.invariant.cells)
     c.in_ok-cells.ensures.cells c.in_ok-cells.ensures.ordered in
+    let parts : IsJoined c.args.self c.args.other joined =
     subst (λ t. IsJoined t c.args.other joined) c.self.view_is
     (subst (λ t. IsJoined (tables one.plan.value one.cells.entries one.closed.items) t joined)
-    (ap (λ plan. tables plan other.cells.entries other.closed.items) (sym plans) ∙ c.other.view_is) is)
+    (ap (λ plan. tables plan other.cells.entries other.closed.items) (sym plans) ∙ c.other.view_is) is) in
+    IfOk-weaker c.of_cells.result (λ t. t ≡ joined) (IsJoined c.args.self c.args.other)
+    (λ t e. subst (IsJoined c.args.self c.args.other) (sym e) parts) c.of_cells.ensures
 
 pub returns-in_err-cells : goal.returns-in_err-cells
 returns-in_err-cells c = search rules

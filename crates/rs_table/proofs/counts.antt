@@ -1,0 +1,2 @@
+-- How many routes each peer has left.
+pub mod CountLemmas
