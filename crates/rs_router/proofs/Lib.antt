@@ -1,3 +1,3 @@
-mod CutLemmas
+mod ShardPartLemmas
 mod PlaceLemmas
 pub mod RoutingLemmas

@@ -16,10 +16,11 @@ use Rattle.rs_session.specs.Change.{Change, body_of, change_of, is_close}
 use Rattle.rs_session.specs.declared.word.Word.{Word}
 use Rattle.rs_table.proofs.RibLemmas.{any-one_more}
 use Rattle.rs_table.specs.Left.{body_prefix}
-use Rattle.rs_router.specs.Cut.{cut, gets, gets_on, shard_of}
+use Rattle.rs_router.specs.ShardParts.{shard_part, gets, gets_on, shard_of}
 use Rattle.rs_router.specs.Delivery.{CanSend, Delivered, SameSenders, sent_lists, with_word}
 use Rattle.rs_router.specs.Items.{change_from, is_known, is_last, of_peer}
-use Rattle.rs_router.specs.Routing.{AreClosed, AreCuts, AreKnown, EndLast, IsRouted, all_closed, is_closed, received_lists, SameReceivers}
+use Rattle.rs_router.specs.Routing.{AreClosed, AreShardParts, AreKnown, EndLast, IsRouted, all_closed, is_closed}
+use Rattle.rs_router.specs.Routing.{received_lists, SameReceivers}
 use Rattle.rs_router.specs.declared.routed.Routed.{Routed}
 use Rattle.rs_router.specs.declared.routed.Routed.TheVariants as items
 use Rattle.rs_worker.proofs.PlaceLemmas.{all-at, get-map, map-get, one-turned, same-counted}
@@ -60,7 +61,7 @@ pub sum-below : (xs : List (List Word)) → ((at : ℕ) (words : List Word) → 
 sum-below [] short = omega arith
 sum-below (y ∷ ys) short = omega (arith, sum_by-cons length y ys, short 0 y refl, sum-below ys (λ at words e. short (suc at) words e))
 
--- the shard's items of a peer, and the cut of its changes, each with the change more
+-- the shard's items of a peer, and the part of its changes, each with the change more
 pub of_peer-own : (peer : ℕ) (before : List Routed) (word : Word)
     → of_peer peer (before ++ items.Word peer word ∷ []) ≡ of_peer peer before ++ change_of word ∷ []
 of_peer-own peer before word =
@@ -74,37 +75,37 @@ of_peer-other other peer before word apart =
     ∙ ap (λ (cs : List Change). of_peer other before ++ cs) (rw (ne_eqb peer other (λ e. apart (sym e))) refl)
     ∙ append-nil (of_peer other before)
 
-cut-more : (shards shard : ℕ) (words : List Word) (word : Word)
-    → cut shards shard (map change_of (words ++ word ∷ [])) ≡ cut shards shard (map change_of words)
-    ++ cut shards shard (change_of word ∷ [])
-cut-more shards shard words word =
-    ap (cut shards shard) (map-append change_of words (word ∷ []))
+part-more : (shards shard : ℕ) (words : List Word) (word : Word)
+    → shard_part shards shard (map change_of (words ++ word ∷ [])) ≡ shard_part shards shard (map change_of words)
+    ++ shard_part shards shard (change_of word ∷ [])
+part-more shards shard words word =
+    ap (shard_part shards shard) (map-append change_of words (word ∷ []))
     ∙ filter-append (gets shards shard) (map change_of words) (change_of word ∷ [])
 
 pub of_peer-last : (peer : ℕ) (before : List Routed) → of_peer peer (before ++ items.Last ∷ []) ≡ of_peer peer before
 of_peer-last peer before = filter_map-append (change_from peer) before (items.Last ∷ []) ∙ append-nil (of_peer peer before)
 
-own_cut : (shards shard peer : ℕ) (words : List Word) (word : Word) (before : List Routed)
-    → of_peer peer before ≡ cut shards shard (map change_of words)
-    → of_peer peer (with_word shards peer word shard before) ≡ cut shards shard (map change_of (words ++ word ∷ []))
-own_cut shards shard peer words word before is =
+own_part : (shards shard peer : ℕ) (words : List Word) (word : Word) (before : List Routed)
+    → of_peer peer before ≡ shard_part shards shard (map change_of words)
+    → of_peer peer (with_word shards peer word shard before) ≡ shard_part shards shard (map change_of (words ++ word ∷ []))
+own_part shards shard peer words word before is =
     elim (cases_Bool (gets shards shard (change_of word))) [
       | inl got ↦
           ap (of_peer peer) (cond-true (gets shards shard (change_of word)) (before ++ items.Word peer word ∷ []) before got)
           ∙ of_peer-own peer before word
           ∙ ap (λ (cs : List Change). cs ++ change_of word ∷ []) is
-          ∙ ap (λ (cs : List Change). cut shards shard (map change_of words) ++ cs) (sym (rw got refl))
-          ∙ sym (cut-more shards shard words word)
+          ∙ ap (λ (cs : List Change). shard_part shards shard (map change_of words) ++ cs) (sym (rw got refl))
+          ∙ sym (part-more shards shard words word)
       | inr passed ↦
           ap (of_peer peer) (cond-false (gets shards shard (change_of word)) (before ++ items.Word peer word ∷ []) before passed) ∙ is
-          ∙ sym (append-nil (cut shards shard (map change_of words)))
-          ∙ ap (λ (cs : List Change). cut shards shard (map change_of words) ++ cs) (sym (rw passed refl))
-          ∙ sym (cut-more shards shard words word)
+          ∙ sym (append-nil (shard_part shards shard (map change_of words)))
+          ∙ ap (λ (cs : List Change). shard_part shards shard (map change_of words) ++ cs) (sym (rw passed refl))
+          ∙ sym (part-more shards shard words word)
     ]
 
-other_cut : (shards shard other peer : ℕ) (word : Word) (before : List Routed) → other ≢ peer
+other_part : (shards shard other peer : ℕ) (word : Word) (before : List Routed) → other ≢ peer
     → of_peer other (with_word shards peer word shard before) ≡ of_peer other before
-other_cut shards shard other peer word before apart =
+other_part shards shard other peer word before apart =
     elim (gets shards shard (change_of word)) as (λ b. of_peer other (cond b (before ++ items.Word peer word ∷ []) before)
     ≡ of_peer other before) [
       | true ↦ of_peer-other other peer before word apart
@@ -123,19 +124,19 @@ pub routed_more : (received : List (List Word)) (before after : List (List Route
     → length words < 2 ^ 51 → is_closed words ≡ false → Delivered peer word before after → length after ≡ length before
     → IsRouted (slice_set received peer (words ++ word ∷ [])) after
 routed_more received before after peer words word routed here short unclosed delivered count = record {
-  cuts = λ p shard ws sent at_p at_shard.
+  shard_parts = λ p shard ws sent at_p at_shard.
       let old = earlier shard sent at_shard in
-      let told : of_peer p sent ≡ cut (length before) shard (map change_of ws) =
+      let told : of_peer p sent ≡ shard_part (length before) shard (map change_of ws) =
       elim (set_cases received peer words (words ++ word ∷ []) p ws here at_p) [
         | inl own ↦
             ap (of_peer p) (sym old.1.1) ∙ ap (λ (n : ℕ). of_peer n (with_word (length before) peer word shard old.0)) own.0
-            ∙ own_cut (length before) shard peer words word old.0 (routed.cuts peer shard words old.0 here old.1.0)
-            ∙ ap (λ (xs : List Word). cut (length before) shard (map change_of xs)) own.1
+            ∙ own_part (length before) shard peer words word old.0 (routed.shard_parts peer shard words old.0 here old.1.0)
+            ∙ ap (λ (xs : List Word). shard_part (length before) shard (map change_of xs)) own.1
         | inr other ↦
-            ap (of_peer p) (sym old.1.1) ∙ other_cut (length before) shard p peer word old.0 other.0
-            ∙ routed.cuts p shard ws old.0 other.1 old.1.0
+            ap (of_peer p) (sym old.1.1) ∙ other_part (length before) shard p peer word old.0 other.0
+            ∙ routed.shard_parts p shard ws old.0 other.1 old.1.0
       ] in
-      told ∙ ap (λ (n : ℕ). cut n shard (map change_of ws)) (sym count);
+      told ∙ ap (λ (n : ℕ). shard_part n shard (map change_of ws)) (sym count);
   known = λ shard sent at_shard.
       let old = earlier shard sent at_shard in
       let named : nat_lt peer (length received) ≡ true =
@@ -204,9 +205,9 @@ pub routed_first : (receivers : List (Receiving Word)) (senders : List (Sending 
     → All (λ receiver. receiver.received ≡ []) receivers → All (λ sender. sender.sent ≡ []) senders
     → IsRouted (received_lists receivers) (sent_lists senders)
 routed_first receivers senders fresh unsent = record {
-  cuts = λ p shard ws sent at_p at_shard.
+  shard_parts = λ p shard ws sent at_p at_shard.
       ap (of_peer p) (nothing_sent shard sent at_shard) ∙ ap
-      (λ (xs : List Word). cut (length (sent_lists senders)) shard (map change_of xs)) (sym (nothing_received p ws at_p));
+      (λ (xs : List Word). shard_part (length (sent_lists senders)) shard (map change_of xs)) (sym (nothing_received p ws at_p));
   known = λ shard sent at_shard. ap (list_all (is_known (length (received_lists receivers)))) (nothing_sent shard sent at_shard);
   unended = λ shard sent at_shard. ap (list_any is_last) (nothing_sent shard sent at_shard);
   fits = λ shard sent at_shard. let none : length sent ≡ 0 = ap (λ (xs : List Routed). length xs) (nothing_sent shard sent at_shard) in
@@ -241,13 +242,13 @@ module _ (received : List (List Word)) (before after : List (List Routed)) (rout
       map-get (λ (xs : List Routed). xs ++ items.Last ∷ []) before shard sent
       (sym (ap (λ (lists : List (List Routed)). slice_get lists shard) is) ∙ e)
 
-  pub cuts_last : AreCuts received after
+  pub cuts_last : AreShardParts received after
   cuts_last peer shard words sent at_peer at_shard =
       let old = ended shard sent at_shard in
       let count : length after ≡ length before =
       ap (λ (lists : List (List Routed)). length lists) is ∙ length-map before (λ (xs : List Routed). xs ++ items.Last ∷ []) in
-      ap (of_peer peer) (sym old.1.1) ∙ of_peer-last peer old.0 ∙ routed.cuts peer shard words old.0 at_peer old.1.0
-      ∙ ap (λ (n : ℕ). cut n shard (map change_of words)) (sym count)
+      ap (of_peer peer) (sym old.1.1) ∙ of_peer-last peer old.0 ∙ routed.shard_parts peer shard words old.0 at_peer old.1.0
+      ∙ ap (λ (n : ℕ). shard_part n shard (map change_of words)) (sym count)
 
   pub known_last : AreKnown (length received) after
   known_last shard sent at_shard =

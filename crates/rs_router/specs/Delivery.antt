@@ -6,7 +6,7 @@ use Rattle.rs_ring.specs.Items.{has_close}
 use Rattle.rs_session.specs.Change.{change_of}
 use Rattle.rs_session.specs.declared.word.Body.TheVariants.{Down, Close}
 use Rattle.rs_session.specs.declared.word.Word.{Word}
-use Rattle.rs_router.specs.Cut.{gets}
+use Rattle.rs_router.specs.ShardParts.{gets}
 use Rattle.rs_router.specs.Items.{is_last}
 use Rattle.rs_router.specs.declared.delivery.Shared.{Shared}
 use Rattle.rs_router.specs.declared.delivery.Shared.TheVariants as shared

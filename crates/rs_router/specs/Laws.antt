@@ -5,17 +5,17 @@ use Rattle.std.specs.List.{list_any}
 use Rattle.rs_update.specs.IpPrefix.{IpPrefix}
 use Rattle.rs_session.specs.Change.{Change, is_close}
 use Rattle.rs_table.specs.Left.{left, is_loss}
-use Rattle.rs_router.specs.Cut.{IsShardCount, cut, shard_of}
+use Rattle.rs_router.specs.ShardParts.{IsShardCount, shard_part, shard_of}
 
--- what a list leaves is, over the shards, what its cuts leave, each on the prefixes of its shard; each cut
+-- what a list leaves is, over the shards, what its parts leave, each on the prefixes of its shard; each part
 -- has a loss and a close where the list has one
-pub record IsCutByShards (shards : ℕ) (changes : List Change) : Type 0 where
+pub record IsPartsByShards (shards : ℕ) (changes : List Change) : Type 0 where
   pub own : (prefix : IpPrefix)
-      → get (left (cut shards (shard_of prefix shards) changes)) prefix ≡ get (left changes) prefix
+      → get (left (shard_part shards (shard_of prefix shards) changes)) prefix ≡ get (left changes) prefix
   pub others : (prefix : IpPrefix) (shard : ℕ) → shard ≢ shard_of prefix shards
-      → get (left (cut shards shard changes)) prefix ≡ None
-  pub closes : (shard : ℕ) → list_any is_close (cut shards shard changes) ≡ list_any is_close changes
-  pub losses : (shard : ℕ) → list_any is_loss (cut shards shard changes) ≡ list_any is_loss changes
+      → get (left (shard_part shards shard changes)) prefix ≡ None
+  pub closes : (shard : ℕ) → list_any is_close (shard_part shards shard changes) ≡ list_any is_close changes
+  pub losses : (shard : ℕ) → list_any is_loss (shard_part shards shard changes) ≡ list_any is_loss changes
 
-abbrev pub CutByShards : Type 0
-CutByShards = (shards : ℕ) → IsShardCount shards → (changes : List Change) → IsCutByShards shards changes
+abbrev pub PartsByShards : Type 0
+PartsByShards = (shards : ℕ) → IsShardCount shards → (changes : List Change) → IsPartsByShards shards changes

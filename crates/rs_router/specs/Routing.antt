@@ -5,7 +5,7 @@ use Rattle.std.specs.List.{list_all, list_any}
 use Rattle.rs_ring.specs.Ends.{Receiving}
 use Rattle.rs_session.specs.Change.{change_of, is_close}
 use Rattle.rs_session.specs.declared.word.Word.{Word}
-use Rattle.rs_router.specs.Cut.{cut}
+use Rattle.rs_router.specs.ShardParts.{shard_part}
 use Rattle.rs_router.specs.Items.{is_known, is_last, of_peer}
 use Rattle.rs_router.specs.declared.routed.Routed.{Routed}
 use Rattle.rs_router.specs.declared.routed.Routed.TheVariants.{Last}
@@ -38,12 +38,12 @@ pub record EndsClosed (received : List Word) : Type 0 where
 abbrev pub AreClosed : List (List Word) → Type 0
 AreClosed received = (peer : ℕ) (words : List Word) → slice_get received peer ≡ Some words → EndsClosed words
 
--- of each peer each shard was sent the cut of what was received
-abbrev pub AreCuts : List (List Word) → List (List Routed) → Type 0
-AreCuts received sent =
+-- of each peer each shard was sent the part of what was received
+abbrev pub AreShardParts : List (List Word) → List (List Routed) → Type 0
+AreShardParts received sent =
     (peer shard : ℕ) (words : List Word) (items : List Routed) → slice_get received peer ≡ Some words
     → slice_get sent shard ≡ Some items
-    → of_peer peer items ≡ cut (length sent) shard (map change_of words)
+    → of_peer peer items ≡ shard_part (length sent) shard (map change_of words)
 
 -- no shard was sent a change of a peer that isn't there
 abbrev pub AreKnown : ℕ → List (List Routed) → Type 0
@@ -61,9 +61,9 @@ abbrev pub EndLast : List (List Routed) → Type 0
 EndLast sent = (shard : ℕ) (items : List Routed) → slice_get sent shard ≡ Some items → EndsLast items
 
 -- between two changes of any peers: what was received of each peer is below its ring's limit, and closes at
--- its end alone; what was sent to each shard is its cut, and has as many changes as all peers at most
+-- its end alone; what was sent to each shard is its part, and has as many changes as all peers at most
 pub record IsRouted (received : List (List Word)) (sent : List (List Routed)) : Type 0 where
-  pub cuts : AreCuts received sent
+  pub shard_parts : AreShardParts received sent
   pub known : AreKnown (length received) sent
   pub unended : (shard : ℕ) (items : List Routed) → slice_get sent shard ≡ Some items → list_any is_last items ≡ false
   pub fits : (shard : ℕ) (items : List Routed) → slice_get sent shard ≡ Some items

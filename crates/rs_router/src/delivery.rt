@@ -2,7 +2,7 @@
 
 ghost use Rattle.std.specs.Prelude.{◌≡◌, ◌<◌, ◌^◌, ◌++◌, ◌∷◌, [], false, length};
 ghost use Rattle.rs_ring.specs.Items.{has_close};
-ghost use Rattle.rs_router.specs.Cut as cut;
+ghost use Rattle.rs_router.specs.ShardParts as shard_parts;
 ghost use Rattle.rs_router.specs.Items.{is_last};
 ghost use Rattle.rs_router.specs.Delivery.{item_of, sent_lists, CanSend, Delivered, IsSentToAll, SameSenders};
 
@@ -55,7 +55,7 @@ impl Shared {
 
 // Sends a peer's change to the shards that get it.
 pub(crate) fn deliver<R: Wait>(rt: &R, to: &mut [Sender<Routed>], peer: usize, word: Word)
-    requires shards { cut.IsShardCount (length to.old) }
+    requires shards { shard_parts.IsShardCount (length to.old) }
     requires open { CanSend to.old }
     ensures sent { Delivered peer word (sent_lists to.old) (sent_lists to.new) }
     ensures same { SameSenders to.old to.new }

@@ -1,9 +1,9 @@
 //! Routes the changes of all peers.
 
 ghost use Rattle.std.specs.Prelude.{◌≡◌, ◌≤◌, ◌<◌, [], true, All, length};
-ghost use Rattle.rs_router.specs.Cut.{IsShardCount};
+ghost use Rattle.rs_router.specs.ShardParts.{IsShardCount};
 ghost use Rattle.rs_router.specs.Delivery.{sent_lists, SameSenders};
-ghost use Rattle.rs_router.specs.Routing.{AreClosed, AreCuts, AreKnown, EndLast, IsRouted, all_closed, received_lists};
+ghost use Rattle.rs_router.specs.Routing.{AreClosed, AreShardParts, AreKnown, EndLast, IsRouted, all_closed, received_lists};
 ghost use Rattle.rs_router.specs.Routing.{SameReceivers};
 
 use crate::delivery::{Shared, deliver, send_to_all};
@@ -28,8 +28,8 @@ pub fn route<R: Wait>(rt: &R, from: &mut [Receiver<Word>], to: &mut [Sender<Rout
     requires nothing_sent { All (λ sender. sender.sent ≡ []) to.old }
     // Each session closed.
     ensures closed { AreClosed (received_lists from.new) }
-    // Of each peer each shard was sent the cut of what was received.
-    ensures cuts { AreCuts (received_lists from.new) (sent_lists to.new) }
+    // Of each peer each shard was sent the part of what was received.
+    ensures shard_parts { AreShardParts (received_lists from.new) (sent_lists to.new) }
     ensures known { AreKnown (length from.old) (sent_lists to.new) }
     ensures last { EndLast (sent_lists to.new) }
     ensures receivers { SameReceivers from.old from.new }

@@ -1,11 +1,11 @@
 //! Which shard holds the routes of a prefix.
 
 ghost use Rattle.std.specs.Prelude.{◌≡◌, ◌<◌};
-ghost use Rattle.rs_router.specs.Cut as spec;
+ghost use Rattle.rs_router.specs.ShardParts as spec;
 
 use rs_update::Prefix;
 
-/// Into how many shards the prefixes are cut at most.
+/// Into how many shards the prefixes are divided at most.
 pub const MAX_SHARDS: usize = 16;
 
 /// The number of the shard that holds the routes of a prefix: the first octet of its address modulo the

@@ -3,7 +3,7 @@ use Rattle.std.specs.Prelude.{◌≡◌, ◌<◌, ⊤, ℕ, Bool, true, false, L
 use Rattle.rs_mrt.specs.Reader.{ReadEnd}
 use Rattle.rs_mrt.specs.RecordReading.{RecordReading, MayCome}
 use Rattle.rs_ring.specs.Ends.{Receiving}
-use Rattle.rs_router.specs.Routing.{AreClosed, AreCuts, received_lists}
+use Rattle.rs_router.specs.Routing.{AreClosed, AreShardParts, received_lists}
 use Rattle.rs_router.specs.declared.routed.Routed.{Routed}
 use Rattle.rs_session.specs.Change.{is_read}
 use Rattle.rs_session.specs.declared.word.Word.{Word}
@@ -21,7 +21,7 @@ use Rattle.rs_serve.specs.declared.fault.FloorRefused.{FloorRefused}
 use Rattle.rs_serve.specs.declared.fault.FloorRefused.TheVariants.{Memory, Unsettled, Capacity, Read, Shards}
 
 -- What all receivers and shards took: each peer's changes up to its close, those of a settled worker being
--- all that it sent; each shard its cut of them, which its tables hold, unless a shard was refused memory or
+-- all that it sent; each shard its part of them, which its tables hold, unless a shard was refused memory or
 -- left an item waiting.
 pub record HasRun {R : Type 0} (gives : R → List ℕ → ReadEnd → Type 0) (workers : List (Charge (RecordReading R)))
     (of_shards : List shards.Charge)
@@ -29,7 +29,7 @@ pub record HasRun {R : Type 0} (gives : R → List ℕ → ReadEnd → Type 0) (
   pub receivers : List (Receiving Word)
   pub sent : List (List Routed)
   pub closed : AreClosed (received_lists receivers)
-  pub cuts : AreCuts (received_lists receivers) sent
+  pub shard_parts : AreShardParts (received_lists receivers) sent
   pub counted : length receivers ≡ length workers
   pub shared : length sent ≡ length of_shards
   pub joined : length ends ≡ length workers

@@ -9,7 +9,7 @@ ghost use mathlib.Core.List.{IsPrefix};
 ghost use Rattle.rs_ring.specs.Items.{is_capacity};
 ghost use Rattle.std.proofs.Props.{props};
 ghost use Rattle.std.specs.Coded.{codes};
-ghost use Rattle.rs_router.specs.Cut.{IsShardCount};
+ghost use Rattle.rs_router.specs.ShardParts.{IsShardCount};
 ghost use Rattle.rs_table.specs.Codes.{rib_code};
 ghost use Rattle.rs_shard.specs.Crew as of_shards;
 ghost use Rattle.rs_worker.specs.Crew.{charge_of, charged};

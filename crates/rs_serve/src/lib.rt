@@ -1,9 +1,9 @@
 //! Runs the recorded sessions of all peers of an exchange on threads: one for each peer, and one for each shard of
 //! the tables, with rings between them.
 //!
-//! Reading order: `identity` (who a peer is), `capacity` (of rings), `lines` and `rings` (what each thread takes),
-//! `crew` (their start and join), `outcome` (how a run ended), `ended` and `served` (what it leaves), `serving`
-//! (a whole run); and `fault`.
+//! Reading order, before a run: `identity` (who a peer is), `capacity` (of rings), `lines` and `rings` (what each
+//! thread takes). Then its threads: `crew` (their start and join). Then its end: `outcome` (how a run ended), `ended`
+//! and `served` (what it leaves). Last `serving` (a whole run) and `fault` (why a run is refused).
 #![tactic(auto)]
 
 mod capacity;

@@ -5,11 +5,11 @@ ghost use Rattle.rs_serve.specs.Outcome.{IsLeastPlace, IsVerdict};
 
 use crate::fault::FloorRefused;
 
-/// The answer to a run: `memory` says whether memory was refused anywhere, `failed` of each peer whether a
-/// read of its file failed, and `settled` of each peer whether all that it sent is known to have been
-/// received. It takes no memory.
+/// The answer to a run. `memory` says whether memory was refused anywhere. `failed` says of each peer whether a read
+/// of its file failed. `settled` says of each peer whether all that it sent is known to have been received. The
+/// function takes no memory.
 ///
-/// Fails with `Memory` where memory was refused, else with `Read` of the least peer whose read failed, else
+/// Fails with `Memory` where memory was refused. Else it fails with `Read` of the least peer whose read failed, else
 /// with `Unsettled` of the least peer that isn't settled.
 pub fn verdict(memory: bool, failed: &[bool], settled: &[bool]) -> Result<(), FloorRefused>
     ensures { IsVerdict memory failed.now settled.now result }

@@ -2,7 +2,7 @@
 
 ghost use Rattle.std.specs.Prelude.{◌≡◌, ◌<◌, true, IfOk, OnOk, length};
 ghost use Rattle.rs_ring.specs.Items.{is_capacity};
-ghost use Rattle.rs_router.specs.Cut.{IsShardCount};
+ghost use Rattle.rs_router.specs.ShardParts.{IsShardCount};
 ghost use Rattle.rs_serve.specs.Lines.{AreRings, HasRingMore};
 
 use rs_choice::Exchange;

@@ -5,7 +5,7 @@ ghost use Rattle.std.specs.Prelude.{◌≡◌, ◌<◌, ◌||◌, not, All, IfEr
 ghost use Rattle.rs_session.specs.Change.{is_read};
 ghost use Rattle.rs_worker.specs.Worked as spec;
 ghost use Rattle.rs_serve.specs.Run.{CanMerge, IsAnswer, IsRefusal, IsWell, end_of};
-ghost use Rattle.rs_router.specs.Cut.{IsShardCount};
+ghost use Rattle.rs_router.specs.ShardParts.{IsShardCount};
 ghost use Rattle.rs_serve.specs.ServeAnswer.{ServeAnswer};
 ghost use Rattle.rs_serve.specs.Served.{is_shard_count};
 
@@ -27,15 +27,19 @@ use std::alloc::{AllocError, Global};
 use std::sync::{Arc, Wait};
 use std::thread::Threads;
 
-/// Runs the recorded sessions of all peers at once: a thread for each peer reads its file and sends the
-/// changes through a ring of this capacity, the calling thread routes them to the shards, and a thread for
-/// each shard holds the tables of its prefixes. `readers` has the reader of each peer's file, in the order of
-/// the peers. Faults in messages are handled by one of the standards.
+/// Runs the recorded sessions of all peers at once. A thread for each peer reads its file and sends the changes through
+/// a ring of this capacity. The calling thread routes them to the shards. A thread for each shard has the tables of its
+/// prefixes. `readers` has the reader of each peer's file, in the order of the peers. Faults in messages are handled by
+/// one of the standards.
 ///
-/// Fails with the first of these: `Capacity` if the capacity isn't from 1 to 65,536; `Shards` if the number of
-/// shards isn't from 1 to 16; `Memory` if memory or a thread is refused; `Read` of the least peer with a failed
-/// read; `Unsettled` of the least peer of which perhaps not all that was sent was received. All threads are
-/// joined before any answer.
+/// Fails with the first of these that applies:
+/// - `Capacity` if the capacity isn't from 1 to 65,536.
+/// - `Shards` if the number of shards isn't from 1 to 16.
+/// - `Memory` if memory or a thread is refused.
+/// - `Read` of the least peer with a failed read.
+/// - `Unsettled` of the least peer of which perhaps not all that was sent was received.
+///
+/// All threads are joined before any answer.
 pub fn serve_by<T: Threads + Wait + Sync, R: Read + Send + Drop, G: Gate>(
     rt: &T,
     alloc: Global,

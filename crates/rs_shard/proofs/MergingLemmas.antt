@@ -19,15 +19,15 @@ use Rattle.rs_table.specs.Content.{RibContent, TablesContent, rib_of, rib_left, 
 use Rattle.rs_table.specs.Left.{left}
 use Rattle.rs_table.specs.Listing.{is_held}
 use Rattle.rs_table.specs.Merge.{AreParts, IsMerged}
-use Rattle.rs_router.specs.Cut.{first_octet, shard_of}
-use Rattle.rs_router.specs.Laws.{CutByShards}
+use Rattle.rs_router.specs.ShardParts.{first_octet, shard_of}
+use Rattle.rs_router.specs.Laws.{PartsByShards}
 use Rattle.rs_shard.specs.Laws.{AreShardsOf}
 use Rattle.rs_table.proofs.MergeLemmas.{none-held}
 use Rattle.rs_table.proofs.PrefixLemmas.{prefix_total, prefix_cmp-IsAntisymmetric}
 
 -- ---- the parts
 
-module _ (cuts : CutByShards) (plan : Plan) (received : List (List Word)) (parts : List TablesContent)
+module _ (shard_parts : PartsByShards) (plan : Plan) (received : List (List Word)) (parts : List TablesContent)
     (are : AreShardsOf plan received parts) where
   abbrev changes_of : List Word → List Change
   changes_of words = map change_of words
@@ -42,7 +42,7 @@ module _ (cuts : CutByShards) (plan : Plan) (received : List (List Word)) (parts
       → (rib_of part peer).closed ≡ list_any is_close (changes_of words)
   part-closed shard part at peer words there =
       ap (λ (rib : RibContent). rib.closed) ((are.each shard part at).ribs peer words there)
-      ∙ (cuts (length parts) are.counted (changes_of words)).closes shard
+      ∙ (shard_parts (length parts) are.counted (changes_of words)).closes shard
 
   same-closed : (i j : ℕ) (one other : TablesContent) → slice_get parts i ≡ Some one → slice_get parts j ≡ Some other → (peer : ℕ)
       → (rib_of one peer).closed ≡ (rib_of other peer).closed
@@ -57,7 +57,7 @@ module _ (cuts : CutByShards) (plan : Plan) (received : List (List Word)) (parts
       → fin.get (rib_of part peer).routes q ≡ None
   not-there shard part at q apart peer = elim (slice_get_cases received peer).1 [
     | inl w ↦ ap (λ (rib : RibContent). fin.get rib.routes q) ((are.each shard part at).ribs peer w.0 w.2)
-        ∙ (cuts (length parts) are.counted (changes_of w.0)).others q shard apart
+        ∙ (shard_parts (length parts) are.counted (changes_of w.0)).others q shard apart
     | inr past ↦ ap (λ (rib : RibContent). fin.get rib.routes q) (part-past shard part at peer past.0) ∙ fin.get-empty prefix_cmp q
   ]
 
@@ -108,7 +108,7 @@ module _ (cuts : CutByShards) (plan : Plan) (received : List (List Word)) (parts
         (λ other part there_too apart. not-held other part there_too q apart) peer
         ∙ ap (λ (rib : RibContent). fin.get rib.routes q)
         ((are.each (shard_of q (length parts)) (get_or parts (shard_of q (length parts)) merged) at).ribs peer words there)
-        ∙ (cuts (length parts) are.counted (changes_of words)).own q
+        ∙ (shard_parts (length parts) are.counted (changes_of words)).own q
 
     merged-rib : (peer : ℕ) (words : List Word) → slice_get received peer ≡ Some words → rib_of merged peer ≡ rib_left (changes_of words)
     merged-rib peer words there =

@@ -10,7 +10,7 @@ use Rattle.rs_session.specs.Change.{Change, change_of, is_close}
 use Rattle.rs_session.specs.declared.word.Word.{Word}
 use Rattle.rs_table.specs.Content.{TablesContent, rib_left}
 use Rattle.rs_table.specs.Left.{HasNoClose}
-use Rattle.rs_router.specs.Cut.{IsShardCount, cut, gets}
+use Rattle.rs_router.specs.ShardParts.{IsShardCount, shard_part, gets}
 use Rattle.rs_router.specs.Routing.{EndsClosed, is_closed}
 use Rattle.rs_router.specs.declared.routed.Routed.{Routed}
 use Rattle.rs_shard.specs.Crew.{Charge}
@@ -18,41 +18,43 @@ use Rattle.rs_shard.specs.Held.{HoldReceived, through_close}
 use Rattle.rs_shard.specs.Laws.{AreShardsOf, IsOfPlan, IsRun, IsShardOf}
 use Rattle.rs_shard.proofs.CloseLemmas.{through-open, through-one}
 
--- the cut of words without a close has none
-open-cut : (shards shard : ℕ) (words : List Word) → is_closed words ≡ false → HasNoClose (cut shards shard (map change_of words))
-open-cut shards shard [] none = refl
-open-cut shards shard (word ∷ words) none =
-    cases (gets shards shard (change_of word)) (is_close (change_of word)) refl refl none (open-cut shards shard words)
+-- the part of words without a close has none
+open-part : (shards shard : ℕ) (words : List Word) → is_closed words ≡ false → HasNoClose (shard_part shards shard (map change_of words))
+open-part shards shard [] none = refl
+open-part shards shard (word ∷ words) none =
+    cases (gets shards shard (change_of word)) (is_close (change_of word)) refl refl none (open-part shards shard words)
   where
     cases : (kept closes : Bool) → gets shards shard (change_of word) ≡ kept → is_close (change_of word) ≡ closes
         → (closes || is_closed words) ≡ false
-        → (is_closed words ≡ false → HasNoClose (cut shards shard (map change_of words)))
-        → HasNoClose (cut shards shard (change_of word ∷ map change_of words))
+        → (is_closed words ≡ false → HasNoClose (shard_part shards shard (map change_of words)))
+        → HasNoClose (shard_part shards shard (change_of word ∷ map change_of words))
     cases kept true e is none rest = absurd cc
     cases true false e is none rest = rw (e, is) (rest none)
     cases false false e is none rest = rw e (rest none)
 
-through-one_cut : (shards shard : ℕ) (change : Change) → through_close (cut shards shard (change ∷ [])) ≡ cut shards shard (change ∷ [])
-through-one_cut shards shard change = cases (gets shards shard change) refl
+through-one_part : (shards shard : ℕ) (change : Change) →
+    through_close (shard_part shards shard (change ∷ [])) ≡ shard_part shards shard (change ∷ [])
+through-one_part shards shard change = cases (gets shards shard change) refl
   where
     cases : (kept : Bool) → gets shards shard change ≡ kept
-        → through_close (cut shards shard (change ∷ [])) ≡ cut shards shard (change ∷ [])
+        → through_close (shard_part shards shard (change ∷ [])) ≡ shard_part shards shard (change ∷ [])
     cases true e = rw e (through-one change)
     cases false e = rw e refl
 
--- in the cut of words that close at their end nothing follows a close
-through-cut : (shards shard : ℕ) (words : List Word) → EndsClosed words
-    → through_close (cut shards shard (map change_of words)) ≡ cut shards shard (map change_of words)
-through-cut shards shard words ends =
-    let splits : cut shards shard (map change_of words) ≡ cut shards shard (map change_of ends.earlier)
-    ++ cut shards shard (change_of ends.close ∷ []) =
-    ap (λ (ws : List Word). cut shards shard (map change_of ws)) ends.is
-    ∙ ap (cut shards shard) (map-append change_of ends.earlier (ends.close ∷ []))
+-- in the part of words that close at their end nothing follows a close
+through-part : (shards shard : ℕ) (words : List Word) → EndsClosed words
+    → through_close (shard_part shards shard (map change_of words)) ≡ shard_part shards shard (map change_of words)
+through-part shards shard words ends =
+    let splits : shard_part shards shard (map change_of words) ≡ shard_part shards shard (map change_of ends.earlier)
+    ++ shard_part shards shard (change_of ends.close ∷ []) =
+    ap (λ (ws : List Word). shard_part shards shard (map change_of ws)) ends.is
+    ∙ ap (shard_part shards shard) (map-append change_of ends.earlier (ends.close ∷ []))
     ∙ filter-append (gets shards shard) (map change_of ends.earlier) (change_of ends.close ∷ []) in
     ap through_close splits
-    ∙ through-open (cut shards shard (map change_of ends.earlier)) (cut shards shard (change_of ends.close ∷ []))
-    (open-cut shards shard ends.earlier ends.until_then)
-    ∙ ap (λ (cs : List Change). cut shards shard (map change_of ends.earlier) ++ cs) (through-one_cut shards shard (change_of ends.close))
+    ∙ through-open (shard_part shards shard (map change_of ends.earlier)) (shard_part shards shard (change_of ends.close ∷ []))
+    (open-part shards shard ends.earlier ends.until_then)
+    ∙ ap (λ (cs : List Change). shard_part shards shard (map change_of ends.earlier) ++ cs)
+    (through-one_part shards shard (change_of ends.close))
     ∙ sym splits
 
 -- the shards of a run
@@ -71,9 +73,9 @@ module _ (plan : Plan) (received : List (List Word)) (sent : List (List Routed))
         of_plan = record { plan_is = held.plan ∙ of_plan.plan_is; count = held.count ∙ of_plan.count };
         ribs = λ peer words there.
             held.ribs peer (omega (arith, slice_get_within received peer words there, run.peers, of_plan.count))
-            ∙ ap (λ (cs : List Change). rib_left (through_close cs)) (run.cuts peer shard words items there at_sent)
-            ∙ ap rib_left (through-cut (length sent) shard words (run.closed peer words there))
-            ∙ ap (λ (n : ℕ). rib_left (cut n shard (map change_of words))) (sym as_many);
+            ∙ ap (λ (cs : List Change). rib_left (through_close cs)) (run.shard_parts peer shard words items there at_sent)
+            ∙ ap rib_left (through-part (length sent) shard words (run.closed peer words there))
+            ∙ ap (λ (n : ℕ). rib_left (shard_part n shard (map change_of words))) (sym as_many);
       }
 
   pub run-whole : AreShardsOf plan received parts

@@ -5,8 +5,8 @@ use Rattle.rs_session.specs.Change.{change_of}
 use Rattle.rs_session.specs.declared.word.Word.{Word}
 use Rattle.rs_table.specs.Content.{TablesContent, rib_of, rib_left}
 use Rattle.rs_table.specs.Merge.{AreParts, IsMerged}
-use Rattle.rs_router.specs.Cut.{IsShardCount, cut}
-use Rattle.rs_router.specs.Routing.{AreClosed, AreCuts}
+use Rattle.rs_router.specs.ShardParts.{IsShardCount, shard_part}
+use Rattle.rs_router.specs.Routing.{AreClosed, AreShardParts}
 use Rattle.rs_router.specs.declared.routed.Routed.{Routed}
 use Rattle.rs_shard.specs.Crew.{AllHold, Charge}
 
@@ -15,12 +15,12 @@ pub record IsOfPlan (plan : Plan) (tables : TablesContent) : Type 0 where
   pub plan_is : tables.plan ≡ plan
   pub count : length tables.ribs ≡ length plan.peers
 
--- the tables of one of some shards, where this was received of each peer: they hold what the shard's cut of that leaves
+-- the tables of one of some shards, where this was received of each peer: they hold what the shard's part of that leaves
 pub record IsShardOf (plan : Plan) (received : List (List Word)) (shards shard : ℕ)
     (part : TablesContent) : Type 0 where
   pub of_plan : IsOfPlan plan part
   pub ribs : (peer : ℕ) (words : List Word) → slice_get received peer ≡ Some words
-      → rib_of part peer ≡ rib_left (cut shards shard (map change_of words))
+      → rib_of part peer ≡ rib_left (shard_part shards shard (map change_of words))
 
 -- the tables of all shards
 pub record AreShardsOf (plan : Plan) (received : List (List Word)) (parts : List TablesContent) : Type 0 where
@@ -37,7 +37,7 @@ pub record IsRun (plan : Plan) (received : List (List Word)) (sent : List (List 
   pub shards : length charges ≡ length sent
   pub charged : (shard : ℕ) (charge : Charge) → slice_get charges shard ≡ Some charge → IsOfPlan plan charge.tables
   pub closed : AreClosed received
-  pub cuts : AreCuts received sent
+  pub shard_parts : AreShardParts received sent
   pub hold : AllHold charges sent parts
 
 -- shards that hold what they were sent have the tables of all shards

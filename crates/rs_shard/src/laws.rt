@@ -2,9 +2,9 @@
 
 ghost use Rattle.rs_shard.specs.Laws.{RunShardsAreWhole, ShardsMerge};
 
-use rs_router::cut_by_shards;
+use rs_router::parts_by_shards;
 
-/// Shards that hold all that the router sent them hold of each peer what their cut of its changes leaves.
+/// Shards that hold all that the router sent them hold of each peer what their part of its changes leaves.
 pub fn run_shards_are_whole()
     ensures { RunShardsAreWhole }
 {}
@@ -13,5 +13,5 @@ pub fn run_shards_are_whole()
 pub fn shards_merge()
     ensures { ShardsMerge }
 {
-    cut_by_shards();
+    parts_by_shards();
 }

@@ -10,7 +10,7 @@ use Rattle.rs_choice.specs.Plan.{Plan}
 use Rattle.rs_mrt.specs.Reader.{ReadEnd}
 use Rattle.rs_mrt.specs.RecordReading.{RecordReading, MayCome}
 use Rattle.rs_ring.specs.Ends.{Receiving, Sending}
-use Rattle.rs_router.specs.Routing.{AreClosed, AreCuts, received_lists}
+use Rattle.rs_router.specs.Routing.{AreClosed, AreShardParts, received_lists}
 use Rattle.rs_router.specs.declared.routed.Routed.{Routed}
 use Rattle.rs_session.specs.declared.word.Word.{Word}
 use Rattle.rs_shard.specs.Crew as shards
@@ -64,16 +64,16 @@ rings-of charged charge ring end handles jobs before after same rings kept =
 pub has-run : {R : Type 0} (gives : R → List ℕ → ReadEnd → Type 0) (workers : List (Charge (RecordReading R)))
     (of_shards : List shards.Charge) (routed joined : List (Receiving Word)) (sent : List (List Routed))
     (ends : List Joined) (parts : List TablesContent) (whole : Bool)
-    → AreClosed (received_lists routed) → AreCuts (received_lists routed) sent
+    → AreClosed (received_lists routed) → AreShardParts (received_lists routed) sent
     → map (λ receiver. receiver.received) joined ≡ map (λ receiver. receiver.received) routed
     → length routed ≡ length workers → length sent ≡ length of_shards → length ends ≡ length workers
     → AllJoined (MayCome gives) (λ reading. reading.shown) workers joined ends → (whole ≡ true → AllHold of_shards sent parts)
     → HasRun gives workers of_shards ends parts whole
-has-run gives workers of_shards routed joined sent ends parts whole closed cuts same counted sizes ended known held = record {
+has-run gives workers of_shards routed joined sent ends parts whole closed shard_parts same counted sizes ended known held = record {
   receivers = joined;
   sent = sent;
   closed = rw same closed;
-  cuts = rw same cuts;
+  shard_parts = rw same shard_parts;
   counted = same-counted (λ (r : Receiving Word). r.received) (λ (r : Receiving Word). r.received) joined routed same ∙ counted;
   shared = sizes;
   joined = ended;
@@ -98,7 +98,7 @@ module _ {R : Type 0} (gives : R → List ℕ → ReadEnd → Type 0) (errors : 
     charged = all-at (λ (charge : shards.Charge). IsOfPlan plan charge.tables) (map shards.charge_of of_shards)
         (All-map (λ (charge : shards.Charge). IsOfPlan plan charge.tables) shards.charge_of of_shards rings.tables);
     closed = run.closed;
-    cuts = run.cuts;
+    shard_parts = run.shard_parts;
     hold = run.held is;
   }
 

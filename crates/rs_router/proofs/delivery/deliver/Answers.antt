@@ -7,7 +7,7 @@ use Rattle.rs_ring.specs.Ends.{Sending}
 use Rattle.rs_session.specs.Change.{body_of}
 use Rattle.rs_session.specs.declared.word.Body.{Body}
 use Rattle.rs_table.specs.Left.{body_prefix}
-use Rattle.rs_router.specs.Cut.{shard_of}
+use Rattle.rs_router.specs.ShardParts.{shard_of}
 use Rattle.rs_router.specs.Delivery.{Delivered, sent_lists}
 use Rattle.rs_router.specs.declared.routed.Routed.{Routed}
 use Rattle.rs_worker.proofs.PlaceLemmas.{get-map, map-set_same}

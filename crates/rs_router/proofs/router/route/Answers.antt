@@ -19,8 +19,8 @@ returns-clause-closed g c =
     are_closed c.route_until_closed.new.from (sent_lists c.route_until_closed.new.to)
     c.route_until_closed.ensures.routed c.route_until_closed.ensures.closed
 
-pub returns-clause-cuts : goal.returns-clause-cuts
-returns-clause-cuts g c =
+pub returns-clause-shard_parts : goal.returns-clause-shard_parts
+returns-clause-shard_parts g c =
     cuts_last (received_lists c.route_until_closed.new.from) (sent_lists c.route_until_closed.new.to) (sent_lists c.send_to_all.new.to)
     c.route_until_closed.ensures.routed c.send_to_all.ensures.sent
 

@@ -65,7 +65,7 @@ returns g c =
     (map (λ handle. of_shards.charged handle.promise) c.args.room.shards.items) c.route.new.from c.join_workers.new.from
     (sent_lists c.route.new.to)
     c.join_workers.new.ends.items c.join_shards-whole.new.parts.items c.join_shards-whole.result
-    c.route.ensures.closed c.route.ensures.cuts
+    c.route.ensures.closed c.route.ensures.shard_parts
     (c.join_workers.ensures.same.1 ∙ ap (map (λ (r : Receiving Word). r.received)) back)
     (received ∙ ap length c.deref_mut.ensures.value ∙ sym of_workers
     ∙ sym (length-map c.args.room.workers.items (λ handle. charged handle.promise)))

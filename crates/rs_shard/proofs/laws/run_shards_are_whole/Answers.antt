@@ -1,4 +1,4 @@
--- Each shard's part is what its cut leaves.
+-- Each shard's part is what its part leaves.
 use Rattle.rs_shard.proofs.RunLemmas.{run-whole}
 use Rattle.rs_shard.proofs.laws.run_shards_are_whole.Goals as goal
 

@@ -4,6 +4,6 @@ use Rattle.rs_shard.proofs.laws.shards_merge.Goals as goal
 
 pub returns : goal.returns
 returns c plan received parts are = (
-  parts-pairs c.cut_by_shards.ensures plan received parts are,
-  λ merged is count. merged-whole c.cut_by_shards.ensures plan received parts are merged is count,
+  parts-pairs c.parts_by_shards.ensures plan received parts are,
+  λ merged is count. merged-whole c.parts_by_shards.ensures plan received parts are merged is count,
 )

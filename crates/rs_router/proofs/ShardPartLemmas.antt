@@ -1,4 +1,4 @@
--- What the cuts of a list leave.
+-- What the parts of a list leave.
 use Rattle.std.proofs.Common.{◌≡◌, ◌≢◌, ◌∙◌, sym, ap, refl, ℕ, inl, inr, Bool, true, false, ◌||◌, List, [], ◌∷◌, ◌++◌, filter, Option, Some}
 use Rattle.std.proofs.Common.{None}
 use Rattle.std.specs.List.{list_all, list_any}
@@ -13,8 +13,8 @@ use Rattle.rs_session.specs.Change.{Change, ChangeBody, Announced, Withdrawn, is
 use Rattle.rs_table.proofs.PrefixLemmas.{same_prefix-true}
 use Rattle.rs_table.specs.Laws.{LeftByLastChanges, LeftByPart}
 use Rattle.rs_table.specs.Left.{Leaves, RouteLeft, announcement, body_loses, body_prefix, is_loss, is_on, left, same_prefix}
-use Rattle.rs_router.specs.Cut.{cut, gets, gets_on, shard_of}
-use Rattle.rs_router.specs.Laws.{CutByShards}
+use Rattle.rs_router.specs.ShardParts.{shard_part, gets, gets_on, shard_of}
+use Rattle.rs_router.specs.Laws.{PartsByShards}
 
 -- ---- what a shard gets
 
@@ -75,16 +75,16 @@ none_option (Some x) never = absurd (never x refl)
 
 -- ---- the law
 
-pub by_shards : LeftByLastChanges → LeftByPart → CutByShards
+pub by_shards : LeftByLastChanges → LeftByPart → PartsByShards
 by_shards last part shards count changes = record {
   own = λ prefix.
       let shard : ℕ = shard_of prefix shards in
       let same : (route : RouteLeft) → _ = part (gets shards shard) prefix (gets_own shards prefix) (gets_none shards shard) changes in
-      same_option (get (left (cut shards shard changes)) prefix) (get (left changes) prefix)
-      (λ route is. (last changes prefix route).0 ((same route).1 ((last (cut shards shard changes) prefix route).1 is)))
-      (λ route is. (last (cut shards shard changes) prefix route).0 ((same route).0 ((last changes prefix route).1 is)));
-  others = λ prefix shard apart. none_option (get (left (cut shards shard changes)) prefix) (λ route is.
-      let leaves : Leaves (cut shards shard changes) prefix route = (last (cut shards shard changes) prefix route).1 is in
+      same_option (get (left (shard_part shards shard changes)) prefix) (get (left changes) prefix)
+      (λ route is. (last changes prefix route).0 ((same route).1 ((last (shard_part shards shard changes) prefix route).1 is)))
+      (λ route is. (last (shard_part shards shard changes) prefix route).0 ((same route).0 ((last changes prefix route).1 is)));
+  others = λ prefix shard apart. none_option (get (left (shard_part shards shard changes)) prefix) (λ route is.
+      let leaves : Leaves (shard_part shards shard changes) prefix route = (last (shard_part shards shard changes) prefix route).1 is in
       let got : gets shards shard (announcement prefix route) ≡ true =
       member_passes (gets shards shard) changes leaves.earlier leaves.later (announcement prefix route) leaves.is_announced in
       apart (sym (eqb-true (shard_of prefix shards) shard got)));

@@ -1,4 +1,4 @@
--- The cut of a list of changes by shards. That each shard holds the prefixes of some first octets is our choice.
+-- The part of a list of changes by shards. That each shard holds the prefixes of some first octets is our choice.
 use Rattle.std.specs.Prelude.{ℕ, ◌≤◌, ◌/◌, ◌%◌, ◌^◌, ◌==◌, Bool, true, List, filter, Option, None, Some}
 use Rattle.rs_update.specs.IpPrefix.{IpPrefix}
 use Rattle.rs_session.specs.Change.{Change}
@@ -25,5 +25,5 @@ abbrev pub gets : ℕ → ℕ → Change → Bool
 gets shards shard change = gets_on shards shard (body_prefix change.body)
 
 -- of some shards the part of a list that one gets
-abbrev pub cut : ℕ → ℕ → List Change → List Change
-cut shards shard changes = filter (gets shards shard) changes
+abbrev pub shard_part : ℕ → ℕ → List Change → List Change
+shard_part shards shard changes = filter (gets shards shard) changes
