@@ -2,3 +2,4 @@
 pub mod Members
 pub mod Eliminations
 pub mod Examples
+pub mod PermitLemmas

@@ -3,8 +3,8 @@
 //!
 //! What is chosen among all eligible routes is shared. It rests on few of them: on the one that is chosen,
 //! and on those that keep out another one of their neighbour AS by its higher MED. A client that may get all
-//! of these gets the shared choice, whatever other routes are its own or refused to it; for each other client
-//! there is a decision of its own.
+//! of these gets the shared choice. Which other routes are its own or are refused to it does not matter.
+//! Each other client has a decision of its own.
 
 ghost use Rattle.std.specs.Prelude.{◌≡◌, ◌<◌, ◌≤◌, ◌↔◌, IfSome, IsTrue, filter, length, map};
 ghost use Rattle.std.specs.List.{All};
@@ -36,9 +36,11 @@ pub(crate) struct Shared {
 }
 
 impl Exchange {
-    /// Writes for each client the number of the peer whose route it gets of those held on one prefix, or its
-    /// own number where it gets none: the choice among those that are eligible and that export policy permits
-    /// to it. No client gets a route of its own. It takes no memory.
+    /// Decides for each client which of the routes on one prefix it gets. `bests` has for each client the number
+    /// of the peer whose route it gets, or the client's own number where it gets none.
+    ///
+    /// A client gets the choice among the routes that are eligible and that export policy permits to it. No client
+    /// gets a route of its own. The call takes no memory.
     pub fn choose_for_all(&self, held: &[HeldRoute], bests: &mut [u8])
         requires judged { All (IsJudged self.now) held.now }
         requires bound { length held.now ≤ MAX_PEERS }

@@ -1,9 +1,9 @@
 //! The decision process (RFC 4271, sections 9.1.1 and 9.1.2.2), in one pass over at most 256 entrants: those
 //! that the six steps leave.
 //!
-//! MED is compared within one neighbour AS alone. So of the entrants that the first three steps leave, the
-//! pass keeps for each neighbour AS the one of least MED, and among equals the one that goes before by
-//! identifier, address and place. The choice is the one of these that goes before all others.
+//! MED is compared within one neighbour AS alone. So the pass looks at the entrants that the first three steps
+//! leave, and keeps one for each neighbour AS. That is the one of least MED, and among equals the one that goes
+//! before by identifier, address and place. The choice is the one of these that goes before all others.
 
 ghost use Rattle.std.specs.Prelude.{◌≡◌, ◌<◌, ◌≤◌, ◌+◌, ◌↔◌, IsTrue, Some, length};
 ghost use Rattle.std.specs.List.{All};
@@ -19,7 +19,7 @@ use crate::plan::MAX_PEERS;
 
 impl Exchange {
     /// The same as `choose`, in one pass by neighbour groups, of at most 256 candidates. It takes no memory.
-    /// Tests alone call it: `choose_for_all` makes the same pass over routes that are held.
+    /// Tests alone call it: `choose_for_all` makes the same pass over the routes of a table.
     pub fn choose_by_groups(&self, candidates: &[Candidate]) -> Option<usize>
         requires known { All (λ candidate. candidate.peer < length self.now.peers) candidates.now }
         requires bound { length candidates.now ≤ MAX_PEERS }

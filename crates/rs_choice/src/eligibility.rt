@@ -11,9 +11,12 @@ use crate::exchange::Exchange;
 use rs_update::{Attributes, Prefix};
 
 impl Exchange {
-    /// Whether a route of the peer of number `peer` is eligible: the server's AS isn't in its AS_PATH (RFC
-    /// 4271, section 9.1.2), and its NEXT_HOP isn't the server's address, and, where a subnet is configured,
-    /// its NEXT_HOP is the peer's address or inside the subnet (section 6.3). It takes no memory.
+    /// Whether a route of the peer of number `peer` is eligible. It takes no memory.
+    ///
+    /// All of these must be so:
+    /// - The server's AS isn't in its AS_PATH (RFC 4271, section 9.1.2).
+    /// - Its NEXT_HOP isn't the server's address (section 6.3).
+    /// - Where a subnet is configured, its NEXT_HOP is the peer's address or inside the subnet (section 6.3).
     pub fn eligible(&self, peer: usize, attributes: &Attributes) -> bool
         requires { peer < length self.now.peers }
         ensures { result ≡ is_eligible self.now peer attributes.now }

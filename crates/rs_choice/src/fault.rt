@@ -6,9 +6,9 @@ ghost use Rattle.rs_choice.specs.declared.fault.PlanFault.TheVariants.{Memory};
 use std::alloc::{AllocError, AllocFailed};
 use thiserror::Error;
 
-/// The first fault of a plan, in the order of the variants: first those of the whole plan, with `ZeroAs` of
-/// the server as the last of them; then `InvalidName` to `ZeroAs` of one peer after another; then
-/// `UnknownName` of one peer after another.
+/// The first fault of a plan. The faults of the whole plan come first, in the order of the variants, with `ZeroAs`
+/// of the server as the last. Then come `InvalidName` to `ZeroAs`, of one peer after another. Then comes
+/// `UnknownName`, of one peer after another.
 #[derive(Clone, Copy, Debug, PartialEq, Eq, Error)]
 pub enum PlanFault {
     /// There is no peer.

@@ -20,13 +20,13 @@ use rs_update::Attributes;
 use std::mem::size_of;
 use std::sync::Arc;
 
-/// A route of a peer as it is held for decisions, in 16 octets.
+/// A route of a peer as it is stored for decisions, in 16 octets.
 #[derive(Drop)]
 pub struct HeldRoute {
     /// The number of the peer that sent it.
     pub peer: u8,
-    /// Whether it is eligible, whether export policy permits it to every client but its sender, its ORIGIN, and whether
-    /// it is plain: its neighbour AS is its sender's AS, and its MED is 0 or missing.
+    /// Its ORIGIN, whether it is eligible, and whether export policy permits it to every client but its sender. Also
+    /// whether it is plain: its neighbour AS is its sender's AS, and its MED is 0 or missing.
     pub candidacy: Candidacy,
     /// AS numbers in AS_PATH, an AS_SET counting 1.
     pub path_length: u16,

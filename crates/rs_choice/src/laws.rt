@@ -4,9 +4,9 @@ ghost use Rattle.rs_choice.specs.Laws.{BehindIsNoMatter, ChoiceIgnoresOrder, Cho
 ghost use Rattle.rs_choice.specs.Laws.{ChoiceStays, FaultIsFirst, MedDecidesWithinNeighbour, OpenPolicySharesChoice};
 ghost use Rattle.rs_choice.specs.Laws.{OthersAreNoMatter, OutdoneIsNoMatter, PeersHaveOwnAddresses, RemovedIsNoMatter};
 
-/// The choice among candidates is one of them, and there is one unless there is no candidate; at each step of
-/// the decision process it is in the set that reached the step, and no member of that set beats it (RFC 4271,
-/// section 9.1.2.2).
+/// The choice among candidates is one of them, and there is one unless there is no candidate. At each step of
+/// the decision process the choice is in the set that reached the step. No member of that set beats it (RFC
+/// 4271, section 9.1.2.2).
 pub fn the_choice_is_unbeaten()
     ensures member { ChoiceIsMember }
     ensures unbeaten { ChoiceIsUnbeaten }

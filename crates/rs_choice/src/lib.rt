@@ -4,11 +4,14 @@
 //! Standards: RFC 4271, section 9.1 (eligible routes, decision process); RFC 7947, section 2.3 (a decision
 //! for each client, after that client's export policy).
 //!
-//! Reading order: `plan` (the server and its peers), `fault` and `checks` (which plans are refused),
-//! `exchange` (a plan that is not), `eligibility`, `policy`, `candidate`, `step`, `entrants` and
-//! `neighbour_groups` (what takes part in a decision, and who stands for each neighbour AS), `decision` (the
-//! pass that decides), `candidacy`, `held_route`, `held_order`, `places` and `clients` (the decisions of all
-//! clients), `scan` (the same decision for lists of any length), `laws`.
+//! Reading order:
+//! - Plans: `plan` (the server and its peers), `fault` and `checks` (which plans are refused), `exchange` (a plan
+//!   that is not).
+//! - One decision: `eligibility`, `policy` and `candidate` (what takes part in it), and `step`. Then `entrants` and
+//!   `neighbour_groups` (who stands for each neighbour AS), and `decision` (the pass that decides).
+//! - The decisions of all clients: `candidacy`, `held_route`, `held_order`, `places` and `clients`.
+//! - The same decision for lists of any length: `scan`.
+//! - What holds of the definitions that the contracts cite: `laws`.
 //!
 //! The program decides by `choose_for_all`; tests alone call `choose` and `choose_by_groups`.
 #![tactic(auto)]

@@ -1,6 +1,7 @@
-//! The decision process for lists of any length (RFC 4271, sections 9.1.1 and 9.1.2.2): the list is gone over
-//! once for a candidate that the first three steps leave, and once more for the choice, with a look at all
-//! others for a lower MED.
+//! The decision process for lists of any length (RFC 4271, sections 9.1.1 and 9.1.2.2).
+//!
+//! The first pass over the list finds a candidate that the first three steps leave. The second pass finds the
+//! choice, with a look at all others for a lower MED.
 
 ghost use Rattle.std.specs.Prelude.{◌≡◌, ◌<◌, ◌↔◌, IsTrue, length};
 ghost use Rattle.std.specs.List.{All};
@@ -13,11 +14,11 @@ use crate::step::Step;
 
 impl Exchange {
     /// The place of the choice among the candidates: of the one that the six steps of the decision process
-    /// leave, each step looking at the whole set that the one before left. Where several candidates of one
-    /// peer are left it is the least place; None for an empty list. It takes no memory.
+    /// leave. Each step looks at the whole set that the one before left. Where several candidates of one
+    /// peer are left it is the least place. It is None for an empty list. The call takes no memory.
     ///
-    /// The program itself doesn't call it, since it decides among held routes (`choose_for_all`): callers with a
-    /// list of candidates may.
+    /// The program itself doesn't call it, since it decides among the routes of its tables (`choose_for_all`).
+    /// Callers with a list of candidates may.
     pub fn choose(&self, candidates: &[Candidate]) -> Option<usize>
         requires { All (λ candidate. candidate.peer < length self.now.peers) candidates.now }
         ensures place { result ≡ place_of_choice (standing_of_candidate self.now) candidates.now }

@@ -17,7 +17,6 @@ use Rattle.rs_table.specs.declared.why.Why.TheVariants as answers
 use Rattle.rs_table.specs.Left.{RouteLeft}
 use Rattle.rs_table.specs.Content.{TablesContent, rib_of}
 use Rattle.rs_table.specs.Table.{sent_by, best_of, is_from, why_left, why_of}
-use Rattle.rs_choice.specs.Decision.{SentRoute}
 use Rattle.rs_explain.specs.declared.condition.Condition.{Condition}
 use Rattle.rs_explain.specs.declared.refusal.Refusal.{Refusal}
 use Rattle.rs_explain.specs.declared.explanation.Explanation.{Explanation}
@@ -103,16 +102,3 @@ module _ (tables : TablesContent) (client peer : ℕ) (prefix : IpPrefix) (expla
         | inl same ↦ let own : explanation ≡ Own = rw same at h in rw same (ap answer_of own)
         | inr differ ↦ rw differ (agree_other (get (rib_of tables peer).routes prefix) differ (rw differ at h))
       ]
-
--- no reason keeps a route from being a candidate where it fails no condition and no rule refuses it
-pub no_reason : (plan : Plan) (client peer : ℕ) (left : Option RouteLeft) (route : SentRoute) → Some route ≡ option_map (sent_by peer) left
-    →
-    failed_condition plan peer route.attributes ≡ None → refusal_of plan client peer route.attributes ≡ None →
-    reason_of plan client peer (option_map (sent_by peer) left) ≡ None
-no_reason plan client peer left route is fails refuses = rw (← is, fails, refuses) refl
-
-pub explained : (tables : TablesContent) (client peer one : ℕ) (prefix : IpPrefix) (explanation : Explanation) → (client == peer) ≡ false
-    → one ≡ peer →
-    reason_of tables.plan client peer (option_map (sent_by peer) (get (rib_of tables peer).routes prefix)) ≡ None →
-    IsDecided tables client one prefix explanation → IsExplanation tables client peer prefix explanation
-explained tables client peer one prefix explanation differ same none decided = rw (differ, none) (rw same at decided)

@@ -1,6 +1,6 @@
 -- The candidate that a client gets: it is there where there is a candidate, and all steps leave no other one.
-use Rattle.std.proofs.Common.{◌≡◌, ◌∙◌, sym, ap, subst, ℕ, ◌<◌, List, [], length}
-use Rattle.std.specs.Prelude.{None, Some}
+use Rattle.std.proofs.Common.{◌≡◌, ◌∙◌, sym, ap, subst, refl, ℕ, ◌<◌, List, [], length}
+use Rattle.std.specs.Prelude.{Option, None, Some, IfSome}
 use Rattle.std.specs.List.{All, Contains}
 use Rattle.std.specs.Option.{option_map}
 use Rattle.std.proofs.lemmas.List.Elements.{All-contains}
@@ -10,10 +10,12 @@ use Rattle.rs_choice.specs.Decision.{SentRoute, choice, decision_steps, remainin
 use Rattle.rs_choice.specs.Laws.{ChoiceIsMember, PeersHaveOwnAddresses}
 use Rattle.rs_choice.specs.Naturality.{choice-map, choice-All}
 use Rattle.rs_choice.specs.Plan.{plan_fault}
+use Rattle.rs_table.specs.declared.route.Route.{Route}
 use Rattle.rs_table.specs.Content.{TablesContent}
+use Rattle.rs_table.specs.RouteView.{sent_route_of}
 use Rattle.rs_table.specs.Table.{candidates_of, best_of}
 use Rattle.rs_explain.specs.declared.contender.Contender.{Contender}
-use Rattle.rs_explain.specs.Contenders.{contender_of, contenders_of, standing_in, HasOwnAddress}
+use Rattle.rs_explain.specs.Contenders.{contender_of, contenders_of, standing_in, AreContenders, HasOwnAddress}
 use Rattle.rs_choice.proofs.Eliminations.{choice_left, one_address, remaining_among, same_remaining}
 use Rattle.rs_choice.proofs.Members.{Mem, contains-mem, mem-contains, mem_of-map}
 
@@ -35,6 +37,18 @@ pub best_peer : (tables : TablesContent) (client : ℕ) (prefix : IpPrefix) (bes
 best_peer tables client prefix best all is =
     let own = best_address tables client prefix best all is in
     slice_get_within tables.plan.peers best.peer own.0 own.1
+
+pub best_known : (tables : TablesContent) (client : ℕ) (prefix : IpPrefix) (best : Option Route) (all : List Contender)
+    → AreContenders tables client prefix all → option_map sent_route_of best ≡ best_of tables client prefix →
+    IfSome best (λ one. one.peer < length tables.plan.peers)
+best_known tables client prefix None all are is = tt
+best_known tables client prefix (Some route) all are is =
+    best_peer tables client prefix (sent_route_of route) (subst (All (HasOwnAddress tables.plan)) are.value are.addresses) (sym is)
+
+-- what an option is made of
+pub made_of : {A B : Type 0} (f : A → B) (o : Option A) (y : B) → option_map f o ≡ Some y → (x : A) × (o ≡ Some x) × (f x ≡ y)
+made_of f None y is = absurd (cc is)
+made_of f (Some x) y is = (x, refl, cc is)
 
 -- a client that has a candidate gets one
 pub some_best : ChoiceIsMember → (tables : TablesContent) (client : ℕ) (prefix : IpPrefix) (one : Contender) →

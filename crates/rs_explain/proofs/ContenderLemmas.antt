@@ -1,7 +1,8 @@
 -- The candidates of a client for a prefix, peer after peer.
-use Rattle.std.proofs.Common.{◌≡◌, ◌∙◌, sym, ap, subst, refl, ℕ, ◌<◌, ◌+◌, true, false, inl, inr, List, [], ◌∷◌, ◌++◌, length, map, drop}
+use Rattle.std.proofs.Common.{◌≡◌, ◌∙◌, sym, ap, subst, refl, ℕ, ◌<◌, ◌≤◌, ◌+◌, true, false, inl, inr, List, [], ◌∷◌, ◌++◌, length, map, drop}
 use Rattle.std.proofs.Common.{drop-cons, add-one, append_assoc, below_more}
 use Rattle.std.proofs.lemmas.Bool.{and_right, cases_Bool}
+use Rattle.std.proofs.lemmas.List.{append-nil, drop_all}
 use Rattle.std.proofs.lemmas.Option.{none-some, same_Some}
 use Rattle.std.proofs.lemmas.List.Elements.{Contains-append_left, Contains-push}
 use Rattle.std.specs.Prelude.{filter, Option, None, Some}
@@ -17,7 +18,7 @@ use Rattle.rs_table.specs.Content.{RibContent, TablesContent, nothing_held, rib_
 use Rattle.rs_table.specs.Table.{sent_by}
 use Rattle.rs_choice.specs.Decision.{SentRoute}
 use Rattle.rs_explain.specs.declared.contender.Contender.{Contender}
-use Rattle.rs_explain.specs.Contenders.{contender_of, contender_if, contender_from}
+use Rattle.rs_explain.specs.Contenders.{contender_of, contender_if, contender_from, contenders_of}
 
 -- those of the peers from one number on
 abbrev pub contenders_in : Plan → ℕ → IpPrefix → ℕ → List RibContent → List Contender
@@ -45,7 +46,7 @@ one_more plan client first (Some route) later = elim (cases_Bool (is_eligible pl
 ]
 
 -- the peer at a number comes first of the rest
-pub contenders_in-more : (tables : TablesContent) (client : ℕ) (prefix : IpPrefix) (peer : ℕ) → peer < length tables.ribs →
+contenders_in-more : (tables : TablesContent) (client : ℕ) (prefix : IpPrefix) (peer : ℕ) → peer < length tables.ribs →
     contenders_in tables.plan client prefix peer (drop peer tables.ribs)
     ≡ cons_option (contender_from tables client prefix peer)
     (contenders_in tables.plan client prefix (peer + 1) (drop (peer + 1) tables.ribs))
@@ -63,11 +64,10 @@ route_peer peer None route is = absurd (cc)
 route_peer peer (Some left) route is = let same : route ≡ sent_by peer left = cc in ap (λ (route : SentRoute). route.peer) same
 
 -- one that policy refuses is no candidate
-pub none_refused : (plan : Plan) (client peer : ℕ) (left : Option RouteLeft) (route : SentRoute)
-    → Some route ≡ option_map (sent_by peer) left →
-    is_permitted plan client peer route.attributes ≡ false → None ≡ contender_if plan client (option_map (sent_by peer) left)
-none_refused plan client peer left route is refuses =
-    rw (← is, route_peer peer left route is, refuses, and_right (is_eligible plan peer route.attributes) false refl) refl
+pub none_refused : (plan : Plan) (client : ℕ) (route : SentRoute) → is_permitted plan client route.peer route.attributes ≡ false →
+    None ≡ contender_if plan client (Some route)
+none_refused plan client route refuses =
+    rw (refuses, and_right (is_eligible plan route.peer route.attributes) false refl) refl
 
 -- and one that is eligible and permitted is
 pub some_permitted : (plan : Plan) (client peer : ℕ) (left : Option RouteLeft) (route : SentRoute)
@@ -88,12 +88,37 @@ made_from tables client prefix peer one made same own found =
 
 -- ---- one peer more
 
-pub next_listed : (items all rest total : List Contender) (one : Contender) → items ++ all ≡ total → all ≡ one ∷ rest
+next_listed : (items all rest total : List Contender) (one : Contender) → items ++ all ≡ total → all ≡ one ∷ rest
     → (items ++ one ∷ []) ++ rest ≡ total
 next_listed items all rest total one listed e =
     append_assoc items (one ∷ []) rest ∙ ap (λ (later : List Contender). items ++ later) (sym e) ∙ listed
 
 module _ (tables : TablesContent) (client : ℕ) (prefix : IpPrefix) where
+  -- these, and those of the peers from one number on, are all
+  abbrev pub AreBelow : ℕ → List Contender → Type 0
+  AreBelow peer items =
+      items ++ contenders_in tables.plan client prefix peer (drop peer tables.ribs) ≡ contenders_of tables client prefix
+
+  pub next_below : (items : List Contender) (peer : ℕ) (one : Contender) → peer < length tables.ribs →
+      contender_from tables client prefix peer ≡ Some one → AreBelow peer items → AreBelow (peer + 1) (items ++ one ∷ [])
+  next_below items peer one within found listed =
+      let rest = contenders_in tables.plan client prefix (peer + 1) (drop (peer + 1) tables.ribs) in
+      next_listed items (contenders_in tables.plan client prefix peer (drop peer tables.ribs)) rest (contenders_of tables client prefix) one
+      listed (contenders_in-more tables client prefix peer within ∙ ap (λ (found : Option Contender). cons_option found rest) found)
+
+  pub same_below : (items : List Contender) (peer : ℕ) → peer < length tables.ribs → contender_from tables client prefix peer ≡ None →
+      AreBelow peer items → AreBelow (peer + 1) items
+  same_below items peer within none listed =
+      let rest = contenders_in tables.plan client prefix (peer + 1) (drop (peer + 1) tables.ribs) in
+      ap (λ (later : List Contender). items ++ later)
+      (sym (contenders_in-more tables client prefix peer within ∙ ap (λ (found : Option Contender). cons_option found rest) none)) ∙ listed
+
+  pub all_below : (items : List Contender) (peer : ℕ) → length tables.ribs ≤ peer → AreBelow peer items →
+      items ≡ contenders_of tables client prefix
+  all_below items peer end listed =
+      sym (append-nil items)
+      ∙ ap (λ ribs. items ++ contenders_in tables.plan client prefix peer ribs) (sym (drop_all peer tables.ribs end)) ∙ listed
+
   abbrev pub HasBelow : ℕ → List Contender → Type 0
   HasBelow i items = (peer : ℕ) → peer < i → (one : Contender) → contender_from tables client prefix peer ≡ Some one → Contains items one
 

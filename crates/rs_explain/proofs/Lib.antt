@@ -1,8 +1,10 @@
 pub mod ReasonLemmas
 pub mod RemovalLemmas
+pub mod BeatenLemmas
 pub mod ContenderLemmas
 pub mod BestLemmas
 pub mod AgreementLemmas
+pub mod ExplainLemmas
 pub mod RivalLemmas
 pub mod SaidLemmas
 pub mod SaidLaws

@@ -25,7 +25,7 @@ use Rattle.rs_explain.proofs.RemovalLemmas.{beaten_by}
 use Rattle.rs_explain.proofs.BestLemmas.{best_contender}
 
 -- what is found is a member that passes
-mem-find : {M : Type 0} (p : M → Bool) (xs : List M) (x : M) → find p xs ≡ Some x → Mem xs x × (p x ≡ true)
+pub mem-find : {M : Type 0} (p : M → Bool) (xs : List M) (x : M) → find p xs ≡ Some x → Mem xs x × (p x ≡ true)
 mem-find p [] x found = absurd (cc (found))
 mem-find p (y ∷ ys) x found = cond_both (p y) (Some y) (find p ys) (λ found. found ≡ Some x → Mem (y ∷ ys) x × (p x ≡ true))
     (λ passes here. let same : y ≡ x = cc (here) in (inl same, ap p (sym same) ∙ passes))

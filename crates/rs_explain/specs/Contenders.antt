@@ -1,6 +1,7 @@
 -- The candidates of a client for a prefix, by what the decision process asks of them (RFC 4271, sections
 -- 9.1.1 and 9.1.2.2).
-use Rattle.std.specs.Prelude.{◌≡◌, ℕ, List, map, Option, None, Some, ◌&&◌, if◌then◌else◌, slice_get}
+use Rattle.std.specs.Prelude.{◌≡◌, ◌<◌, ℕ, List, length, map, Option, None, Some, ◌&&◌, if◌then◌else◌, slice_get}
+use Rattle.std.specs.List.{All, Contains}
 use Rattle.rs_update.specs.IpPrefix.{IpPrefix}
 use Rattle.rs_choice.specs.declared.candidate.Standing.{Standing}
 use Rattle.rs_choice.specs.Decision.{standing_of, SentRoute}
@@ -36,3 +37,10 @@ contender_from tables client prefix peer = contender_if tables.plan client (rout
 abbrev pub HasOwnAddress : Plan → Contender → Type 0
 HasOwnAddress plan one =
     (sender : Peer) × (slice_get plan.peers one.peer ≡ Some sender) × (one.standing.address ≡ sender.address)
+
+-- these are the candidates of a client for a prefix, each of a peer of the plan, and each peer's that has one
+pub record AreContenders (tables : TablesContent) (client : ℕ) (prefix : IpPrefix) (all : List Contender) : Type 0 where
+  pub value : all ≡ contenders_of tables client prefix
+  pub addresses : All (HasOwnAddress tables.plan) all
+  pub has : (peer : ℕ) → peer < length tables.plan.peers → (one : Contender)
+      → contender_from tables client prefix peer ≡ Some one → Contains all one

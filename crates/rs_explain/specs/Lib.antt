@@ -6,3 +6,4 @@ pub mod Explanations  -- the first case that holds
 pub mod Laws  -- what holds of all of these
 -- How it is found:
 pub mod Contenders  -- candidates by what decisions ask of them
+pub mod Candidates  -- candidates that are collected once

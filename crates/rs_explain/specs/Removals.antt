@@ -1,7 +1,9 @@
 -- How the decision process removes a candidate (RFC 4271, sections 9.1.1 and 9.1.2.2).
-use Rattle.std.specs.Prelude.{◌≡◌, List, ◌∷◌, ◌++◌, Option, Some}
+use Rattle.std.specs.Prelude.{◌≡◌, Bool, not, ◌&&◌, List, ◌∷◌, ◌++◌, Option, Some}
 use Rattle.std.specs.List.{find, Contains}
+use Rattle.rs_choice.specs.declared.candidate.Standing.{Standing}
 use Rattle.rs_choice.specs.declared.step.Step.{Step}
+use Rattle.rs_choice.specs.declared.step.Step.TheVariants as steps
 use Rattle.rs_choice.specs.Decision.{beats, remaining}
 use Rattle.rs_explain.specs.declared.contender.Contender.{Contender}
 use Rattle.rs_explain.specs.declared.removal.Removal.{Removal}
@@ -21,3 +23,9 @@ pub record IsRemoval (steps : List Step) (set : List Contender) (best loser : Co
   pub removed : removal.loser ≡ loser
   pub reaches : Contains (remaining standing_in before set) loser
   pub rival : rival_of removal.step best (remaining standing_in before set) loser ≡ Some removal.rival
+
+-- something that the best one doesn't remove before the step by MED beats another there
+abbrev pub beats_by_med : Standing → Standing → Standing → Bool
+beats_by_med best one other =
+    not (beats steps.Preference best other) && (not (beats steps.PathLength best other)
+    && (not (beats steps.Origin best other) && beats steps.Med other one))

@@ -25,6 +25,7 @@ pub fn failed_condition(plan: &Exchange, peer: usize, attributes: &Attributes) -
 {
     let local = plan.local();
     let next_hop = attributes.next_hop();
+    // For the prover: the plan has a peer of this number.
     let _sender = plan.peer(peer);
     if attributes.holds_as(local.asn) {
         Some(Condition::OwnAs(local.asn))

@@ -1,14 +1,13 @@
 //! The candidates of a client for a prefix, by what the decision process asks of them (RFC 4271, sections
 //! 9.1.1 and 9.1.2.2).
 
-ghost use Rattle.std.specs.Prelude.{◌≡◌, ◌<◌, ℕ, IfOk, IfSome, Some, length};
-ghost use Rattle.std.specs.List.{All, Contains};
-ghost use Rattle.rs_explain.specs.Contenders.{contender_from, contender_of, contenders_of, HasOwnAddress};
+ghost use Rattle.std.specs.Prelude.{◌≡◌, ◌<◌, IfOk, IfSome, Some, length};
+ghost use Rattle.rs_explain.specs.Contenders.{contender_from, contender_if, contender_of, AreContenders, HasOwnAddress};
+ghost use Rattle.rs_table.specs.PrefixRoutes.{AreRoutesOf, entry_of};
 ghost use Rattle.rs_table.specs.RouteView.{sent_route_of};
-ghost use Rattle.rs_explain.specs.declared.contender.Contender as spec;
 
 use rs_choice::{Candidate, Exchange, Standing};
-use rs_table::{Route, Tables};
+use rs_table::{PrefixRoutes, Route, Tables};
 use rs_update::Prefix;
 use std::alloc::{AllocError, Global};
 
@@ -27,6 +26,7 @@ pub(crate) fn contender_of(plan: &Exchange, route: &Route) -> Contender
     ensures value { result ≡ contender_of plan.now (sent_route_of route.now) }
     ensures address { HasOwnAddress plan.now result }
 {
+    // For the prover: the plan has a peer of this number.
     let _sender = plan.peer(route.peer);
     let standing = plan.standing(&Candidate {
         peer: route.peer,
@@ -38,28 +38,45 @@ pub(crate) fn contender_of(plan: &Exchange, route: &Route) -> Contender
     }
 }
 
+// A route, where it is a candidate of a client.
+fn candidate_of(plan: &Exchange, client: usize, route: &Route) -> Option<Contender>
+    requires client_known { client < length plan.now.peers }
+    requires peer_known { route.now.peer < length plan.now.peers }
+    ensures value { result ≡ contender_if plan.now client (Some (sent_route_of route.now)) }
+    ensures address { IfSome result (HasOwnAddress plan.now) }
+{
+    // For the prover: the plan has a peer of this number.
+    let _sender = plan.peer(route.peer);
+    if !plan.eligible(route.peer, route.attributes) {
+        return None;
+    }
+    if !plan.permits(client, route.peer, route.attributes) {
+        return None;
+    }
+    Some(contender_of(plan, route))
+}
+
 // The route of a peer on a prefix, where it is a candidate of a client.
-pub(crate) fn candidate_from(
-    tables: &Tables,
-    client: usize,
-    peer: usize,
-    prefix: Prefix,
-) -> Option<Contender>
+fn candidate_from(tables: &Tables, client: usize, peer: usize, prefix: Prefix) -> Option<Contender>
     requires client_known { client < length tables.now.plan.peers }
     requires peer_known { peer < length tables.now.plan.peers }
     ensures value { result ≡ contender_from tables.now client prefix peer }
     ensures address { IfSome result (HasOwnAddress tables.now.plan) }
 {
     let route = tables.route(peer, prefix)?;
-    let plan = tables.plan();
-    let _sender = plan.peer(peer);
-    if !plan.eligible(peer, route.attributes) {
-        return None;
-    }
-    if !plan.permits(client, peer, route.attributes) {
-        return None;
-    }
-    Some(contender_of(plan, &route))
+    candidate_of(tables.plan(), client, &route)
+}
+
+// The same of the routes on the prefix, which are at hand.
+fn candidate_on(tables: &Tables, client: usize, peer: usize, on: &PrefixRoutes) -> Option<Contender>
+    requires client_known { client < length tables.now.plan.peers }
+    requires peer_known { peer < length tables.now.plan.peers }
+    requires routes { AreRoutesOf tables.now (entry_of on.now) }
+    ensures value { result ≡ contender_from tables.now client on.now.prefix peer }
+    ensures address { IfSome result (HasOwnAddress tables.now.plan) }
+{
+    let route = on.route(peer)?;
+    candidate_of(tables.plan(), client, &route)
 }
 
 // All candidates of a client for a prefix, in the order of the peers.
@@ -70,14 +87,31 @@ pub(crate) fn contenders(
     prefix: Prefix,
 ) -> Result<Vec<Contender>, AllocError>
     requires { client < length tables.now.plan.peers }
-    ensures value { IfOk result (λ all. all.items ≡ contenders_of tables.now client prefix) }
-    ensures addresses { IfOk result (λ all. All (HasOwnAddress tables.now.plan) all.items) }
-    ensures has { IfOk result (λ all. (peer : ℕ) → peer < length tables.now.plan.peers → (one : spec.Contender)
-        → contender_from tables.now client prefix peer ≡ Some one → Contains all.items one) }
+    ensures { IfOk result (λ all. AreContenders tables.now client prefix all.items) }
 {
     let mut all = Vec::new(alloc);
     for peer in 0..tables.count() {
         if let Some(one) = candidate_from(tables, client, peer, prefix) {
+            all.push(one)?;
+        }
+    }
+    Ok(all)
+}
+
+// The same of the routes on the prefix, which are at hand.
+pub(crate) fn contenders_on(
+    alloc: Global,
+    tables: &Tables,
+    client: usize,
+    on: &PrefixRoutes,
+) -> Result<Vec<Contender>, AllocError>
+    requires client_known { client < length tables.now.plan.peers }
+    requires routes { AreRoutesOf tables.now (entry_of on.now) }
+    ensures { IfOk result (λ all. AreContenders tables.now client on.now.prefix all.items) }
+{
+    let mut all = Vec::new(alloc);
+    for peer in 0..tables.count() {
+        if let Some(one) = candidate_on(tables, client, peer, on) {
             all.push(one)?;
         }
     }

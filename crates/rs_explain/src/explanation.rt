@@ -1,16 +1,20 @@
 //! Why a client has a peer's route on a prefix, or not, with the reason.
 
-ghost use Rattle.std.specs.Prelude.{◌≡◌, ◌<◌, IfOk, Some, length};
+ghost use Rattle.std.specs.Prelude.{◌≡◌, ◌<◌, IfOk, IfSome, Some, length};
+ghost use Rattle.std.specs.Option.{option_map};
+ghost use Rattle.rs_table.specs.PrefixRoutes.{AreRoutesOf, entry_of};
+ghost use Rattle.rs_table.specs.RouteView.{sent_route_of};
 ghost use Rattle.rs_table.specs.Table.{why_of};
-ghost use Rattle.rs_explain.specs.Explanations.{answer_of, other_peers, IsDecided, IsExplanation};
-ghost use Rattle.rs_explain.specs.Contenders.{contender_from};
+ghost use Rattle.rs_explain.specs.Explanations.{answer_of, other_peers, reason_of, IsDecided, IsExplanation};
+ghost use Rattle.rs_explain.specs.Candidates.{AreCandidates};
+ghost use Rattle.rs_explain.specs.Contenders.{contender_from, contender_of};
 
 use crate::condition::{Condition, failed_condition};
-use crate::contender::{Contender, contender_of, contenders};
+use crate::contender::{Contender, contender_of, contenders, contenders_on};
 use crate::refusal::{Refusal, refusing_rule};
 use crate::removal::{Removal, STEPS, removed_by};
-use rs_choice::{peers_have_addresses_of_their_own, the_choice_is_unbeaten};
-use rs_table::Tables;
+use rs_choice::{Exchange, peers_have_addresses_of_their_own, the_choice_is_unbeaten};
+use rs_table::{PrefixRoutes, Route, Tables};
 use rs_update::Prefix;
 use std::alloc::{AllocError, Global};
 
@@ -30,6 +34,15 @@ pub enum Explanation {
     Best(Vec<usize>),
     /// The decision process chose another peer's route (RFC 4271, section 9.1.2.2): the step that removed this one.
     Lost(Removal),
+}
+
+/// The candidates of a client for a prefix, collected once. The routes there are explained from them, one after another.
+#[derive(Drop)]
+pub struct Candidates {
+    // The one that the client gets, if there is one.
+    best: Option<Contender>,
+    // All of them, in the order of the peers.
+    all: Vec<Contender>,
 }
 
 /// Explains why the peer of number `client` has the route of the peer of number `peer` on a prefix, or not.
@@ -53,19 +66,104 @@ pub fn explain(
     let Some(route) = tables.route(peer, prefix) else {
         return Ok(Explanation::Absent);
     };
-    if let Some(condition) = failed_condition(tables.plan(), peer, route.attributes) {
-        return Ok(Explanation::Ineligible(condition));
+    if let Some(reason) = reason(tables.plan(), client, &route) {
+        return Ok(reason);
     }
-    if let Some(refusal) = refusing_rule(tables.plan(), client, peer, route.attributes) {
-        return Ok(Explanation::Refused(refusal));
+    let candidates = Candidates::found(alloc, tables, client, prefix)?;
+    let one = contender_of(tables.plan(), &route);
+    decided(alloc, tables, client, prefix, &candidates, one)
+}
+
+impl Candidates {
+    /// The candidates of the peer of number `client` for a prefix, of the routes there.
+    ///
+    /// Fails where memory is refused.
+    pub fn new(
+        alloc: Global,
+        tables: &Tables,
+        client: usize,
+        on: &PrefixRoutes,
+    ) -> Result<Candidates, AllocError>
+        requires client_known { client < length tables.now.plan.peers }
+        requires routes { AreRoutesOf tables.now (entry_of on.now) }
+        ensures { IfOk result (AreCandidates tables.now client on.now.prefix) }
+    {
+        let all = contenders_on(alloc, tables, client, on)?;
+        Ok(Candidates {
+            best: best_contender(tables.plan(), on.best(client)),
+            all,
+        })
     }
-    decided(
-        alloc,
-        tables,
-        client,
-        contender_of(tables.plan(), &route),
-        prefix,
-    )
+
+    // The same of the routes that are found on a prefix in the tables.
+    fn found(
+        alloc: Global,
+        tables: &Tables,
+        client: usize,
+        prefix: Prefix,
+    ) -> Result<Candidates, AllocError>
+        requires { client < length tables.now.plan.peers }
+        ensures { IfOk result (AreCandidates tables.now client prefix) }
+    {
+        let all = contenders(alloc, tables, client, prefix)?;
+        Ok(Candidates {
+            best: best_contender(tables.plan(), tables.best(client, prefix)),
+            all,
+        })
+    }
+
+    /// Explains why the client has the route of the peer of number `peer` on the prefix, or not, as `explain` does.
+    ///
+    /// Fails where memory is refused.
+    pub fn explain(
+        &self,
+        alloc: Global,
+        tables: &Tables,
+        client: usize,
+        peer: usize,
+        on: &PrefixRoutes,
+    ) -> Result<Explanation, AllocError>
+        requires client_known { client < length tables.now.plan.peers }
+        requires peer_known { peer < length tables.now.plan.peers }
+        requires routes { AreRoutesOf tables.now (entry_of on.now) }
+        requires candidates { AreCandidates tables.now client on.now.prefix self.now }
+        ensures explains { IfOk result (IsExplanation tables.now client peer on.now.prefix) }
+        ensures agrees { IfOk result (λ explanation. answer_of explanation ≡ why_of tables.now client peer on.now.prefix) }
+    {
+        if client == peer {
+            return Ok(Explanation::Own);
+        }
+        let Some(route) = on.route(peer) else {
+            return Ok(Explanation::Absent);
+        };
+        if let Some(reason) = reason(tables.plan(), client, &route) {
+            return Ok(reason);
+        }
+        let one = contender_of(tables.plan(), &route);
+        decided(alloc, tables, client, on.prefix, self, one)
+    }
+}
+
+// Why a route of another peer is no candidate of a client, where it isn't.
+fn reason(plan: &Exchange, client: usize, route: &Route) -> Option<Explanation>
+    requires client_known { client < length plan.now.peers }
+    requires peer_known { route.now.peer < length plan.now.peers }
+    ensures { result ≡ reason_of plan.now client route.now.peer (Some (sent_route_of route.now)) }
+{
+    if let Some(condition) = failed_condition(plan, route.peer, route.attributes) {
+        return Some(Explanation::Ineligible(condition));
+    }
+    let refusal = refusing_rule(plan, client, route.peer, route.attributes)?;
+    Some(Explanation::Refused(refusal))
+}
+
+// The route that a client gets, by what the decision process asks of it.
+fn best_contender(plan: &Exchange, best: Option<Route>) -> Option<Contender>
+    requires { IfSome best (λ one. one.peer < length plan.now.peers) }
+    ensures { result ≡ option_map (contender_of plan.now) (option_map sent_route_of best.entry) }
+{
+    let best = best?;
+    Some(contender_of(plan, &best))
 }
 
 // Explains what the decision process makes of a candidate of a client.
@@ -73,27 +171,28 @@ fn decided(
     alloc: Global,
     tables: &Tables,
     client: usize,
-    one: Contender,
     prefix: Prefix,
+    candidates: &Candidates,
+    one: Contender,
 ) -> Result<Explanation, AllocError>
     requires client_known { client < length tables.now.plan.peers }
     requires peer_known { one.peer < length tables.now.plan.peers }
     requires candidate { contender_from tables.now client prefix one.peer ≡ Some one }
+    requires candidates { AreCandidates tables.now client prefix candidates.now }
     ensures { IfOk result (IsDecided tables.now client one.peer prefix) }
 {
     let plan = tables.plan();
+    // For the prover: the plan has no fault, so each peer has an address of its own.
     let _count = plan.count();
     peers_have_addresses_of_their_own();
     the_choice_is_unbeaten();
-    let all = contenders(alloc, tables, client, prefix)?;
-    let Some(best) = tables.best(client, prefix) else {
+    let Some(best) = candidates.best else {
         unreachable!()
     };
     if best.peer == one.peer {
-        return Ok(Explanation::Best(other_peers(alloc, &all, one.peer)?));
+        return Ok(Explanation::Best(other_peers(alloc, &candidates.all, one.peer)?));
     }
-    let best = contender_of(plan, &best);
-    match removed_by(alloc, &STEPS, all, one, &best)? {
+    match removed_by(&STEPS, &candidates.all, &one, &best) {
         Some(removal) => Ok(Explanation::Lost(removal)),
         None => unreachable!(),
     }

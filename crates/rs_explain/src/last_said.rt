@@ -1,4 +1,5 @@
-//! What a peer's changes say last of a prefix: why its route is left there or absent (RFC 4271, sections 3.1 and 9.1).
+//! The last state of a prefix by a peer's changes: why its route is left there or absent (RFC 4271, sections 3.1 and
+//! 9.1).
 
 ghost use Rattle.std.specs.Prelude.{◌≡◌, ◌++◌, ◌∷◌, [], List, MatchOption};
 ghost use Rattle.rs_update.specs.IpPrefix.{IpPrefix};
@@ -9,7 +10,7 @@ ghost use Rattle.std.specs.Prelude.{false};
 use rs_session::{Body, Reason, Word};
 use rs_update::Prefix;
 
-/// What a peer's changes say last of a prefix.
+/// The last state of a prefix by a peer's changes.
 #[derive(Clone, Copy, Debug, PartialEq, Eq, Drop)]
 pub enum LastSaid {
     /// The prefix was never announced.
@@ -41,15 +42,15 @@ pub enum EndedBy {
 }
 
 impl LastSaid {
-    /// What is said of a prefix before any change.
+    /// The last state of a prefix before any change.
     pub fn nothing() -> LastSaid
         ensures { (prefix : IpPrefix) → IsSaidLast prefix [] result }
     {
         LastSaid::NeverAnnounced
     }
 
-    /// What is said of a prefix with one change more: of whatever changes this is said last, the answer is
-    /// said last of them and that one.
+    /// The last state of a prefix after one more change. Take any changes of which this is the last state. The answer
+    /// is the last state of these changes followed by that one.
     pub fn after(self, prefix: Prefix, word: &Word) -> LastSaid
         ensures { (changes : List Change) → IsSaidLast prefix changes self
             → IsSaidLast prefix (changes ++ change_of word.now ∷ []) result }

@@ -8,8 +8,8 @@ pub fn an_explanation_agrees_with_why()
     ensures { ExplanationAgrees }
 {}
 
-/// The peer that an explanation names as the rival of a route has a route on the prefix which is a candidate
-/// of the client too, and which beats it at the step that is named.
+/// An explanation names a peer as the rival of a route. That peer has a route on the prefix, which is a candidate of
+/// the client too. The rival's route beats the other one at the step that the explanation names.
 pub fn the_rival_is_a_candidate()
     ensures { RivalIsCandidate }
 {}

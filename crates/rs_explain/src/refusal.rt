@@ -29,6 +29,7 @@ pub(crate) fn refusing_rule(
     requires peer_known { peer < length plan.now.peers }
     ensures { result ≡ refusal_of plan.now client peer attributes.now }
 {
+    // For the prover: the plan has a peer of this number.
     let _sender = plan.peer(peer);
     let by_name = plan.refuses(client, peer);
     ruling(by_name, plan.local().asn, plan.peer(client).asn, attributes)

@@ -1,14 +1,14 @@
 //! The step of the decision process that removes a candidate (RFC 4271, sections 9.1.1 and 9.1.2.2).
 
-ghost use Rattle.std.specs.Prelude.{◌≡◌, IfOk, MatchOption};
-ghost use Rattle.std.specs.List.{find, list_any, Contains};
-ghost use Rattle.rs_choice.specs.Decision.{beats, remaining, unbeaten};
+ghost use Rattle.std.specs.Prelude.{◌≡◌, ◌++◌, ◌∷◌, List, MatchOption, Some};
+ghost use Rattle.std.specs.List.{find, Contains};
+ghost use Rattle.rs_choice.specs.Decision.{choice, decision_steps, remaining};
+ghost use Rattle.rs_choice.specs.declared.step.Step as spec;
 ghost use Rattle.rs_explain.specs.Contenders.{standing_in};
-ghost use Rattle.rs_explain.specs.Removals.{rival_of, IsRemoval};
+ghost use Rattle.rs_explain.specs.Removals.{beats_by_med, rival_of, IsRemoval};
 
 use crate::contender::Contender;
-use rs_choice::Step;
-use std::alloc::{AllocError, Global};
+use rs_choice::{Standing, Step};
 
 /// How the decision process removes a candidate.
 #[derive(Clone, Copy, Debug, PartialEq, Eq)]
@@ -31,68 +31,67 @@ pub(crate) const STEPS: [Step; 6] = [
     Step::Address,
 ];
 
-// How steps remove a candidate of a set; none where all of them leave it. `best` is named first of those that beat it.
+// How the steps of the decision process remove a candidate of a set, of which the best one is the choice; none where all
+// of them leave it. The best one is named first of those that beat it.
 pub(crate) fn removed_by(
-    alloc: Global,
     steps: &[Step],
-    contenders: Vec<Contender>,
-    loser: Contender,
+    set: &[Contender],
+    loser: &Contender,
     best: &Contender,
-) -> Result<Option<Removal>, AllocError>
-    requires { Contains contenders.items loser }
-    ensures { IfOk result (λ found. MatchOption found
-        (Contains (remaining standing_in steps.now contenders.items) loser)
-        (IsRemoval steps.now contenders.items best.now loser)) }
+) -> Option<Removal>
+    requires steps { steps.now ≡ decision_steps }
+    requires inside { Contains set.now loser.now }
+    requires chosen { choice standing_in set.now ≡ Some best.now }
+    ensures { MatchOption result (Contains (remaining standing_in decision_steps set.now) loser.now)
+        (IsRemoval decision_steps set.now best.now loser.now) }
 {
-    let mut set = contenders;
     for step in steps {
-        if let Some(rival) = rival(*step, &set, &loser, best) {
-            return Ok(Some(Removal {
+        if let Some(rival) = rival(*step, set, loser, best) {
+            return Some(Removal {
                 step: *step,
-                loser,
+                loser: *loser,
                 rival,
-            }));
+            });
         }
-        set = left(alloc, *step, &set)?;
     }
-    Ok(None)
+    None
 }
 
-// The best, if it beats a candidate at a step, or else the first of a set that does.
+// The best one, if it beats a candidate at a step, or else the first of those that reach the step that does. But for MED,
+// whoever is removed at a step is beaten there by the best one.
 fn rival(step: Step, set: &[Contender], loser: &Contender, best: &Contender) -> Option<Contender>
-    ensures { result ≡ rival_of step best.now set.now loser.now }
+    requires chosen { choice standing_in set.now ≡ Some best.now }
+    ensures { (before : List spec.Step) → (after : List spec.Step) → decision_steps ≡ before ++ step ∷ after
+        → result ≡ rival_of step best.now (remaining standing_in before set.now) loser.now }
 {
     if step.beats(&best.standing, &loser.standing) {
-        Some(*best)
-    } else {
-        first_to_beat(step, set, loser)
+        return Some(*best);
+    }
+    match step {
+        Step::Med => first_by_med(set, loser, best),
+        _ => None,
     }
 }
 
-// The first of a set that beats a candidate at a step.
-fn first_to_beat(step: Step, set: &[Contender], loser: &Contender) -> Option<Contender>
-    ensures { result ≡ find (λ other. beats step other.standing loser.now.standing) set.now }
+// The first of a set that reaches the step by MED, of those that the best one leaves, and beats a candidate there.
+fn first_by_med(set: &[Contender], loser: &Contender, best: &Contender) -> Option<Contender>
+    ensures { result ≡ find (λ other. beats_by_med best.now.standing loser.now.standing other.standing) set.now }
 {
-    set.iter()
-        .copied()
-        .find(|other| step.beats(&other.standing, &loser.standing))
+    set.iter().copied().find(|other| beats_by_med(&best.standing, &loser.standing, &other.standing))
 }
 
-// Whether one of a set beats a candidate at a step.
-fn is_beaten(step: Step, set: &[Contender], one: &Contender) -> bool
-    ensures { result ≡ list_any (λ other. beats step other.standing one.now.standing) set.now }
+/// Whether a candidate that the best one removes at no step before MED beats another one there.
+pub fn beats_by_med(best: &Standing, one: &Standing, other: &Standing) -> bool
+    ensures { result ≡ beats_by_med best.now one.now other.now }
 {
-    set.iter()
-        .any(|other| step.beats(&other.standing, &one.standing))
-}
-
-// Those of a set that a step leaves.
-#[tactic(auto, unfolding(rs_choice::specs::Decision::unbeaten))]
-fn left(alloc: Global, step: Step, set: &[Contender]) -> Result<Vec<Contender>, AllocError>
-    ensures { IfOk result (λ some. some.items ≡ unbeaten standing_in step set.now) }
-{
-    set.iter()
-        .copied()
-        .filter(|one| !is_beaten(step, set, one))
-        .collect(alloc)
+    if Step::Preference.beats(best, other) {
+        return false;
+    }
+    if Step::PathLength.beats(best, other) {
+        return false;
+    }
+    if Step::Origin.beats(best, other) {
+        return false;
+    }
+    Step::Med.beats(other, one)
 }

@@ -4,8 +4,9 @@ pub mod DifferenceLemmas
 pub mod TallyLemmas
 pub mod GrowthLemmas
 pub mod RemovingLemmas
-pub mod RefusalLemmas
 pub mod SeenLemmas
 pub mod HiddenLemmas
 pub mod CountLemmas
 pub mod SummaryLemmas
+pub mod StepLemmas
+pub mod AskedLemmas

@@ -1,75 +1,24 @@
 -- The step that removes a candidate, by the best one alone: for removing.rt.
-use Rattle.std.proofs.Common.{◌≡◌, ◌∙◌, sym, ap, refl, arith, ℕ, Bool, true, false, not, cond, ◌&&◌, List, [], ◌∷◌, ◌++◌, map, inl, inr}
+use Rattle.std.proofs.Common.{◌≡◌, ◌∙◌, sym, ap, refl, arith, ℕ, Bool, false, not, cond, ◌&&◌, List, [], ◌∷◌, map, inl, inr}
 use Rattle.std.specs.Prelude.{filter, nat_lt, Option, None, Some, ◌==◌}
 use Rattle.std.specs.List.{list_any}
 use Rattle.std.proofs.Math.Bool.{and_comm}
 use Rattle.std.proofs.lemmas.Bool.{and_left, and_right, cases_Bool}
 use Rattle.std.specs.Option.{option_map}
 use Rattle.std.proofs.lemmas.Bool.Decides.{nat_tests}
-use Rattle.rs_update.specs.Spelling.{origin_code}
 use Rattle.rs_choice.specs.declared.candidate.Standing.{Standing}
-use Rattle.rs_choice.specs.declared.step.Step.{Step}
 use Rattle.rs_choice.specs.declared.step.Step.TheVariants.{Preference, PathLength, Origin, Med, Identifier, Address}
 use Rattle.rs_choice.specs.Clients.{candidates_among, chosen_for, eligible_among, is_sent_to}
 use Rattle.rs_choice.specs.Decision.{SentRoute, beats, choice, decision_steps, remaining, standing_of, unbeaten}
 use Rattle.rs_choice.specs.Eligibility.{is_eligible}
-use Rattle.rs_choice.specs.Laws.{ChoiceIsMember, ChoiceIsUnbeaten}
+use Rattle.rs_choice.specs.Laws.{ChoiceIsMember}
 use Rattle.rs_choice.specs.Naturality.{list_any-map}
 use Rattle.rs_choice.specs.Plan.{Plan}
-use Rattle.rs_choice.proofs.Members.{Mem, contains-mem, mem-contains, list_any-none, none-list_any}
+use Rattle.rs_choice.proofs.Members.{none-list_any}
+use Rattle.rs_explain.proofs.BeatenLemmas.{beaten_by_best, reaching, stands}
 use Rattle.rs_survey.specs.declared.seen.Seen.{Seen}
 use Rattle.rs_survey.specs.Seen.{keeps_out, sent_of_seen, step_by}
 use Rattle.rs_survey.specs.Summary.{removed_at}
-
--- ---- who isn't beaten by the best one is beaten by none, but for MED
-
-lt_follows : (a b c : ℕ) → nat_lt a b ≡ false → nat_lt b c ≡ false → nat_lt a c ≡ false
-lt_follows a b c first later = grind (arith, nat_tests)
-
-abbrev is_med : Step → Bool
-is_med Med = true
-is_med Preference = false
-is_med PathLength = false
-is_med Origin = false
-is_med Identifier = false
-is_med Address = false
-
-follows : (step : Step) (other best one : Standing) → is_med step ≡ false → beats step other best ≡ false → beats step best one ≡ false →
-    beats step other one ≡ false
-follows Preference other best one plain first later = lt_follows one.preference best.preference other.preference later first
-follows PathLength other best one plain first later = lt_follows other.path_length best.path_length one.path_length first later
-follows Origin other best one plain first later =
-    lt_follows (origin_code other.origin) (origin_code best.origin) (origin_code one.origin) first later
-follows Med other best one plain first later = absurd (cc plain)
-follows Identifier other best one plain first later = lt_follows other.id best.id one.id first later
-follows Address other best one plain first later = lt_follows other.address best.address one.address first later
-
--- no member of a set beats one of its members
-record IsUnbeaten {M : Type 0} (standing : M → Standing) (step : Step) (set : List M) (best : M) : Type 0 where
-  inside : Mem set best
-  unbeaten_by : (other : M) → Mem set other → beats step (standing other) (standing best) ≡ false
-
-beaten_by_best : {M : Type 0} (standing : M → Standing) (step : Step) (set : List M) (best one : M) → is_med step ≡ false →
-    IsUnbeaten standing step set best →
-    list_any (λ other. beats step (standing other) (standing one)) set ≡ beats step (standing best) (standing one)
-beaten_by_best {M = M} standing step set best one plain is =
-    let test = λ (other : M). beats step (standing other) (standing one) in
-    elim (cases_Bool (test best)) [
-      | inl beaten ↦ elim (cases_Bool (list_any test set)) [
-        | inl some ↦ some ∙ sym beaten
-        | inr none ↦ absurd (cc (sym beaten ∙ list_any-none test set best none is.inside))
-      ]
-      | inr safe ↦
-          none-list_any test set (λ other there.
-          follows step (standing other) (standing best) (standing one) plain (is.unbeaten_by other there) safe) ∙ sym safe
-    ]
-
-unbeaten_by_best : {M : Type 0} (standing : M → Standing) (step : Step) (set : List M) (best : M) → is_med step ≡ false →
-    IsUnbeaten standing step set best →
-    unbeaten standing step set ≡ filter (λ one. not (beats step (standing best) (standing one))) set
-unfolding unbeaten
-unbeaten_by_best standing step set best plain is =
-    λ i. filter (λ one. not (beaten_by_best standing step set best one plain is i)) set
 
 -- ---- the six steps
 
@@ -80,34 +29,7 @@ any-filter p q (x ∷ xs) = elim (cases_Bool (q x)) [
   | inr dropped ↦ rw dropped (any-filter p q xs)
 ]
 
-module _ (law : ChoiceIsUnbeaten) (plan : Plan) (set : List SentRoute) (best : SentRoute) (is : choice
-    (standing_of plan) set ≡ Some best) where
-  stands : (before : List Step) (step : Step) (later : List Step) → decision_steps ≡ before ++ step ∷ later →
-      IsUnbeaten (standing_of plan) step (remaining (standing_of plan) before set) best
-  stands before step later order =
-      let told = law plan set best is before step later order in
-      record {
-        inside = contains-mem (remaining (standing_of plan) before set) best told.0;
-        unbeaten_by = λ other there. told.1 other (mem-contains (remaining (standing_of plan) before set) other there);
-      }
-
-  -- those that reach the step by MED
-  reaching : remaining (standing_of plan) (Preference ∷ PathLength ∷ Origin ∷ []) set
-      ≡ filter (λ one. not (beats Origin (standing_of plan best) (standing_of plan one)))
-      (filter (λ one. not (beats PathLength (standing_of plan best) (standing_of plan one)))
-      (filter (λ one. not (beats Preference (standing_of plan best) (standing_of plan one))) set))
-  unfolding remaining
-  reaching =
-      let st = standing_of plan in
-      let first = unbeaten st Preference set in
-      let second = unbeaten st PathLength first in
-      unbeaten_by_best st Origin second best refl (stands (Preference ∷ PathLength ∷ []) Origin (Med ∷ Identifier ∷ Address ∷ []) refl)
-      ∙ ap (filter (λ one. not (beats Origin (st best) (st one))))
-      (unbeaten_by_best st PathLength first best refl
-      (stands (Preference ∷ []) PathLength (Origin ∷ Med ∷ Identifier ∷ Address ∷ []) refl)
-      ∙ ap (filter (λ one. not (beats PathLength (st best) (st one))))
-      (unbeaten_by_best st Preference set best refl (stands [] Preference (PathLength ∷ Origin ∷ Med ∷ Identifier ∷ Address ∷ []) refl)))
-
+module _ (plan : Plan) (set : List SentRoute) (best : SentRoute) (is : choice (standing_of plan) set ≡ Some best) where
   by_steps : (one : SentRoute) → removed_at (standing_of plan) decision_steps set one
       ≡ step_by (standing_of plan best) (standing_of plan one)
       (list_any (λ other. beats Med (standing_of plan other) (standing_of plan one))
@@ -121,26 +43,26 @@ module _ (law : ChoiceIsUnbeaten) (plan : Plan) (set : List SentRoute) (best : S
       let fourth = unbeaten st Med third in
       let fifth = unbeaten st Identifier fourth in
       let at_first = beaten_by_best st Preference set best one refl
-      (stands [] Preference (PathLength ∷ Origin ∷ Med ∷ Identifier ∷ Address ∷ []) refl) in
+      (stands st set best is [] Preference (PathLength ∷ Origin ∷ Med ∷ Identifier ∷ Address ∷ []) refl) in
       let at_second = beaten_by_best st PathLength first best one refl
-      (stands (Preference ∷ []) PathLength (Origin ∷ Med ∷ Identifier ∷ Address ∷ []) refl) in
+      (stands st set best is (Preference ∷ []) PathLength (Origin ∷ Med ∷ Identifier ∷ Address ∷ []) refl) in
       let at_third = beaten_by_best st Origin second best one refl
-      (stands (Preference ∷ PathLength ∷ []) Origin (Med ∷ Identifier ∷ Address ∷ []) refl) in
+      (stands st set best is (Preference ∷ PathLength ∷ []) Origin (Med ∷ Identifier ∷ Address ∷ []) refl) in
       let at_fifth = beaten_by_best st Identifier fourth best one refl
-      (stands (Preference ∷ PathLength ∷ Origin ∷ Med ∷ []) Identifier (Address ∷ []) refl) in
+      (stands st set best is (Preference ∷ PathLength ∷ Origin ∷ Med ∷ []) Identifier (Address ∷ []) refl) in
       let at_sixth = beaten_by_best st Address fifth best one refl
-      (stands (Preference ∷ PathLength ∷ Origin ∷ Med ∷ Identifier ∷ []) Address [] refl) in
+      (stands st set best is (Preference ∷ PathLength ∷ Origin ∷ Med ∷ Identifier ∷ []) Address [] refl) in
       λ i. cond (at_first i) (Some Preference) (cond (at_second i) (Some PathLength) (cond (at_third i) (Some Origin)
       (cond (list_any (λ other. beats Med (st other) (st one)) third) (Some Med)
       (cond (at_fifth i) (Some Identifier) (cond (at_sixth i) (Some Address) None)))))
 
 -- who keeps a candidate out by MED, of all routes on the prefix
-kept_out : ChoiceIsUnbeaten → (plan : Plan) (client : ℕ) (seen : List Seen) (best one : SentRoute) →
+kept_out : (plan : Plan) (client : ℕ) (seen : List Seen) (best one : SentRoute) →
     chosen_for plan client (map sent_of_seen seen) ≡ Some best →
     list_any (λ other. beats Med (standing_of plan other) (standing_of plan one))
     (remaining (standing_of plan) (Preference ∷ PathLength ∷ Origin ∷ []) (candidates_among plan client (map sent_of_seen seen)))
     ≡ list_any (λ other. keeps_out plan client (standing_of plan best) (standing_of plan one) (sent_of_seen other)) seen
-kept_out law plan client seen best one is =
+kept_out plan client seen best one is =
     let routes = map sent_of_seen seen in
     let set = candidates_among plan client routes in
     let st = standing_of plan in
@@ -151,7 +73,7 @@ kept_out law plan client seen best one is =
     let late = λ (other : SentRoute). at_first other && (at_second other && (at_third other && by_med other)) in
     let fit = λ (other : SentRoute). is_eligible plan other.peer other.attributes in
     let sent = is_sent_to plan client in
-    ap (list_any by_med) (reaching law plan set best is)
+    ap (list_any by_med) (reaching st set best is)
     ∙ any-filter by_med at_third (filter at_second (filter at_first set))
     ∙ any-filter (λ other. at_third other && by_med other) at_second (filter at_first set)
     ∙ any-filter (λ other. at_second other && (at_third other && by_med other)) at_first set
@@ -160,15 +82,15 @@ kept_out law plan client seen best one is =
     ∙ (λ i. list_any (λ other. fit other && and_comm (sent other) (late other) i) routes)
     ∙ list_any-map sent_of_seen (λ other. fit other && (late other && sent other)) seen
 
-pub step_is : ChoiceIsUnbeaten → (plan : Plan) (client : ℕ) (seen : List Seen) (best one : SentRoute) →
+pub step_is : (plan : Plan) (client : ℕ) (seen : List Seen) (best one : SentRoute) →
     chosen_for plan client (map sent_of_seen seen) ≡ Some best →
     step_by (standing_of plan best) (standing_of plan one)
     (list_any (λ other. keeps_out plan client (standing_of plan best) (standing_of plan one) (sent_of_seen other)) seen)
     ≡ removed_at (standing_of plan) decision_steps (candidates_among plan client (map sent_of_seen seen)) one
 unfolding choice
-step_is law plan client seen best one is =
-    sym (by_steps law plan (candidates_among plan client (map sent_of_seen seen)) best is one
-    ∙ ap (step_by (standing_of plan best) (standing_of plan one)) (kept_out law plan client seen best one is))
+step_is plan client seen best one is =
+    sym (by_steps plan (candidates_among plan client (map sent_of_seen seen)) best is one
+    ∙ ap (step_by (standing_of plan best) (standing_of plan one)) (kept_out plan client seen best one is))
 
 -- where the client gets none there is no candidate
 none_of_none : {M : Type 0} (standing : M → Standing) (one : M) → removed_at standing decision_steps [] one ≡ None

@@ -4,9 +4,11 @@ pub mod MissingRoutesView  -- those that are to come, by their fields
 pub mod Differences  -- where choices differ
 pub mod RowsToCome  -- the rows of a client that are to come, by their fields
 pub mod SideBySide  -- those of two clients
+pub mod Asked  -- which rows of a table are asked for
 -- A summary:
 pub mod Findings  -- what is counted on a prefix
 pub mod Summary  -- the findings on one prefix and on all
 pub mod Tally  -- how often each is made
 pub mod Grows  -- findings that are counted one after another
 pub mod Seen  -- the routes on a prefix as it sees them
+pub mod Laws  -- what holds of these

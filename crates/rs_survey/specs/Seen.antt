@@ -1,5 +1,5 @@
 -- The routes on a prefix as a summary sees them.
-use Rattle.std.specs.Prelude.{◌≡◌, ◌<◌, ℕ, ◌&&◌, Bool, false, not, if◌then◌else◌, length, Option, None, Some}
+use Rattle.std.specs.Prelude.{◌≡◌, ◌<◌, ℕ, ◌&&◌, Bool, false, if◌then◌else◌, length, Option, None, Some}
 use Rattle.std.specs.Option.{option_map, option_map_or}
 use Rattle.rs_update.specs.Community.{has_community_of_in}
 use Rattle.rs_choice.specs.declared.candidate.Candidate.{Candidate}
@@ -13,6 +13,7 @@ use Rattle.rs_choice.specs.Plan.{Plan}
 use Rattle.rs_choice.specs.Policy.{is_permitted}
 use Rattle.rs_table.specs.RouteView.{sent_route_of}
 use Rattle.rs_explain.specs.Reasons.{failed_condition}
+use Rattle.rs_explain.specs.Removals.{beats_by_med}
 use Rattle.rs_survey.specs.declared.seen.Seen.{Seen}
 use Rattle.rs_survey.specs.Findings.{flaw_of}
 
@@ -25,12 +26,6 @@ pub record IsSeen (plan : Plan) (seen : Seen) : Type 0 where
   pub standing : seen.standing ≡ standing_of plan (sent_of_seen seen)
   pub flaw : seen.flaw ≡ option_map flaw_of (failed_condition plan seen.route.peer seen.route.attributes.now)
   pub restricted : seen.restricted ≡ has_community_of_in seen.route.attributes.now.communities 0
-
--- something that the best one doesn't remove before the step by MED beats another there
-abbrev pub beats_by_med : Standing → Standing → Standing → Bool
-beats_by_med best one other =
-    not (beats steps.Preference best other) && (not (beats steps.PathLength best other)
-    && (not (beats steps.Origin best other) && beats steps.Med other one))
 
 -- a route on the prefix is a candidate of the client, which gets the best one, and keeps another out by MED
 abbrev pub keeps_out : Plan → ℕ → Standing → Standing → SentRoute → Bool

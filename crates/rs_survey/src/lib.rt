@@ -5,17 +5,19 @@
 //! client, its export policy before its decision).
 //!
 //! Reading order: `on_prefix` (the routes on one prefix that a client does not get), `missing_routes` (those on all
-//! prefixes). Two clients: `choices`, `rows_to_come`, `side_by_side` (the rows of both), `differences`. A summary:
-//! `finding` (what is counted), `tally` (how often), `seen` (the routes on a prefix), `removing` (the step that removes a
-//! candidate), `hidden` (what one decision for all clients would hide), `counting` (one prefix), `summary_of` (all
-//! prefixes).
+//! prefixes), `asked_rows` (the rows of a table that are asked for). Two clients: `choices`, `rows_to_come`, `side_by_side` (the rows of both), `differences`. What a summary
+//! counts: `finding` (each finding), `tally` (how often it was made). What it counts from: `seen` (the routes on a
+//! prefix), `removing` (the step that removes a candidate), `hidden` (what one decision for all clients would hide).
+//! How it counts: `counting` (on one prefix), `summary_of` (on all prefixes). Then `laws`.
 #![tactic(auto)]
 
+mod asked_rows;
 mod choices;
 mod counting;
 mod differences;
 mod finding;
 mod hidden;
+mod laws;
 mod missing_routes;
 mod on_prefix;
 mod removing;
@@ -25,9 +27,11 @@ mod side_by_side;
 mod summary_of;
 mod tally;
 
+pub use asked_rows::{AskedRows, count_rows};
 pub use choices::Choices;
 pub use differences::Differences;
 pub use finding::{Finding, Flaw};
+pub use laws::the_step_that_is_counted_is_explained;
 pub use missing_routes::MissingRoutes;
 pub use on_prefix::{MissingOn, MissingRoute, missing_on};
 pub use summary_of::summary;

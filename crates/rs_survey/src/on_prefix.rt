@@ -8,7 +8,7 @@ ghost use Rattle.rs_table.specs.PrefixRoutes.{route_on};
 ghost use Rattle.rs_table.specs.Table.{is_from};
 ghost use Rattle.rs_survey.specs.Missing.{AreMissing, missing_among};
 
-use rs_explain::{Explanation, explain};
+use rs_explain::{Candidates, Explanation};
 use rs_table::{PrefixRoutes, Route, Tables};
 use rs_update::Prefix;
 use std::alloc::{AllocError, Global};
@@ -48,10 +48,11 @@ pub fn missing_on<'a>(
     ensures missing { IfOk result (AreMissing tables.now client) }
 {
     let best = on.best(client);
+    let candidates = Candidates::new(alloc, tables, client, on)?;
     let mut routes = Vec::new(alloc);
     for peer in 0..tables.count() {
         if let Some(route) = missing_from(on, client, best, peer) {
-            let explanation = explain(alloc, tables, client, peer, on.prefix)?;
+            let explanation = candidates.explain(alloc, tables, client, peer, on)?;
             routes.push(MissingRoute { route, explanation })?;
         }
     }

@@ -7,12 +7,12 @@ ghost use Rattle.std.specs.Option.{option_map};
 ghost use Rattle.rs_choice.specs.Clients.{candidates_among, chosen_for};
 ghost use Rattle.rs_choice.specs.Decision.{decision_steps, standing_of};
 ghost use Rattle.rs_explain.specs.Contenders.{contender_of};
-ghost use Rattle.rs_survey.specs.Seen.{IsSeen, beats_by_med, keeps_out, sent_of_seen, step_by};
+ghost use Rattle.rs_survey.specs.Seen.{IsSeen, keeps_out, sent_of_seen, step_by};
 ghost use Rattle.rs_survey.specs.Summary.{removed_at};
 
 use crate::seen::{Seen, permits};
 use rs_choice::{Exchange, Standing, Step, the_choice_is_unbeaten};
-use rs_explain::Contender;
+use rs_explain::{Contender, beats_by_med};
 
 // The step that removes a route from the candidates of a client, which gets the best one of the routes seen.
 pub(crate) fn removing_step(
@@ -102,20 +102,4 @@ fn keeps_out(plan: &Exchange, client: usize, best: &Standing, one: &Standing, ot
         return false;
     }
     permits(plan, client, other)
-}
-
-// Whether something that the best one doesn't remove before the step by MED beats another there.
-fn beats_by_med(best: &Standing, one: &Standing, other: &Standing) -> bool
-    ensures { result ≡ beats_by_med best.now one.now other.now }
-{
-    if Step::Preference.beats(best, other) {
-        return false;
-    }
-    if Step::PathLength.beats(best, other) {
-        return false;
-    }
-    if Step::Origin.beats(best, other) {
-        return false;
-    }
-    Step::Med.beats(other, one)
 }

@@ -1,41 +1,49 @@
-use Rattle.std.proofs.Common.{◌≡◌, ◌∙◌, ◌+◌, ◌++◌, ◌∷◌, [], ◌<◌, List, ap, sym, arith, drop, length, refl}
-use Rattle.std.specs.Prelude.{None, Some, Option}
-use Rattle.std.specs.List.{cons_option}
+-- One peer more: its route is a candidate, or not.
+use Rattle.std.proofs.Common.{◌≡◌, ◌++◌, ◌∷◌, [], ◌<◌, ◌≤◌, sym, arith, length, refl}
+use Rattle.std.specs.Prelude.{None, Some}
 use Rattle.std.proofs.lemmas.List.Elements.{All-push}
-use Rattle.rs_explain.specs.declared.contender.Contender.{Contender}
 use Rattle.rs_explain.specs.Contenders.{contender_from, HasOwnAddress}
-use Rattle.rs_explain.proofs.ContenderLemmas.{contenders_in, contenders_in-more, next_has, next_listed, same_has}
+use Rattle.rs_explain.proofs.ContenderLemmas.{all_below, next_below, next_has, same_below, same_has}
 use Rattle.rs_explain.proofs.contender.contenders.Goals as goal
 use Rattle.rs_explain.proofs.contender.contenders.Goals.{in-Some+in_ok-push, in_default}
 
 pub loop-peer-preserved : goal.loop-peer-preserved
 loop-peer-preserved c =
     let tables = c.args.tables.now in
+    let client = c.args.client in
+    let prefix = c.args.prefix in
     let peer = c.loop-peer.peer in
     let items = c.loop-peer.all.items in
+    let so_far = c.loop-peer.invariant in
     let within : peer < length tables.ribs = omega (arith, c.count-peer-end.ensures.ribs) in
-    let rest = contenders_in tables.plan c.args.client c.args.prefix (peer + 1) (drop (peer + 1) tables.ribs) in
-    let more : contenders_in tables.plan c.args.client c.args.prefix peer (drop peer tables.ribs)
-    ≡ cons_option (contender_from tables c.args.client c.args.prefix peer) rest =
-    contenders_in-more tables c.args.client c.args.prefix peer within in
     elim c.match-candidate_from.branch [
       | in-Some+in_ok-push w ↦
           let one = w.in-Some.one in
-          let found : contender_from tables c.args.client c.args.prefix peer ≡ Some one = sym w.in-Some.ensures.value in
+          let found : contender_from tables client prefix peer ≡ Some one = sym w.in-Some.ensures.value in
           let grown : c.match-candidate_from.all.items ≡ items ++ one ∷ [] = rw w.all-is w.in_ok-push.ensures.items in
           record {
-            listed = rw grown (next_listed items _ rest _ one c.loop-peer.invariant.listed
-                (more ∙ ap (λ (found : Option Contender). cons_option found rest) found));
-            addresses = rw grown (All-push (HasOwnAddress tables.plan) items one c.loop-peer.invariant.addresses w.in-Some.ensures.address);
-            has = rw grown (next_has tables c.args.client c.args.prefix items peer one found c.loop-peer.invariant.has);
+            listed = rw grown (next_below tables client prefix items peer one within found so_far.listed);
+            addresses = rw grown (All-push (HasOwnAddress tables.plan) items one so_far.addresses w.in-Some.ensures.address);
+            has = rw grown (next_has tables client prefix items peer one found so_far.has);
           }
       | in_default w ↦
-          let none : contender_from tables c.args.client c.args.prefix peer ≡ None = sym w.in_default.ensures.value in
+          let none : contender_from tables client prefix peer ≡ None = sym w.in_default.ensures.value in
           let same : c.match-candidate_from.all.items ≡ items = rw w.all-is refl in
           record {
-            listed = rw same (ap (λ (later : List Contender). items ++ later)
-                (sym (more ∙ ap (λ (found : Option Contender). cons_option found rest) none)) ∙ c.loop-peer.invariant.listed);
-            addresses = rw same c.loop-peer.invariant.addresses;
-            has = rw same (same_has tables c.args.client c.args.prefix items peer none c.loop-peer.invariant.has);
+            listed = rw same (same_below tables client prefix items peer within none so_far.listed);
+            addresses = rw same so_far.addresses;
+            has = rw same (same_has tables client prefix items peer none so_far.has);
           }
     ]
+
+pub returns : goal.returns
+returns c =
+    let tables = c.args.tables.now in
+    let peer = c.loop-peer.peer in
+    let so_far = c.loop-peer.invariant in
+    let end : length tables.ribs ≤ peer = omega (arith, c.loop-peer-test.false, c.count-peer-end.ensures.ribs) in
+    record {
+      value = all_below tables c.args.client c.args.prefix c.loop-peer.all.items peer end so_far.listed;
+      addresses = so_far.addresses;
+      has = λ one known. so_far.has one (omega (arith, known, c.loop-peer-test.false, c.count-peer-end.ensures.peers));
+    }

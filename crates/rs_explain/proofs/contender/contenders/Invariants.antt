@@ -1,16 +1,11 @@
-use Rattle.std.proofs.Common.{◌≡◌, ◌<◌, ◌++◌, ℕ, drop}
-use Rattle.std.specs.Prelude.{Some}
-use Rattle.std.specs.List.{All, Contains}
-use Rattle.rs_explain.specs.declared.contender.Contender.{Contender}
-use Rattle.rs_explain.specs.Contenders.{contender_from, contenders_of, HasOwnAddress}
-use Rattle.rs_explain.proofs.ContenderLemmas.{contenders_in}
+use Rattle.std.specs.List.{All}
+use Rattle.rs_explain.specs.Contenders.{HasOwnAddress}
+use Rattle.rs_explain.proofs.ContenderLemmas.{AreBelow, HasBelow}
 use Rattle.rs_explain.proofs.contender.contenders.Given as goal
 
 abbrev pub invariant-loop-peer : goal.invariant-loop-peer
 invariant-loop-peer l = record {
-  listed : l.all.items ++ contenders_in l.tables.plan l.client l.prefix l.peer (drop l.peer l.tables.ribs)
-      ≡ contenders_of l.tables l.client l.prefix;
+  listed : AreBelow l.tables l.client l.prefix l.peer l.all.items;
   addresses : All (HasOwnAddress l.tables.plan) l.all.items;
-  has : (peer : ℕ) → peer < l.peer → (one : Contender) → contender_from l.tables l.client l.prefix peer ≡ Some one
-      → Contains l.all.items one;
+  has : HasBelow l.tables l.client l.prefix l.peer l.all.items;
 }

@@ -1,33 +1,32 @@
-use Rattle.std.proofs.Common.{◌≡◌, ◌∙◌, ap, sym}
+-- The best one is the choice among the candidates, and whom all steps leave.
+use Rattle.std.proofs.Common.{◌≡◌, ◌∙◌, ap, sym, subst, List}
 use Rattle.std.specs.Prelude.{None}
 use Rattle.std.specs.List.{All, Contains}
+use Rattle.rs_choice.specs.Decision.{choice, decision_steps, remaining}
 use Rattle.rs_choice.specs.Plan.{Plan, plan_fault}
-use Rattle.rs_table.specs.RouteView.{sent_route_of}
-use Rattle.rs_explain.specs.Contenders.{contenders_of, HasOwnAddress}
-use Rattle.rs_explain.proofs.BestLemmas.{best_peer, left_is_best, some_best}
+use Rattle.rs_table.specs.Table.{best_of}
+use Rattle.rs_explain.specs.declared.contender.Contender.{Contender}
+use Rattle.rs_explain.specs.Contenders.{contender_of, contenders_of, standing_in, HasOwnAddress}
+use Rattle.rs_explain.proofs.BestLemmas.{best_contender, left_is_best, made_of}
 use Rattle.rs_explain.proofs.explanation.decided.Goals as goal
 
-pub unreachable-requires : goal.unreachable-requires
-unreachable-requires c =
-    let there : Contains c.in_ok-all.all.items c.args.one =
-    c.in_ok-all.ensures.has c.args.one.peer c.requires.peer_known c.args.one c.requires.candidate in
-    some_best c.the_choice_is_unbeaten.ensures.member c.args.tables.now c.args.client c.args.prefix c.args.one
-    (rw c.in_ok-all.ensures.value at there) (sym c.in_default.ensures)
-
-pub contender_of-best-requires : goal.contender_of-best-requires
-contender_of-best-requires c =
-    let all : All (HasOwnAddress c.args.tables.now.plan) (contenders_of c.args.tables.now c.args.client c.args.prefix) =
-    rw c.in_ok-all.ensures.value at c.in_ok-all.ensures.addresses in
-    rw c.plan-plan.ensures (best_peer c.args.tables.now c.args.client c.args.prefix (sent_route_of c.in-Some.best) all
-    (sym c.in-Some.ensures))
+pub removed_by-requires-clause-chosen : goal.removed_by-requires-clause-chosen
+removed_by-requires-clause-chosen c =
+    ap (choice standing_in) (c.deref-2.ensures.value ∙ c.requires.candidates.all.value)
+    ∙ best_contender c.args.tables.now c.args.client c.args.prefix ∙ sym c.requires.candidates.best ∙ c.in-Some.is
 
 pub unreachable-requires-in-None : goal.unreachable-requires-in-None
 unreachable-requires-in-None c =
-    let all : All (HasOwnAddress c.args.tables.now.plan) (contenders_of c.args.tables.now c.args.client c.args.prefix) =
-    rw c.in_ok-all.ensures.value at c.in_ok-all.ensures.addresses in
-    let faultless : plan_fault c.args.tables.now.plan.local c.args.tables.now.plan.peers ≡ None =
+    let tables = c.args.tables.now in
+    let are = c.requires.candidates.all in
+    let all : All (HasOwnAddress tables.plan) (contenders_of tables c.args.client c.args.prefix) =
+    subst (All (HasOwnAddress tables.plan)) are.value are.addresses in
+    let faultless : plan_fault tables.plan.local tables.plan.peers ≡ None =
     ap (λ (plan : Plan). plan_fault plan.local plan.peers) (sym c.plan-plan.ensures) ∙ c.count-count.ensures.faultless in
-    let left = rw c.in-None.is at c.in_ok-removal.ensures in
-    c.if-best-one.false (left_is_best c.peers_have_addresses_of_their_own.ensures c.args.tables.now c.args.client c.args.prefix
-    (sent_route_of c.in-Some.best) c.args.one
-    faultless all (sym c.in-Some.ensures) (rw c.in_ok-all.ensures.value at left))
+    let left : Contains (remaining standing_in decision_steps (contenders_of tables c.args.client c.args.prefix)) c.args.one =
+    subst (λ (set : List Contender). Contains (remaining standing_in decision_steps set) c.args.one)
+    (c.deref-2.ensures.value ∙ are.value) (rw c.in-None.is at c.removed_by.ensures) in
+    let best = made_of (contender_of tables.plan) (best_of tables c.args.client c.args.prefix) c.in-Some.best
+    (sym c.requires.candidates.best ∙ c.in-Some.is) in
+    c.if-best-one.false (ap (λ (one : Contender). one.peer) (sym best.2)
+    ∙ left_is_best c.peers_have_addresses_of_their_own.ensures tables c.args.client c.args.prefix best.0 c.args.one faultless all best.1 left)

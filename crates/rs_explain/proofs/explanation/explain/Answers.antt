@@ -1,61 +1,88 @@
-use Rattle.std.proofs.Common.{◌≡◌, ◌∙◌, ◌==◌, ap, sym, arith, false, true}
-use Rattle.std.specs.Prelude.{None, is_none}
-use Rattle.std.proofs.lemmas.Result.{IfOk-weaker}
-use Rattle.std.specs.FinMap.{get}
+-- By the reason, or by what is decided.
+use Rattle.std.proofs.Common.{◌≡◌, ◌∙◌, ◌==◌, ap, sym, arith, false}
+use Rattle.std.specs.Prelude.{None, Some}
 use Rattle.std.proofs.lemmas.Bool.Decides.{nat_tests}
-use Rattle.rs_choice.specs.Plan.{Plan}
-use Rattle.rs_choice.specs.Eligibility.{is_eligible}
-use Rattle.rs_choice.specs.Policy.{is_permitted}
-use Rattle.rs_table.specs.Content.{rib_of}
+use Rattle.std.proofs.lemmas.Result.{IfOk-weaker}
 use Rattle.rs_table.specs.RouteView.{sent_route_of}
+use Rattle.rs_table.specs.Table.{route_from}
 use Rattle.rs_explain.specs.declared.contender.Contender.{Contender}
-use Rattle.rs_explain.specs.Contenders.{contender_of}
-use Rattle.rs_explain.specs.Reasons.{failed_condition, refusal_of}
-use Rattle.rs_explain.proofs.AgreementLemmas.{agrees, eligible_unless, explained, no_reason, permitted_unless}
-use Rattle.rs_explain.proofs.ContenderLemmas.{made_from, route_peer, some_permitted}
+use Rattle.rs_explain.specs.Explanations.{reason_before_decision}
+use Rattle.rs_explain.proofs.AgreementLemmas.{agrees}
+use Rattle.rs_explain.proofs.ExplainLemmas.{by_decision, by_reason, candidate_is, own_peer, reason_is}
 use Rattle.rs_explain.proofs.explanation.explain.Goals as goal
+
+pub returns-in-Some-reason-clause-explains : goal.returns-in-Some-reason-clause-explains
+returns-in-Some-reason-clause-explains c =
+    let tables = c.args.tables.now in
+    let client = c.args.client in
+    let peer = c.args.peer in
+    let prefix = c.args.prefix in
+    let route = sent_route_of c.in-Some.route in
+    let is : Some route ≡ route_from tables prefix peer = c.in-Some.ensures in
+    let differ : (client == peer) ≡ false = grind (arith, nat_tests, c.if-client-peer.false) in
+    let found : reason_before_decision tables client peer prefix ≡ Some c.in-Some-reason.reason =
+    reason_is tables client peer prefix c.plan.result.now route c.plan.ensures differ is ∙ sym c.reason.ensures ∙ c.in-Some-reason.is in
+    by_reason tables client peer prefix c.in-Some-reason.reason found
+
+pub returns-in-Some-reason-clause-agrees : goal.returns-in-Some-reason-clause-agrees
+returns-in-Some-reason-clause-agrees c =
+    let tables = c.args.tables.now in
+    let client = c.args.client in
+    let peer = c.args.peer in
+    let prefix = c.args.prefix in
+    let route = sent_route_of c.in-Some.route in
+    let is : Some route ≡ route_from tables prefix peer = c.in-Some.ensures in
+    let differ : (client == peer) ≡ false = grind (arith, nat_tests, c.if-client-peer.false) in
+    let found : reason_before_decision tables client peer prefix ≡ Some c.in-Some-reason.reason =
+    reason_is tables client peer prefix c.plan.result.now route c.plan.ensures differ is ∙ sym c.reason.ensures ∙ c.in-Some-reason.is in
+    agrees tables client peer prefix c.in-Some-reason.reason c.requires.client_known c.requires.peer_known
+    (by_reason tables client peer prefix c.in-Some-reason.reason found)
 
 pub decided-requires-clause-candidate : goal.decided-requires-clause-candidate
 decided-requires-clause-candidate c =
     let tables = c.args.tables.now in
-    let plan = tables.plan in
-    let attributes = c.in-Some.route.attributes.now in
-    let fails : failed_condition plan c.args.peer attributes ≡ None =
-    ap (λ (plan : Plan). failed_condition plan c.args.peer attributes) (sym c.plan.ensures) ∙ sym c.failed_condition.ensures
-    ∙ c.in_default-failed_condition.is in
-    let refuses : refusal_of plan c.args.client c.args.peer attributes ≡ None =
-    ap (λ (plan : Plan). refusal_of plan c.args.client c.args.peer attributes) (sym c.plan-2.ensures) ∙ sym c.refusing_rule.ensures
-    ∙ c.in_default-refusing_rule.is in
-    let differ : (c.args.client == c.args.peer) ≡ false = grind (arith, nat_tests, c.if-client-peer.false) in
-    let eligible : is_eligible plan c.args.peer attributes ≡ true =
-    eligible_unless plan c.args.peer attributes c.requires.peer_known ∙ ap is_none fails in
-    let permitted : is_permitted plan c.args.client c.args.peer attributes ≡ true =
-    permitted_unless plan c.args.client c.args.peer attributes c.requires.client_known c.requires.peer_known differ ∙ ap is_none refuses in
-    let found = some_permitted plan c.args.client c.args.peer (get (rib_of tables c.args.peer).routes c.args.prefix)
-    (sent_route_of c.in-Some.route) c.in-Some.ensures eligible permitted in
-    let made : c.contender_of.result ≡ contender_of plan (sent_route_of c.in-Some.route) =
-    c.contender_of.ensures.value ∙ ap (λ (plan : Plan). contender_of plan (sent_route_of c.in-Some.route)) c.plan-3.ensures in
-    made_from tables c.args.client c.args.prefix c.args.peer c.contender_of.result (contender_of plan (sent_route_of c.in-Some.route))
-    made found.0 found.1
+    let client = c.args.client in
+    let peer = c.args.peer in
+    let prefix = c.args.prefix in
+    let route = sent_route_of c.in-Some.route in
+    let is : Some route ≡ route_from tables prefix peer = c.in-Some.ensures in
+    let differ : (client == peer) ≡ false = grind (arith, nat_tests, c.if-client-peer.false) in
+    let none : reason_before_decision tables client peer prefix ≡ None =
+    reason_is tables client peer prefix c.plan.result.now route c.plan.ensures differ is ∙ sym c.reason.ensures ∙ c.in_default-reason.is in
+    candidate_is tables client peer prefix c.plan-2.result.now route c.contender_of-one.result c.requires.client_known c.requires.peer_known
+    differ is none c.plan-2.ensures c.contender_of-one.ensures.value
+
+pub returns-clause-explains : goal.returns-clause-explains
+returns-clause-explains c =
+    let tables = c.args.tables.now in
+    let client = c.args.client in
+    let peer = c.args.peer in
+    let prefix = c.args.prefix in
+    let route = sent_route_of c.in-Some.route in
+    let is : Some route ≡ route_from tables prefix peer = c.in-Some.ensures in
+    let differ : (client == peer) ≡ false = grind (arith, nat_tests, c.if-client-peer.false) in
+    let none : reason_before_decision tables client peer prefix ≡ None =
+    reason_is tables client peer prefix c.plan.result.now route c.plan.ensures differ is ∙ sym c.reason.ensures ∙ c.in_default-reason.is in
+    let own : c.contender_of-one.result.peer ≡ peer =
+    ap (λ (one : Contender). one.peer) c.contender_of-one.ensures.value ∙ own_peer tables client peer prefix route is in
+    IfOk-weaker c.decided.result _ _
+    (λ explanation decided. by_decision tables client peer prefix explanation c.contender_of-one.result.peer none own decided)
+    c.decided.ensures
 
 pub returns-clause-agrees : goal.returns-clause-agrees
 returns-clause-agrees c =
     let tables = c.args.tables.now in
-    let plan = tables.plan in
-    let attributes = c.in-Some.route.attributes.now in
-    let fails : failed_condition plan c.args.peer attributes ≡ None =
-    ap (λ (plan : Plan). failed_condition plan c.args.peer attributes) (sym c.plan.ensures) ∙ sym c.failed_condition.ensures
-    ∙ c.in_default-failed_condition.is in
-    let refuses : refusal_of plan c.args.client c.args.peer attributes ≡ None =
-    ap (λ (plan : Plan). refusal_of plan c.args.client c.args.peer attributes) (sym c.plan-2.ensures) ∙ sym c.refusing_rule.ensures
-    ∙ c.in_default-refusing_rule.is in
-    let differ : (c.args.client == c.args.peer) ≡ false = grind (arith, nat_tests, c.if-client-peer.false) in
-    let left = get (rib_of tables c.args.peer).routes c.args.prefix in
-    let none = no_reason plan c.args.client c.args.peer left (sent_route_of c.in-Some.route) c.in-Some.ensures fails refuses in
-    let own : c.contender_of.result.peer ≡ c.args.peer =
-    ap (λ (one : Contender). one.peer) c.contender_of.ensures.value
-    ∙ route_peer c.args.peer left (sent_route_of c.in-Some.route) c.in-Some.ensures in
+    let client = c.args.client in
+    let peer = c.args.peer in
+    let prefix = c.args.prefix in
+    let route = sent_route_of c.in-Some.route in
+    let is : Some route ≡ route_from tables prefix peer = c.in-Some.ensures in
+    let differ : (client == peer) ≡ false = grind (arith, nat_tests, c.if-client-peer.false) in
+    let none : reason_before_decision tables client peer prefix ≡ None =
+    reason_is tables client peer prefix c.plan.result.now route c.plan.ensures differ is ∙ sym c.reason.ensures ∙ c.in_default-reason.is in
+    let own : c.contender_of-one.result.peer ≡ peer =
+    ap (λ (one : Contender). one.peer) c.contender_of-one.ensures.value ∙ own_peer tables client peer prefix route is in
     IfOk-weaker c.decided.result _ _
-    (λ explanation decided. agrees tables c.args.client c.args.peer c.args.prefix explanation c.requires.client_known c.requires.peer_known
-    (explained tables c.args.client c.args.peer c.contender_of.result.peer c.args.prefix explanation differ own none decided))
+    (λ explanation decided. agrees tables client peer prefix explanation c.requires.client_known c.requires.peer_known
+    (by_decision tables client peer prefix explanation c.contender_of-one.result.peer none own decided))
     c.decided.ensures

@@ -1,9 +1,10 @@
-use Rattle.std.proofs.Common.{◌≡◌, ◌∙◌, ◌+◌, ap, sym, refl, get_or, take, drop, List, arith, rules}
-use Rattle.std.proofs.lemmas.Grind.{common_steps}
+-- The candidate reaches one step more, or has a rival there.
+use Rattle.std.proofs.Common.{◌≡◌, ◌∙◌, ◌+◌, ◌++◌, ◌∷◌, sym, refl, subst, get_or, take, drop, List}
+use Rattle.std.specs.List.{Contains}
 use Rattle.std.specs.Prelude.{None}
 use Rattle.rs_choice.specs.declared.step.Step.{Step}
 use Rattle.rs_choice.specs.declared.step.Step.TheVariants as steps
-use Rattle.rs_choice.specs.Decision.{unbeaten}
+use Rattle.rs_choice.specs.Decision.{decision_steps, remaining}
 use Rattle.rs_explain.specs.declared.contender.Contender.{Contender}
 use Rattle.rs_explain.specs.Contenders.{standing_in}
 use Rattle.rs_explain.specs.Removals.{rival_of}
@@ -11,39 +12,36 @@ use Rattle.rs_explain.proofs.RemovalLemmas.{remaining-none, remaining-more, step
 use Rattle.rs_explain.proofs.removal.removed_by.Goals as goal
 
 pub loop-step-init : goal.loop-step-init
-loop-step-init c = (remaining-none c.args.contenders.items, c.requires)
+loop-step-init c =
+    subst (λ (left : List Contender). Contains left c.args.loser.now) (remaining-none c.args.set.now) c.requires.inside
 
 pub returns-in-Some : goal.returns-in-Some
 returns-in-Some c =
-    let step : Step = get_or c.args.steps.now c.loop-step.step-index steps.Preference in
+    let i = c.loop-step.step-index in
+    let step : Step = get_or c.args.steps.now i steps.Preference in
+    let before = take i c.args.steps.now in
+    let after = drop (i + 1) c.args.steps.now in
+    let order : decision_steps ≡ before ++ step ∷ after =
+    sym c.requires.steps ∙ steps-around c.args.steps.now i steps.Preference c.loop-step-test.true in
     record {
-      before = take c.loop-step.step-index c.args.steps.now;
-      after = drop (c.loop-step.step-index + 1) c.args.steps.now;
-      order = steps-around c.args.steps.now c.loop-step.step-index steps.Preference c.loop-step-test.true;
+      before = before;
+      after = after;
+      order = order;
       removed = refl;
-      reaches = rw c.loop-step.invariant.0 at c.loop-step.invariant.1;
-      rival = ap (λ (set : List Contender). rival_of step c.args.best.now set c.args.loser)
-          (sym (c.deref.ensures.value ∙ c.loop-step.invariant.0)) ∙ sym c.rival.ensures ∙ c.in-Some.is;
+      reaches = c.loop-step.invariant;
+      rival = sym (c.rival.ensures before after order) ∙ c.in-Some.is;
     }
 
 pub loop-step-preserved : goal.loop-step-preserved
 loop-step-preserved c =
-    let step : Step = get_or c.args.steps.now c.loop-step.step-index steps.Preference in
-    let set_is : c.in_ok-set.set.items ≡ unbeaten standing_in step c.loop-step.set.items =
-    c.in_ok-set.ensures ∙ ap (unbeaten standing_in step) c.deref-in-loop-step.ensures.value in
-    let none : rival_of step c.args.best.now c.loop-step.set.items c.args.loser ≡ None =
-    ap (λ (set : List Contender). rival_of step c.args.best.now set c.args.loser) (sym c.deref.ensures.value) ∙ sym c.rival.ensures
-    ∙ c.in_default.is in (
-      set_is ∙ ap (unbeaten standing_in step) c.loop-step.invariant.0
-          ∙ remaining-more c.args.steps.now c.loop-step.step-index steps.Preference c.args.contenders.items c.loop-step-test.true,
-      rw set_is (left_without_rival step c.args.best.now c.args.loser c.loop-step.set.items none c.loop-step.invariant.1),
-    )
-
-pub loop-step-smaller : goal.loop-step-smaller
-loop-step-smaller c = search rules
-
-pub returns : goal.returns
-returns c = grind (arith, common_steps)
-
-pub returns-in_err-set : goal.returns-in_err-set
-returns-in_err-set c = search rules
+    let i = c.loop-step.step-index in
+    let step : Step = get_or c.args.steps.now i steps.Preference in
+    let before = take i c.args.steps.now in
+    let after = drop (i + 1) c.args.steps.now in
+    let order : decision_steps ≡ before ++ step ∷ after =
+    sym c.requires.steps ∙ steps-around c.args.steps.now i steps.Preference c.loop-step-test.true in
+    let none : rival_of step c.args.best.now (remaining standing_in before c.args.set.now) c.args.loser.now ≡ None =
+    sym (c.rival.ensures before after order) ∙ c.in_default.is in
+    subst (λ (left : List Contender). Contains left c.args.loser.now)
+    (remaining-more c.args.steps.now i steps.Preference c.args.set.now c.loop-step-test.true)
+    (left_without_rival step c.args.best.now c.args.loser.now (remaining standing_in before c.args.set.now) none c.loop-step.invariant)

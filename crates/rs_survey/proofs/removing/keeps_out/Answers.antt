@@ -2,7 +2,8 @@ use Rattle.std.proofs.Common.{◌∙◌, sym, ap}
 use Rattle.rs_choice.specs.Clients.{is_sent_to}
 use Rattle.rs_choice.specs.Decision.{standing_of}
 use Rattle.rs_choice.specs.Eligibility.{is_eligible}
-use Rattle.rs_survey.specs.Seen.{beats_by_med, sent_of_seen}
+use Rattle.rs_explain.specs.Removals.{beats_by_med}
+use Rattle.rs_survey.specs.Seen.{sent_of_seen}
 use Rattle.rs_survey.proofs.SeenLemmas.{eligible_seen, first_fails, not_some_none, second_fails, some_not_none, third_decides}
 use Rattle.rs_survey.proofs.removing.keeps_out.Goals as goal
 

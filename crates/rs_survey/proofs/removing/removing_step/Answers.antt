@@ -27,4 +27,4 @@ returns-in-Some c =
     let loser : c.args.one.now.standing ≡ standing_of plan one = c.requires.one.standing in
     c.step_by_best.ensures
     ∙ (λ i. step_by (best i) (loser i) (list_any (λ other. keeps_out plan client (best i) (loser i) (sent_of_seen other)) seen))
-    ∙ step_is c.the_choice_is_unbeaten.ensures.unbeaten plan client seen found.0 one found.1
+    ∙ step_is plan client seen found.0 one found.1

@@ -1,5 +1,5 @@
 use Rattle.std.proofs.Common.{◌∙◌, sym}
-use Rattle.rs_survey.proofs.RefusalLemmas.{is_permitted-without_0}
+use Rattle.rs_choice.proofs.PermitLemmas.{is_permitted-without_0}
 use Rattle.rs_survey.proofs.seen.permits.Goals as goal
 
 pub returns : goal.returns

@@ -1,5 +1,5 @@
 use Rattle.std.proofs.Common.{◌∙◌, sym, rules}
-use Rattle.rs_choice.proofs.plan.PolicyLemmas.{is_permitted-without_0}
+use Rattle.rs_choice.proofs.PermitLemmas.{is_permitted-without_0}
 use Rattle.rs_choice.proofs.exchange.Exchange.permits_other.Goals as goal
 
 -- no community refuses the route

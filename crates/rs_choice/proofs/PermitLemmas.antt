@@ -1,4 +1,5 @@
--- A route without a community (0, AS) is refused by its sender's name alone: for `permits` of seen.rt.
+-- The policy at two known peers, and routes without a community (0, AS), which are refused by their senders' names alone.
+-- For `permits` and `permits_other` of exchange.rt, and for `permits` of rs_survey.
 use Rattle.std.proofs.Common.{◌≡◌, ◌∙◌, sym, arith, ℕ, ◌<◌, ◌/◌, ◌*◌, ◌+◌, ◌==◌, Bool, true, false, not, ◌&&◌, ◌≢◌, inl, inr, List, []}
 use Rattle.std.proofs.Common.{◌∷◌, length, Option, None, Some, refl}
 use Rattle.std.specs.Prelude.{slice_get, nat_lt, if◌then◌else◌}
@@ -13,7 +14,7 @@ use Rattle.rs_choice.specs.Policy.{is_permitted, is_permitted_from, permits_by_c
 use Rattle.rs_choice.proofs.Members.{some_at}
 
 -- the policy at two known peers
-is_permitted-known : (plan : Plan) (client number : ℕ) (attributes : PathAttributes) (one other : Peer) →
+pub is_permitted-known : (plan : Plan) (client number : ℕ) (attributes : PathAttributes) (one other : Peer) →
     slice_get plan.peers client ≡ Some one → slice_get plan.peers number ≡ Some other →
     is_permitted plan client number attributes ≡ (not (client == number) && is_permitted_from plan.local one other attributes)
 is_permitted-known plan client number attributes one other at_one at_other = rw (at_one, at_other) refl
