@@ -5,3 +5,4 @@ pub mod SaidLemmas
 pub mod AddLemmas
 pub mod WritingLemmas
 pub mod TableLemmas
+pub mod EntryLemmas

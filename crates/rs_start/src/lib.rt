@@ -22,7 +22,9 @@ pub use added::{Added, Reason};
 pub use counts::{Counts, LeftOut};
 pub use fault::{Broken, RoutesFault, StartFault, TableFault};
 pub use index::{Index, IndexPeer};
-pub use laws::a_session_begins_with_the_routes_of_the_table;
+pub use laws::{
+    a_session_begins_with_the_routes_of_the_table, an_entry_of_a_table_is_read_as_it_is_spelled,
+};
 pub use rib::RibEntry;
 pub use sessions::PeerSession;
 pub use start::Start;

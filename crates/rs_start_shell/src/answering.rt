@@ -1,0 +1,98 @@
+//! Answers with the beginning of each peer's session, in files.
+
+use crate::configuration::as_toml;
+use crate::faults::{by_routes, by_table};
+use crate::listed::{Listed, Table, first_unknown, listed_peers};
+use crate::peer_lines::as_text;
+use crate::session_files::{SessionFile, put_in_place, remove_parts};
+use crate::sessions::{begin_sessions, counts_of, finish_sessions};
+use rs_glass_shell::{Reply, Unanswered};
+use rs_host::{DONE, Unready, open_file};
+use rs_mrt::Read;
+use rs_query::StartQuery;
+use rs_start::{Counts, LeftOut, TableReader};
+use std::fs::Files;
+use std::net::Ipv4Addr;
+
+/// Writes the beginning of the session of each peer of a table to a file, and answers how many routes each has. Where
+/// anything fails, no file is left of those that were begun.
+pub fn start<R: AllocGlobal + Files>(rt: &R, query: &StartQuery) -> Result<Reply, Unanswered> {
+    let mut files = Vec::new(rt.alloc());
+    match written(rt, query, &mut files) {
+        Ok(text) => Ok(Reply {
+            text,
+            status: DONE,
+            read: None,
+        }),
+        Err(unanswered) => {
+            remove_parts(rt, &files);
+            Err(unanswered)
+        }
+    }
+}
+
+// Writes the sessions, and puts their files in place once all are whole. The text tells how many routes each has.
+fn written<R: AllocGlobal + Files>(
+    rt: &R,
+    query: &StartQuery,
+    files: &mut Vec<SessionFile>,
+) -> Result<String, Unanswered> {
+    let alloc = rt.alloc();
+    let file = match open_file(rt, &query.table) {
+        Ok(file) => file,
+        Err(fault) => return Err(Unready::by_file(alloc, fault, &query.table).into()),
+    };
+    let mut left_out = LeftOut::nothing();
+    let mut reader = TableReader::new(alloc, file);
+    let table = table_of(rt, query, &mut reader, &mut left_out)?;
+    let counts = counted(rt, query, &table, (&mut reader, &mut left_out), files)?;
+    put_in_place(rt, files)?;
+    if query.toml {
+        Ok(as_toml(alloc, query, &table, &counts, &left_out)?)
+    } else {
+        Ok(as_text(alloc, query, &table.peers, &counts, &left_out)?)
+    }
+}
+
+// The peers of a table: reads up to its index.
+fn table_of<R: AllocGlobal, F: Read>(
+    rt: &R,
+    query: &StartQuery,
+    reader: &mut TableReader<F>,
+    left_out: &mut LeftOut,
+) -> Result<Table, Unanswered> {
+    let alloc = rt.alloc();
+    let (time, index) = match reader.read_index(left_out) {
+        Ok(read) => read,
+        Err(fault) => return Err(by_table(alloc, &query.table, fault)),
+    };
+    if let Some(address) = first_unknown(&index.peers, &query.peers) {
+        let address = Ipv4Addr::from_bits(address);
+        return Err(Unanswered::NoPeer(format!(in alloc; "{address}")?));
+    }
+    let peers: Vec<Listed> = listed_peers(alloc, &index.peers, &query.peers)?;
+    Ok(Table {
+        time,
+        collector: index.collector,
+        peers,
+    })
+}
+
+// Writes the sessions to files that wait to be put in place. Answers what became of the entries of each peer.
+fn counted<R: AllocGlobal + Files, F: Read>(
+    rt: &R,
+    query: &StartQuery,
+    table: &Table,
+    (reader, left_out): (&mut TableReader<F>, &mut LeftOut),
+    files: &mut Vec<SessionFile>,
+) -> Result<Vec<Counts>, Unanswered> {
+    let alloc = rt.alloc();
+    let mut sessions = begin_sessions(rt, query, table, files)?;
+    if let Err(fault) = reader.read_routes(&mut sessions, left_out) {
+        return Err(by_routes(alloc, query, table, fault));
+    }
+    if let Err(fault) = finish_sessions(&mut sessions) {
+        return Err(by_routes(alloc, query, table, fault));
+    }
+    Ok(counts_of(alloc, &sessions)?)
+}

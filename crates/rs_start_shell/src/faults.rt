@@ -1,0 +1,68 @@
+//! Why no session is written.
+
+use crate::listed::{Part, Table};
+use crate::session_files::session_path;
+use rs_glass_shell::Unanswered;
+use rs_host::Unready;
+use rs_query::StartQuery;
+use rs_start::{RoutesFault, TableFault};
+use std::alloc::{AllocError, Global};
+
+/// A fault of the table at a path: the text tells at which octet.
+pub(crate) fn by_table(alloc: Global, path: &str, fault: TableFault) -> Unanswered {
+    match fault {
+        TableFault::Memory => Unanswered::Memory,
+        TableFault::Read => Unready::by_path(alloc, path).into(),
+        TableFault::Broken { at, what } => {
+            at_fault(format!(in alloc; "{path}: octet {at}: {what}"))
+        }
+    }
+}
+
+/// A fault at which the sessions of a table end.
+pub(crate) fn by_routes(
+    alloc: Global,
+    query: &StartQuery,
+    table: &Table,
+    fault: RoutesFault,
+) -> Unanswered {
+    match fault {
+        RoutesFault::Memory => Unanswered::Memory,
+        RoutesFault::Table(fault) => by_table(alloc, &query.table, fault),
+        RoutesFault::Write(place) => match path_at(alloc, query, table, place) {
+            Ok(path) => unwritten(alloc, &path),
+            Err(_) => Unanswered::Memory,
+        },
+    }
+}
+
+// The path of the session of the peer at a place of the index.
+fn path_at(
+    alloc: Global,
+    query: &StartQuery,
+    table: &Table,
+    place: usize,
+) -> Result<String, AllocError> {
+    if let Some(listed) = table.peers.get(place) {
+        if let Part::Written(address) = listed.part {
+            return session_path(alloc, &query.out, address);
+        }
+    }
+    String::from_str(alloc, &query.out)
+}
+
+/// The session at a path can't be written.
+pub(crate) fn unwritten(alloc: Global, path: &str) -> Unanswered {
+    match String::from_str(alloc, path) {
+        Ok(path) => Unanswered::Unwritten(path),
+        Err(_) => Unanswered::Memory,
+    }
+}
+
+// A file is at fault, as a text says.
+fn at_fault(text: Result<String, AllocError>) -> Unanswered {
+    match text {
+        Ok(text) => Unanswered::AtFault(text),
+        Err(_) => Unanswered::Memory,
+    }
+}
