@@ -1,0 +1,88 @@
+//! An exchange on one page.
+
+use crate::cards::add_cards;
+use crate::causes::add_causes;
+use crate::head::add_head;
+use crate::histogram::add_histogram;
+use crate::lanes::add_sessions;
+use crate::matrix::add_matrix;
+use crate::members::members_of;
+use crate::shown::Shown;
+use crate::style::STYLE;
+use crate::times::times_of;
+use crate::writing::write_whole;
+use rs_glass_shell::{Reply, Unanswered, answer_until, served};
+use rs_host::configuration;
+use rs_mrt::{Bounds, Tail};
+use rs_notes::{Subject, notes_on};
+use rs_query::PageQuery;
+use std::alloc::{AllocError, Global};
+use std::fs::Files;
+use std::sync::Wait;
+use std::thread::Threads;
+
+/// Writes an exchange to a file, as a page of HTML in pictures. The answer is empty.
+pub fn page<R: AllocGlobal + Files + Threads + Wait + Sync>(
+    rt: &R,
+    query: &PageQuery,
+) -> Result<Reply, Unanswered>
+where
+    R::File: Send,
+{
+    let alloc = rt.alloc();
+    let setup = configuration(rt, &query.tables.config)?;
+    let served = served(rt, &setup, &query.tables)?;
+    let tally = rs_survey::summary(alloc, served.tables())?;
+    let bounds = Bounds {
+        until: query.tables.until,
+        tail: Tail::Strict,
+    };
+    let times = times_of(rt, &setup, bounds, query.tables.errors)?;
+    let members = members_of(alloc, &tally, &times)?;
+    let notes = notes_on(
+        rt,
+        Subject {
+            setup: &setup,
+            bounds,
+            endings: None,
+        },
+    );
+    let text = page_text(
+        alloc,
+        &Shown {
+            query,
+            setup: &setup,
+            tally: &tally,
+            times: &times,
+            members: &members,
+            notes: &notes.texts,
+        },
+    )?;
+    write_whole(rt, &query.out, &text)?;
+    Ok(answer_until(String::new(alloc), setup, query.tables.until))
+}
+
+// The text of the page.
+fn page_text(alloc: Global, shown: &Shown<'_>) -> Result<String, AllocError> {
+    let mut text = String::new(alloc);
+    let asn = shown.setup.plan.local().asn;
+    text.push_str(
+        "<!DOCTYPE html>\n<html xmlns=\"http://www.w3.org/1999/xhtml\" lang=\"en\">\n<head>\n",
+    )?;
+    text.push_str(
+        "<meta charset=\"utf-8\"/>\n<meta name=\"viewport\" content=\"width=device-width\"/>\n",
+    )?;
+    writeln!(text, "<title>Exchange of AS {asn}</title>")?;
+    text.push_str("<style>")?;
+    text.push_str(STYLE)?;
+    text.push_str("</style>\n</head>\n<body>\n")?;
+    add_head(&mut text, shown)?;
+    text.push_str("<main>\n")?;
+    add_matrix(&mut text, shown)?;
+    add_cards(&mut text, shown)?;
+    add_sessions(&mut text, alloc, shown)?;
+    add_causes(&mut text, shown)?;
+    add_histogram(&mut text, shown)?;
+    text.push_str("</main>\n</body>\n</html>\n")?;
+    Ok(text)
+}

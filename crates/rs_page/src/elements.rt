@@ -1,0 +1,124 @@
+//! What the parts of a page have in common.
+
+use crate::shown::Shown;
+use rs_glass_shell::name_at;
+use rs_picture::add_text;
+use rs_update::Errors;
+use std::alloc::AllocError;
+
+/// Begins a section under a heading, with a sentence that says what is shown.
+pub(crate) fn open_section(text: &mut String, title: &str, about: &str) -> Result<(), AllocError> {
+    text.push_str("<section>\n<h2>")?;
+    text.push_str(title)?;
+    text.push_str("</h2>\n<p>")?;
+    text.push_str(about)?;
+    text.push_str("</p>\n")
+}
+
+/// Ends a section with the command that lists what it shows.
+pub(crate) fn close_section(
+    text: &mut String,
+    shown: &Shown<'_>,
+    command: &str,
+    behind: &str,
+) -> Result<(), AllocError> {
+    text.push_str("<p class=\"command\"><code>looking_glass ")?;
+    text.push_str(command)?;
+    text.push_str(" --config ")?;
+    add_text(text, &shown.query.tables.config)?;
+    if let Some(until) = shown.query.tables.until {
+        write!(text, " --until {until}")?;
+    }
+    if let Errors::Rfc7606 = shown.query.tables.errors {
+        text.push_str(" --errors rfc7606")?;
+    }
+    text.push_str(behind)?;
+    text.push_str("</code></p>\n</section>\n")
+}
+
+/// Begins a picture of this size, with what it shows in few words and in a sentence.
+pub(crate) fn open_picture(
+    text: &mut String,
+    (width, height): (u32, u32),
+    class: &str,
+    title: &str,
+    about: &str,
+) -> Result<(), AllocError> {
+    write!(
+        text,
+        "<svg xmlns=\"http://www.w3.org/2000/svg\" viewBox=\"0 0 {width} {height}\" width=\"{width}\" height=\"{height}\""
+    )?;
+    text.push_str(class)?;
+    text.push_str(" role=\"img\">\n<title>")?;
+    add_text(text, title)?;
+    text.push_str("</title>\n<desc>")?;
+    text.push_str(about)?;
+    text.push_str("</desc>\n")
+}
+
+/// Ends a picture.
+pub(crate) fn close_picture(text: &mut String) -> Result<(), AllocError> {
+    text.push_str("</svg>\n")
+}
+
+/// Begins the table behind a picture, with these titles of its columns.
+pub(crate) fn open_table(text: &mut String, titles: &[&str]) -> Result<(), AllocError> {
+    text.push_str(
+        "<details><summary>As a table</summary>\n<div class=\"wide\"><table>\n<thead><tr>",
+    )?;
+    for title in titles {
+        text.push_str("<th scope=\"col\">")?;
+        text.push_str(title)?;
+        text.push_str("</th>")?;
+    }
+    text.push_str("</tr></thead>\n<tbody>\n")
+}
+
+/// Ends it.
+pub(crate) fn close_table(text: &mut String) -> Result<(), AllocError> {
+    text.push_str("</tbody></table></div></details>\n")
+}
+
+/// Begins a row under a name.
+pub(crate) fn open_row(text: &mut String, name: &str) -> Result<(), AllocError> {
+    text.push_str("<tr><th scope=\"row\">")?;
+    add_text(text, name)?;
+    text.push_str("</th>")
+}
+
+/// Adds a cell with a number.
+pub(crate) fn add_number(text: &mut String, number: u64) -> Result<(), AllocError> {
+    write!(text, "<td>{number}</td>")
+}
+
+/// Adds a cell with a text.
+pub(crate) fn add_cell(text: &mut String, cell: &str) -> Result<(), AllocError> {
+    text.push_str("<td>")?;
+    add_text(text, cell)?;
+    text.push_str("</td>")
+}
+
+/// Ends a row.
+pub(crate) fn close_row(text: &mut String) -> Result<(), AllocError> {
+    text.push_str("</tr>\n")
+}
+
+/// Adds a rectangle.
+pub(crate) fn add_rectangle(
+    text: &mut String,
+    class: &str,
+    (x, y): (u32, u32),
+    (width, height): (u32, u32),
+) -> Result<(), AllocError> {
+    text.push_str("<rect class=\"")?;
+    text.push_str(class)?;
+    write!(
+        text,
+        "\" x=\"{x}\" y=\"{y}\" width=\"{width}\" height=\"{height}\""
+    )
+}
+
+/// The name of a peer.
+pub(crate) fn name_of<'a>(shown: &Shown<'a>, peer: usize) -> &'a str {
+    name_at(&shown.setup.plan, peer)
+}

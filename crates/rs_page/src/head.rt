@@ -1,0 +1,57 @@
+//! The head of the page: which exchange, which time, and what is noted of the recordings.
+
+use crate::elements::close_section;
+use crate::shown::Shown;
+use rs_host::Utc;
+use rs_picture::add_text;
+use rs_update::Errors;
+use std::alloc::AllocError;
+use std::net::Ipv4Addr;
+
+/// Adds it.
+pub(crate) fn add_head(text: &mut String, shown: &Shown<'_>) -> Result<(), AllocError> {
+    let local = shown.setup.plan.local();
+    let (asn, address) = (local.asn, Ipv4Addr::from_bits(local.address));
+    let peers = shown.tally.peers();
+    writeln!(text, "<header>\n<h1>Exchange of AS {asn}</h1>")?;
+    write!(text, "<p>Route server {address}, {peers} peers")?;
+    add_range(text, shown)?;
+    text.push_str(match shown.query.tables.errors {
+        Errors::Rfc4271 => ". Faults in path attributes are handled by RFC 4271.</p>\n</header>\n",
+        Errors::Rfc7606 => ". Faults in path attributes are handled by RFC 7606.</p>\n</header>\n",
+    })?;
+    add_notes(text, shown)
+}
+
+// Adds of which time records were read.
+fn add_range(text: &mut String, shown: &Shown<'_>) -> Result<(), AllocError> {
+    let changes = &shown.times.changes;
+    if shown.times.any {
+        let (first, last) = (Utc(changes.first), Utc(changes.last));
+        write!(text, ", recorded from {first} to {last} UTC")?;
+    } else {
+        text.push_str(", no record of them")?;
+    }
+    match shown.query.tables.until {
+        Some(until) => {
+            let until = Utc(until);
+            write!(text, ", read until {until} UTC")
+        }
+        None => Ok(()),
+    }
+}
+
+// Adds the notes, where there are any.
+fn add_notes(text: &mut String, shown: &Shown<'_>) -> Result<(), AllocError> {
+    if shown.notes.is_empty() {
+        return Ok(());
+    }
+    text.push_str("<section>\n<h2>Notes on the recordings</h2>\n<ul>\n")?;
+    for note in shown.notes {
+        text.push_str("<li>")?;
+        add_text(text, note)?;
+        text.push_str("</li>\n")?;
+    }
+    text.push_str("</ul>\n")?;
+    close_section(text, shown, "check", "")
+}

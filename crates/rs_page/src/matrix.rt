@@ -1,0 +1,96 @@
+//! How many routes each client gets from each sender, as a table whose cells have the stronger colour the more they are.
+//!
+//! Our choice: numbers are seen at up to 32 peers; beyond, a cell shows its number while it is pointed at.
+
+ghost use Rattle.std.specs.Prelude.{◌<◌, ◌≤◌};
+
+use crate::elements::{add_number, close_section, name_of, open_section};
+use crate::shown::Shown;
+use rs_picture::{add_text, bar_length};
+use rs_survey::Finding;
+use std::alloc::AllocError;
+
+const ABOUT: &str =
+    "Each row is a client, each column a sender: how many routes the client gets from it. The stronger the colour of a cell, the more.";
+
+// Up to how many peers all numbers are seen.
+const NUMBERED: usize = 32;
+
+// The classes of cells, by how much of the greatest number is in them: none, then eight equal parts.
+const LEVELS: u32 = 8;
+
+const CLASSES: [&str; 9] = ["", "a", "b", "c", "d", "e", "f", "g", "h"];
+
+/// Adds the section.
+pub(crate) fn add_matrix(text: &mut String, shown: &Shown<'_>) -> Result<(), AllocError> {
+    open_section(text, "Who gets whose routes", ABOUT)?;
+    text.push_str("<div class=\"wide\"><table class=\"heat")?;
+    if shown.tally.peers() > NUMBERED {
+        text.push_str(" small")?;
+    }
+    text.push_str("\">\n<caption>Routes that each client gets from each sender</caption>\n")?;
+    add_senders(text, shown)?;
+    text.push_str("<tbody>\n")?;
+    let most = most_of(shown);
+    for client in 0..shown.tally.peers() {
+        add_client(text, shown, client, most)?;
+    }
+    text.push_str("</tbody></table></div>\n")?;
+    close_section(text, shown, "table", " --client NAME --from NAME")
+}
+
+// Adds the line of senders.
+fn add_senders(text: &mut String, shown: &Shown<'_>) -> Result<(), AllocError> {
+    text.push_str("<thead><tr><th scope=\"col\">client</th>")?;
+    for peer in 0..shown.tally.peers() {
+        text.push_str("<th scope=\"col\"><span>")?;
+        add_text(text, name_of(shown, peer))?;
+        text.push_str("</span></th>")?;
+    }
+    text.push_str("<th scope=\"col\">all</th></tr></thead>\n")
+}
+
+// The greatest number of the matrix.
+fn most_of(shown: &Shown<'_>) -> u64 {
+    let mut most = 0;
+    for client in 0..shown.tally.peers() {
+        for peer in 0..shown.tally.peers() {
+            most = most.max(shown.tally.count(Finding::Best(client, peer)));
+        }
+    }
+    most
+}
+
+// Adds the line of a client.
+fn add_client(
+    text: &mut String,
+    shown: &Shown<'_>,
+    client: usize,
+    most: u64,
+) -> Result<(), AllocError>
+    requires { client < shown.now.tally.now.peers }
+{
+    text.push_str("<tr><th scope=\"row\">")?;
+    add_text(text, name_of(shown, client))?;
+    text.push_str("</th>")?;
+    let mut all: u64 = 0;
+    for peer in 0..shown.tally.peers() {
+        let routes = shown.tally.count(Finding::Best(client, peer));
+        all = all.saturating_add(routes);
+        add_heat(text, name_of(shown, peer), routes, most)?;
+    }
+    add_number(text, all)?;
+    text.push_str("</tr>\n")
+}
+
+// Adds the cell of a number of routes from a sender.
+fn add_heat(text: &mut String, sender: &str, routes: u64, most: u64) -> Result<(), AllocError> {
+    if routes == 0 {
+        return text.push_str("<td></td>");
+    }
+    text.push_str("<td class=\"")?;
+    text.push_str(CLASSES[bar_length(routes, most, LEVELS) as usize])?;
+    text.push_str("\" title=\"")?;
+    add_text(text, sender)?;
+    write!(text, "\">{routes}</td>")
+}

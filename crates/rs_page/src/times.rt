@@ -1,0 +1,283 @@
+//! What recordings show over time: the sessions of each peer, and how many changes came when.
+//!
+//! Our choices: each file is read twice for that, behind the run that builds the tables. So of a file that gives its
+//! octets only once nothing is shown.
+
+ghost use Rattle.std.specs.Prelude.{◌<◌};
+
+use crate::changes::Changes;
+use crate::spans::{Ends, Span, spans_of};
+use rs_choice::PeerSpec;
+use rs_glass::{Loss, loss_of};
+use rs_glass_shell::Unanswered;
+use rs_host::{Unready, found_at, open_file};
+use rs_inventory::{Inventory, InventoryFault, Peer, PeerRecords, read_outline};
+use rs_mrt::{BoundedReader, Bounds, Read, RecordReader};
+use rs_session::{Body, PeerId, Reason, Session, Word};
+use rs_setup::Setup;
+use rs_update::Errors;
+use std::alloc::{AllocError, Global};
+use std::fs::Files;
+
+/// What recordings show over time.
+#[derive(Drop)]
+pub(crate) struct Times {
+    /// What they show of each peer.
+    pub(crate) peers: Vec<PeerTimes>,
+    /// How many changes came when.
+    pub(crate) changes: Changes,
+    /// Whether there is any record of a peer.
+    pub(crate) any: bool,
+}
+
+/// What the recording of one peer shows.
+#[derive(Drop)]
+pub(crate) struct PeerTimes {
+    /// How many prefixes the peer announced, repeated ones too.
+    pub(crate) announced: u64,
+    /// How many it withdrew.
+    pub(crate) withdrawn: u64,
+    /// When its sessions were up.
+    pub(crate) spans: Vec<Span>,
+}
+
+// What a file holds, by its path; none where it can't be read again.
+#[derive(Drop)]
+struct Outline<'a> {
+    path: &'a str,
+    held: Option<Inventory>,
+}
+
+/// What the recorded files of a setup show within bounds.
+pub(crate) fn times_of<R: AllocGlobal + Files>(
+    rt: &R,
+    setup: &Setup,
+    bounds: Bounds,
+    errors: Errors,
+) -> Result<Times, Unanswered> {
+    let outlines = outlines(rt, &setup.files, bounds)?;
+    let (first, last) = range_of(setup, &outlines);
+    let mut times = Times {
+        peers: Vec::new(rt.alloc()),
+        changes: Changes::none(first.unwrap_or(0), last.unwrap_or(0)),
+        any: first.is_some(),
+    };
+    for peer in 0..setup.plan.count().min(setup.files.len()) {
+        let (spec, path) = (setup.plan.peer(peer), setup.files[peer].as_str());
+        let one = match records_of(&outlines, path, peer_of(spec)) {
+            Some(records) => heard(
+                rt,
+                records,
+                spec,
+                path,
+                (bounds, errors),
+                &mut times.changes,
+            )?,
+            None => silent(rt.alloc()),
+        };
+        times.peers.push(one).map_err(|_| Unanswered::Memory)?;
+    }
+    Ok(times)
+}
+
+// What is shown of a peer without a record.
+fn silent(alloc: Global) -> PeerTimes {
+    PeerTimes {
+        announced: 0,
+        withdrawn: 0,
+        spans: Vec::new(alloc),
+    }
+}
+
+// The outlines of the files at these paths.
+fn outlines<'a, R: AllocGlobal + Files>(
+    rt: &R,
+    paths: &'a [String],
+    bounds: Bounds,
+) -> Result<Vec<Outline<'a>>, Unanswered> {
+    let mut all = Vec::new(rt.alloc());
+    for path in paths {
+        if !is_outlined(&all, path) {
+            let held = outline_at(rt, path, bounds)?;
+            let path = path.as_str();
+            if all.push(Outline { path, held }).is_err() {
+                return Err(Unanswered::Memory);
+            }
+        }
+    }
+    Ok(all)
+}
+
+// Whether the file at a path was read.
+fn is_outlined(all: &[Outline<'_>], path: &str) -> bool {
+    all.iter().any(|outline| outline.path == path)
+}
+
+// The outline of the file at a path, where it gives its octets each time it is read.
+fn outline_at<R: AllocGlobal + Files>(
+    rt: &R,
+    path: &str,
+    bounds: Bounds,
+) -> Result<Option<Inventory>, Unanswered> {
+    match found_at(rt, path)? {
+        Some(found) if found.is_file() => {}
+        _ => return Ok(None),
+    }
+    let alloc = rt.alloc();
+    let file = match open_file(rt, path) {
+        Ok(file) => file,
+        Err(fault) => return Err(Unanswered::from(Unready::by_file(alloc, fault, path))),
+    };
+    match read_outline(alloc, BoundedReader::new(alloc, file, bounds), None) {
+        Ok(held) => Ok(Some(held)),
+        Err(InventoryFault::Memory) => Err(Unanswered::Memory),
+        Err(InventoryFault::Read) => Err(Unanswered::from(Unready::by_path(alloc, path))),
+    }
+}
+
+// The records of a peer in the file at a path.
+fn records_of<'b>(all: &'b [Outline<'_>], path: &str, peer: Peer) -> Option<&'b PeerRecords> {
+    for outline in all {
+        if outline.path == path {
+            return match &outline.held {
+                Some(held) => held.peers().get(&peer),
+                None => None,
+            };
+        }
+    }
+    None
+}
+
+// The times of the first and the last record of all peers.
+fn range_of(setup: &Setup, outlines: &[Outline<'_>]) -> (Option<u32>, Option<u32>) {
+    let mut first: Option<u32> = None;
+    let mut last: Option<u32> = None;
+    for peer in 0..setup.plan.count().min(setup.files.len()) {
+        let of = peer_of(setup.plan.peer(peer));
+        if let Some(records) = records_of(outlines, &setup.files[peer], of) {
+            let course = records.course();
+            first = earlier(first, course.first);
+            last = later(last, course.last);
+        }
+    }
+    (first, last)
+}
+
+// The earlier of two times, where there are two.
+fn earlier(one: Option<u32>, other: Option<u32>) -> Option<u32> {
+    match (one, other) {
+        (Some(one), Some(other)) => Some(one.min(other)),
+        (None, other) => other,
+        (one, None) => one,
+    }
+}
+
+// The later of two times, where there are two.
+fn later(one: Option<u32>, other: Option<u32>) -> Option<u32> {
+    match (one, other) {
+        (Some(one), Some(other)) => Some(one.max(other)),
+        (None, other) => other,
+        (one, None) => one,
+    }
+}
+
+// The peer as records name it.
+fn peer_of(spec: &PeerSpec) -> Peer {
+    Peer {
+        address: spec.address,
+        asn: spec.asn,
+    }
+}
+
+// What the recording of a peer shows; its changes are counted.
+fn heard<R: AllocGlobal + Files>(
+    rt: &R,
+    records: &PeerRecords,
+    spec: &PeerSpec,
+    path: &str,
+    (bounds, errors): (Bounds, Errors),
+    changes: &mut Changes,
+) -> Result<PeerTimes, Unanswered> {
+    let alloc = rt.alloc();
+    let file = match open_file(rt, path) {
+        Ok(file) => file,
+        Err(fault) => return Err(Unanswered::from(Unready::by_file(alloc, fault, path))),
+    };
+    let id = PeerId {
+        address: spec.address,
+        asn: spec.asn,
+    };
+    let reader = BoundedReader::new(alloc, file, bounds);
+    let mut one = silent(alloc);
+    let ends = hear(alloc, reader, (id, errors), &mut one, changes)?;
+    if let Some((_, Reason::Read)) = ends.close {
+        return Err(Unanswered::from(Unready::by_path(alloc, path)));
+    }
+    one.spans = spans_of(alloc, records, &ends)?;
+    Ok(one)
+}
+
+// Counts the changes that a recorded session gives. Answers how its sessions ended.
+fn hear<R: Read + Drop>(
+    alloc: Global,
+    reader: R,
+    asked: (PeerId, Errors),
+    one: &mut PeerTimes,
+    changes: &mut Changes,
+) -> Result<Ends, AllocError>
+    requires { R.failures reader < u64.MAX }
+{
+    let (id, errors) = asked;
+    let mut session = Session::over_by(alloc, RecordReader::new(reader), id, errors);
+    let mut ends = Ends {
+        losses: Vec::new(alloc),
+        close: None,
+    };
+    for _ in 0..u64::MAX {
+        let Some(word) = session.next_word()? else {
+            break;
+        };
+        let loss = loss_behind(&session, &word);
+        take_word(one, changes, &mut ends, &word, loss)?;
+    }
+    Ok(ends)
+}
+
+// How the session was lost, where that is the change that it gave last.
+fn loss_behind<R: Read>(session: &Session<RecordReader<R>>, word: &Word) -> Option<Loss> {
+    match word.body {
+        Body::Down => loss_of(&session.shown()?),
+        _ => None,
+    }
+}
+
+// Takes one change.
+fn take_word(
+    one: &mut PeerTimes,
+    changes: &mut Changes,
+    ends: &mut Ends,
+    word: &Word,
+    loss: Option<Loss>,
+) -> Result<(), AllocError> {
+    match word.body {
+        Body::Announce(_, _) => {
+            one.announced = one.announced.saturating_add(1);
+            changes.announce(word.time);
+        }
+        Body::Withdraw(_) => {
+            one.withdrawn = one.withdrawn.saturating_add(1);
+            changes.withdraw(word.time);
+        }
+        Body::Down => ends.losses.push((word.time, loss))?,
+        Body::Close(Reason::EndOfFile) => {}
+        Body::Close(reason) => {
+            let time = if word.time == 0 {
+                changes.last
+            } else {
+                word.time
+            };
+            ends.close = Some((time, reason));
+        }
+    }
+    Ok(())
+}

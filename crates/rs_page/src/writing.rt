@@ -1,0 +1,71 @@
+//! A file that is written whole or not at all.
+//!
+//! Our choice: where nothing or a file stands at the path, the text is written beside it, to a part file that then
+//! takes its place. So an older file stays where that fails. What else stands there, such as a device, is opened
+//! itself.
+
+use rs_glass_shell::Unanswered;
+use std::alloc::{AllocError, Global};
+use std::fs;
+use std::fs::{File, Files};
+use std::io::{ErrorKind, Write};
+
+/// Writes a text to the file at a path.
+pub(crate) fn write_whole<R: AllocGlobal + Files>(
+    rt: &R,
+    path: &str,
+    text: &str,
+) -> Result<(), Unanswered> {
+    let alloc = rt.alloc();
+    let written = if takes_part_file(rt, path)? {
+        let part = part_path(alloc, path)?;
+        write_beside(rt, &part, path, text)
+    } else {
+        match File::create(rt, path) {
+            Ok(file) => is_written(file, text),
+            Err(_) => false,
+        }
+    };
+    if written {
+        Ok(())
+    } else {
+        Err(Unanswered::Unwritten(String::from_str(alloc, path)?))
+    }
+}
+
+// Whether nothing is known to be at the path, or a file is.
+fn takes_part_file<R: Files>(rt: &R, path: &str) -> Result<bool, AllocError> {
+    match fs::symlink_metadata(rt, path) {
+        Ok(found) => Ok(found.is_file()),
+        Err(error) if error.kind() == ErrorKind::OutOfMemory => Err(AllocError),
+        Err(_) => Ok(true),
+    }
+}
+
+// The path of the part file.
+fn part_path(alloc: Global, path: &str) -> Result<String, AllocError> {
+    match path.rsplit_once('/') {
+        Some((folder, name)) => format!(in alloc; "{folder}/.{name}.part"),
+        None => format!(in alloc; ".{path}.part"),
+    }
+}
+
+// Writes a text to a part file, and puts that in its place. Answers whether that went well; else no part file stays.
+fn write_beside<R: Files>(rt: &R, part: &str, path: &str, text: &str) -> bool {
+    let _ = fs::remove_file(rt, part);
+    let Ok(file) = File::create_new(rt, part) else {
+        return false;
+    };
+    let written = is_written(file, text);
+    if written && fs::rename(rt, part, path).is_ok() {
+        return true;
+    }
+    let _ = fs::remove_file(rt, part);
+    false
+}
+
+// Writes a text to an open file, and answers whether that went well.
+fn is_written<F: Write + Drop>(file: F, text: &str) -> bool {
+    let mut file = file;
+    file.write_all(text.as_bytes()).is_ok() && file.flush().is_ok()
+}

@@ -1,0 +1,4 @@
+pub mod Bars
+pub mod Lanes
+pub mod Markup
+pub mod Ticks
