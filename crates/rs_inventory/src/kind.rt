@@ -1,8 +1,8 @@
 //! What kind of record it is (RFC 6396, sections 4.3 and 4.4; RFC 8050, section 3).
 //!
-//! Our choice: each record is of one kind. Records of sessions with four-octet AS numbers and IPv4 peers, which a
-//! route server reads, are told apart by what they say; the others by Type, Subtype and Address Family, in this
-//! order.
+//! Our choices: each record is of one kind. A route server reads the records of sessions with four-octet AS numbers and
+//! IPv4 peers. What such a record says decides its kind. Type, Subtype and Address Family, in this order, decide the
+//! kind of any other record.
 
 ghost use Rattle.std.specs.Prelude.{◌≡◌, ◌<◌, Some, slice_get};
 ghost use Rattle.std.specs.Option.{option_map};

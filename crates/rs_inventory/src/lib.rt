@@ -1,9 +1,10 @@
 //! What recorded files hold: records by kind, times, peers with their sessions, and how a file ends (RFC 6396; RFC
 //! 4271).
 //!
-//! Reading order: `compression` (a file that isn't records), `kind` (what a record is), `opening` (what an OPEN
-//! tells), `depth` and `finding` (what one record adds), `sessions`, `course`, `peer` (what is known of one peer), `inventory` (of one
-//! file), `front` and `reading` (how a file is read).
+//! Reading order, files and records first: `compression` (a file that isn't records), `kind` (what a record is),
+//! `opening` (what an OPEN tells). Then what one record adds: `depth` and `finding`. Then what is known of one peer:
+//! `sessions`, `course` and `peer`. Then what is known of one file: `inventory`. Last how a file is read: `front` and
+//! `reading`.
 #![tactic(auto)]
 
 mod compression;

@@ -1,8 +1,9 @@
-//! When the sessions of a peer came up and went down, by the recorded changes of state (RFC 6396, section 4.4.1) and
-//! NOTIFICATIONs (RFC 4271, section 4.5).
+//! When the sessions of a peer came up and went down. Recorded changes of state (RFC 6396, section 4.4.1) and
+//! NOTIFICATIONs (RFC 4271, section 4.5) show it.
 //!
-//! Our choices: a session comes up with a change to Established; the next event, where it is a loss, ends it; a loss
-//! before any other event ends a session of which it isn't recorded when it came up; a loss after a loss says nothing.
+//! Our choices: a session comes up with a change to Established. If the next event is a loss, it ends the session. A
+//! loss before any other event ends a session that came up at a time that isn't recorded. A loss after a loss says
+//! nothing.
 
 ghost use Rattle.std.specs.Prelude.{◌≡◌, [], ◌∷◌, ◌++◌, OnOk, Some, None};
 ghost use Rattle.rs_inventory.specs.Sessions.{ended_at, with_end};

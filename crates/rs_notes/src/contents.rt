@@ -3,7 +3,8 @@
 //! Our choices: each file is read once more for its notes, however many peers name it, and of each message only the
 //! type. So a pipe gets no note, nor does a file that cannot be read.
 
-use crate::format::FRONT_LEN;
+use crate::format::{FRONT_LEN, Format};
+use crate::hint::is_known;
 use rs_host::{found_at, open_file};
 use rs_inventory::{Inventory, Peer, read_outline};
 use rs_mrt::{BoundedReader, Bounds};
@@ -80,6 +81,15 @@ pub(crate) fn is_file<R: Files>(rt: &R, path: &str) -> bool {
         Ok(Some(found)) => found.is_file(),
         _ => false,
     }
+}
+
+/// Of what format other than MRT the file at a path is, by its first octets: zip, pcap or text. `held` is what its records
+/// hold. None where one of them is of a known kind, and where the file gives its octets only once.
+pub fn format_at<R: AllocGlobal + Files>(rt: &R, path: &str, held: &Inventory) -> Option<Format> {
+    if is_known(held) {
+        return None;
+    }
+    Format::of(&front_at(rt, path)?)
 }
 
 // The first octets of the file at a path, where it gives its octets each time it is read.

@@ -56,8 +56,8 @@ impl Format {
         None
     }
 
-    /// Its name in notes.
-    pub(crate) fn name(self) -> &'static str
+    /// Its name.
+    pub fn name(self) -> &'static str
         ensures { result.now ≡ format_name self }
     {
         match self {

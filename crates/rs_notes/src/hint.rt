@@ -60,8 +60,8 @@ fn records_of(held: &Inventory, peer: Peer) -> u64
     }
 }
 
-// Whether some record is of a known kind.
-fn is_known(held: &Inventory) -> bool
+/// Whether some record is of a known kind.
+pub(crate) fn is_known(held: &Inventory) -> bool
     ensures { result ≡ is_known held.now }
 {
     !held.peers().is_empty()

@@ -1,8 +1,9 @@
 //! Notes on recorded files: what is probably wrong with them, or missing from them, in both programs. All of it is our
 //! choice.
 //!
-//! Reading order: `format` (what a file is by its first octets), `hint` (what is noted of a file that has no record of
-//! its peer), `cut` (where a file ends within a record), `note` (the texts), `contents` (what files hold), `notes`.
+//! Reading order, what may be wrong with a file first: `format` (its format), `hint` (the note on a file without a
+//! record of its peer), `cut` (where it ends within a record). Then the notes: `note` (their texts), `contents` (what
+//! files hold), `notes`.
 #![tactic(auto)]
 
 mod contents;
@@ -12,6 +13,7 @@ mod hint;
 mod note;
 mod notes;
 
+pub use contents::format_at;
 pub use cut::Cut;
 pub use format::Format;
 pub use hint::{Hint, hint_on};

@@ -1,10 +1,10 @@
-//! Notes on the recorded files of an exchange: on each peer of whose file nothing was kept, on files that end within a
-//! record, on recordings that begin in mid-session, on sessions that began again without a recorded loss, and on a
-//! server that no record names.
+//! Notes on the recorded files of an exchange. A peer gets a note where nothing of its file was kept. So does a file
+//! that ends within a record. A recording gets one where it begins in mid-session, and where a session began again
+//! without a recorded loss. The server gets one where no record names it.
 //!
-//! Our choices: a note on a session stands only where it did not close before the end of its file, since else its
-//! routes are gone. If neighbouring peers name one file that ends within a record, there is one note. A note that
-//! can't be made or written is left out.
+//! Our choices: a session gets a note only if it did not close before the end of its file. If it did, its routes are
+//! gone. If neighbouring peers name one file that ends within a record, there is one note. A note that can't be made or
+//! written is left out.
 
 use crate::contents::{Contents, contents_at, contents_of, is_file, outline_at};
 use crate::cut::{Cut, cut_of};
@@ -41,15 +41,15 @@ pub struct Ending {
     pub close: Close,
 }
 
-/// What notes are told of.
+/// What notes are about.
 #[derive(Clone, Copy)]
 pub struct Subject<'a> {
     /// The exchange, and the recorded file of each peer.
     pub setup: &'a Setup,
     /// How much of each file was read.
     pub bounds: Bounds,
-    /// How the session of each peer ended; of a peer that has none here nothing is noted. Where they aren't given, they
-    /// are as the ends of the files say.
+    /// How the session of each peer ended. A peer without an ending here gets no note. Where no endings are given, the
+    /// ends of the files decide them.
     pub endings: Option<&'a [Ending]>,
 }
 

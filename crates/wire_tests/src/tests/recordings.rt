@@ -1,13 +1,19 @@
 //! Recorded files, row by row, as records, as sessions and as inventories, and what no row shows: readers, writers,
 //! shared attributes, and refused memory.
 //!
-//! A row has its name, and then its records, each on a line of its own: the time, Type and Subtype (RFC 6396, section
-//! 2), and the words of the body; or `octets`, and words. Each line `by ..` says how the file is read, and the lines
-//! after it what is wanted: `session`, and behind the name of a standard that of faults; `prefix`, a session that is
-//! asked for 203.0.113.0/24, and up to which time; `entries`, what each record says; `bodies` and `lengths`, the
-//! records themselves; `inventory`, what the file holds, of which the lines are some, and `whole inventory`, of which
-//! they are all. Of the file there may be just some `octets`; a reader gives at most a piece at a time, of each of
-//! these `pieces`, and `fails` after so many.
+//! A row has its name, and then its records, each on a line of its own. A record is its time, Type and Subtype (RFC
+//! 6396, section 2), and the words of its body; or it is `octets`, and words.
+//!
+//! Each line `by ..` says how the file is read. The lines after it say what is wanted:
+//! - `session`: what the session says, by RFC 4271, or by the standard of handling faults that is named behind it.
+//! - `prefix`: a session that is asked for 203.0.113.0/24, and up to which time.
+//! - `entries`: what each record says.
+//! - `bodies` and `lengths`: the records themselves.
+//! - `inventory`: what the file holds; the lines are some of it.
+//! - `whole inventory`: what the file holds; the lines are all of it.
+//!
+//! Of the file there may be just some `octets`. A reader gives at most a piece at a time, of each of these `pieces`.
+//! A read `fails` after so many octets.
 
 mod attributes;
 mod inventories;

@@ -1,6 +1,6 @@
-//! What recorded files hold: records by kind and their times, and what is known of each peer; files that end within a
-//! record, that are empty, that are no recordings, and that are compressed (RFC 6396, sections 3 and 4.4; RFC 4271,
-//! sections 4.2 and 4.5; RFC 6793).
+//! What recorded files hold: records by kind and their times, and what is known of each peer. There are files that
+//! end within a record, that are empty, that are no recordings, and that are compressed. The formats are those of RFC
+//! 6396, sections 3 and 4.4; RFC 4271, sections 4.2 and 4.5; RFC 6793.
 
 use super::{check_rows, file_of};
 use rs_inventory::{InventoryFault, read_inventory};

@@ -1,4 +1,4 @@
-//! What is told of what a recorded file holds.
+//! The texts in which rows write what a recorded file holds.
 
 use rs_inventory::{Inventory, Kind, Peer, PeerRecords, read_inventory};
 use rs_mrt::{MemoryReader, ReadLimits};
@@ -63,7 +63,7 @@ fn push_ends(text: &mut String, held: &Inventory) -> Result<(), AllocError> {
     )
 }
 
-// What is told of what a file holds.
+// The text of what a file holds.
 fn told(alloc: Global, held: &Inventory) -> Result<String, AllocError> {
     let mut text = format!(in alloc; "\n    records {}", held.records())?;
     push_kinds(&mut text, held)?;
@@ -72,7 +72,7 @@ fn told(alloc: Global, held: &Inventory) -> Result<String, AllocError> {
     Ok(text)
 }
 
-/// What is told, line by line, of a file whose reader has these limits.
+/// The text, line by line, of what a file holds when its reader has these limits.
 pub fn told_of(alloc: Global, file: &[u8], limits: ReadLimits) -> Result<String, Fail> {
     let held = read_inventory(alloc, MemoryReader::new(file, limits))?;
     Ok(told(alloc, &held)?)

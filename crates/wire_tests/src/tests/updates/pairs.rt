@@ -1,6 +1,6 @@
-//! Each attribute of a list alone, and before each of them, behind what is mandatory: what an UPDATE with them says by
-//! RFC 4271 and by RFC 7606, and how its attributes are written (RFC 4271, sections 4.3 and 6.3; RFC 7606, sections 3
-//! and 7).
+//! Each attribute of a list alone, and before each of them, behind what is mandatory. The tests look at what an UPDATE
+//! with them says by RFC 4271 and by RFC 7606, and at how its attributes are written. See RFC 4271, sections 4.3 and
+//! 6.3; RFC 7606, sections 3 and 7.
 
 use super::*;
 
