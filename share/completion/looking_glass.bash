@@ -2,14 +2,14 @@
 _looking_glass() {
     local word=${COMP_WORDS[COMP_CWORD]} before=${COMP_WORDS[COMP_CWORD-1]} options
     if [ "$COMP_CWORD" -eq 1 ]; then
-        mapfile -t COMPREPLY < <(compgen -W "why history table missing summary diff peers check --help --version" -- "$word")
+        mapfile -t COMPREPLY < <(compgen -W "why history table missing summary page diff peers check start --help --version" -- "$word")
         return
     fi
     case $before in
-        --config) compopt -o filenames; mapfile -t COMPREPLY < <(compgen -f -- "$word"); return ;;
+        --config | --table | --out) compopt -o filenames; mapfile -t COMPREPLY < <(compgen -f -- "$word"); return ;;
         --errors) mapfile -t COMPREPLY < <(compgen -W "rfc4271 rfc7606" -- "$word"); return ;;
         --because) mapfile -t COMPREPLY < <(compgen -W "ineligible server_as_in_path server_address_as_next_hop next_hop_off_exchange refused name community lost preference path_length origin med identifier address" -- "$word"); return ;;
-        --client | --shards | --prefix | --from | --until) COMPREPLY=(); return ;;
+        --client | --peer | --shards | --prefix | --from | --until) COMPREPLY=(); return ;;
     esac
     case ${COMP_WORDS[1]} in
         why) options="--config --client --prefix --until --errors --all --attributes --json --help" ;;
@@ -17,9 +17,11 @@ _looking_glass() {
         table) options="--config --client --from --prefix --longer --until --count --shards --errors --csv --json --help" ;;
         missing) options="--config --client --from --because --until --count --shards --errors --csv --json --help" ;;
         summary) options="--config --until --shards --errors --csv --json --help" ;;
+        page) options="--config --out --until --shards --errors --help" ;;
         diff) options="--config --client --until --errors --count --shards --csv --json --help" ;;
         peers) options="--json --toml --help" ;;
         check) options="--config --help" ;;
+        start) options="--table --out --peer --toml --help" ;;
     esac
     if [ "${COMP_WORDS[1]}" = peers ] && [[ $word != -* ]]; then
         compopt -o filenames

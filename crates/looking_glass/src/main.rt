@@ -7,8 +7,12 @@
 //! Supported standards: RFC 4271, RFC 6793, RFC 1997, RFC 7606, RFC 7947, RFC 6396.
 #![tactic(auto)]
 
-use rs_glass_shell::{PROGRAM, Reply, Unanswered, answer, end_status, line};
+mod answering;
+
+use crate::answering::answer;
+use rs_glass_shell::{PROGRAM, Reply, Unanswered, line};
 use rs_host::end_with;
+use rs_lists::end_status;
 use rs_mrt::Bounds;
 use rs_notes::{Subject, print_notes};
 use rs_setup::Setup;

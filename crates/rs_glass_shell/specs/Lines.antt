@@ -2,7 +2,7 @@
 use Rattle.std.specs.Prelude.{◌++◌, codes, string_bytes}
 use Rattle.rs_glass_shell.specs.declared.unanswered.Unanswered.{Unanswered}
 use Rattle.rs_glass_shell.specs.declared.unanswered.Unanswered.TheVariants.{Words, Setup, NoPeer, SeveralPeers, Unread}
-use Rattle.rs_glass_shell.specs.declared.unanswered.Unanswered.TheVariants.{Unsettled, Output, Memory}
+use Rattle.rs_glass_shell.specs.declared.unanswered.Unanswered.TheVariants.{AtFault, Unwritten, Unsettled, Output, Memory}
 use Rattle.rs_host.specs.Line.{Text, named as named_by, one_line, out_of_memory, unread_line}
 use Rattle.rs_host.specs.Refusal.{setup_line, words_text}
 
@@ -20,6 +20,8 @@ line_of (Setup fault) = setup_line program fault
 line_of (NoPeer name) = named (codes "no peer is named " ++ one_line (string_bytes name))
 line_of (SeveralPeers word) = named (codes "several peers have " ++ one_line (string_bytes word))
 line_of (Unread path) = unread_line program (string_bytes path)
+line_of (AtFault what) = named (one_line (string_bytes what))
+line_of (Unwritten path) = named (codes "cannot write " ++ one_line (string_bytes path))
 line_of (Unsettled name) = named (codes "peer " ++ (one_line (string_bytes name) ++ codes " unsettled"))
 line_of Output = named (codes "cannot write standard output")
 line_of Memory = named out_of_memory

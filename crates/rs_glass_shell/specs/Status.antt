@@ -3,7 +3,7 @@
 use Rattle.std.specs.Prelude.{ℕ}
 use Rattle.rs_glass_shell.specs.declared.unanswered.Unanswered.{Unanswered}
 use Rattle.rs_glass_shell.specs.declared.unanswered.Unanswered.TheVariants.{Words, Setup, NoPeer, SeveralPeers, Unread}
-use Rattle.rs_glass_shell.specs.declared.unanswered.Unanswered.TheVariants.{Unsettled, Output, Memory}
+use Rattle.rs_glass_shell.specs.declared.unanswered.Unanswered.TheVariants.{AtFault, Unwritten, Unsettled, Output, Memory}
 use Rattle.rs_host.specs.Status.{failed, out_of_memory, refused, setup_status, words_status}
 use Rattle.rs_host.specs.declared.unready.Unready.{Unready}
 use Rattle.rs_host.specs.declared.unready.Unready.TheVariants as unready
@@ -15,6 +15,8 @@ status_of (Setup fault) = setup_status fault
 status_of (NoPeer name) = refused
 status_of (SeveralPeers word) = refused
 status_of (Unread path) = failed
+status_of (AtFault what) = failed
+status_of (Unwritten path) = failed
 status_of (Unsettled name) = failed
 status_of Output = failed
 status_of Memory = out_of_memory

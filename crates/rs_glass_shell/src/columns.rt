@@ -2,8 +2,8 @@
 
 use std::alloc::AllocError;
 
-// Adds a cell, filled up with spaces to a width; one space at least stands behind it.
-pub(crate) fn add_cell(line: &mut String, cell: &str, width: usize) -> Result<(), AllocError> {
+/// Adds a cell, filled up with spaces to a width; one space at least stands behind it. Fails where memory is refused.
+pub fn add_cell(line: &mut String, cell: &str, width: usize) -> Result<(), AllocError> {
     line.push_str(cell)?;
     line.push(' ')?;
     for _ in cell.len().saturating_add(1)..width {
@@ -12,8 +12,8 @@ pub(crate) fn add_cell(line: &mut String, cell: &str, width: usize) -> Result<()
     Ok(())
 }
 
-// Fills up a cell that begins at this place of a text, in the same way.
-pub(crate) fn fill_cell(text: &mut String, start: usize, width: usize) -> Result<(), AllocError> {
+/// Fills up a cell that begins at this place of a text, in the same way. Fails where memory is refused.
+pub fn fill_cell(text: &mut String, start: usize, width: usize) -> Result<(), AllocError> {
     let len = text.len().saturating_sub(start);
     text.push(' ')?;
     for _ in len.saturating_add(1)..width {
@@ -28,9 +28,9 @@ const LINE_WIDTH: usize = 80;
 // How far the lines behind the first one are indented at most.
 const MOST_INDENT: usize = 48;
 
-// Adds words to the line that begins at this place of a text. Where they pass the width of a line, it is broken between
-// two words; what follows is indented to where the words begin.
-pub(crate) fn add_words(text: &mut String, start: usize, words: &str) -> Result<(), AllocError> {
+/// Adds words to the line that begins at this place of a text. Where they pass the width of a line, it is broken
+/// between two words; what follows is indented to where the words begin. Fails where memory is refused.
+pub fn add_words(text: &mut String, start: usize, words: &str) -> Result<(), AllocError> {
     let indent = text.len().saturating_sub(start).min(MOST_INDENT);
     add_indented_words(text, start, words, indent)
 }
@@ -60,8 +60,9 @@ fn add_indented_words(
     Ok(())
 }
 
-// Adds a line of words; where it passes the width of a line, what follows is indented by two columns.
-pub(crate) fn add_sentence(text: &mut String, words: &str) -> Result<(), AllocError> {
+/// Adds a line of words; where it passes the width of a line, what follows is indented by two columns. Fails where
+/// memory is refused.
+pub fn add_sentence(text: &mut String, words: &str) -> Result<(), AllocError> {
     let start = text.len();
     add_indented_words(text, start, words, 2)?;
     text.push('\n')

@@ -30,6 +30,14 @@ pub fn line(alloc: Global, unanswered: &Unanswered) -> Result<String, AllocError
             format!(in alloc; "looking_glass: several peers have {word}")
         }
         Unanswered::Unread(path) => unread_line(alloc, PROGRAM, path),
+        Unanswered::AtFault(what) => {
+            let what = on_one_line(alloc, what)?;
+            program_line(alloc, PROGRAM, &what)
+        }
+        Unanswered::Unwritten(path) => {
+            let path = on_one_line(alloc, path)?;
+            format!(in alloc; "looking_glass: cannot write {path}")
+        }
         Unanswered::Unsettled(name) => {
             let name = on_one_line(alloc, name)?;
             format!(in alloc; "looking_glass: peer {name} unsettled")

@@ -5,8 +5,8 @@ use rs_update::Prefix;
 use std::alloc::{AllocError, Global};
 use std::net::Ipv4Addr;
 
-// The name of the peer of a number; none where there is no such peer.
-pub(crate) fn name_at(plan: &Exchange, number: usize) -> &str {
+/// The name of the peer of a number; none where there is no such peer.
+pub fn name_at(plan: &Exchange, number: usize) -> &str {
     if number < plan.count() {
         plan.peer(number).name.as_str()
     } else {
@@ -14,8 +14,8 @@ pub(crate) fn name_at(plan: &Exchange, number: usize) -> &str {
     }
 }
 
-// The AS number of the peer of a number; 0 where there is no such peer.
-pub(crate) fn asn_at(plan: &Exchange, number: usize) -> u32 {
+/// The AS number of the peer of a number; 0 where there is no such peer.
+pub fn asn_at(plan: &Exchange, number: usize) -> u32 {
     if number < plan.count() {
         plan.peer(number).asn
     } else {
@@ -23,8 +23,8 @@ pub(crate) fn asn_at(plan: &Exchange, number: usize) -> u32 {
     }
 }
 
-// How wide a column of names is under a title: two spaces stand behind the longest.
-pub(crate) fn name_width(plan: &Exchange, title: &str) -> usize {
+/// How wide a column of names is under a title: two spaces stand behind the longest.
+pub fn name_width(plan: &Exchange, title: &str) -> usize {
     let mut longest = title.len();
     for peer in 0..plan.count() {
         longest = longest.max(plan.peer(peer).name.len());
@@ -32,18 +32,14 @@ pub(crate) fn name_width(plan: &Exchange, title: &str) -> usize {
     longest.saturating_add(2)
 }
 
-// A prefix as it is written: address, slash, length.
-pub(crate) fn prefix_text(alloc: Global, prefix: Prefix) -> Result<String, AllocError> {
+/// A prefix as it is written: address, slash, length. Fails where memory is refused.
+pub fn prefix_text(alloc: Global, prefix: Prefix) -> Result<String, AllocError> {
     let (address, len) = (Ipv4Addr::from_bits(prefix.address()), prefix.len());
     format!(in alloc; "{address}/{len}")
 }
 
-// The names of peers, with commas between them.
-pub(crate) fn names_text(
-    alloc: Global,
-    plan: &Exchange,
-    peers: &[usize],
-) -> Result<String, AllocError> {
+/// The names of peers, with commas between them. Fails where memory is refused.
+pub fn names_text(alloc: Global, plan: &Exchange, peers: &[usize]) -> Result<String, AllocError> {
     let mut text = String::new(alloc);
     for (place, peer) in peers.iter().enumerate() {
         if place > 0 {
@@ -54,8 +50,8 @@ pub(crate) fn names_text(
     Ok(text)
 }
 
-// Adds what a client gets on a prefix: `b (AS 64502) gets no route to 192.0.2.0/24`.
-pub(crate) fn add_gets(
+/// Adds what a client gets on a prefix: `b (AS 64502) gets no route to 192.0.2.0/24`. Fails where memory is refused.
+pub fn add_gets(
     text: &mut String,
     plan: &Exchange,
     (client, best): (usize, Option<usize>),
@@ -72,5 +68,13 @@ pub(crate) fn add_gets(
             )
         }
         None => write!(text, "{name} (AS {asn}) gets no route to {address}/{len}"),
+    }
+}
+
+/// The name of the peer whose route a client gets.
+pub fn best_name(plan: &Exchange, best: Option<usize>) -> &str {
+    match best {
+        Some(peer) => name_at(plan, peer),
+        None => "none",
     }
 }

@@ -1,18 +1,15 @@
 //! The reasons of answers, as texts.
 
-use crate::clock::Clock;
-use crate::names::{name_at, names_text};
-use crate::starts::Start;
+use crate::names::name_at;
 use rs_choice::{Exchange, Standing, Step};
-use rs_explain::{Condition, EndedBy, Explanation, LastSaid, Refusal, Removal};
-use rs_glass::{Answer, Said};
+use rs_explain::{Condition, Explanation, Refusal, Removal};
 use rs_session::Reason;
 use rs_update::Origin;
 use std::alloc::{AllocError, Global};
 use std::net::Ipv4Addr;
 
-// The name of an answer.
-pub(crate) fn answer_name(explanation: &Explanation) -> &'static str {
+/// The name of an answer.
+pub fn answer_name(explanation: &Explanation) -> &'static str {
     match explanation {
         Explanation::Own => "own",
         Explanation::Absent => "absent",
@@ -23,8 +20,8 @@ pub(crate) fn answer_name(explanation: &Explanation) -> &'static str {
     }
 }
 
-// The name of an origin.
-pub(crate) fn origin_name(origin: Origin) -> &'static str {
+/// The name of an origin.
+pub fn origin_name(origin: Origin) -> &'static str {
     match origin {
         Origin::Igp => "IGP",
         Origin::Egp => "EGP",
@@ -32,8 +29,8 @@ pub(crate) fn origin_name(origin: Origin) -> &'static str {
     }
 }
 
-// Why a session closed.
-pub(crate) fn close_text(alloc: Global, reason: Reason) -> Result<String, AllocError> {
+/// Why a session closed. Fails where memory is refused.
+pub fn close_text(alloc: Global, reason: Reason) -> Result<String, AllocError> {
     match reason {
         Reason::EndOfFile => String::from_str(alloc, "end"),
         Reason::Bgp { code, subcode } => format!(in alloc; "bgp {code}/{subcode}"),
@@ -43,11 +40,8 @@ pub(crate) fn close_text(alloc: Global, reason: Reason) -> Result<String, AllocE
     }
 }
 
-// The community that refuses a route.
-pub(crate) fn community_text(
-    alloc: Global,
-    refusal: Refusal,
-) -> Result<Option<String>, AllocError> {
+/// The community that refuses a route. Fails where memory is refused.
+pub fn community_text(alloc: Global, refusal: Refusal) -> Result<Option<String>, AllocError> {
     match refusal {
         Refusal::ByName => Ok(None),
         Refusal::ToClient(asn) => Ok(Some(format!(in alloc; "0:{asn}")?)),
@@ -83,12 +77,8 @@ fn step_name(step: Step) -> &'static str {
     }
 }
 
-// At which step a route was removed, with its value and that of the one that beat it.
-pub(crate) fn lost_text(
-    alloc: Global,
-    plan: &Exchange,
-    removal: &Removal,
-) -> Result<String, AllocError> {
+/// At which step a route was removed, with its value and that of the one that beat it. Fails where memory is refused.
+pub fn lost_text(alloc: Global, plan: &Exchange, removal: &Removal) -> Result<String, AllocError> {
     let step = step_name(removal.step);
     let value = standing_text(alloc, removal.step, &removal.loser.standing)?;
     let rival_value = standing_text(alloc, removal.step, &removal.rival.standing)?;
@@ -101,8 +91,8 @@ pub(crate) fn lost_text(
     Ok(text)
 }
 
-// The condition of eligibility that fails.
-pub(crate) fn condition_text(
+/// The condition of eligibility that fails. Fails where memory is refused.
+pub fn condition_text(
     alloc: Global,
     plan: &Exchange,
     condition: Condition,
@@ -127,32 +117,8 @@ pub(crate) fn condition_text(
     }
 }
 
-// The reason of an answer.
-pub(crate) fn because(
-    alloc: Global,
-    plan: &Exchange,
-    client: usize,
-    peer: usize,
-    answer: &Answer,
-    start: Option<Start>,
-    clock: Clock,
-) -> Result<String, AllocError> {
-    match &answer.explanation {
-        Explanation::Own => String::from_str(alloc, "its own"),
-        Explanation::Absent => absent_text(alloc, &answer.said, start, clock),
-        Explanation::Ineligible(condition) => condition_text(alloc, plan, *condition),
-        Explanation::Refused(refusal) => refused_text(alloc, plan, client, peer, *refusal),
-        Explanation::Best(beaten) if beaten.is_empty() => String::from_str(alloc, "alone"),
-        Explanation::Best(beaten) => {
-            let names = names_text(alloc, plan, beaten)?;
-            format!(in alloc; "beat {names}")
-        }
-        Explanation::Lost(removal) => lost_text(alloc, plan, removal),
-    }
-}
-
-// The rule that refuses a route.
-pub(crate) fn refused_text(
+/// The rule that refuses a route. Fails where memory is refused.
+pub fn refused_text(
     alloc: Global,
     plan: &Exchange,
     client: usize,
@@ -165,64 +131,5 @@ pub(crate) fn refused_text(
             let (client, peer) = (name_at(plan, client), name_at(plan, peer));
             format!(in alloc; "{client} refuses routes from {peer}")
         }
-    }
-}
-
-// Why a peer has no route.
-fn absent_text(
-    alloc: Global,
-    said: &Said,
-    start: Option<Start>,
-    clock: Clock,
-) -> Result<String, AllocError> {
-    let LastSaid::Ended(announced, ending) = said.last else {
-        return never_text(alloc, said, start, clock);
-    };
-    let announced = clock.text(alloc, announced)?;
-    match ending.by {
-        EndedBy::Withdrawal => format!(in alloc; "withdrawn (announced {announced})"),
-        EndedBy::Loss => match said.loss {
-            Some(loss) => format!(in alloc; "session lost: {loss}"),
-            None => String::from_str(alloc, "session lost"),
-        },
-        EndedBy::Close(reason) => {
-            let reason = close_text(alloc, reason)?;
-            format!(in alloc; "session closed: {reason}")
-        }
-    }
-}
-
-// That a peer never announced a route: since when that is known, and why its session closed, where that was not at the
-// end of its file. A recording that begins later says nothing.
-fn never_text(
-    alloc: Global,
-    said: &Said,
-    start: Option<Start>,
-    clock: Clock,
-) -> Result<String, AllocError> {
-    let mut text = String::from_str(alloc, "never announced")?;
-    match start {
-        Some(Start::InTime(time)) => {
-            let time = clock.text(alloc, time)?;
-            write!(text, " since {time}")?;
-        }
-        Some(Start::Later(time)) => {
-            let time = clock.text(alloc, time)?;
-            return format!(in alloc; "not recorded before {time}");
-        }
-        None => {}
-    }
-    if let Some(reason) = fault_of(said) {
-        let reason = close_text(alloc, reason)?;
-        write!(text, ", session closed: {reason}")?;
-    }
-    Ok(text)
-}
-
-// Why a session closed, where that was not at the end of its file.
-pub(crate) fn fault_of(said: &Said) -> Option<Reason> {
-    match said.close {
-        Some(Reason::EndOfFile) => None,
-        close => close,
     }
 }

@@ -5,8 +5,8 @@ use rs_update::{Attributes, Numbers, SegmentView};
 use std::alloc::{AllocError, Global};
 use std::net::Ipv4Addr;
 
-// An AS_PATH: its AS numbers, an AS_SET between braces.
-pub(crate) fn path_text(alloc: Global, attributes: &Attributes) -> Result<String, AllocError> {
+/// An AS_PATH: its AS numbers, an AS_SET between braces. Fails where memory is refused.
+pub fn path_text(alloc: Global, attributes: &Attributes) -> Result<String, AllocError> {
     let mut text = String::new(alloc);
     for segment in attributes.path() {
         add_segment(&mut text, segment)?;
@@ -48,8 +48,8 @@ pub(crate) fn community_of(alloc: Global, community: u32) -> Result<String, Allo
     format!(in alloc; "{high}:{low}")
 }
 
-// Adds the attributes of a route that decide where it goes.
-pub(crate) fn add_route(
+/// Adds the attributes of a route that decide where it goes. Fails where memory is refused.
+pub fn add_route(
     text: &mut String,
     alloc: Global,
     attributes: &Attributes,
@@ -81,11 +81,8 @@ fn add_communities(
     Ok(())
 }
 
-// The communities of a route, with spaces between them.
-pub(crate) fn communities_text(
-    alloc: Global,
-    attributes: &Attributes,
-) -> Result<String, AllocError> {
+/// The communities of a route, with spaces between them. Fails where memory is refused.
+pub fn communities_text(alloc: Global, attributes: &Attributes) -> Result<String, AllocError> {
     let mut text = String::new(alloc);
     let Some(communities) = attributes.communities() else {
         return Ok(text);
@@ -105,13 +102,13 @@ fn add_word(text: &mut String, word: &str) -> Result<(), AllocError> {
     text.push_str(word)
 }
 
-// The type of LARGE_COMMUNITY, and how many octets a large community has (RFC 8092, section 3).
-pub(crate) const LARGE_COMMUNITY: u8 = 32;
+/// The type of LARGE_COMMUNITY, and how many octets a large community has (RFC 8092, section 3).
+pub const LARGE_COMMUNITY: u8 = 32;
 
 pub(crate) const LARGE_LEN: usize = 12;
 
-// Octets as hexadecimal digits.
-pub(crate) fn hex_text(alloc: Global, octets: &[u8]) -> Result<String, AllocError> {
+/// Octets as hexadecimal digits. Fails where memory is refused.
+pub fn hex_text(alloc: Global, octets: &[u8]) -> Result<String, AllocError> {
     let mut text = String::new(alloc);
     for octet in octets {
         let octet = *octet;
@@ -143,8 +140,8 @@ pub(crate) fn large_community_of(alloc: Global, octets: &[u8]) -> Result<String,
     }
 }
 
-// The large communities of a route, with spaces between them.
-pub(crate) fn large_communities_text(
+/// The large communities of a route, with spaces between them. Fails where memory is refused.
+pub fn large_communities_text(
     alloc: Global,
     attributes: &Attributes,
 ) -> Result<String, AllocError> {
@@ -156,8 +153,8 @@ pub(crate) fn large_communities_text(
     Ok(text)
 }
 
-// Adds the large communities of a route, where it has any.
-pub(crate) fn add_large_communities(
+/// Adds the large communities of a route, where it has any. Fails where memory is refused.
+pub fn add_large_communities(
     text: &mut String,
     alloc: Global,
     attributes: &Attributes,

@@ -2,10 +2,10 @@
 
 ghost use Rattle.std.specs.Prelude.{◌≡◌, IfOk, length};
 
-use crate::query::TablesQuery;
 use crate::unanswered::Unanswered;
 use rs_host::{Unready, WordsFault, open_files};
 use rs_mrt::{Bounds, Tail};
+use rs_query::TablesQuery;
 use rs_serve::{FloorRefused, Open, Served, serve_by};
 use rs_setup::Setup;
 use std::fs::Files;
@@ -15,8 +15,10 @@ use std::thread::Threads;
 // How many changes wait at most between two threads.
 const RING: usize = 1024;
 
-// The tables that the recorded files of a setup leave. The first file that can't be read is named.
-pub(crate) fn served<R: AllocGlobal + Files + Threads + Wait + Sync>(
+/// The tables that the recorded files of a setup leave. The first file that can't be read is named. A number of shards
+/// that is not from 1 to 16 is refused. Fails where memory is refused, and where a peer's changes aren't known to have
+/// come.
+pub fn served<R: AllocGlobal + Files + Threads + Wait + Sync>(
     rt: &R,
     setup: &Setup,
     query: &TablesQuery,

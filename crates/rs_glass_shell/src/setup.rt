@@ -11,14 +11,10 @@ use rs_setup::Setup;
 use std::alloc::{AllocError, Global};
 use std::net::Ipv4Addr;
 
-// Finds the number of the peer that a word names: the first one of that name, or, where no peer has that name, the one
-// that has the address or the AS number that the word is. A word that names no peer is refused, and one that is the
-// address or the AS number of several. Fails where memory is refused.
-pub(crate) fn peer_named<R: AllocGlobal>(
-    rt: &R,
-    setup: &Setup,
-    word: &str,
-) -> Result<usize, Unanswered>
+/// Finds the number of the peer that a word names: the first one of that name, or, where no peer has that name, the one
+/// that has the address or the AS number that the word is. A word that names no peer is refused, and one that is the
+/// address or the AS number of several. Fails where memory is refused.
+pub fn peer_named<R: AllocGlobal>(rt: &R, setup: &Setup, word: &str) -> Result<usize, Unanswered>
     ensures known { IfOk result (λ number. number < length setup.now.plan.value.peers) }
     ensures named { IfOk result (Names word.now setup.now.plan.value.peers) }
 {
@@ -44,8 +40,8 @@ fn named_in(alloc: Global, plan: &Exchange, word: &str) -> Result<usize, Unanswe
     }
 }
 
-// The first peer of a name.
-pub(crate) fn peer_of_name(plan: &Exchange, name: &str) -> Option<usize>
+/// The first peer of a name.
+pub fn peer_of_name(plan: &Exchange, name: &str) -> Option<usize>
     ensures known { IfSome result (λ number. number < length plan.now.peers) }
     ensures found { IfSome result (IsNameOf name.now plan.now.peers) }
     ensures none { IfNone result (NoneFrom (IsNameOf name.now plan.now.peers) 0 (length plan.now.peers)) }

@@ -1,13 +1,11 @@
 //! Why a question isn't answered, and with which status the program ends then.
 
 ghost use Rattle.std.specs.Prelude.{◌≡◌};
-ghost use Rattle.rs_glass_shell.specs.Files.{EndsReading};
 ghost use Rattle.rs_glass_shell.specs.Status.{status_of, unanswered_by};
 
-use rs_glass::GlassFault;
 use rs_host::{FAILED, OUT_OF_MEMORY, REFUSED, Unready, WordsFault, setup_status, words_status};
-use rs_setup::{Setup, SetupFault};
-use std::alloc::{AllocError, Global};
+use rs_setup::SetupFault;
+use std::alloc::AllocError;
 
 /// Why a question isn't answered.
 #[derive(Drop)]
@@ -22,6 +20,10 @@ pub enum Unanswered {
     SeveralPeers(String),
     /// The file at this path can't be read.
     Unread(String),
+    /// A file is at fault or can't be written, as this text says.
+    AtFault(String),
+    /// The file at this path can't be written.
+    Unwritten(String),
     /// Not all changes of the peer of this name are known to be in the tables.
     Unsettled(String),
     /// Standard output can't be written.
@@ -31,20 +33,6 @@ pub enum Unanswered {
 }
 
 impl Unanswered {
-    /// What ends the reading of the recorded files of a setup: a file that can't be read is named, unless memory for
-    /// that is refused.
-    pub fn by_reading(alloc: Global, fault: GlassFault, setup: &Setup) -> Unanswered
-        ensures { EndsReading fault setup.now result }
-    {
-        match fault {
-            GlassFault::Memory => Unanswered::Memory,
-            GlassFault::Read(peer) => match setup.files.get(peer) {
-                Some(path) => Unanswered::from(Unready::by_path(alloc, path)),
-                None => Unanswered::Memory,
-            },
-        }
-    }
-
     /// The status with which the program ends. 0: help or the version was asked for. 1: the command line or the
     /// configuration is refused. 2: a file or a device failed. 3: memory was refused.
     pub fn status(&self) -> u8
@@ -56,6 +44,8 @@ impl Unanswered {
             Unanswered::NoPeer(_) => REFUSED,
             Unanswered::SeveralPeers(_) => REFUSED,
             Unanswered::Unread(_) => FAILED,
+            Unanswered::AtFault(_) => FAILED,
+            Unanswered::Unwritten(_) => FAILED,
             Unanswered::Unsettled(_) => FAILED,
             Unanswered::Output => FAILED,
             Unanswered::Memory => OUT_OF_MEMORY,

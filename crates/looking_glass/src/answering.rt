@@ -1,0 +1,46 @@
+//! Answers the question of the command line: reads what it names, and writes what comes of it.
+
+use rs_files::{check, peers};
+use rs_glass_shell::{PROGRAM, Reply, Unanswered};
+use rs_host::{DONE, WordsFault, read_arguments};
+use rs_lists::{diff, missing, summary, table};
+use rs_page::page;
+use rs_query::{Query, read_query};
+use rs_start_shell::start;
+use rs_why::{history, why};
+use std::env::Env;
+use std::fs::Files;
+use std::io::Print;
+use std::sync::Wait;
+use std::thread::Threads;
+
+// Answers the question of the command line: reads the configuration and the recorded files that it names. Prints all
+// parts of a list but the last, which the reply has. Fails with why there is no answer.
+pub(crate) fn answer<R: AllocGlobal + Env + Files + Threads + Wait + Sync + Print>(
+    rt: &R,
+) -> Result<Reply, Unanswered>
+where
+    R::File: Send,
+{
+    match command_line(rt)? {
+        Query::Why(query) => why(rt, &query),
+        Query::History(query) => history(rt, &query),
+        Query::Peers(query) => Ok(Reply {
+            text: peers(rt, query)?,
+            status: DONE,
+            read: None,
+        }),
+        Query::Check(query) => check(rt, &query.config),
+        Query::Start(query) => start(rt, &query),
+        Query::Table(query) => table(rt, &query),
+        Query::Missing(query) => missing(rt, &query),
+        Query::Summary(query) => summary(rt, &query),
+        Query::Page(query) => page(rt, &query),
+        Query::Diff(query) => diff(rt, &query),
+    }
+}
+
+// The question of the command line.
+fn command_line<R: AllocGlobal + Env>(rt: &R) -> Result<Query, WordsFault> {
+    read_query(rt.alloc(), read_arguments(rt, PROGRAM)?)
+}

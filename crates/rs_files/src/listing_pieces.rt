@@ -1,0 +1,162 @@
+//! Files as pieces of recordings: in which of them a peer has messages, and how they are joined.
+//!
+//! Our choices: the order of the pieces is that of the command line. A path below `/dev/fd/` or `/proc/self/fd/` names
+//! a file that is there only while the command runs, as a shell gives it for `<(..)`.
+
+use crate::recorded_file::RecordedFile;
+use rs_host::on_one_line;
+use rs_inventory::{Inventory, Peer, PeerRecords};
+use std::alloc::{AllocError, Global};
+use std::collections::BTreeMap;
+
+/// In which files peers have messages.
+#[derive(Drop)]
+pub(crate) struct Pieces {
+    peers: BTreeMap<Peer, Told>,
+}
+
+// What all files tell of a peer.
+#[derive(Clone, Copy, Drop)]
+struct Told {
+    // The number of the first file in which it has messages.
+    first: Option<usize>,
+    // In how many files it has messages.
+    pieces: usize,
+    // The BGP Identifier of its last OPEN.
+    identifier: Option<u32>,
+}
+
+// How paths begin of files that are there only while the command runs.
+const TRANSIENT: [&str; 2] = ["/dev/fd/", "/proc/self/fd/"];
+
+// The marks that stand in a word of a shell as they are, beside letters and digits.
+const PLAIN: &str = "._-/+:,@%";
+
+impl Pieces {
+    /// Those of these files, in the order of the command line.
+    pub(crate) fn of(alloc: Global, files: &[RecordedFile]) -> Result<Pieces, AllocError> {
+        let mut peers = BTreeMap::new(alloc);
+        for (number, file) in files.iter().enumerate() {
+            for (peer, records) in file.inventory.peers() {
+                let told = told_with(peers.get(peer).copied(), number, records);
+                peers.insert(*peer, told)?;
+            }
+        }
+        Ok(Pieces { peers })
+    }
+
+    /// Whether another file lists this file's peer. An earlier file does, if the peer has messages in it. A later file
+    /// does, if the peer has messages in it and none in this one.
+    pub(crate) fn is_told_elsewhere(
+        &self,
+        number: usize,
+        peer: Peer,
+        records: &PeerRecords,
+    ) -> bool {
+        match self.peers.get(&peer).and_then(|told| told.first) {
+            Some(first) => first < number || records.messages() == 0,
+            None => false,
+        }
+    }
+
+    /// Whether a peer has messages in several files.
+    pub(crate) fn has_pieces(&self, peer: Peer) -> bool {
+        match self.peers.get(&peer) {
+            Some(told) => told.pieces > 1,
+            None => false,
+        }
+    }
+
+    /// The BGP Identifier of a peer's last OPEN in all files.
+    pub(crate) fn identifier(&self, peer: Peer) -> Option<u32> {
+        self.peers.get(&peer)?.identifier
+    }
+
+    /// The command of a shell that joins those of these files that are pieces to a file of this name; none where none
+    /// is. Where one of them is there only while the command runs, none is named.
+    pub(crate) fn command(
+        &self,
+        alloc: Global,
+        files: &[RecordedFile],
+        joined: &str,
+    ) -> Result<Option<String>, AllocError> {
+        let mut words = String::new(alloc);
+        let mut nameless = false;
+        for file in files {
+            if self.has_piece(&file.inventory) {
+                words.push(' ')?;
+                push_word(alloc, &mut words, &file.path)?;
+                nameless = nameless || is_transient(&file.path);
+            }
+        }
+        if words.is_empty() {
+            return Ok(None);
+        }
+        if nameless {
+            return Ok(Some(format!(in alloc; "cat .. >{joined}")?));
+        }
+        Ok(Some(format!(in alloc; "cat{words} >{joined}")?))
+    }
+
+    // Whether a file is a piece of a recording: a peer has messages in it and in another file.
+    fn has_piece(&self, inventory: &Inventory) -> bool {
+        for (peer, records) in inventory.peers() {
+            if records.messages() > 0 && self.has_pieces(*peer) {
+                return true;
+            }
+        }
+        false
+    }
+}
+
+// What files tell of a peer with one file more, of a number.
+fn told_with(told: Option<Told>, number: usize, records: &PeerRecords) -> Told {
+    let mut told = told.unwrap_or(Told {
+        first: None,
+        pieces: 0,
+        identifier: None,
+    });
+    if records.messages() > 0 {
+        told.pieces = told.pieces.saturating_add(1);
+        told.first = told.first.or(Some(number));
+    }
+    told.identifier = records.identifiers().last().copied().or(told.identifier);
+    told
+}
+
+/// Whether a path, quoted or not, names a file that is there only while the command runs.
+pub(crate) fn is_transient(path: &str) -> bool {
+    let path = path.strip_prefix("\"").unwrap_or(path);
+    for front in TRANSIENT {
+        if path.starts_with(front) {
+            return true;
+        }
+    }
+    false
+}
+
+// Appends a path as a word of a shell.
+fn push_word(alloc: Global, words: &mut String, path: &str) -> Result<(), AllocError> {
+    let path = on_one_line(alloc, path)?;
+    if is_plain(&path) {
+        return words.push_str(&path);
+    }
+    words.push('\'')?;
+    for character in path.chars() {
+        match character {
+            '\'' => words.push_str("'\\''")?,
+            character => words.push(character)?,
+        }
+    }
+    words.push('\'')
+}
+
+// Whether a text is a word of a shell as it stands.
+fn is_plain(text: &str) -> bool {
+    for character in text.chars() {
+        if !character.is_ascii_alphanumeric() && !PLAIN.contains(character) {
+            return false;
+        }
+    }
+    true
+}

@@ -1,0 +1,65 @@
+//! Answers what recorded files hold.
+
+use crate::listing_lines::as_text;
+use crate::listing_object::as_json;
+use crate::listing_toml::as_toml;
+use crate::recorded_file::RecordedFile;
+use rs_glass_shell::Unanswered;
+use rs_host::{Unready, first_unreadable, open_file};
+use rs_inventory::{InventoryFault, read_inventory};
+use rs_notes::format_at;
+use rs_query::PeersQuery;
+use std::fs::Files;
+
+/// What recorded files hold.
+pub fn peers<R: AllocGlobal + Files>(rt: &R, query: PeersQuery) -> Result<String, Unanswered> {
+    let alloc = rt.alloc();
+    let PeersQuery { files, json, toml } = query;
+    let held = recorded_files(rt, files)?;
+    if json {
+        Ok(as_json(alloc, &held)?)
+    } else if toml {
+        Ok(as_toml(alloc, &held)?)
+    } else {
+        Ok(as_text(alloc, &held)?)
+    }
+}
+
+// What the recorded files at these paths hold, in their order.
+fn recorded_files<R: AllocGlobal + Files>(
+    rt: &R,
+    paths: Vec<String>,
+) -> Result<Vec<RecordedFile>, Unready> {
+    if let Some(number) = first_unreadable(rt, &paths)? {
+        return Err(Unready::by_path(rt.alloc(), &paths[number]));
+    }
+    let mut held = Vec::new(rt.alloc());
+    for path in paths {
+        held.push(recorded_file(rt, path)?)
+            .map_err(|_| Unready::Memory)?;
+    }
+    Ok(held)
+}
+
+// What the recorded file at a path holds.
+pub(crate) fn recorded_file<R: AllocGlobal + Files>(
+    rt: &R,
+    path: String,
+) -> Result<RecordedFile, Unready> {
+    let reader = match open_file(rt, &path) {
+        Ok(reader) => reader,
+        Err(fault) => return Err(Unready::by_file(rt.alloc(), fault, &path)),
+    };
+    match read_inventory(rt.alloc(), reader) {
+        Ok(inventory) => {
+            let format = format_at(rt, &path, &inventory);
+            Ok(RecordedFile {
+                path,
+                format,
+                inventory,
+            })
+        }
+        Err(InventoryFault::Memory) => Err(Unready::Memory),
+        Err(InventoryFault::Read) => Err(Unready::Unread(path)),
+    }
+}

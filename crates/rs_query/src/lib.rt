@@ -1,0 +1,21 @@
+//! What the command line of the looking glass asks.
+//! All of it is our choice.
+//!
+//! Reading order: `query` (the questions). `command` (the table of commands and their options) and `argument` (an
+//! option as `clap` knows it).
+//! `words`, `list_words` and `diff_words` (how a question is read). `values` (prefixes, addresses and times).
+#![tactic(auto)]
+
+mod argument;
+mod command;
+mod diff_words;
+mod list_words;
+mod query;
+mod values;
+mod words;
+
+pub use query::{
+    CheckQuery, Destination, DiffQuery, Form, HistoryQuery, MissingQuery, PageQuery, PeersQuery,
+    Query, Span, StartQuery, SummaryQuery, TableQuery, TablesQuery, WhyQuery,
+};
+pub use words::read_query;

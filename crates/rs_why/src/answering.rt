@@ -1,0 +1,195 @@
+//! Answers a question about a prefix: reads the recorded files of a configuration, and writes what comes of it.
+
+ghost use Rattle.std.specs.Prelude.{◌≡◌, IfOk, length};
+
+use crate::history_lines::{HistoryView, history_text};
+use crate::history_object::history_json;
+use crate::starts::starts;
+use crate::unread::by_reading;
+use crate::why_lines::{WhyView, why_text};
+use crate::why_object::why_json;
+use rs_glass::{
+    History, Question, Reading, explain_all, fill_history, longest_announced, read_happenings,
+    read_sessions,
+};
+use rs_glass_shell::{Reply, Unanswered, answer_until, peer_named};
+use rs_host::{WordsFault, configuration, first_unreadable, on_one_line, open_files};
+use rs_mrt::{Bounds, Tail};
+use rs_query::{Destination, HistoryQuery, Span, WhyQuery};
+use rs_setup::Setup;
+use rs_update::Prefix;
+use std::fs::Files;
+use std::net::Ipv4Addr;
+use std::thread::Threads;
+
+/// Why a client has each peer's route, or not.
+pub fn why<R: AllocGlobal + Files + Threads + Sync>(
+    rt: &R,
+    query: &WhyQuery,
+) -> Result<Reply, Unanswered>
+where
+    R::File: Send,
+{
+    let alloc = rt.alloc();
+    let setup = configuration(rt, &query.config)?;
+    let client = peer_named(rt, &setup, &query.client)?;
+    let question = asked(rt, &setup, query.prefix, query.span)?;
+    let reading = read(rt, &setup, &question, query.span)?;
+    let answers = explain_all(alloc, &reading, client, &question)?;
+    let starts = starts(rt, &setup, &answers, query.span.until)?;
+    let view = WhyView {
+        plan: &setup.plan,
+        tables: &reading.tables,
+        starts: &starts,
+        until: query.span.until,
+        all: query.all,
+        attributes: query.attributes,
+    };
+    let text = if query.json {
+        why_json(alloc, &view, &answers)?
+    } else {
+        why_text(alloc, &view, &answers)?
+    };
+    Ok(answer_until(text, setup, query.span.until))
+}
+
+/// What happened on a prefix.
+pub fn history<R: AllocGlobal + Files + Threads + Sync>(
+    rt: &R,
+    query: &HistoryQuery,
+) -> Result<Reply, Unanswered>
+where
+    R::File: Send,
+{
+    let alloc = rt.alloc();
+    let setup = configuration(rt, &query.config)?;
+    let client = match &query.client {
+        Some(word) => Some(peer_named(rt, &setup, word)?),
+        None => None,
+    };
+    let history = replayed(rt, &setup, client, query)?;
+    let view = HistoryView {
+        plan: &setup.plan,
+        until: query.span.until,
+        ends: query.ends,
+        attributes: query.attributes,
+    };
+    let text = if query.json {
+        history_json(alloc, &view, &history)?
+    } else {
+        history_text(alloc, &view, &history)?
+    };
+    Ok(answer_until(text, setup, query.span.until))
+}
+
+// What is asked of the recorded sessions: of an address, about the longest prefix with a route that covers it; where
+// there is none, about the address alone.
+fn asked<R: AllocGlobal + Files + Threads + Sync>(
+    rt: &R,
+    setup: &Setup,
+    destination: Destination,
+    span: Span,
+) -> Result<Question, Unanswered>
+where
+    R::File: Send,
+    requires { length setup.now.files.items ≡ length setup.now.plan.value.peers }
+{
+    let errors = span.errors;
+    let prefix = match destination {
+        Destination::Prefix(prefix) => prefix,
+        Destination::Address(address) => {
+            refuse_read_once(rt, setup, address)?;
+            let prefix = host(address);
+            let reading = read(rt, setup, &Question { prefix, errors }, span)?;
+            longest_announced(&reading.tables, prefix).unwrap_or(prefix)
+        }
+    };
+    Ok(Question { prefix, errors })
+}
+
+// The prefix of one address.
+fn host(address: u32) -> Prefix {
+    match Prefix::new(address, 32) {
+        Some(prefix) => prefix,
+        None => unreachable!(),
+    }
+}
+
+// Refuses a question about an address where a file gives its octets only once: it is read twice for that.
+fn refuse_read_once<R: AllocGlobal + Files>(
+    rt: &R,
+    setup: &Setup,
+    address: u32,
+) -> Result<(), Unanswered> {
+    let alloc = rt.alloc();
+    let mut paths = Vec::new(alloc);
+    for path in setup.files.iter().chain(setup.files.iter()) {
+        paths
+            .push(String::from_str(alloc, path)?)
+            .map_err(|_| Unanswered::Memory)?;
+    }
+    match first_unreadable(rt, &paths)? {
+        Some(place) if place >= setup.files.len() => {
+            let path = on_one_line(alloc, &paths[place])?;
+            let address = Ipv4Addr::from_bits(address);
+            let text = format!(in alloc;
+                "looking_glass: --prefix {address} is an address, and {path} can be read only once\n"
+            )?;
+            Err(Unanswered::Words(WordsFault::Refused(text)))
+        }
+        _ => Ok(()),
+    }
+}
+
+// What the recorded sessions of a configuration say.
+fn read<R: AllocGlobal + Files + Threads + Sync>(
+    rt: &R,
+    setup: &Setup,
+    question: &Question,
+    span: Span,
+) -> Result<Reading, Unanswered>
+where
+    R::File: Send,
+    requires { length setup.now.files.items ≡ length setup.now.plan.value.peers }
+    ensures plan { IfOk result (λ reading. reading.tables.plan ≡ setup.now.plan.value) }
+    ensures as_many { IfOk result (λ reading.
+        length reading.said.items ≡ length setup.now.plan.value.peers) }
+{
+    let alloc = rt.alloc();
+    let files = open_files(rt, &setup.files, bounds(span), |file| file)?;
+    match read_sessions(rt, alloc, &setup.plan, files, question) {
+        Ok(reading) => Ok(reading),
+        Err(fault) => Err(by_reading(alloc, fault, setup)),
+    }
+}
+
+// How much of each recorded file is read.
+fn bounds(span: Span) -> Bounds {
+    Bounds {
+        until: span.until,
+        tail: Tail::Strict,
+    }
+}
+
+// The history of a configuration.
+fn replayed<R: AllocGlobal + Files + Threads + Sync>(
+    rt: &R,
+    setup: &Setup,
+    client: Option<usize>,
+    query: &HistoryQuery,
+) -> Result<History, Unanswered>
+where
+    R::File: Send,
+    requires { length setup.now.files.items ≡ length setup.now.plan.value.peers }
+{
+    let alloc = rt.alloc();
+    let question = asked(rt, setup, query.prefix, query.span)?;
+    let files = open_files(rt, &setup.files, bounds(query.span), |file| file)?;
+    match read_happenings(rt, alloc, &setup.plan, files, &question) {
+        Ok(happenings) => {
+            let asked = History::of(alloc, &question, client, query.from);
+            Ok(fill_history(alloc, &setup.plan, happenings, asked)?)
+        }
+        Err(fault) => Err(by_reading(alloc, fault, setup)),
+    }
+}

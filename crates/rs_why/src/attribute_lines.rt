@@ -1,0 +1,83 @@
+//! All path attributes of a route as lines of a text (RFC 4271, section 4.3; RFC 1997; RFC 8092).
+
+use rs_glass_shell::{
+    LARGE_COMMUNITY, add_cell, add_words, communities_text, hex_text, large_communities_text,
+    origin_name, path_text,
+};
+use rs_update::{Attributes, Unrecognized};
+use std::alloc::{AllocError, Global};
+use std::net::Ipv4Addr;
+
+// How far the lines are indented.
+const INDENT: usize = 6;
+
+// Adds a line for each path attribute of a route, in ascending order of their types: its name, or its type where it is
+// not recognized, and its value.
+pub(crate) fn add_attributes(
+    text: &mut String,
+    alloc: Global,
+    attributes: &Attributes,
+) -> Result<(), AllocError> {
+    let next_hop = Ipv4Addr::from_bits(attributes.next_hop()).to_string(alloc)?;
+    add_line(text, "ORIGIN", origin_name(attributes.origin()))?;
+    add_line(text, "AS_PATH", &path_text(alloc, attributes)?)?;
+    add_line(text, "NEXT_HOP", &next_hop)?;
+    if let Some(med) = attributes.med() {
+        add_line(text, "MED", &med.to_string(alloc)?)?;
+    }
+    if attributes.atomic() {
+        add_line(text, "ATOMIC_AGGREGATE", "")?;
+    }
+    if let Some(aggregator) = attributes.aggregator() {
+        let (asn, address) = (aggregator.asn, Ipv4Addr::from_bits(aggregator.address));
+        add_line(
+            text,
+            "AGGREGATOR",
+            &format!(in alloc; "AS {asn} {address}")?,
+        )?;
+    }
+    add_list(text, "COMMUNITIES", &communities_text(alloc, attributes)?)?;
+    for other in attributes.others() {
+        add_other(text, alloc, attributes, &other)?;
+    }
+    Ok(())
+}
+
+// Adds the line of an attribute.
+fn add_line(text: &mut String, name: &str, value: &str) -> Result<(), AllocError> {
+    let start = text.len();
+    add_cell(text, "", INDENT)?;
+    text.push_str(name)?;
+    if !value.is_empty() {
+        text.push(' ')?;
+        add_words(text, start, value)?;
+    }
+    text.push('\n')
+}
+
+// Adds the line of a list, where it has an element.
+fn add_list(text: &mut String, name: &str, list: &str) -> Result<(), AllocError> {
+    if list.is_empty() {
+        return Ok(());
+    }
+    add_line(text, name, list)
+}
+
+// Adds the line of an attribute of another type: large communities, or the octets of an unrecognized one.
+fn add_other(
+    text: &mut String,
+    alloc: Global,
+    attributes: &Attributes,
+    other: &Unrecognized<'_>,
+) -> Result<(), AllocError> {
+    if other.kind == LARGE_COMMUNITY {
+        return add_list(
+            text,
+            "LARGE_COMMUNITY",
+            &large_communities_text(alloc, attributes)?,
+        );
+    }
+    let kind = other.kind;
+    let name = format!(in alloc; "attribute {kind}")?;
+    add_line(text, &name, &hex_text(alloc, other.value)?)
+}

@@ -1,0 +1,21 @@
+//! Answers about one prefix: why a client has each peer's route, or not, and what happened on the prefix.
+//! All of it is our choice, but for JSON (RFC 8259).
+//!
+//! Reading order: `answering` (the whole answer), `unread` (why there is none). `why_lines` and `why_object` (why a client
+//! has each peer's route, or not). `history_lines` and `history_object` (what happened). Below them `because` (the
+//! reasons), `starts` (since when recordings run), `clock` (times), `attribute_lines` and `attribute_object`.
+#![tactic(auto)]
+
+mod answering;
+mod attribute_lines;
+mod attribute_object;
+mod because;
+mod clock;
+mod history_lines;
+mod history_object;
+mod starts;
+mod unread;
+mod why_lines;
+mod why_object;
+
+pub use answering::{history, why};
