@@ -1,10 +1,11 @@
-//! Runs the recorded sessions of all peers of an exchange: the changes of their routes go through rings into the
-//! tables, in one thread in any order that a schedule gives, or on a thread for each peer and for each shard of
-//! the tables, as `rs_serve` does.
+//! Runs the recorded sessions of all peers of an exchange. The changes of their routes go through rings into the
+//! tables. A schedule runs in one thread, in any order that it gives. A run on threads has a thread for each peer and
+//! for each shard of the tables, as `rs_serve` does.
 //!
-//! Reading order: `turn` (one step of a schedule), `counts` and `lane` (one peer's session and ring), `opening` (of
-//! all peers), `steps` (their turns), `schedule` (a whole schedule in one thread), `floor` (its end), `laws` (of the
-//! definitions); and `serving` (whole runs by one standard, with one shard, over files at hand).
+//! Reading order, for one peer: `turn` (one step of a schedule), `counts` and `lane` (its session and ring).
+//! Then for all peers: `opening` (their sessions and rings), `steps` (their turns), `schedule` (a whole schedule in
+//! one thread), `floor` (its end). Then `laws` (of the definitions). Last `serving` (whole runs by one standard, with
+//! one shard, over files at hand).
 #![tactic(auto)]
 
 mod counts;

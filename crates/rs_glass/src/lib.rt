@@ -1,15 +1,16 @@
-//! A looking glass: why a client of a route server has each peer's route on a prefix, or not, and what
-//! happened there, from recorded sessions.
+//! A looking glass, which answers from recorded sessions: why a client of a route server has each peer's route on a
+//! prefix, or not, and what happened on the prefix.
 //!
-//! Of the recorded files only what the prefix needs is kept: the changes on it and on the prefixes that cover
-//! it, the losses and the closes.
+//! It keeps only what the prefix needs of the recorded files: the changes on it and on the prefixes that cover it, the
+//! losses and the closes.
 //!
 //! Standards: RFC 4271, section 9.1; RFC 7947, section 2.3.
 //!
-//! Reading order: `question`, `covering` (the prefixes that count), `loss` (how a session was lost), `said`
-//! (what a peer's changes say last of the prefix), `routes_left` (the routes that they leave), `recording` (a
-//! peer's recorded session), `hearing` (what it says) and `reading` (what all say), `answers`; `happened` (what
-//! happened on the prefix, in the order of time) and `history` (and what a client gets after each); `fault`.
+//! Reading order, the question first: `question`, `covering` (the prefixes that count). One peer: `loss` (how its
+//! session was lost), `said` (what its changes say last of the prefix), `routes_left` (the routes that they leave).
+//! The recorded sessions: `recording` (one for each peer), `hearing` (what one says), `reading` (what all say). The
+//! answers: `answers`. The history: `happened` (what happened on the prefix, in the order of time), `history` (what a
+//! client gets after each event). Faults: `fault`.
 #![tactic(auto)]
 
 mod answers;

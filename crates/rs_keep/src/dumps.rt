@@ -1,9 +1,9 @@
 //! The dumps of the clients: some are written beside each other, before each is kept in its turn.
 //!
-//! Our choices: of an exchange with more than 1,024 prefixes, up to 16 dumps are written beside each other, which
-//! bounds their memory by 1.3 MB; fewer where the outlet gives no writer ahead, or memory is refused. What comes
-//! of a run is the same: where a dump isn't kept, those behind it are lost. Memory for a dump is taken before it is
-//! started, so that each dump that is started is kept or lost.
+//! Our choices: of an exchange with more than 1,024 prefixes, up to 16 dumps are written beside each other. This
+//! bounds their memory by 1.3 MB. They are fewer where the outlet gives no writer ahead, or memory is refused. The
+//! result of a run is the same: where a dump isn't kept, those behind it are lost. Memory for a dump is taken before
+//! it is started, so that each dump that is started is kept or lost.
 
 ghost use Rattle.std.specs.Prelude.{◌≡◌, ◌+◌, ◌<◌, ◌≤◌, ◌∷◌, [], IfErr, IfNone, IfOk, IfSome, OnErr, OnOk};
 ghost use Rattle.std.specs.Prelude.{length, vec_capacity};

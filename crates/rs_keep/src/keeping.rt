@@ -18,14 +18,14 @@ use std::alloc::{AllocError, Global};
 use std::thread::Threads;
 use std::vec::IntoIter;
 
-/// Keeps the dump of each client's table in `outlet`, under the client's name with `.mrt`, and adds a line for
-/// each to `report`: how many rows the table has; all in the order of the plan. `time` is the Timestamp of the
-/// dumps' records, in seconds since 1970.
+/// Keeps the dump of each client's table in `outlet`, under the client's name with `.mrt`. Adds a line for each
+/// table to `report`: how many rows it has. Both are in the order of the plan. `time` is the Timestamp of the dumps'
+/// records, in seconds since 1970.
 ///
-/// `Dump` comes where the outlet failed, or the writer of a dump, or where a table has more than 4,294,967,295
-/// rows; the dumps of the clients before that one are kept. `Memory` comes where memory was refused; a beginning
-/// of the dumps is kept. After each of them the report may have some of the lines. Whatever comes, each writer that the
-/// outlet gave is back.
+/// `Dump` comes where the outlet failed, or the writer of a dump. It also comes where a table has more than
+/// 4,294,967,295 rows. The dumps of the clients before that one are kept. `Memory` comes where memory was refused;
+/// a beginning of the dumps is kept. After each of these faults the report may have some of the lines. Whatever comes,
+/// each writer that the outlet gave is back.
 pub fn keep_dumps<T: Threads + Sync, O: Outlet>(
     rt: &T,
     alloc: Global,

@@ -1,9 +1,9 @@
 //! A reader around another one, which gives the octets within bounds: those of the whole records before the first one
 //! that is later than a time, as if the file ended there (RFC 6396, section 2).
 //!
-//! Our choices: within bounds records are given whole, so that one is held until its last octet came; what isn't a
-//! whole record is given only at the end of the file, where the tail is strict; behind the header of the first later
-//! record nothing is read. Memory that is refused is a failed read.
+//! Our choices: within bounds records are given whole, so the reader keeps each one until its last octet came.
+//! What isn't a whole record is given only at the end of the file, where the tail is strict. Behind the header of the
+//! first later record nothing is read. Memory that is refused is a failed read.
 
 ghost use Rattle.std.specs.Prelude.{◌≡◌, ◌+◌, ◌<◌, ◌≤◌, ◌++◌, [], false, IfOk, OnErr, OnOk, length, take, drop, min};
 ghost use Rattle.std.specs.Prelude.{nat_lt, true, None};
@@ -25,8 +25,8 @@ use std::marker::Model;
 // How many octets are read in one call.
 const PIECE_LEN: usize = 8192;
 
-/// A reader that gives the octets of another one within bounds. Where these leave nothing out it only passes calls on;
-/// else it holds what came of one record more than it gave, and takes memory for that.
+/// A reader that gives the octets of another one within bounds. Where the bounds leave nothing out it only passes
+/// calls on. Else it keeps what came of one record more than it gave, and takes memory for that.
 #[derive(Drop)]
 pub struct BoundedReader<R> {
     reader: R,

@@ -20,8 +20,7 @@ pub fn file_splits_in_one_way()
 {}
 
 /// The first 4,121 octets of a record's body say what the whole body says: the same fault, or the same entry
-/// of the same peer, a message being cut to its first 4,097 octets or more. So a reader needs no larger
-/// buffer.
+/// of the same peer. A message is then cut to its first 4,097 octets or more. So a reader needs no larger buffer.
 pub fn front_of_a_record_says_the_same()
     ensures len { FRONT_LEN ≡ front_len }
     ensures same { FrontSaysTheSame }
@@ -38,8 +37,8 @@ pub fn known_octets_are_shown<R: Read>(_reader: &R, _file: &[u8])
         → (records ≡ map front_of (records_of _file.now)) × (fault ≡ source_end (end_of _file.now)) }
 {}
 
-/// What is read of a file within bounds is a file too, a beginning of it: its records are those before the first that
-/// is later, and it ends after whole records, or as the file does where no record is later and the tail is strict.
+/// What is read of a file within bounds is a file too, a beginning of it. Its records are those before the first that
+/// is later. It ends as the file does where no record is later and the tail is strict, else after whole records.
 /// Bounds that are open leave nothing out.
 pub fn what_is_within_bounds()
     ensures beginning { IsBeginning }

@@ -1,7 +1,7 @@
 //! The records of a file that comes in pieces, through any reader (RFC 6396, section 2).
 //!
-//! Our choices: of a body no more than its first 4,121 octets are shown, and only once the whole body came; every error
-//! of a read ends the records and isn't tried again; no more than 2^50 octets are taken.
+//! Our choices: of a body no more than its first 4,121 octets are shown, and only once the whole body came. Every error
+//! of a read ends the records, and the read isn't tried again. No more than 2^50 octets are taken.
 
 ghost use Rattle.std.specs.Prelude.{◌≡◌, ◌+◌, ◌^◌, ◌<◌, ◌≤◌, length};
 ghost use Rattle.rs_mrt.specs.Record.{octets_of};

@@ -1,7 +1,7 @@
-//! Where the dumps of a run go, and why a run stops short: what the program and those who end it need of a run.
+//! Where the dumps of a run go, and why a run fails: what the program and those who end it need of a run.
 //!
 //! Reading order: `outlet` (where dumps go), `memory_outlet` and `named_writer` (one over memory), `run_fault` (why a
-//! run stops short).
+//! run fails).
 #![tactic(auto)]
 
 mod memory_outlet;

@@ -42,9 +42,9 @@ pub trait Outlet {
         ensures err_failures { OnErr result (failures self.new ≡ failures self.old + 1) }
         ensures kept { kept self.new ≡ kept self.old };
 
-    /// Gives a writer for the dump of this name ahead of its turn, so that it can be written beside those before it,
-    /// or none, and then it is started in its turn. Neither counts a failure, and what it has kept stays. An outlet
-    /// that gives none ahead leaves this as it is.
+    /// Gives a writer for the dump of this name ahead of its turn, so that it can be written beside those before it.
+    /// Or it gives none, and the dump is started in its turn. Neither counts a failure, and what it has kept stays. An
+    /// outlet that gives no writer ahead leaves this method as it is.
     fn start_ahead(&mut self, _name: &str) -> Option<Self::Out>
         ensures fresh { IfSome result (λ out. Self.Out.failures out ≡ 0) }
         ensures nothing_taken { IfSome result (λ out. TellsNothingTaken (kept self.old) (Self.Out.taken out)) }

@@ -1,4 +1,4 @@
-//! Why a run stops short.
+//! Why a run fails.
 
 ghost use Rattle.std.specs.Prelude.{◌≡◌};
 ghost use Rattle.rs_outlet.specs.declared.run_fault.RunFault.TheVariants.{Memory};
@@ -6,7 +6,7 @@ ghost use Rattle.rs_outlet.specs.declared.run_fault.RunFault.TheVariants.{Memory
 use std::alloc::AllocError;
 use thiserror::Error;
 
-/// Why a run stops short. Dumps that were kept before stay.
+/// Why a run fails. Dumps that were kept before stay.
 #[derive(Clone, Copy, Debug, PartialEq, Eq, Drop, Error)]
 pub enum RunFault {
     /// Memory was refused.

@@ -1,8 +1,8 @@
 //! A run over recorded files: a dump for each client, and the report.
 //!
-//! Our choices: all sessions are read, at once and each on a thread of its own, before the first dump is
-//! started; all dumps are kept, in the order of the plan, before the first line of the report is written; the
-//! first failure ends the run.
+//! Our choices: all sessions are read before the first dump is started. They are read at once, each on a thread of its
+//! own. All dumps are kept, in the order of the plan, before the first line of the report is written. The first
+//! failure ends the run.
 
 ghost use Rattle.std.specs.Prelude.{◌≡◌, ◌<◌, ◌≤◌, All, IfOk, IfErr, OnOk, length, string_bytes};
 ghost use Rattle.rs_keep.specs.Kept.{dumps_of, IsStop};
@@ -30,21 +30,28 @@ use std::thread::{Threads, spawn};
 // How many octets the report has at most for each peer: the line of its session, and that of its table.
 const LINES_LEN: usize = 256;
 
-/// Reads the recorded sessions of all peers at once, each on a thread of its own, keeps the dump of each
-/// client's table in `outlet` under the client's name with `.mrt`, and writes the report to `report`: a line
-/// for each peer's session, and then one for each client's table, all in the order of the plan.
+/// Reads the recorded sessions of all peers at once, each on a thread of its own. Keeps the dump of each client's
+/// table in `outlet`, under the client's name with `.mrt`. Writes the report to `report`: a line for each peer's
+/// session, and then one for each client's table. Dumps and lines are in the order of the plan.
 ///
-/// `readers` gives the recorded file of each peer, in the order of the peers; of a file that has a record
-/// which closes the session, no more is read than up to a little behind that record. `Read` names the first
-/// peer whose file can't be read to its end or has 2^50 octets or more, unless a record closes the session
-/// before; nothing is kept, and nothing of the report is out. `Unsettled` names the first peer of which not
-/// all changes are known to have been applied; nothing is kept, and nothing of the report is out. `Dump`
-/// comes where the outlet failed, or the writer of a dump, or where a table has more than 4,294,967,295 rows;
-/// the dumps of the clients before that one are kept. `Report` comes where a write of the report failed; all
-/// dumps are kept, and a beginning of the report is out. `Memory` comes where memory was refused; a beginning
-/// of the dumps is kept, and nothing of the report is out. Whatever comes, each writer that the outlet gave is back.
+/// `readers` gives the recorded file of each peer, in the order of the peers. Where a record of a file closes the
+/// session, no more is read than up to a little behind that record.
 ///
-/// Once all dumps are kept a thread frees the tables, which may outlast the call; all others end before it.
+/// `Read` names the first peer whose file can't be read to its end or has 2^50 octets or more. That is no fault where a
+/// record closes the session before. Nothing is kept, and nothing of the report is out.
+///
+/// `Unsettled` names the first peer of which not all changes are known to have been applied. Nothing is kept, and
+/// nothing of the report is out.
+///
+/// `Dump` comes where the outlet failed, or the writer of a dump. It also comes where a table has more than
+/// 4,294,967,295 rows. The dumps of the clients before that one are kept.
+///
+/// `Report` comes where a write of the report failed. All dumps are kept, and a beginning of the report is out.
+///
+/// `Memory` comes where memory was refused. A beginning of the dumps is kept, and nothing of the report is out.
+///
+/// Whatever comes, each writer that the outlet gave is back. Once all dumps are kept, a thread frees the tables. That
+/// thread may outlast the call; all others end before it.
 pub fn run<T: Threads + Wait + Sync, O: Outlet, W: Write, R: Read + Send + Drop>(
     rt: &T,
     alloc: Global,

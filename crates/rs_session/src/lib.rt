@@ -1,9 +1,11 @@
 //! What one recorded session says: the route changes of one peer, in order (RFC 4271; RFC 6396).
 //!
-//! Reading order: `word` (a change), `closing` (which one closes a ring), `peer` (whose), `withdrawn` and
-//! `pending` (the changes of one record), `effect` (what one record says), `session` (one change after
-//! another), `beside` and `passing` (asked for one prefix, which records are passed over), `laws` (what holds
-//! of the definitions that the contracts cite).
+//! Reading order:
+//! - One change: `word` (a change), `closing` (which one closes a ring), `peer` (whose it is).
+//! - One record: `withdrawn` and `pending` (its changes), `effect` (what it says).
+//! - One session: `session` (one change after another), `beside` and `passing` (which records are passed over where
+//!   the session is asked for one prefix).
+//! - What holds of the definitions that the contracts cite: `laws`.
 #![tactic(auto)]
 
 mod beside;

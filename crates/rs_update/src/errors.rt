@@ -5,9 +5,13 @@
 pub enum Errors {
     /// RFC 4271, section 6.3: the first fault closes the session.
     Rfc4271,
-    /// RFC 7606, sections 2, 3 and 7: the session is closed by an unrecognized well-known attribute, a repeated
-    /// MP_REACH_NLRI or MP_UNREACH_NLRI, octets left over that are no attribute, lengths that run past the
-    /// message, and fields that aren't prefixes. At any other fault in the path attributes one of them is left
-    /// out, or the routes are withdrawn.
+    /// RFC 7606, sections 2, 3 and 7: these faults close the session.
+    /// - An unrecognized well-known attribute.
+    /// - A repeated MP_REACH_NLRI or MP_UNREACH_NLRI.
+    /// - Octets left over that are no attribute.
+    /// - Lengths that run past the message.
+    /// - Fields that aren't prefixes.
+    ///
+    /// At any other fault in the path attributes one of them is left out, or the routes are withdrawn.
     Rfc7606,
 }

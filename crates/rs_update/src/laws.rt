@@ -75,8 +75,8 @@ pub fn without_a_fault_both_standards_agree()
     ensures { StandardsAgree }
 {}
 
-/// By RFC 7606 the strongest handling that any attribute of a section asks for is applied, wherever the
-/// attribute stands (RFC 7606, sections 2 and 3). If several ask for equally strong handlings, the first counts.
+/// By RFC 7606 the strongest handling that any attribute of a section asks for is applied (sections 2 and 3). It does
+/// not matter where the attribute stands. If several ask for equally strong handlings, the first counts.
 pub fn the_strongest_that_is_found_counts()
     ensures { StrongestIsFound }
 {}
@@ -86,9 +86,9 @@ pub fn attributes_are_for_announced_routes()
     ensures { AttributesAreForRoutes }
 {}
 
-/// What is written of the attributes that a section gives is a section without fault that gives the same
-/// attributes, Partial bits included, and it is never longer than the section received (RFC 4271, section
-/// 4.3). Written again after reading it is the same octets.
+/// What is written of the attributes that a section gives is a section without fault. It gives the same
+/// attributes, Partial bits included. It is never longer than the section received (RFC 4271, section 4.3).
+/// Written again after reading it is the same octets.
 pub fn what_is_written_reads_as_the_same_attributes()
     ensures { WrittenIsRead }
 {}

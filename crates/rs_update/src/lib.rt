@@ -1,14 +1,19 @@
 //! Messages of BGP-4 as a route server reads them: RFC 4271, with AS numbers of four octets (RFC 6793) and
 //! communities (RFC 1997).
 //!
-//! To read in this order: `prefix` (an address prefix, and the fields that list them), `fault` (what can be
-//! wrong, by code and subcode), `attribute_type`, `flags` and `item` (one path attribute, and what its flags
-//! must say), `number_list`, `as_path` and `values` (values of attributes), `section` (the first fault of a
-//! section of attributes), `found` and `readers` (where they stand, and their values where none is at fault),
-//! `attributes` (what a route keeps of them), `gather` (how that is read), `errors`, `handling` and `treating`
-//! (what RFC 7606 does in place of a fault), `header`, `update` and `message` (a message by its type, and its
-//! first fault), `concerns` (whether a message may concern a prefix), `spelling` (attributes as they are
-//! written), `laws` (what holds of the definitions that the contracts cite).
+//! Reading order:
+//! - Prefixes and faults: `prefix` (an address prefix, and the fields that list them), `fault` (what can be wrong, by
+//!   code and subcode).
+//! - One path attribute: `attribute_type`, `flags` and `item` (the attribute, and what its flags must say). Then
+//!   `number_list`, `as_path` and `values` (values of attributes).
+//! - A section of attributes: `section` (its first fault), `found` and `readers` (where attributes stand, and their
+//!   values where none is at fault).
+//! - The attributes of a route: `attributes` (what a route keeps), `gather` (how that is read).
+//! - What RFC 7606 does in place of a fault: `errors`, `handling` and `treating`.
+//! - Messages: `header`, `update` and `message` (a message by its type, and its first fault), `concerns` (whether a
+//!   message may concern a prefix).
+//! - Attributes as they are written: `spelling`.
+//! - What holds of the definitions that the contracts cite: `laws`.
 #![tactic(auto)]
 
 mod as_path;

@@ -65,10 +65,18 @@ pub fn read_message(alloc: Global, octets: &[u8]) -> Result<Message, MessageFaul
 /// standard `errors`.
 ///
 /// By RFC 7606 an attribute that is repeated, or ATOMIC_AGGREGATE or AGGREGATOR of a wrong length, is left
-/// out; for any other fault of an attribute, and where announced routes lack a mandatory one, the answer is
-/// `Message::Treated`. What still closes the session, in the order of testing: faults of the header; of an
-/// UPDATE its lengths, in its path attributes front to back a well-known one that isn't recognized and a
-/// repeated MP_REACH_NLRI or MP_UNREACH_NLRI, octets left over, the withdrawn routes, the NLRI.
+/// out. For any other fault of an attribute the answer is `Message::Treated`. It is so, too, where announced routes
+/// lack a mandatory attribute.
+///
+/// These faults still close the session, in the order of testing:
+/// - Faults of the header.
+/// - The lengths of an UPDATE.
+/// - In its path attributes, front to back: a well-known one that isn't recognized, and a repeated MP_REACH_NLRI or
+///   MP_UNREACH_NLRI.
+/// - Octets left over behind the path attributes.
+/// - The withdrawn routes.
+/// - The NLRI.
+///
 /// `MessageFault::Memory` comes only where memory was refused, and only for an UPDATE that closes no session
 /// and lists a prefix.
 #[tactic(auto, unfolding(crate::specs::Treating::message_by))]

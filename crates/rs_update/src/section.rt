@@ -1,8 +1,8 @@
 //! The first fault of a section of path attributes (RFC 4271, section 6.3).
 //!
-//! The standard leaves the order of the tests open. Ours: attributes front to back, and for each of them
-//! whether it passes the section's end, whether its type stood earlier (whatever the type), then the class,
-//! the flags, the length and the value.
+//! The standard leaves the order of the tests open. We test attributes front to back. For each one we test whether it
+//! passes the section's end, and then whether its type stood earlier, whatever the type. Then come the class, the
+//! flags, the length and the value.
 
 ghost use Rattle.std.specs.Prelude.{◌≡◌, Some, None, if◌then◌else◌, slice_index_or, false, replicate};
 ghost use Rattle.rs_update.specs.declared.fault.UpdateFault.TheVariants.{MalformedAttributeList};

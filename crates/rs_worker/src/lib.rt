@@ -1,7 +1,7 @@
 //! Workers: each reads the recorded session of one peer and sends its changes through a ring, on a thread of its own.
 //!
-//! Reading order: `gate` (what a run shows as it passes), `waiting` (how a thread waits for another one),
-//! `sending` (one change after another), `work` (a whole session), `crew` (the workers of all peers).
+//! Reading order: `gate` (what a run shows as it passes), `waiting` (how a thread waits for another one). Then one
+//! worker: `sending` (one change after another), `work` (a whole session). Last `crew` (the workers of all peers).
 #![tactic(auto)]
 
 mod crew;

@@ -1,4 +1,4 @@
-//! Runs that are watched and held at their gates.
+//! Runs whose threads a test watches, or makes wait, at their gates.
 
 use super::exchanges::{run, two_peers};
 use rs_floor::Gate;

@@ -50,7 +50,7 @@ fn the_shard_of_a_prefix_is_the_first_octet_of_its_address_modulo_their_number(r
 const SAID: [&str; 2] = ["+198 +203 +1 -198 down +0 -1 end", "+203 down fault"];
 
 // What each of three shards gets of each of them: 198 and 0 are in shard 0, 1 in shard 1, 203 in shard 2.
-const CUTS: &[&str] = &[
+const PARTS: &[&str] = &[
     "0 +198.0.0.0/8; 3 -198.0.0.0/8; 4 down; 5 +0.0.0.0/8; 7 EndOfFile;",
     "1 down; 2 Bgp { code: 3, subcode: 6 };",
     "2 +1.0.0.0/8; 4 down; 6 -1.0.0.0/8; 7 EndOfFile;",
@@ -67,7 +67,7 @@ struct Outside {
     shards: [Receiver<Routed>; 3],
     sent: [usize; 2],
     // Of each shard and peer, the shard's number times two and that of the peer being the place.
-    cuts: Vec<String>,
+    parts: Vec<String>,
     // How many last items came.
     ended: usize,
 }
@@ -78,15 +78,15 @@ impl Outside {
         peers: [Sender<Word>; 2],
         shards: [Receiver<Routed>; 3],
     ) -> Option<Outside> {
-        let mut cuts = Vec::new(alloc);
+        let mut parts = Vec::new(alloc);
         for _ in 0..6 {
-            cuts.push(String::new(alloc)).ok()?;
+            parts.push(String::new(alloc)).ok()?;
         }
         Some(Outside {
             peers,
             shards,
             sent: [0, 0],
-            cuts,
+            parts,
             ended: 0,
         })
     }
@@ -110,7 +110,7 @@ impl Outside {
         match item {
             Routed::Word { peer, word } => {
                 let place = shard.wrapping_mul(2).wrapping_add(*peer);
-                add_change(self.cuts.get_mut(place)?, word).ok()
+                add_change(self.parts.get_mut(place)?, word).ok()
             }
             Routed::Last => {
                 self.ended = self.ended.saturating_add(1);
@@ -202,16 +202,16 @@ fn through<R: Threads + Wait + Sync>(rt: &R, alloc: Global, capacity: usize) -> 
     outside
 }
 
-// Each shard gets its cut of what each peer says through rings of this capacity.
+// Each shard gets its part of what each peer says through rings of this capacity.
 fn check_through<R: Threads + Wait + Sync + Abort>(rt: &R, alloc: Global, capacity: usize) {
     let outside = through(rt, alloc, capacity).expect(rt, "memory");
-    for (place, (cut, wanted)) in outside.cuts.iter().zip(CUTS).enumerate() {
-        assert_eq!(rt; cut.trim(), *wanted, "cut {place}, through {capacity}");
+    for (place, (part, wanted)) in outside.parts.iter().zip(PARTS).enumerate() {
+        assert_eq!(rt; part.trim(), *wanted, "part {place}, through {capacity}");
     }
 }
 
 #[test]
-fn each_shard_gets_the_cut_of_what_each_peer_says(rt: HostRuntime) {
+fn each_shard_gets_the_part_of_what_each_peer_says(rt: HostRuntime) {
     for capacity in [1, 2, 64] {
         check_through(&rt, rt.alloc(), capacity);
     }

@@ -1,8 +1,12 @@
-//! Whole runs and schedules, row by row. A row has its name, and then its peers: of each the AS number and the
-//! identifier, and behind a colon what is recorded of it; `!78` says that a read fails after 78 octets. Each line
-//! `by ..` says what is done, and the lines after it what comes of it: `threads`, runs on threads, each through rings
-//! of so many changes and with so many shards; `losses`, the same where sessions are lost; `schedule`, through rings of
-//! so many changes, in these turns: `s0` sends the next change of peer 0, `r0` receives one.
+//! Whole runs and schedules, row by row.
+//!
+//! A row has its name, and then its peers. Each peer has its AS number and its identifier, and behind a colon its
+//! recorded session. `!78` says that a read fails after 78 octets.
+//!
+//! Each line `by ..` names what is done, and the lines after it have the results. `threads` does runs on threads: each
+//! through rings of so many changes, and with so many shards. `losses` does the same where sessions are lost.
+//! `schedule` does a schedule through rings of so many changes, in these turns. The turn `s0` sends the next change of
+//! peer 0, and the turn `r0` receives one.
 
 use super::changes::add_prefix;
 use super::exchanges::{Peer, run, schedule};
