@@ -12,6 +12,9 @@ ROUNDS = 7
 GOAL = 1.5
 MEMORY_GOAL = 1.2
 LISTS = ("missing", "summary")
+# The goal of `summary` in seconds, and of how many peers of how many routes.
+SUMMARY_GOAL = 1
+SUMMARY_SIZE = ("200", "2000")
 
 
 def run(command, folder):
@@ -28,18 +31,19 @@ def run(command, folder):
         return usage.ru_utime + usage.ru_stime, wall, int(file.read())
 
 
-def ratios(name, least):
-    """The ratios of a command, with its goal."""
-    _, wall, memory = least[name]
+def ratios(name, least, size):
+    """The ratios of a command over an exchange of this size, with its goal."""
+    cpu, wall, memory = least[name]
     if name in ("why", "history"):
         records, sessions = (wall / least[other][1] for other in ("records alone", "sessions alone"))
         goal = f" (goal: at most {GOAL} of records alone)" if name == "why" else ""
         return f"; wall of records alone {records:.1f}, of sessions alone {sessions:.2f}{goal}"
     if name in LISTS:
-        _, server_wall, server_memory = least["route_server"]
+        server_cpu, server_wall, server_memory = least["route_server"]
+        seconds = f"; goal of the wall time itself: under {SUMMARY_GOAL} s" if name == "summary" and size == SUMMARY_SIZE else ""
         return (
-            f"; wall of route_server {wall / server_wall:.2f} (goal: at most {GOAL}), memory of it {memory / server_memory:.2f}"
-            f" (goal: at most {MEMORY_GOAL})"
+            f"; wall of route_server {wall / server_wall:.2f} (goal: at most {GOAL}), CPU of it {cpu / server_cpu:.2f},"
+            f" memory of it {memory / server_memory:.2f} (goal: at most {MEMORY_GOAL}){seconds}"
         )
     return ""
 
@@ -69,7 +73,7 @@ def main():
     octets = sum(os.path.getsize(os.path.join(folder, file)) for file in files)
     print(f"{peers} peers of {routes} routes, {octets} octets:")
     for name, (cpu, wall, memory) in least.items():
-        print(f"  {name:<15} CPU {cpu:.3f} s, wall {wall:.3f} s, at most {memory / 1024:.1f} MB{ratios(name, least)}")
+        print(f"  {name:<15} CPU {cpu:.3f} s, wall {wall:.3f} s, at most {memory / 1024:.1f} MB{ratios(name, least, (peers, routes))}")
 
 
 main()
