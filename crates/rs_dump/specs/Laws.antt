@@ -2,7 +2,7 @@
 use Rattle.std.specs.Prelude.{ℕ, ◌^◌, ◌<◌, ◌≤◌, List, [], length}
 use Rattle.std.specs.List.{AllByRecursion}
 use Rattle.rs_update.specs.IpPrefix.{IpPrefix, IsPrefix}
-use Rattle.rs_update.specs.Prefix.{Spells}
+use Rattle.rs_update.specs.Prefix.{spelled_prefix, Spells}
 use Rattle.rs_update.specs.Spelling.{written}
 use Rattle.rs_choice.specs.declared.plan.TheConstants.{MAX_PEERS, MAX_NAME_LEN}
 use Rattle.rs_choice.specs.Plan.{Plan}
@@ -10,7 +10,6 @@ use Rattle.rs_mrt.specs.Record.{Splits}
 use Rattle.rs_table.specs.Table.{TableRow}
 use Rattle.rs_dump.specs.Dump.{dump_records, dumped}
 use Rattle.rs_dump.specs.PeerIndex.{view_name}
-use Rattle.rs_dump.specs.Rib.{spelled_prefix}
 
 -- a prefix stands in a dump as it would in an UPDATE (RFC 6396, section 4.3.2; RFC 4271, section 4.3)
 abbrev pub PrefixIsSpelled : Type 0

@@ -1,18 +1,13 @@
 -- A RIB_IPV4_UNICAST record: the route of one prefix (RFC 6396, sections 4.3.2 and 4.3.4).
-use Rattle.std.specs.Prelude.{ℕ, List, ◌∷◌, ◌++◌, length, take}
+use Rattle.std.specs.Prelude.{ℕ, List, ◌++◌, length}
 use Rattle.rs_mrt.specs.Endian.{big_bytes}
-use Rattle.rs_update.specs.IpPrefix.{IpPrefix}
-use Rattle.rs_update.specs.Prefix.{octets_for}
+use Rattle.rs_update.specs.Prefix.{spelled_prefix}
 use Rattle.rs_update.specs.Spelling.{written}
 use Rattle.rs_table.specs.Table.{TableRow}
 
 -- the Subtype
 abbrev pub RIB_IPV4_UNICAST : ℕ
 RIB_IPV4_UNICAST = 2
-
--- the Prefix Length, and the least number of octets of the address that holds so many bits
-abbrev pub spelled_prefix : IpPrefix → List ℕ
-spelled_prefix prefix = prefix.len ∷ take (octets_for prefix.len) (big_bytes 4 prefix.address)
 
 -- a RIB entry: Peer Index, Originated Time, Attribute Length, path attributes with AS numbers of four octets
 abbrev pub rib_entry : TableRow → List ℕ

@@ -6,11 +6,11 @@
 ghost use Rattle.std.specs.Prelude.{◌≡◌, ◌+◌, ◌<◌, ◌≤◌, length};
 ghost use Rattle.rs_mrt.specs.Record.{record_spelling};
 ghost use Rattle.rs_table.specs.RouteView.{row_of};
-ghost use Rattle.rs_update.specs.Prefix.{octets_for};
+ghost use Rattle.rs_update.specs.Prefix.{octets_for, spelled_prefix};
 ghost use Rattle.rs_update.specs.Spelling.{written};
 ghost use Rattle.rs_dump.specs.Buffer.{HasRoom, Gains};
 ghost use Rattle.rs_dump.specs.Dump.{row_record};
-ghost use Rattle.rs_dump.specs.Rib.{spelled_prefix, rib_entry};
+ghost use Rattle.rs_dump.specs.Rib.{rib_entry};
 
 use crate::buffer::{put, put_header, put_u16, put_u32};
 use rs_table::Row;

@@ -5,12 +5,12 @@ use Rattle.rs_update.specs.Gathered.{attributes_of}
 use Rattle.rs_update.specs.IpPrefix.{IpPrefix}
 use Rattle.rs_update.specs.Message.{MessageContent, message_of, update_message}
 use Rattle.rs_update.specs.PathAttributes.{PathAttributes}
-use Rattle.rs_update.specs.Prefix.{prefixes_of}
+use Rattle.rs_update.specs.Prefix.{spelled_prefix, prefixes_of}
 use Rattle.rs_update.specs.Section.{items_of, section_fault}
 use Rattle.rs_update.specs.declared.fault.MessageFault.{MessageFault}
 use Rattle.rs_update.specs.declared.fault.UpdateFault.{UpdateFault}
 use Rattle.rs_start.specs.Joins.{attributes_told}
-use Rattle.rs_start.specs.Opening.{IsRoutePrefix, attributes_by, fixed_len, nlri_spelling, sound_attributes, spelled_prefix, update_spelling}
+use Rattle.rs_start.specs.Opening.{IsRoutePrefix, attributes_by, fixed_len, nlri_spelling, sound_attributes, update_spelling}
 use Rattle.rs_start.proofs.PrefixLemmas.{nlri_read, nlri_some}
 use Rattle.rs_start.proofs.UpdateLemmas.{announces_by, message_is}
 

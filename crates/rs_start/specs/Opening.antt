@@ -1,6 +1,6 @@
 -- The beginning of a peer's session that a table gives: the session comes up, and UPDATEs announce the routes that the
 -- peer has in the table (RFC 6396, sections 4.4.3 and 4.4.4; RFC 4271, section 4.3).
-use Rattle.std.specs.Prelude.{◌≡◌, ℕ, ◌+◌, ◌^◌, ◌<◌, ◌≤◌, Bool, false, List, [], ◌∷◌, ◌++◌, length, take, map}
+use Rattle.std.specs.Prelude.{◌≡◌, ℕ, ◌+◌, ◌^◌, ◌<◌, ◌≤◌, Bool, false, List, [], ◌∷◌, ◌++◌, length, map}
 use Rattle.std.specs.Prelude.{Option, Some, None, replicate, nat_lt, if◌then◌else◌}
 use Rattle.std.specs.List.{flat_map, AllByRecursion}
 use Rattle.byteorder.specs.Endian.{big_bytes}
@@ -11,7 +11,7 @@ use Rattle.rs_session.specs.UpdateChanges.{announces}
 use Rattle.rs_update.specs.Gathered.{attributes_of}
 use Rattle.rs_update.specs.IpPrefix.{IpPrefix, IsPrefix}
 use Rattle.rs_update.specs.PathAttributes.{PathAttributes}
-use Rattle.rs_update.specs.Prefix.{octets_for, is_multicast}
+use Rattle.rs_update.specs.Prefix.{spelled_prefix, is_multicast}
 use Rattle.rs_update.specs.Section.{items_of, section_fault}
 use Rattle.rs_update.specs.declared.fault.UpdateFault.{UpdateFault}
 use Rattle.rs_start.specs.declared.added.Added.{Added}
@@ -44,10 +44,6 @@ abbrev pub announced : ℕ → TableRoute → Change
 announced time route = announces time route.attributes route.prefix
 
 -- ---- octets of an UPDATE (RFC 4271, sections 4.1 and 4.3)
-
--- a prefix: its length in bits, and the least number of octets that holds them
-abbrev pub spelled_prefix : IpPrefix → List ℕ
-spelled_prefix prefix = prefix.len ∷ take (octets_for prefix.len) (big_bytes 4 prefix.address)
 
 -- NLRI
 abbrev pub nlri_spelling : List IpPrefix → List ℕ

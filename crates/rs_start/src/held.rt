@@ -3,10 +3,11 @@
 ghost use Rattle.std.specs.Prelude.{◌≡◌, ◌+◌, ◌^◌, ◌<◌, ◌≤◌, [], ◌++◌, length, IfOk, IsTrue, OnOk, OnErr};
 ghost use Rattle.std.specs.List.{AllByRecursion};
 ghost use Rattle.rs_start.specs.Opening.{IsRoutePrefix, IsSound, fixed_len, sound_attributes};
-ghost use Rattle.rs_start.specs.Opening.{spelled_prefix, update_spelling, updates_spelling};
+ghost use Rattle.rs_start.specs.Opening.{update_spelling, updates_spelling};
 ghost use Rattle.rs_start.specs.Joins.{Joins, Begins, attributes_told};
 ghost use Rattle.rs_update.specs.Message.{content_of};
 ghost use Rattle.rs_update.specs.IpPrefix.{IsPrefix};
+ghost use Rattle.rs_update.specs.Prefix.{spelled_prefix};
 
 use crate::added::Reason;
 use crate::spelling::{FIXED_LEN, MESSAGE_LEN, spell_record, spell_update, spelled_len};

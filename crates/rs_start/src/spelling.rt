@@ -3,7 +3,8 @@
 
 ghost use Rattle.std.specs.Prelude.{◌≡◌, ◌+◌, ◌<◌, ◌≤◌, ◌++◌, length, OnOk, IfOk};
 ghost use Rattle.rs_mrt.specs.Record.{record_spelling};
-ghost use Rattle.rs_start.specs.Opening.{fixed_len, update_head, message_record, nlri_spelling, parties, record_head, spelled_prefix};
+ghost use Rattle.rs_start.specs.Opening.{fixed_len, update_head, message_record, nlri_spelling, parties, record_head};
+ghost use Rattle.rs_update.specs.Prefix.{spelled_prefix};
 ghost use Rattle.rs_start.specs.Opening.{up_record, update_spelling};
 
 use crate::start::Start;

@@ -3,3 +3,4 @@ pub mod LeftLemmas
 pub mod MergeLemmas
 pub mod PrefixLemmas
 pub mod RibLemmas
+pub mod ValueLemmas

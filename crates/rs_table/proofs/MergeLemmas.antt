@@ -22,9 +22,10 @@ use Rattle.rs_table.specs.Listing.{is_held}
 use Rattle.rs_table.specs.Merge.{AreParts, IsJoined, IsMerged, IsOfPart}
 use Rattle.rs_choice.specs.Decision.{SentRoute}
 use Rattle.rs_table.specs.TablesView.{ribs_from}
-use Rattle.rs_table.proofs.cells.CellsLemmas.{Each, absent, cell-IsCell, each-at, get-routes_from, rib-at, rib-past}
+use Rattle.rs_table.proofs.cells.CellsLemmas.{Each, cell-IsCell, each-at, get-routes_from, rib-at, rib-past}
 use Rattle.rs_table.proofs.cells.CloseLemmas.{Below, none_below}
 use Rattle.rs_table.proofs.PrefixLemmas.{same_prefix-true, same_prefix-itself}
+use Rattle.rs_table.proofs.ValueLemmas.{absent}
 use Rattle.rs_table.proofs.tables.TablesLemmas.{tables, rib-closed}
 
 -- ---- which prefixes are held

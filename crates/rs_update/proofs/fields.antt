@@ -5,3 +5,4 @@ pub mod SpelledParts
 pub mod ProgressLemmas
 pub mod OctetLemmas
 pub mod PrefixLemmas
+pub mod WrittenPrefix

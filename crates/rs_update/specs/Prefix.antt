@@ -1,7 +1,7 @@
 -- Address prefixes and the fields that list them (RFC 4271, section 4.3).
 use Rattle.std.specs.Prelude.{◌≡◌, ℕ, ◌+◌, ◌-◌, ◌*◌, ◌/◌, ◌^◌, Bool, ◌&&◌, nat_le, nat_lt, ◌==◌, List, [], ◌∷◌, length}
 use Rattle.std.specs.Prelude.{take, drop, Option, Some, None, if◌then◌else◌}
-use Rattle.byteorder.specs.Endian.{big_number}
+use Rattle.byteorder.specs.Endian.{big_bytes, big_number}
 use Rattle.rs_update.specs.IpPrefix.{IpPrefix, IsPrefix}
 use Rattle.rs_update.specs.Parts.{IsSpelledBy, parts_of}
 
@@ -12,6 +12,10 @@ network_of address len = record { address = address / 2 ^ (32 - len) * 2 ^ (32 -
 -- the least number of octets that holds so many bits
 abbrev pub octets_for : ℕ → ℕ
 octets_for bits = (bits + 7) / 8
+
+-- a prefix as it is written: its length in bits, and the least number of octets of its address that holds so many bits
+abbrev pub spelled_prefix : IpPrefix → List ℕ
+spelled_prefix prefix = prefix.len ∷ take (octets_for prefix.len) (big_bytes 4 prefix.address)
 
 -- octets that spell a prefix: its length in bits, then the least number of octets that holds them, whose
 -- first bits are the address's; bits behind those have no meaning

@@ -7,6 +7,7 @@ use Rattle.std.proofs.lemmas.Bool.Decides.{eqb_tells, nat_tests}
 use Rattle.rs_table.specs.Left.{RouteLeft}
 use Rattle.rs_choice.specs.Decision.{SentRoute}
 use Rattle.rs_table.specs.ByPeer.{IsRow, route_at, with_route, without_route}
+use Rattle.rs_table.proofs.ValueLemmas.{either_way}
 
 below : (a b : ℕ) → nat_lt a b ≡ true → a < b
 below a b e = grind (arith, nat_tests)
@@ -96,10 +97,6 @@ route_at-with (first ∷ later) route peer =
         | inr apart ↦ rw apart.0 refl
       ])
     ]
-
-either_way : {X : Type 0} (b : Bool) (x : X) → x ≡ cond b x x
-either_way true x = refl
-either_way false x = refl
 
 pub route_at-without : (routes : List SentRoute) (gone peer : ℕ)
     → route_at (without_route routes gone) peer ≡ cond (gone == peer) None (route_at routes peer)

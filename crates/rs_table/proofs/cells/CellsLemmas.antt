@@ -26,13 +26,10 @@ use Rattle.rs_table.specs.Cell.{CellContent, IsCell, IsKeptCell}
 use Rattle.rs_table.specs.Cells.{Entries, AreCells, AreKeptCells, cell_at, routes_at, routes_of, routes_from}
 use Rattle.rs_table.specs.TablesView.{ribs_by, ribs_from}
 use Rattle.rs_table.proofs.PrefixLemmas.{prefix_total, same_prefix-true, find-entries}
+use Rattle.rs_table.proofs.ValueLemmas.{absent}
 use Rattle.rs_table.proofs.cell.RowLemmas.{route_at-before}
 
 -- ---- the cells of a plan stay so
-
-pub absent : {X : Type 0} (o : Option X) → is_some o ≡ false → o ≡ None
-absent None e = refl
-absent (Some x) e = absurd (cc e)
 
 remove-set : (test : IpPrefix → Bool) (entries : Entries) (w : CellContent)
     → remove_entry test (set_value test entries w) ≡ remove_entry test entries

@@ -20,6 +20,7 @@ use Rattle.rs_table.specs.Content.{RibContent, TablesContent}
 use Rattle.rs_table.specs.Listing.{is_held}
 use Rattle.rs_table.specs.Table.{sent_by, TableRow, IsTable, entry_of_row, best_of, prefixes_held, table_of}
 use Rattle.rs_table.proofs.PrefixLemmas.{prefix_total, prefix_cmp-IsAntisymmetric, find-entries}
+use Rattle.rs_table.proofs.ValueLemmas.{absent}
 
 -- ---- ascending lists, by the test and by the fact
 
@@ -84,10 +85,6 @@ none_held q [] e = refl
 none_held q (rib ∷ ribs) e =
     let parts = find-append q (fin.entries rib.routes) (flat_map (λ rib. fin.entries rib.routes) ribs) e in
     or_from _ _ (ap is_some (fin.get-entries rib.routes q ∙ parts.0)) (none_held q ribs parts.1)
-
-absent : {X : Type 0} (o : Option X) → is_some o ≡ false → o ≡ None
-absent None e = refl
-absent (Some x) e = absurd (cc e)
 
 no_routes : (q : IpPrefix) (n : ℕ) (ribs : List RibContent) → is_held ribs q ≡ false →
     filter_map (λ (peer, rib). option_map (sent_by peer) (fin.get rib.routes q)) (enumerate_from n ribs) ≡ []

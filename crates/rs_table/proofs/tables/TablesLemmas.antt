@@ -26,6 +26,7 @@ use Rattle.rs_table.specs.Cells.{ChangeTo}
 use Rattle.rs_table.specs.TablesView.{ribs_from}
 use Rattle.rs_table.proofs.PrefixLemmas.{prefix_total, prefix_cmp-IsAntisymmetric}
 use Rattle.rs_table.proofs.LeftLemmas.{get-after}
+use Rattle.rs_table.proofs.ValueLemmas.{either_way}
 use Rattle.rs_table.proofs.cell.RowLemmas.{route_at-with, route_at-without}
 use Rattle.rs_table.proofs.cells.CellsLemmas.{get-routes_from, rib-at, rib-past, routes_on-cells, cell-IsCell}
 use Rattle.rs_table.proofs.tables.StoredLemmas.{stored}
@@ -80,10 +81,6 @@ module _ (plan : Plan) (entries : Entries) (closed : List Bool) where
           ∙ ap (λ cell. chosen_for plan client (routes_of cell)) (sym found) ∙ sym (best-of client prefix)
 
 -- ---- a change
-
-either_way : {X : Type 0} (b : Bool) (x : X) → x ≡ cond b x x
-either_way true x = refl
-either_way false x = refl
 
 -- what a peer's change makes of the routes on a prefix, peer by peer
 abbrev changed_at : Change → IpPrefix → Option RouteLeft → Option RouteLeft

@@ -8,7 +8,7 @@ use Rattle.rs_update.specs.PrefixOrder.{prefix_cmp}
 use Rattle.rs_table.specs.Cells.{Entries}
 use Rattle.rs_table.specs.ClientRowsView.{stored_rows}
 use Rattle.rs_table.specs.Table.{TableRow, IsTable, best_of}
-use Rattle.rs_table.proofs.cells.CellsLemmas.{absent}
+use Rattle.rs_table.proofs.ValueLemmas.{absent}
 use Rattle.rs_table.proofs.listing.KnownLemmas.{rows-known}
 use Rattle.rs_table.proofs.listing.ListingLemmas.{stored_rows-listed}
 use Rattle.rs_table.proofs.listing.TableLemmas.{row_on, rows-IsTable}
