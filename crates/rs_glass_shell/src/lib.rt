@@ -2,9 +2,9 @@
 //! answer, and how peers, reasons and path attributes are written.
 //! All of it is our choice, but for JSON (RFC 8259) and TOML 1.0.
 //!
-//! Reading order: `setup` (the peer that a word names). `serving` (how tables are built). `reply` (an answer). `unanswered` and `lines` (why there is
-//! none). `columns`, `names`, `reasons` and `route_text` (texts). `reason_object` and `route_object` (JSON).
-//! `toml_text` (TOML).
+//! Reading order: `setup` (the peer that a word names). `serving` (how tables are built). `reply` (an answer).
+//! `unanswered` and `lines` (why there is none). `writing` (a file that is written whole). `columns`, `names`, `reasons`
+//! and `route_text` (texts). `reason_object` and `route_object` (JSON). `toml_text` (TOML).
 #![tactic(auto)]
 
 mod columns;
@@ -19,6 +19,7 @@ mod serving;
 mod setup;
 mod toml_text;
 mod unanswered;
+mod writing;
 
 pub use columns::{add_cell, add_sentence, add_words, fill_cell};
 pub use lines::{PROGRAM, line};
@@ -35,3 +36,4 @@ pub use serving::served;
 pub use setup::{peer_named, peer_of_name};
 pub use toml_text::{PeerNames, quoted};
 pub use unanswered::Unanswered;
+pub use writing::write_whole;

@@ -5,7 +5,7 @@
 //! Reading order, what is shown first: `spans` (when a session was up), `changes` (how many changes came when), `times`
 //! (what recordings show of both), `members` (the numbers of each peer), `shown` (all of it). Then the parts of the
 //! page: `elements` (what they have in common), `bars`, `axis`, `style`; `head`, `matrix`, `cards`, `lanes`, `causes`,
-//! `histogram`. Last `writing` (a file that is written whole) and `answering` (the whole answer).
+//! `histogram`. Last `answering` (the whole answer).
 #![tactic(auto)]
 
 mod answering;
@@ -24,6 +24,5 @@ mod shown;
 mod spans;
 mod style;
 mod times;
-mod writing;
 
 pub use answering::page;

@@ -8,11 +8,12 @@
 ghost use Rattle.std.specs.Prelude.{◌≡◌, None};
 
 use crate::paths::path_in;
+use rs_host::{part_path, takes_part_file};
 use rs_mrt::IoWriter;
 use rs_outlet::{Outlet, Unopened};
-use std::alloc::{AllocError, Global};
+use std::alloc::Global;
 use std::fs::{File, Files};
-use std::io::{ErrorKind, Write};
+use std::io::Write;
 use std::marker::Model;
 use std::{fs, io};
 
@@ -115,24 +116,6 @@ where
     fn lost(&mut self, out: IoWriter<FileAt<R::File>>) {
         remove_part(self.rt, out.into_inner());
         self.failures = self.failures.saturating_add(1);
-    }
-}
-
-/// Whether a dump whose place is this path is written to a part file: nothing is known to be there, or a file is.
-/// Fails where memory is refused.
-pub(crate) fn takes_part_file<R: Files>(rt: &R, place: &str) -> Result<bool, AllocError> {
-    match fs::symlink_metadata(rt, place) {
-        Ok(found) => Ok(found.is_file()),
-        Err(error) if error.kind() == ErrorKind::OutOfMemory => Err(AllocError),
-        Err(_) => Ok(true),
-    }
-}
-
-/// The path of the part file of the dump whose place is this path. Fails where memory is refused.
-pub(crate) fn part_path(alloc: Global, place: &str) -> Result<String, AllocError> {
-    match place.rsplit_once('/') {
-        Some((folder, name)) => format!(in alloc; "{folder}/.{name}.part"),
-        None => format!(in alloc; ".{place}.part"),
     }
 }
 

@@ -4,9 +4,8 @@ ghost use Rattle.std.specs.Prelude.{◌<◌, None, IfErr, IfOk, IfSome, length};
 ghost use Rattle.rs_program.specs.Texts.{CanTell};
 
 use crate::ended::Ended;
-use crate::folder_outlet::part_path;
 use crate::texts::dump_path;
-use rs_host::{FileIdentity, Options, found_at};
+use rs_host::{FileIdentity, Options, found_at, part_path};
 use rs_setup::Setup;
 use std::alloc::AllocError;
 use std::fs::Files;

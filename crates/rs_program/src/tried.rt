@@ -8,11 +8,10 @@ ghost use Rattle.std.specs.Prelude.{◌<◌, None, IfErr, IfOk, IfSome, length};
 ghost use Rattle.rs_program.specs.Texts.{CanTell};
 
 use crate::ended::Ended;
-use crate::folder_outlet::takes_part_file;
 use crate::overwritten::first_overwritten;
 use crate::paths::path_in;
 use crate::texts::dump_path;
-use rs_host::Options;
+use rs_host::{Options, takes_part_file};
 use rs_setup::Setup;
 use std::alloc::AllocError;
 use std::fs;

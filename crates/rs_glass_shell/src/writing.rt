@@ -4,14 +4,15 @@
 //! takes its place. So an older file stays where that fails. What else stands there, such as a device, is opened
 //! itself.
 
-use rs_glass_shell::Unanswered;
-use std::alloc::{AllocError, Global};
+use crate::unanswered::Unanswered;
+use rs_host::{part_path, takes_part_file};
 use std::fs;
 use std::fs::{File, Files};
-use std::io::{ErrorKind, Write};
+use std::io::Write;
 
-/// Writes a text to the file at a path.
-pub(crate) fn write_whole<R: AllocGlobal + Files>(
+/// Writes a text to the file at a path. Fails with `Unwritten` where that fails, and then an older file stays; or where
+/// memory is refused.
+pub fn write_whole<R: AllocGlobal + Files>(
     rt: &R,
     path: &str,
     text: &str,
@@ -30,23 +31,6 @@ pub(crate) fn write_whole<R: AllocGlobal + Files>(
         Ok(())
     } else {
         Err(Unanswered::Unwritten(String::from_str(alloc, path)?))
-    }
-}
-
-// Whether nothing is known to be at the path, or a file is.
-fn takes_part_file<R: Files>(rt: &R, path: &str) -> Result<bool, AllocError> {
-    match fs::symlink_metadata(rt, path) {
-        Ok(found) => Ok(found.is_file()),
-        Err(error) if error.kind() == ErrorKind::OutOfMemory => Err(AllocError),
-        Err(_) => Ok(true),
-    }
-}
-
-// The path of the part file.
-fn part_path(alloc: Global, path: &str) -> Result<String, AllocError> {
-    match path.rsplit_once('/') {
-        Some((folder, name)) => format!(in alloc; "{folder}/.{name}.part"),
-        None => format!(in alloc; ".{path}.part"),
     }
 }
 
