@@ -16,13 +16,13 @@ use Rattle.rs_update.specs.declared.errors.Errors.{Errors}
 use Rattle.rs_run.specs.Recorded.{OverFiles, tables_of_files}
 use Rattle.rs_run.specs.RunAnswer.{RunAnswer}
 use Rattle.rs_run.specs.SessionEnd.{end_in, ends_of_files}
-use Rattle.rs_run.proofs.ZipLemmas.{length-zip_same}
+use Rattle.rs_serve.proofs.ListLemmas.{zip-counted}
 
 -- one end of a session for each peer
 pub length-ends : (errors : Errors) (plan : Plan) (files : List (List ℕ)) → length files ≡ length plan.peers
     → length (ends_of_files errors plan files) ≡ length plan.peers
 length-ends errors plan files same =
-    length-map (zip plan.peers files) (λ (peer, file). end_in errors (id_of peer) file) ∙ length-zip_same plan.peers files same
+    length-map (zip plan.peers files) (λ (peer, file). end_in errors (id_of peer) file) ∙ zip-counted plan.peers files same
 
 -- where keeping stops, the dumps before it are kept, of files that the readers may give, and nothing is reported
 module _ {R O W : Type 0} (gives : R → List ℕ → ReadEnd → Type 0)

@@ -1,4 +1,4 @@
--- Lists that agree at each place, and zipped lists: for the lemmas of runs, and for those of schedules in rs_floor.
+-- Lists that agree at each place, and zipped lists: for the lemmas of runs, of reports, and of schedules in rs_floor.
 use Rattle.std.proofs.Common.{◌≡◌, sym, ℕ, suc, zero, arith, List, [], ◌∷◌, length, Some}
 use Rattle.std.specs.Prelude.{slice_get}
 use Rattle.std.specs.List.{zip}

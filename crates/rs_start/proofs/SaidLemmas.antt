@@ -30,7 +30,7 @@ use Rattle.rs_start.specs.Laws.{OpeningAnnounces}
 use Rattle.rs_start.specs.Opening.{Announcing, IsRoutePrefix, IsSound, IsStart, TableRoute, announced, announcing_record, announcing_spelling}
 use Rattle.rs_start.specs.Opening.{message_record, nlri_spelling, opening_spelling, parties, routes_in, routes_of, up_record, updates_spelling}
 use Rattle.rs_start.proofs.PrefixLemmas.{nlri_read, nlri_some}
-use Rattle.rs_start.proofs.RecordLemmas.{records_front, rest_front}
+use Rattle.rs_mrt.proofs.record.SplitLemmas.{records_of-spelled, rest_of-spelled}
 use Rattle.rs_start.proofs.UpdateLemmas.{length-update, message_by_either}
 
 -- ---- a record in front
@@ -40,8 +40,8 @@ said-front : (errors : Errors) (peer : PeerId) (r : MrtRecord) (changes : List C
     → changes_in_by errors peer (record_spelling r ++ after) ≡ changes ++ changes_in_by errors peer after
 said-front errors peer r changes after fits effect =
     ap (λ (records : List MrtRecord). changes_of errors peer records (source_end (fault_of_rest (rest_of (record_spelling r ++ after)))))
-    (records_front r after fits)
-    ∙ ap (λ (rest : List ℕ). changes_of errors peer (r ∷ records_of after) (source_end (fault_of_rest rest))) (rest_front r after fits)
+    (records_of-spelled r after fits)
+    ∙ ap (λ (rest : List ℕ). changes_of errors peer (r ∷ records_of after) (source_end (fault_of_rest rest))) (rest_of-spelled r after fits)
     ∙ changes_of-gives errors peer r changes (records_of after) (source_end (fault_of_rest (rest_of after))) effect
 
 -- ---- what a record of the peer says

@@ -123,6 +123,18 @@ spelled_after : (r : MrtRecord) (after : List ℕ) → IsRecord r → after_reco
 spelled_after r after fits =
     ap (λ (n : ℕ). drop n (r.body ++ after)) (spelled_length r after fits) ∙ drop_at r.body after (length r.body) refl
 
+-- a record that is spelled in front of other octets is their first record
+pub records_of-spelled : (r : MrtRecord) (after : List ℕ) → IsRecord r → records_of (record_spelling r ++ after) ≡ r ∷ records_of after
+records_of-spelled r after fits =
+    records_of-step (record_spelling r ++ after) (spelled_stands r after fits)
+    ∙ ap (λ (x : MrtRecord). x ∷ records_of (after_record (record_spelling r ++ after))) (spelled_front r after fits)
+    ∙ ap (λ (octets : List ℕ). r ∷ records_of octets) (spelled_after r after fits)
+
+-- and what is left over is that of the others
+pub rest_of-spelled : (r : MrtRecord) (after : List ℕ) → IsRecord r → rest_of (record_spelling r ++ after) ≡ rest_of after
+rest_of-spelled r after fits =
+    rest_of-step (record_spelling r ++ after) (spelled_stands r after fits) ∙ ap rest_of (spelled_after r after fits)
+
 -- ---- the split
 
 -- where no record stands, no front spells one

@@ -36,6 +36,9 @@ const ROUTES: [&str; 10] = [
     "igp 64501-64500 hop-a",
 ];
 
+// How many exchanges are gathered: some 317 for each size of list from 2 to 64 entries.
+const GATHERED_EXCHANGES: usize = 20_000;
+
 // Most changes announce, some withdraw, and now and then a session is lost or closes, at the end of its file or at a
 // fault.
 fn some_change(alloc: Global, random: &mut Random, time: u32) -> Option<String> {
@@ -135,9 +138,10 @@ fn check_gathered(rt: &impl Abort, alloc: Global, random: &mut Random, few: usiz
 #[test]
 fn gathered_changes_leave_what_the_rules_say(rt: HostRuntime) {
     let mut random = Random { state: 2 };
-    for few in 2..65 {
+    for round in 0..GATHERED_EXCHANGES {
+        let few = 2 + round % 63;
         let checked = check_gathered(&rt, rt.alloc(), &mut random, few);
-        assert!(rt; checked.is_some(), "lists of {few}");
+        assert!(rt; checked.is_some(), "exchange {round}, lists of {few}");
     }
 }
 

@@ -5,7 +5,8 @@ use Rattle.std.proofs.lemmas.List.{take_all}
 use Rattle.rs_choice.specs.Plan.{peer_of}
 use Rattle.rs_run.specs.Report.{peer_line, peer_line_of}
 use Rattle.rs_keep.proofs.ListingLemmas.{flat_map-one_more, lines-one_more}
-use Rattle.rs_run.proofs.ZipLemmas.{length-zip, slice_get-zip}
+use Rattle.std.proofs.lemmas.Slice.Zip.{length-zip}
+use Rattle.rs_serve.proofs.ListLemmas.{zip-at}
 use Rattle.rs_run.proofs.report.add_peer_lines.Goals as goal
 
 pub loop-number-preserved : goal.loop-number-preserved
@@ -14,7 +15,7 @@ loop-number-preserved c =
     let ends = c.args.served.now.ends in
     let number = c.loop-number.number in
     let end = c.end.result in
-    let here = slice_get-zip peers ends number (peer_of c.peer.result.now) end c.peer.ensures c.end.ensures in
+    let here = zip-at peers ends number (peer_of c.peer.result.now) end c.peer.ensures c.end.ensures in
     let added : string_bytes c.add_peer_line.new.report ≡ string_bytes c.loop-number.report
     ++ peer_line_of (peer_of c.peer.result.now, end) =
     c.in_ok-add_peer_line.ensures ∙ ap (λ (name : List ℕ). string_bytes c.loop-number.report ++ peer_line name end) c.deref.ensures in
