@@ -1,5 +1,6 @@
 -- The candidates of a client for a prefix, peer after peer.
-use Rattle.std.proofs.Common.{◌≡◌, ◌∙◌, sym, ap, subst, refl, ℕ, ◌<◌, ◌≤◌, ◌+◌, true, false, inl, inr, List, [], ◌∷◌, ◌++◌, length, map, drop}
+use Rattle.std.proofs.Common.{◌≡◌, ◌∙◌, sym, ap, subst, refl, ℕ, ◌<◌, ◌≤◌, ◌+◌, true, false, inl, inr, List, [], ◌∷◌, ◌++◌, length, map}
+use Rattle.std.proofs.Common.{drop}
 use Rattle.std.proofs.Common.{drop-cons, add-one, append_assoc, below_more}
 use Rattle.std.proofs.lemmas.Bool.{and_right, cases_Bool}
 use Rattle.std.proofs.lemmas.List.{append-nil, drop_all}

@@ -7,7 +7,8 @@ use Rattle.std.proofs.lemmas.List.Elements.{filter_map-append}
 use Rattle.std.proofs.lemmas.List.Sums.{sum_by_push}
 use Rattle.rs_inventory.specs.declared.finding.News.{News}
 use Rattle.rs_inventory.specs.Peer.{Told, announced_by, changing, counted, event_at, identifier_in, is_faulty, is_message, is_same}
-use Rattle.rs_inventory.specs.Peer.{is_state_change, peer_content, with_counts, with_course, with_event, with_identifier, with_next, with_session}
+use Rattle.rs_inventory.specs.Peer.{is_state_change, peer_content, with_counts, with_course, with_event, with_identifier, with_next}
+use Rattle.rs_inventory.specs.Peer.{with_session}
 use Rattle.rs_inventory.specs.Peer.{withdrawn_by}
 use Rattle.rs_inventory.specs.Sessions.{Event, Up, Down, sessions_of}
 use Rattle.rs_inventory.proofs.CourseLemmas.{course-more}
@@ -76,7 +77,8 @@ sessions-more events (Some (Down time)) = sessions_of-down time events
 -- ---- a peer
 
 pub peer_content-more : (told : List Told) (time : ℕ) (one : News)
-    → with_course time one (with_session time one (with_identifier one (with_counts one (peer_content told)))) ≡ peer_content (told ++ (time, one) ∷ [])
+    → with_course time one (with_session time one (with_identifier one (with_counts one (peer_content told))))
+    ≡ peer_content (told ++ (time, one) ∷ [])
 unfolding peer_content
 peer_content-more told time one =
     let messages = sum-more (λ t. cond (is_message t.1) 1 0) told (time, one) in

@@ -18,7 +18,8 @@ use Rattle.rs_inventory.specs.declared.depth.Depth.{Depth}
 use Rattle.rs_inventory.specs.declared.finding.Finding.{Finding}
 
 -- one record more came
-pub going-more : {S : Type 0} (depth : Depth) (comes : S → List MrtRecord → Option SourceFault → Type 0) (initial old new : S) (before after : Content)
+pub going-more : {S : Type 0} (depth : Depth) (comes : S → List MrtRecord → Option SourceFault → Type 0) (initial old new : S)
+    (before after : Content)
     (finding : Finding)
     → Going depth comes initial old before
     → ((r : MrtRecord) × (finding ≡ finding_of depth r) × ((later : List MrtRecord) (fault : Option SourceFault) → comes new later fault

@@ -1,5 +1,6 @@
 -- What the beginning of a session says.
-use Rattle.std.proofs.Common.{◌≡◌, ℕ, ◌+◌, ◌^◌, ◌<◌, ◌≤◌, ◌∙◌, Bool, true, false, List, [], ◌∷◌, ◌++◌, Some, None, Ok, Err, length, drop, map}
+use Rattle.std.proofs.Common.{◌≡◌, ℕ, ◌+◌, ◌^◌, ◌<◌, ◌≤◌, ◌∙◌, Bool, true, false, List, [], ◌∷◌, ◌++◌, Some, None, Ok, Err, length, drop}
+use Rattle.std.proofs.Common.{map}
 use Rattle.std.proofs.Common.{filter, cond, refl, ap, sym, arith, lit<, append_assoc, length-append}
 use Rattle.std.specs.Prelude.{nat_lt, not, if◌then◌else◌}
 use Rattle.std.specs.List.{flat_map, AllByRecursion}
@@ -27,8 +28,10 @@ use Rattle.rs_update.specs.Treating.{message_by}
 use Rattle.rs_update.specs.declared.errors.Errors.{Errors}
 use Rattle.rs_start.specs.declared.start.Start.{Start}
 use Rattle.rs_start.specs.Laws.{OpeningAnnounces}
-use Rattle.rs_start.specs.Opening.{Announcing, IsRoutePrefix, IsSound, IsStart, TableRoute, announced, announcing_record, announcing_spelling}
-use Rattle.rs_start.specs.Opening.{message_record, nlri_spelling, opening_spelling, parties, routes_in, routes_of, up_record, updates_spelling}
+use Rattle.rs_start.specs.Opening.{Announcing, IsRoutePrefix, IsSound, IsStart, TableRoute, announced, announcing_record}
+use Rattle.rs_start.specs.Opening.{announcing_spelling}
+use Rattle.rs_start.specs.Opening.{message_record, nlri_spelling, opening_spelling, parties, routes_in, routes_of, up_record}
+use Rattle.rs_start.specs.Opening.{updates_spelling}
 use Rattle.rs_start.proofs.PrefixLemmas.{nlri_read, nlri_some}
 use Rattle.rs_mrt.proofs.record.SplitLemmas.{records_of-spelled, rest_of-spelled}
 use Rattle.rs_start.proofs.UpdateLemmas.{length-update, message_by_either}

@@ -1,5 +1,6 @@
 -- What an UPDATE says that is written of path attributes and prefixes.
-use Rattle.std.proofs.Common.{◌≡◌, ℕ, ◌+◌, ◌^◌, ◌<◌, ◌≤◌, ◌∙◌, Bool, true, false, not, List, [], ◌∷◌, ◌++◌, Option, Some, None, Result, Ok, Err}
+use Rattle.std.proofs.Common.{◌≡◌, ℕ, ◌+◌, ◌^◌, ◌<◌, ◌≤◌, ◌∙◌, Bool, true, false, not, List, [], ◌∷◌, ◌++◌, Option, Some, None, Result, Ok}
+use Rattle.std.proofs.Common.{Err}
 use Rattle.std.proofs.Common.{length, take, drop, replicate, refl, ap, sym, arith, length-append}
 use Rattle.std.specs.Prelude.{nat_lt, nat_le, ok_or, is_none, ◌&&◌, ◌==◌}
 use Rattle.std.proofs.lemmas.Bool.{le-ltb, le-leb, eq-eqb, and_from}
@@ -8,7 +9,8 @@ use Rattle.byteorder.specs.Endian.{big_bytes, big_number}
 use Rattle.byteorder.specs.Numbers.{big_number-reads_back}
 use Rattle.rs_update.specs.Fault.{first_fault, of_header}
 use Rattle.rs_update.specs.Gathered.{attributes_of}
-use Rattle.rs_update.specs.Header.{header_of, header_tests, header_fault, is_marked, has_length, length_field, type_of, type_field, suits_type}
+use Rattle.rs_update.specs.Header.{header_of, header_tests, header_fault, is_marked, has_length, length_field, type_of, type_field}
+use Rattle.rs_update.specs.Header.{suits_type}
 use Rattle.rs_update.specs.IpPrefix.{IpPrefix}
 use Rattle.rs_update.specs.Laws.{Rfc4271IsAsBefore, StandardsAgree}
 use Rattle.rs_update.specs.Message.{MessageContent, UpdateContent, IsUpdate, update_of, update_message, message_of, typed_message, passes}
@@ -118,7 +120,8 @@ steps None section (octet ∷ octets) prefixes is some lists =
     rw (is, none) (found (attributes_of (items_of section)))
   where
     found : (attributes : Option PathAttributes)
-        → ((elim attributes as (λ x. Result (Option PathAttributes) UpdateFault) [ None ↦ Err MissingWellKnown | Some one ↦ Ok (Some one) ]) >>= (λ attributes.
+        → ((elim attributes as (λ x. Result (Option PathAttributes) UpdateFault)
+            [ None ↦ Err MissingWellKnown | Some one ↦ Ok (Some one) ]) >>= (λ attributes.
         (Ok [] >>= (λ withdrawn. (listed_prefixes (octet ∷ octets) >>= (λ nlri.
         Ok (record { withdrawn = withdrawn; attributes = attributes; nlri = nlri })))))))
         ≡ announces_by None attributes prefixes

@@ -8,7 +8,8 @@ use Rattle.rs_mrt.specs.Record.{record_spelling}
 use Rattle.rs_session.specs.FileChanges.{changes_in_by}
 use Rattle.rs_start.specs.declared.start.Start.{Start}
 use Rattle.rs_start.specs.Laws.{OpeningAnnounces}
-use Rattle.rs_start.specs.Opening.{Announcing, announced, IsSound, IsStart, TableRoute, announcing_record, opening_spelling, routes_in, routes_of}
+use Rattle.rs_start.specs.Opening.{Announcing, announced, IsSound, IsStart, TableRoute, announcing_record, opening_spelling, routes_in}
+use Rattle.rs_start.specs.Opening.{routes_of}
 use Rattle.rs_start.specs.Opening.{up_record, updates_spelling}
 use Rattle.rs_start.specs.Writing.{Closes, Ends, Flushes, Goes, IsBegun, IsWhole, Writing}
 

@@ -190,7 +190,8 @@ module _ (fields : Inside) (is : AreAhead fields) where
       pub none-on : None ≡ route_of (ahead_view fields).whose p
       none-on = gets-none (ahead_view fields).whose fields.last (row_of row) fields.rest (all-are row found) p behind between apart
 
-      pub after-other : AreAhead (record { tables = fields.tables; client = fields.client; first = Some row; rest = fields.rest; last = Some p })
+      pub after-other : AreAhead (record { tables = fields.tables; client = fields.client; first = Some row;
+          rest = fields.rest; last = Some p })
       after-other = record {
         ends = λ none. absurd (cc none);
         are_all = left-over (ahead_view fields).whose fields.last (row_of row) fields.rest (all-are row found) p behind between apart;
@@ -214,5 +215,6 @@ module _ (fields : Inside) (is : AreAhead fields) where
       }
       by (Some one) steps are = record {
         ends = λ none. absurd (cc none);
-        are_all = subst (λ (rows : List TableRow). AreAll (record { whose = (ahead_view fields).whose; last = Some p; rows = rows })) steps are;
+        are_all = subst (λ (rows : List TableRow). AreAll (record { whose = (ahead_view fields).whose; last = Some p; rows = rows }))
+            steps are;
       }

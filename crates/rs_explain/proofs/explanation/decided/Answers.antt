@@ -29,4 +29,5 @@ unreachable-requires-in-None c =
     let best = made_of (contender_of tables.plan) (best_of tables c.args.client c.args.prefix) c.in-Some.best
     (sym c.requires.candidates.best ∙ c.in-Some.is) in
     c.if-best-one.false (ap (λ (one : Contender). one.peer) (sym best.2)
-    ∙ left_is_best c.peers_have_addresses_of_their_own.ensures tables c.args.client c.args.prefix best.0 c.args.one faultless all best.1 left)
+    ∙ left_is_best c.peers_have_addresses_of_their_own.ensures tables c.args.client c.args.prefix best.0 c.args.one faultless all best.1
+    left)

@@ -12,7 +12,8 @@ pub returns-clause-records : goal.returns-clause-records
 returns-clause-records g c = λ none.
     let source : c.new-source.result ≡ unread (rewound c.in_ok-front.front c.of.new.reader) =
     c.new-source.ensures ∙ ap unread c.new.ensures in
-    reading-whole c.args.depth g.R.Read.gives c.args.reader c.of.new.reader c.in_ok-front.front c.in_ok-inventory.inventory c.in_ok-front.ensures.gives
+    reading-whole c.args.depth g.R.Read.gives c.args.reader c.of.new.reader c.in_ok-front.front c.in_ok-inventory.inventory
+    c.in_ok-front.ensures.gives
     (subst (λ s. IsReadingOf c.args.depth (MayCome (RewoundGives g.R.Read.gives)) s c.in_ok-inventory.inventory)
     source c.in_ok-inventory.ensures.records)
 

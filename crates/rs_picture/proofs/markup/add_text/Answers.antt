@@ -11,4 +11,5 @@ pub returns : goal.returns
 returns c =
     let whole = YieldsList-end (YieldsList-from_chars c.args.text.now c.utf8.text cc)
     c.loop-character.yielded _ c.loop-character.yielded_by _ _ c.in-None.is c.next.ensures.steps in
-    c.loop-character.invariant ∙ ap (λ text. string_bytes c.args.markup.now ++ flat_map shown text) (sym (map-id c.loop-character.yielded) ∙ whole.0)
+    c.loop-character.invariant ∙ ap (λ text. string_bytes c.args.markup.now ++ flat_map shown text)
+    (sym (map-id c.loop-character.yielded) ∙ whole.0)

@@ -9,5 +9,6 @@ loop-place-preserved c =
     let peer = c.in-Some.split.0 in
     let more = leads_more peer_at c.args.octets.now items c.loop-place.rest.now c.in-Some.split.1.now peer c.loop-place.invariant.1
     (sym c.in-Some.ensures.value) in
-    let count : length (items ++ peer ∷ []) ≡ c.loop-place._place + 1 = omega (arith, length-append items (peer ∷ []), c.loop-place.invariant.0) in
+    let count : length (items ++ peer ∷ []) ≡ c.loop-place._place + 1 =
+    omega (arith, length-append items (peer ∷ []), c.loop-place.invariant.0) in
     rw c.in_ok-push.ensures.items (count, more)

@@ -19,7 +19,8 @@ tested xs ys all r n front back is len first second decides =
     (λ yes. sym first_is ∙ decides.0 yes ∙ second_is, λ same. decides.1 (first_is ∙ same ∙ sym second_is))
 
 -- what is written tells the attributes
-told : (one other : PathAttributes) → attributes_of (items_of (written one)) ≡ Some one → attributes_of (items_of (written other)) ≡ Some other
+told : (one other : PathAttributes) → attributes_of (items_of (written one)) ≡ Some one
+    → attributes_of (items_of (written other)) ≡ Some other
     → written one ≡ written other → one ≡ other
 told one other first second same =
     let both : Some one ≡ Some other = sym first ∙ ap (λ octets. attributes_of (items_of octets)) same ∙ second in
@@ -32,7 +33,8 @@ returns-clause-same c = λ yes.
     ((tested (written c.args.one.now) (written c.args.other.now) c.deref.result.now c.eq.result c.written_len-len.result
     c.split_at.result.0.now c.split_at.result.1.now
     (c.deref.ensures.value ∙ c.in-Ok-Ok.ensures'.ok
-    ∙ ap (λ front. front ++ written c.args.other.now) (c.in-Ok-Ok.ensures.ok ∙ ap (λ front. front ++ written c.args.one.now) c.clear.ensures.items))
+    ∙ ap (λ front. front ++ written c.args.other.now) (c.in-Ok-Ok.ensures.ok ∙ ap (λ front. front ++ written c.args.one.now)
+    c.clear.ensures.items))
     c.written_len-len.ensures.value c.split_at.ensures.front c.split_at.ensures.back
     (slice_eq-Decides Decides-eqb _ _ _ c.eq.ensures)).0 yes)
 
@@ -42,7 +44,8 @@ returns-clause-differ c = λ no same.
     (tested (written c.args.one.now) (written c.args.other.now) c.deref.result.now c.eq.result c.written_len-len.result
     c.split_at.result.0.now c.split_at.result.1.now
     (c.deref.ensures.value ∙ c.in-Ok-Ok.ensures'.ok
-    ∙ ap (λ front. front ++ written c.args.other.now) (c.in-Ok-Ok.ensures.ok ∙ ap (λ front. front ++ written c.args.one.now) c.clear.ensures.items))
+    ∙ ap (λ front. front ++ written c.args.other.now) (c.in-Ok-Ok.ensures.ok ∙ ap (λ front. front ++ written c.args.one.now)
+    c.clear.ensures.items))
     c.written_len-len.ensures.value c.split_at.ensures.front c.split_at.ensures.back
     (slice_eq-Decides Decides-eqb _ _ _ c.eq.ensures)).1 (ap written same) in
     cc (no, yes)

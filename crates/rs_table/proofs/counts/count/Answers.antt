@@ -9,7 +9,8 @@ pub returns : goal.returns
 returns c =
     let cells = values c.args.cells.now in
     count_from_yields_List c.filter.result _ c.count.ensures.ran
-    (YieldsList-from_filter _ (has_route c.args.peer) (YieldsList-from_rest cells (c.filter.ensures.source ∙ c.values.ensures.rest)) c.filter.ensures.closure
+    (YieldsList-from_filter _ (has_route c.args.peer) (YieldsList-from_rest cells (c.filter.ensures.source ∙ c.values.ensures.rest))
+    c.filter.ensures.closure
     (λ x b q k. search (rules, tests)))
     ∙ length-filter (has_route c.args.peer) cells
     ∙ sym (count-cells c.args.peer c.args.cells.now.entries c.values.ensures.ordered)

@@ -82,7 +82,8 @@ returns-else-closes-clause-routes c =
     let known : c.args.peer < length inside.closed.items =
     omega (arith, c.requires.known, c.self.invariant.peers, ap (λ tables. length tables.plan.peers) c.self.view_is) in
     become _ _ (change_of c.args.word)
-    (applied-routes inside.plan.value inside.cells.entries c.change_and_count.new.cells.entries inside.closed.items inside.closed.items c.args.peer
+    (applied-routes inside.plan.value inside.cells.entries c.change_and_count.new.cells.entries inside.closed.items inside.closed.items
+    c.args.peer
     (change_of c.args.word) c.in_ok-count.ensures.routes refl known
     ∙ ap (λ tables. after (rib_of tables c.args.peer).routes (change_of c.args.word)) c.self.view_is)
 
