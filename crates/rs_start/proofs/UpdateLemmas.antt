@@ -121,7 +121,7 @@ steps None section (octet ∷ octets) prefixes is some lists =
   where
     found : (attributes : Option PathAttributes)
         → ((elim attributes as (λ x. Result (Option PathAttributes) UpdateFault)
-            [ None ↦ Err MissingWellKnown | Some one ↦ Ok (Some one) ]) >>= (λ attributes.
+        [ None ↦ Err MissingWellKnown | Some one ↦ Ok (Some one) ]) >>= (λ attributes.
         (Ok [] >>= (λ withdrawn. (listed_prefixes (octet ∷ octets) >>= (λ nlri.
         Ok (record { withdrawn = withdrawn; attributes = attributes; nlri = nlri })))))))
         ≡ announces_by None attributes prefixes

@@ -190,8 +190,13 @@ module _ (fields : Inside) (is : AreAhead fields) where
       pub none-on : None ≡ route_of (ahead_view fields).whose p
       none-on = gets-none (ahead_view fields).whose fields.last (row_of row) fields.rest (all-are row found) p behind between apart
 
-      pub after-other : AreAhead (record { tables = fields.tables; client = fields.client; first = Some row;
-          rest = fields.rest; last = Some p })
+      pub after-other : AreAhead (record {
+        tables = fields.tables;
+        client = fields.client;
+        first = Some row;
+        rest = fields.rest;
+        last = Some p;
+      })
       after-other = record {
         ends = λ none. absurd (cc none);
         are_all = left-over (ahead_view fields).whose fields.last (row_of row) fields.rest (all-are row found) p behind between apart;
