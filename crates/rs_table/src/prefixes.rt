@@ -1,8 +1,8 @@
 //! The prefixes on which some peer has left a route, one after another.
 
-ghost use Rattle.std.specs.Prelude.{◌≡◌, All, map};
-ghost use Rattle.rs_table.specs.PrefixRoutes.{AreRoutesOf};
-ghost use Rattle.rs_table.specs.Table.{prefixes_held};
+ghost use Rattle.std.specs.Prelude.{◌≡◌, ℕ, All, IfNone, IfSome, None, map};
+ghost use Rattle.rs_table.specs.PrefixRoutes.{AreRoutesOf, entry_of};
+ghost use Rattle.rs_table.specs.Table.{prefixes_held, route_from};
 
 use crate::cell::Cell;
 use crate::prefix_routes::PrefixRoutes;
@@ -53,6 +53,16 @@ impl<'a> Iterator for Prefixes<'a> {
 }
 
 impl Tables {
+    /// The routes on one prefix, and what each client gets of them; none where no peer has left a route there. It takes
+    /// no memory.
+    pub fn on_prefix(&self, prefix: Prefix) -> Option<PrefixRoutes<'_>>
+        ensures some { IfSome result (λ on. (on.prefix ≡ prefix) × AreRoutesOf self.now (entry_of on)) }
+        ensures none { IfNone result ((peer : ℕ) → route_from self.now prefix peer ≡ None) }
+    {
+        let cell = self.cells().get(&prefix)?;
+        Some(PrefixRoutes { prefix, cell })
+    }
+
     /// The prefixes on which some peer has left a route, one after another, in ascending order, each once, with the
     /// routes there. It takes no memory.
     pub fn iter_prefixes(&self) -> Prefixes<'_>
