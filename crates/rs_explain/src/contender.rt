@@ -8,7 +8,6 @@ ghost use Rattle.rs_table.specs.RouteView.{sent_route_of};
 
 use rs_choice::{Candidate, Exchange, Standing};
 use rs_table::{PrefixRoutes, Route, Tables};
-use rs_update::Prefix;
 use std::alloc::{AllocError, Global};
 
 /// A candidate of a client for a prefix.
@@ -57,17 +56,6 @@ fn candidate_of(plan: &Exchange, client: usize, route: &Route) -> Option<Contend
 }
 
 // The route of a peer on a prefix, where it is a candidate of a client.
-fn candidate_from(tables: &Tables, client: usize, peer: usize, prefix: Prefix) -> Option<Contender>
-    requires client_known { client < length tables.now.plan.peers }
-    requires peer_known { peer < length tables.now.plan.peers }
-    ensures value { result ≡ contender_from tables.now client prefix peer }
-    ensures address { IfSome result (HasOwnAddress tables.now.plan) }
-{
-    let route = tables.route(peer, prefix)?;
-    candidate_of(tables.plan(), client, &route)
-}
-
-// The same of the routes on the prefix, which are at hand.
 fn candidate_on(tables: &Tables, client: usize, peer: usize, on: &PrefixRoutes) -> Option<Contender>
     requires client_known { client < length tables.now.plan.peers }
     requires peer_known { peer < length tables.now.plan.peers }
@@ -81,25 +69,6 @@ fn candidate_on(tables: &Tables, client: usize, peer: usize, on: &PrefixRoutes) 
 
 // All candidates of a client for a prefix, in the order of the peers.
 pub(crate) fn contenders(
-    alloc: Global,
-    tables: &Tables,
-    client: usize,
-    prefix: Prefix,
-) -> Result<Vec<Contender>, AllocError>
-    requires { client < length tables.now.plan.peers }
-    ensures { IfOk result (λ all. AreContenders tables.now client prefix all.items) }
-{
-    let mut all = Vec::new(alloc);
-    for peer in 0..tables.count() {
-        if let Some(one) = candidate_from(tables, client, peer, prefix) {
-            all.push(one)?;
-        }
-    }
-    Ok(all)
-}
-
-// The same of the routes on the prefix, which are at hand.
-pub(crate) fn contenders_on(
     alloc: Global,
     tables: &Tables,
     client: usize,

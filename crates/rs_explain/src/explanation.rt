@@ -1,6 +1,6 @@
 //! Why a client has a peer's route on a prefix, or not, with the reason.
 
-ghost use Rattle.std.specs.Prelude.{◌≡◌, ◌<◌, IfOk, IfSome, Some, length};
+ghost use Rattle.std.specs.Prelude.{◌≡◌, ◌≢◌, ◌<◌, IfOk, IfSome, Some, length};
 ghost use Rattle.std.specs.Option.{option_map};
 ghost use Rattle.rs_table.specs.PrefixRoutes.{AreRoutesOf, entry_of};
 ghost use Rattle.rs_table.specs.RouteView.{sent_route_of};
@@ -10,7 +10,7 @@ ghost use Rattle.rs_explain.specs.Candidates.{AreCandidates};
 ghost use Rattle.rs_explain.specs.Contenders.{contender_from, contender_of};
 
 use crate::condition::{Condition, failed_condition};
-use crate::contender::{Contender, contender_of, contenders, contenders_on};
+use crate::contender::{Contender, contender_of, contenders};
 use crate::refusal::{Refusal, refusing_rule};
 use crate::removal::{Removal, STEPS, removed_by};
 use rs_choice::{Exchange, peers_have_addresses_of_their_own, the_choice_is_unbeaten};
@@ -63,15 +63,10 @@ pub fn explain(
     if client == peer {
         return Ok(Explanation::Own);
     }
-    let Some(route) = tables.route(peer, prefix) else {
+    let Some(on) = tables.on_prefix(prefix) else {
         return Ok(Explanation::Absent);
     };
-    if let Some(reason) = reason(tables.plan(), client, &route) {
-        return Ok(reason);
-    }
-    let candidates = Candidates::found(alloc, tables, client, prefix)?;
-    let one = contender_of(tables.plan(), &route);
-    decided(alloc, tables, client, prefix, &candidates, one)
+    explain_other(alloc, tables, client, peer, &on, None)
 }
 
 impl Candidates {
@@ -88,26 +83,9 @@ impl Candidates {
         requires routes { AreRoutesOf tables.now (entry_of on.now) }
         ensures { IfOk result (AreCandidates tables.now client on.now.prefix) }
     {
-        let all = contenders_on(alloc, tables, client, on)?;
+        let all = contenders(alloc, tables, client, on)?;
         Ok(Candidates {
             best: best_contender(tables.plan(), on.best(client)),
-            all,
-        })
-    }
-
-    // The same of the routes that are found on a prefix in the tables.
-    fn found(
-        alloc: Global,
-        tables: &Tables,
-        client: usize,
-        prefix: Prefix,
-    ) -> Result<Candidates, AllocError>
-        requires { client < length tables.now.plan.peers }
-        ensures { IfOk result (AreCandidates tables.now client prefix) }
-    {
-        let all = contenders(alloc, tables, client, prefix)?;
-        Ok(Candidates {
-            best: best_contender(tables.plan(), tables.best(client, prefix)),
             all,
         })
     }
@@ -133,15 +111,59 @@ impl Candidates {
         if client == peer {
             return Ok(Explanation::Own);
         }
-        let Some(route) = on.route(peer) else {
-            return Ok(Explanation::Absent);
-        };
-        if let Some(reason) = reason(tables.plan(), client, &route) {
-            return Ok(reason);
-        }
-        let one = contender_of(tables.plan(), &route);
-        decided(alloc, tables, client, on.prefix, self, one)
+        explain_other(alloc, tables, client, peer, on, Some(self))
     }
+}
+
+// Explains why a client has the route of another peer on a prefix, or not. Its candidates are collected only where
+// the decision process has to be asked, and they are not known.
+fn explain_other(
+    alloc: Global,
+    tables: &Tables,
+    client: usize,
+    peer: usize,
+    on: &PrefixRoutes,
+    known: Option<&Candidates>,
+) -> Result<Explanation, AllocError>
+    requires client_known { client < length tables.now.plan.peers }
+    requires peer_known { peer < length tables.now.plan.peers }
+    requires differ { client ≢ peer }
+    requires routes { AreRoutesOf tables.now (entry_of on.now) }
+    requires candidates { IfSome known (λ known. AreCandidates tables.now client on.now.prefix known.now) }
+    ensures explains { IfOk result (IsExplanation tables.now client peer on.now.prefix) }
+    ensures agrees { IfOk result (λ explanation. answer_of explanation ≡ why_of tables.now client peer on.now.prefix) }
+{
+    let Some(route) = on.route(peer) else {
+        return Ok(Explanation::Absent);
+    };
+    if let Some(reason) = reason(tables.plan(), client, &route) {
+        return Ok(reason);
+    }
+    let one = contender_of(tables.plan(), &route);
+    decided_on(alloc, tables, client, on, known, one)
+}
+
+// Explains what the decision process makes of a candidate of a client, whose other candidates may be known.
+fn decided_on(
+    alloc: Global,
+    tables: &Tables,
+    client: usize,
+    on: &PrefixRoutes,
+    known: Option<&Candidates>,
+    one: Contender,
+) -> Result<Explanation, AllocError>
+    requires client_known { client < length tables.now.plan.peers }
+    requires peer_known { one.peer < length tables.now.plan.peers }
+    requires routes { AreRoutesOf tables.now (entry_of on.now) }
+    requires candidate { contender_from tables.now client on.now.prefix one.peer ≡ Some one }
+    requires candidates { IfSome known (λ known. AreCandidates tables.now client on.now.prefix known.now) }
+    ensures { IfOk result (IsDecided tables.now client one.peer on.now.prefix) }
+{
+    if let Some(candidates) = known {
+        return decided(alloc, tables, client, on.prefix, candidates, one);
+    }
+    let candidates = Candidates::new(alloc, tables, client, on)?;
+    decided(alloc, tables, client, on.prefix, &candidates, one)
 }
 
 // Why a route of another peer is no candidate of a client, where it isn't.

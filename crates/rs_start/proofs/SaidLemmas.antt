@@ -33,7 +33,7 @@ use Rattle.rs_start.specs.Opening.{announcing_spelling}
 use Rattle.rs_start.specs.Opening.{message_record, nlri_spelling, opening_spelling, parties, routes_in, routes_of, up_record}
 use Rattle.rs_start.specs.Opening.{updates_spelling}
 use Rattle.rs_start.proofs.PrefixLemmas.{nlri_read, nlri_some}
-use Rattle.rs_mrt.proofs.record.SplitLemmas.{records_of-spelled, rest_of-spelled}
+use Rattle.rs_mrt.proofs.FirstRecord.{records_of-spelled, rest_of-spelled}
 use Rattle.rs_start.proofs.UpdateLemmas.{length-update, message_by_either}
 
 -- ---- a record in front

@@ -98,7 +98,7 @@ front_fits octets h =
 spelled_length : (r : MrtRecord) (after : List ℕ) → IsRecord r → length_field (record_spelling r ++ after) ≡ length r.body
 spelled_length r after fits = big_number-reads_back 4 (length r.body) (r.body ++ after) fits.body
 
-spelled_stands : (r : MrtRecord) (after : List ℕ) → IsRecord r → has_record (record_spelling r ++ after) ≡ true
+pub spelled_stands : (r : MrtRecord) (after : List ℕ) → IsRecord r → has_record (record_spelling r ++ after) ≡ true
 spelled_stands r after fits =
     let octets = record_spelling r ++ after in
     let len = spelled_length r after fits in
@@ -107,7 +107,7 @@ spelled_stands r after fits =
     and_from (nat_le 12 (length octets)) (nat_le (length_field octets) (length (drop 12 octets))) (le-leb _ _ head)
     (le-leb _ _ (omega (arith, len, rest)))
 
-spelled_front : (r : MrtRecord) (after : List ℕ) → IsRecord r → front_record (record_spelling r ++ after) ≡ r
+pub spelled_front : (r : MrtRecord) (after : List ℕ) → IsRecord r → front_record (record_spelling r ++ after) ≡ r
 spelled_front r after fits =
     let octets = record_spelling r ++ after in
     let after_kind = big_bytes 2 r.subtype ++ big_bytes 4 (length r.body) ++ r.body ++ after in
@@ -119,21 +119,9 @@ spelled_front r after fits =
     ap (λ (n : ℕ). take n (r.body ++ after)) (spelled_length r after fits) ∙ take_at r.body after (length r.body) refl in
     rw (time, kind, subtype, body) refl
 
-spelled_after : (r : MrtRecord) (after : List ℕ) → IsRecord r → after_record (record_spelling r ++ after) ≡ after
+pub spelled_after : (r : MrtRecord) (after : List ℕ) → IsRecord r → after_record (record_spelling r ++ after) ≡ after
 spelled_after r after fits =
     ap (λ (n : ℕ). drop n (r.body ++ after)) (spelled_length r after fits) ∙ drop_at r.body after (length r.body) refl
-
--- a record that is spelled in front of other octets is their first record
-pub records_of-spelled : (r : MrtRecord) (after : List ℕ) → IsRecord r → records_of (record_spelling r ++ after) ≡ r ∷ records_of after
-records_of-spelled r after fits =
-    records_of-step (record_spelling r ++ after) (spelled_stands r after fits)
-    ∙ ap (λ (x : MrtRecord). x ∷ records_of (after_record (record_spelling r ++ after))) (spelled_front r after fits)
-    ∙ ap (λ (octets : List ℕ). r ∷ records_of octets) (spelled_after r after fits)
-
--- and what is left over is that of the others
-pub rest_of-spelled : (r : MrtRecord) (after : List ℕ) → IsRecord r → rest_of (record_spelling r ++ after) ≡ rest_of after
-rest_of-spelled r after fits =
-    rest_of-step (record_spelling r ++ after) (spelled_stands r after fits) ∙ ap rest_of (spelled_after r after fits)
 
 -- ---- the split
 

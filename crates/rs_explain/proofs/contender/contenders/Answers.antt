@@ -4,8 +4,8 @@ use Rattle.std.specs.Prelude.{None, Some}
 use Rattle.std.proofs.lemmas.List.Elements.{All-push}
 use Rattle.rs_explain.specs.Contenders.{contender_from, HasOwnAddress}
 use Rattle.rs_explain.proofs.ContenderLemmas.{all_below, next_below, next_has, same_below, same_has}
-use Rattle.rs_explain.proofs.contender.contenders_on.Goals as goal
-use Rattle.rs_explain.proofs.contender.contenders_on.Goals.{in-Some+in_ok-push, in_default}
+use Rattle.rs_explain.proofs.contender.contenders.Goals as goal
+use Rattle.rs_explain.proofs.contender.contenders.Goals.{in-Some+in_ok-push, in_default}
 
 pub loop-peer-preserved : goal.loop-peer-preserved
 loop-peer-preserved c =

@@ -1,7 +1,7 @@
 use Rattle.std.specs.List.{All}
 use Rattle.rs_explain.specs.Contenders.{HasOwnAddress}
 use Rattle.rs_explain.proofs.ContenderLemmas.{AreBelow, HasBelow}
-use Rattle.rs_explain.proofs.contender.contenders_on.Given as goal
+use Rattle.rs_explain.proofs.contender.contenders.Given as goal
 
 abbrev pub invariant-loop-peer : goal.invariant-loop-peer
 invariant-loop-peer l = record {
