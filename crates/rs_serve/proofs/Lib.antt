@@ -1,1 +1,9 @@
+mod ShardPartLemmas
+mod PlaceLemmas
+pub mod RoutingLemmas
+mod CloseLemmas
+mod CrewLemmas
+mod MergingLemmas
+mod RunLemmas
+pub mod TakingLemmas
 pub mod ListLemmas

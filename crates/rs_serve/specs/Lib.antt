@@ -1,3 +1,13 @@
+-- The changes of all peers on their way to the shards:
+pub mod ShardParts  -- the changes that are a shard's
+pub mod RoutedItems  -- what a shard is sent
+pub mod Routing  -- what was received and sent
+pub mod Delivery  -- one item more
+pub mod PartLaws  -- what a part leaves
+-- What shards hold:
+pub mod Held  -- one shard
+pub mod Crew  -- all of them
+pub mod Laws  -- what their tables come to
 -- Before the threads:
 pub mod Identity  -- who a peer is
 pub mod Lines  -- rings that are made

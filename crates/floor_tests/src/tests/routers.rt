@@ -4,7 +4,7 @@ ghost use Rattle.std.specs.Prelude.{◌≡◌, [], All, IfSome};
 
 use super::changes::{add_change, change_of, ring_of, route_of};
 use rs_ring::{Closing, Numbered, Receiver, Sender};
-use rs_router::{MAX_SHARDS, Routed, route, shard_of};
+use rs_serve::{MAX_SHARDS, Routed, route, shard_of};
 use rs_session::Word;
 use rs_update::{Attributes, Prefix};
 use std::alloc::Global;

@@ -10,7 +10,7 @@ use Rattle.rs_choice.specs.Plan.{Peer, Plan}
 use Rattle.rs_mrt.specs.Reader.{ReadEnd}
 use Rattle.rs_mrt.specs.RecordReading.{RecordReading, MayCome, unread}
 use Rattle.rs_ring.specs.Ends.{Receiving}
-use Rattle.rs_router.specs.Routing.{received_lists}
+use Rattle.rs_serve.specs.Routing.{received_lists}
 use Rattle.rs_session.specs.Change.{Change, change_of, is_read}
 use Rattle.rs_session.specs.FileChanges.{changes_in_by}
 use Rattle.rs_session.specs.Given.{IsGiven, AreGiven, SaysGiven, MayFailAt}
@@ -18,8 +18,8 @@ use Rattle.rs_session.specs.Laws.{ClosesOnce, GivesFileOrFails, FailedReadCloses
 use Rattle.rs_session.specs.Stage.{May, fresh}
 use Rattle.rs_session.specs.declared.peer.PeerId.{PeerId}
 use Rattle.rs_session.specs.declared.word.Word.{Word}
-use Rattle.rs_shard.specs.Crew as charges
-use Rattle.rs_shard.specs.declared.crew.ShardJob.{ShardJob}
+use Rattle.rs_serve.specs.Crew as charges
+use Rattle.rs_serve.specs.declared.shard_crew.ShardJob.{ShardJob}
 use Rattle.rs_table.specs.Content.{RibContent, TablesContent, rib_left}
 use Rattle.rs_update.specs.declared.errors.Errors.{Errors}
 use Rattle.rs_worker.specs.Crew.{HasJoined, charge_of}

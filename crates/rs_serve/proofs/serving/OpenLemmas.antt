@@ -8,12 +8,12 @@ use Rattle.rs_choice.specs.Plan.{Peer, Plan}
 use Rattle.rs_mrt.specs.Reader.{ReadEnd}
 use Rattle.rs_mrt.specs.RecordReading.{RecordReading, unread}
 use Rattle.rs_ring.specs.Ends.{Receiving, Sending}
-use Rattle.rs_router.specs.declared.routed.Routed.{Routed}
+use Rattle.rs_serve.specs.declared.routed.Routed.{Routed}
 use Rattle.rs_session.specs.Laws.{GivesFileOrFails}
 use Rattle.rs_session.specs.declared.word.Word.{Word}
-use Rattle.rs_shard.specs.Crew.{IsReady}
-use Rattle.rs_shard.specs.Laws.{IsOfPlan}
-use Rattle.rs_shard.specs.declared.crew.ShardJob.{ShardJob}
+use Rattle.rs_serve.specs.Crew.{IsReady}
+use Rattle.rs_serve.specs.Laws.{IsOfPlan}
+use Rattle.rs_serve.specs.declared.shard_crew.ShardJob.{ShardJob}
 use Rattle.rs_worker.specs.declared.crew.Job.{Job}
 use Rattle.rs_serve.specs.Identity.{id_of}
 use Rattle.rs_serve.specs.Lines.{IsReadyJob, IsLine, IsRing, CanWork, AreLines}

@@ -10,13 +10,13 @@ use Rattle.rs_choice.specs.Plan.{Plan}
 use Rattle.rs_mrt.specs.Reader.{ReadEnd}
 use Rattle.rs_mrt.specs.RecordReading.{RecordReading, MayCome}
 use Rattle.rs_ring.specs.Ends.{Receiving, Sending}
-use Rattle.rs_router.specs.Routing.{AreClosed, AreShardParts, received_lists}
-use Rattle.rs_router.specs.declared.routed.Routed.{Routed}
+use Rattle.rs_serve.specs.Routing.{AreClosed, AreShardParts, received_lists}
+use Rattle.rs_serve.specs.declared.routed.Routed.{Routed}
 use Rattle.rs_session.specs.declared.word.Word.{Word}
-use Rattle.rs_shard.specs.Crew as shards
-use Rattle.rs_shard.specs.Crew.{AllHold}
-use Rattle.rs_shard.specs.Laws.{IsOfPlan, AreShardsOf, IsRun, RunShardsAreWhole, ShardsMerge}
-use Rattle.rs_shard.specs.declared.crew.ShardJob.{ShardJob}
+use Rattle.rs_serve.specs.Crew as shards
+use Rattle.rs_serve.specs.Crew.{AllHold}
+use Rattle.rs_serve.specs.Laws.{IsOfPlan, AreShardsOf, IsRun, RunShardsAreWhole, ShardsMerge}
+use Rattle.rs_serve.specs.declared.shard_crew.ShardJob.{ShardJob}
 use Rattle.rs_session.specs.Change.{is_read}
 use Rattle.rs_session.specs.Laws.{ClosesOnce, FailedReadCloses}
 use Rattle.rs_table.specs.Content.{TablesContent}

@@ -1,3 +1,0 @@
-mod ShardPartLemmas
-mod PlaceLemmas
-pub mod RoutingLemmas

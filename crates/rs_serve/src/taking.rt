@@ -1,0 +1,51 @@
+//! What one item makes of what a shard gathered, and the tables of all of them.
+
+ghost use Rattle.std.specs.Prelude.{◌≡◌, ℕ, List, ◌++◌, ◌∷◌, [], OnOk, IfSome};
+ghost use Rattle.rs_table.specs.Content.{TablesContent, nothing_held, rib_of};
+ghost use Rattle.rs_serve.specs.declared.routed.Routed.{Routed};
+ghost use Rattle.rs_serve.specs.Held.{HoldReceived, Takes};
+
+use crate::routed::Routed;
+use rs_table::{FEW_ENTRIES, Gathering, Tables};
+use std::alloc::AllocError;
+
+// What is gathered before the first item. None where memory is refused.
+pub(crate) fn begun(tables: Tables) -> Option<Gathering>
+    requires { (peer : ℕ) → rib_of tables peer ≡ nothing_held }
+    ensures { IfSome result (HoldReceived tables []) }
+{
+    Gathering::new(tables, FEW_ENTRIES).ok()
+}
+
+// What is gathered after one item more, where anything was. None where memory is refused.
+pub(crate) fn after_item(gathered: Option<Gathering>, item: Routed) -> Option<Gathering>
+    ensures { (before : TablesContent) → (items : List Routed) → IfSome gathered (HoldReceived before items)
+        → IfSome result (HoldReceived before (items ++ item ∷ [])) }
+{
+    let mut gathered = gathered?;
+    match take(&mut gathered, item) {
+        Ok(()) => Some(gathered),
+        Err(AllocError) => None,
+    }
+}
+
+// The tables of what was gathered, if it was. None where memory is refused.
+pub(crate) fn settled(gathered: Option<Gathering>) -> Option<Tables>
+    ensures { (before : TablesContent) → (items : List Routed) → IfSome gathered (HoldReceived before items)
+        → IfSome result (HoldReceived before items) }
+{
+    gathered?.settle().ok()
+}
+
+// Takes an item: a change of a peer that isn't there, or whose session closed, is dropped. Refused where memory is.
+fn take(gathered: &mut Gathering, item: Routed) -> Result<(), AllocError>
+    ensures { OnOk result (Takes item gathered.old gathered.new) }
+{
+    let Routed::Word { peer, word } = item else {
+        return Ok(());
+    };
+    if peer >= gathered.count() || gathered.is_closed(peer) {
+        return Ok(());
+    }
+    gathered.receive(peer, word)
+}

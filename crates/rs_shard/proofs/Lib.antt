@@ -1,5 +1,0 @@
-mod CloseLemmas
-mod CrewLemmas
-mod MergingLemmas
-mod RunLemmas
-pub mod TakingLemmas

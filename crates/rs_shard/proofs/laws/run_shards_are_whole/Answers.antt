@@ -1,6 +1,0 @@
--- Each shard's part is what its part leaves.
-use Rattle.rs_shard.proofs.RunLemmas.{run-whole}
-use Rattle.rs_shard.proofs.laws.run_shards_are_whole.Goals as goal
-
-pub returns : goal.returns
-returns c plan received sent charges parts run = run-whole plan received sent charges parts run
