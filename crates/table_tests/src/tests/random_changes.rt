@@ -36,8 +36,8 @@ const ROUTES: [&str; 10] = [
     "igp 64501-64500 hop-a",
 ];
 
-// How many exchanges are gathered: some 317 for each size of list from 2 to 64 entries.
-const GATHERED_EXCHANGES: usize = 20_000;
+// How many exchanges are gathered: some 31 for each size of list from 2 to 64 entries.
+const GATHERED_EXCHANGES: usize = 2_000;
 
 // Most changes announce, some withdraw, and now and then a session is lost or closes, at the end of its file or at a
 // fault.
