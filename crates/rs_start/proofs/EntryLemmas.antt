@@ -5,7 +5,7 @@ use Rattle.std.proofs.lemmas.Bool.{le-ltb}
 use Rattle.std.proofs.lemmas.List.{length-append, take_at, drop_at}
 use Rattle.byteorder.specs.Endian.{big_bytes, big_number}
 use Rattle.byteorder.specs.Numbers.{big_number-reads_back}
-use Rattle.rs_start.specs.Table.{EntryIsRead, IsEntry, TableEntry, entry_at, entry_spelling}
+use Rattle.rs_start.specs.Table.{IsEntry, TableEntry, entry_at, entry_spelling}
 
 module _ (entry : TableEntry) (rest : List ℕ) (fits : IsEntry entry) where
   abbrev octets : List ℕ

@@ -1,7 +1,11 @@
 pub mod PrefixLemmas
 pub mod UpdateLemmas
+pub mod RecordLemmas
 pub mod SaidLemmas
 pub mod AddLemmas
 pub mod WritingLemmas
 pub mod TableLemmas
 pub mod EntryLemmas
+pub mod ReadingLemmas
+pub mod SessionLemmas
+pub mod FileLemmas

@@ -1,15 +1,15 @@
 -- What the beginning of a session says.
-use Rattle.std.proofs.Common.{◌≡◌, ℕ, ◌+◌, ◌^◌, ◌<◌, ◌≤◌, ◌∙◌, Bool, true, false, List, [], ◌∷◌, ◌++◌, Some, None, Ok, Err, length, drop}
+use Rattle.std.proofs.Common.{◌≡◌, ℕ, ◌∙◌, Bool, true, List, [], ◌∷◌, ◌++◌, Ok, Err, length, drop}
 use Rattle.std.proofs.Common.{map}
-use Rattle.std.proofs.Common.{filter, cond, refl, ap, sym, arith, lit<, append_assoc, length-append}
-use Rattle.std.specs.Prelude.{nat_lt, not, if◌then◌else◌}
-use Rattle.std.specs.List.{flat_map, AllByRecursion}
+use Rattle.std.proofs.Common.{cond, refl, ap, sym, arith, lit<, append_assoc}
+use Rattle.std.specs.Prelude.{not, if◌then◌else◌}
+use Rattle.std.specs.List.{AllByRecursion}
 use Rattle.std.proofs.lemmas.Bool.{le-ltb, eq-eqb, and_from}
 use Rattle.std.proofs.lemmas.List.{map-append}
 use Rattle.std.proofs.lemmas.List.Concat.{flat_map-cons}
 use Rattle.byteorder.specs.Endian.{big_bytes, big_number}
 use Rattle.byteorder.specs.Numbers.{big_number-reads_back}
-use Rattle.rs_mrt.specs.Entry.{Message, State, entry_of, fields_entry, message_entry, state_entry}
+use Rattle.rs_mrt.specs.Entry.{Message, State, entry_of, fields_entry, message_entry}
 use Rattle.rs_mrt.specs.Record.{MrtRecord, IsRecord, records_of, rest_of, record_spelling, fault_of_rest}
 use Rattle.rs_mrt.specs.Source.{source_end}
 use Rattle.rs_mrt.specs.declared.fault.MrtFault.TheVariants.{FieldsCutShort}
@@ -23,12 +23,11 @@ use Rattle.rs_session.proofs.FileChangesLemmas.{changes_of-gives}
 use Rattle.rs_update.specs.IpPrefix.{IpPrefix}
 use Rattle.rs_update.specs.Laws.{Rfc4271IsAsBefore, StandardsAgree}
 use Rattle.rs_update.specs.PathAttributes.{PathAttributes}
-use Rattle.rs_update.specs.Prefix.{is_multicast}
 use Rattle.rs_update.specs.Treating.{message_by}
 use Rattle.rs_update.specs.declared.errors.Errors.{Errors}
 use Rattle.rs_start.specs.declared.start.Start.{Start}
 use Rattle.rs_start.specs.Laws.{OpeningAnnounces}
-use Rattle.rs_start.specs.Opening.{Announcing, IsRoutePrefix, IsSound, IsStart, TableRoute, announced, announcing_record}
+use Rattle.rs_start.specs.Opening.{Announcing, IsRoutePrefix, IsSound, IsStart, announced, announcing_record}
 use Rattle.rs_start.specs.Opening.{announcing_spelling}
 use Rattle.rs_start.specs.Opening.{message_record, nlri_spelling, opening_spelling, parties, routes_in, routes_of, up_record}
 use Rattle.rs_start.specs.Opening.{updates_spelling}

@@ -1,15 +1,15 @@
 -- What an UPDATE says that is written of path attributes and prefixes.
-use Rattle.std.proofs.Common.{◌≡◌, ℕ, ◌+◌, ◌^◌, ◌<◌, ◌≤◌, ◌∙◌, Bool, true, false, not, List, [], ◌∷◌, ◌++◌, Option, Some, None, Result, Ok}
+use Rattle.std.proofs.Common.{◌≡◌, ℕ, ◌+◌, ◌<◌, ◌≤◌, ◌∙◌, Bool, true, false, not, List, [], ◌∷◌, ◌++◌, Option, Some, None, Result, Ok}
 use Rattle.std.proofs.Common.{Err}
-use Rattle.std.proofs.Common.{length, take, drop, replicate, refl, ap, sym, arith, length-append}
-use Rattle.std.specs.Prelude.{nat_lt, nat_le, ok_or, is_none, ◌&&◌, ◌==◌}
+use Rattle.std.proofs.Common.{length, take, drop, refl, ap, sym, arith, length-append}
+use Rattle.std.specs.Prelude.{nat_le, ok_or, is_none, ◌&&◌, ◌==◌}
 use Rattle.std.proofs.lemmas.Bool.{le-ltb, le-leb, eq-eqb, and_from}
 use Rattle.std.proofs.lemmas.List.{take_at, drop_at}
-use Rattle.byteorder.specs.Endian.{big_bytes, big_number}
+use Rattle.byteorder.specs.Endian.{big_bytes}
 use Rattle.byteorder.specs.Numbers.{big_number-reads_back}
 use Rattle.rs_update.specs.Fault.{first_fault, of_header}
 use Rattle.rs_update.specs.Gathered.{attributes_of}
-use Rattle.rs_update.specs.Header.{header_of, header_tests, header_fault, is_marked, has_length, length_field, type_of, type_field}
+use Rattle.rs_update.specs.Header.{header_of, header_fault, is_marked, has_length, length_field, type_of, type_field}
 use Rattle.rs_update.specs.Header.{suits_type}
 use Rattle.rs_update.specs.IpPrefix.{IpPrefix}
 use Rattle.rs_update.specs.Laws.{Rfc4271IsAsBefore, StandardsAgree}

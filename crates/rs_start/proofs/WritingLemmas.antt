@@ -1,6 +1,6 @@
 -- The beginning of a session grows, and is written whole.
-use Rattle.std.proofs.Common.{◌≡◌, ℕ, ◌∙◌, List, [], ◌∷◌, ◌++◌, Option, Some, None, refl, ap, sym, subst, append_assoc, map}
-use Rattle.std.specs.List.{flat_map, AllByRecursion}
+use Rattle.std.proofs.Common.{◌≡◌, ℕ, ◌∙◌, List, [], ◌∷◌, ◌++◌, Option, Some, None, ap, sym, subst, append_assoc, map}
+use Rattle.std.specs.List.{AllByRecursion}
 use Rattle.std.specs.Io.KnownBytes.{Appends}
 use Rattle.std.proofs.lemmas.Grind.{flat_map-append}
 use Rattle.std.proofs.lemmas.List.{append-nil}
@@ -11,7 +11,7 @@ use Rattle.rs_start.specs.Laws.{OpeningAnnounces}
 use Rattle.rs_start.specs.Opening.{Announcing, announced, IsSound, IsStart, TableRoute, announcing_record, opening_spelling, routes_in}
 use Rattle.rs_start.specs.Opening.{routes_of}
 use Rattle.rs_start.specs.Opening.{up_record, updates_spelling}
-use Rattle.rs_start.specs.Writing.{Closes, Ends, Flushes, Goes, IsBegun, IsWhole, Writing}
+use Rattle.rs_start.specs.Writing.{Closes, Ends, Flushes, Goes, IsBegun, Writing}
 
 all_more : (updates later : List Announcing) → AllByRecursion IsSound updates → AllByRecursion IsSound later
     → AllByRecursion IsSound (updates ++ later)
@@ -41,7 +41,7 @@ module _ {W : Type 0} (taken : W → Option (List ℕ)) where
       (second before (routes ++ more) (first before routes begun))
 
   -- nothing was added
-  same_routes : (before : Option (List ℕ)) (new : Writing W) (routes : List TableRoute) → IsBegun taken before new routes
+  pub same_routes : (before : Option (List ℕ)) (new : Writing W) (routes : List TableRoute) → IsBegun taken before new routes
       → IsBegun taken before new (routes ++ [])
   same_routes before new routes begun =
       subst (λ (all : List TableRoute). IsBegun taken before new all) (sym (append-nil routes)) begun

@@ -4,12 +4,16 @@ pub mod Laws  -- what it says, read as a session
 -- What is read of a table:
 pub mod Table  -- the index, and the routes of a prefix
 pub mod TableView  -- the same without where it lies in memory
+pub mod TableFile  -- the table that a file has, and the routes of each peer in it
+pub mod TableReading  -- a file that is being read
 -- How it is written:
 pub mod Writing  -- one that is being written
 pub mod Joins  -- how its UPDATE is filled
 pub mod HeldView  -- its UPDATE that is being filled, by its fields
+pub mod Sessions  -- the sessions that a table is read into
 -- What the contracts name of the crates below:
 pub use Rattle.byteorder.specs.Endian
+pub use Rattle.rs_mrt.specs.Reader
 pub use Rattle.rs_mrt.specs.Record
 pub use Rattle.rs_mrt.specs.Stream
 pub use Rattle.rs_session.specs.FileChanges

@@ -1,5 +1,4 @@
 -- What is read of a table, without where it lies in memory.
-use Rattle.std.specs.Prelude.{ℕ, List}
 use Rattle.rs_start.specs.declared.rib.RibEntry.{RibEntry}
 use Rattle.rs_start.specs.Table.{TableEntry}
 

@@ -1,6 +1,7 @@
 //! What is left out of the sessions that a table begins, by reason.
 
 use crate::added::{Added, Reason};
+use crate::part::TABLE_DUMP_V2;
 
 /// How many entries of a peer there are, by what became of them.
 #[derive(Clone, Copy, Debug, PartialEq, Eq, Drop)]
@@ -60,16 +61,10 @@ pub struct LeftOut {
     pub unknown_peer: u64,
 }
 
-// The Types (RFC 6396, section 4).
+// The Type of older tables (RFC 6396, section 4).
 const TABLE_DUMP: u16 = 12;
 
-pub(crate) const TABLE_DUMP_V2: u16 = 13;
-
-// The Subtypes of TABLE_DUMP_V2 (RFC 6396, section 4.3; RFC 8050, section 4).
-pub(crate) const PEER_INDEX_TABLE: u16 = 1;
-
-pub(crate) const RIB_IPV4_UNICAST: u16 = 2;
-
+// Subtypes of TABLE_DUMP_V2 (RFC 6396, section 4.3; RFC 8050, section 4).
 const RIB_IPV4_MULTICAST: u16 = 3;
 
 const RIB_IPV6_UNICAST: u16 = 4;

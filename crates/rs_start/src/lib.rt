@@ -1,7 +1,7 @@
 //! The beginning of each peer's session, made of a table that a collector dumped (RFC 6396, section 4.3).
 //!
-//! Reading order: `start`, `added`, `fault`, `spelling`, `held`, `writer` (a session that is written); `index`, `rib`,
-//! `table_reader` (a table that is read); `counts`, `sessions` (a table read into sessions), `laws`.
+//! Reading order: `start`, `added`, `fault`, `spelling`, `held`, `writer` (a session that is written); `part`, `index`,
+//! `rib`, `table_reader` (a table that is read); `counts`, `sessions` (a table read into sessions), `laws`.
 //! Standards: RFC 6396, sections 2, 4.3.1, 4.3.2, 4.3.4, 4.4.3 and 4.4.4; RFC 4271, sections 4.1 and 4.3.
 #![tactic(auto)]
 
@@ -11,6 +11,7 @@ mod fault;
 mod held;
 mod index;
 mod laws;
+mod part;
 mod rib;
 mod sessions;
 mod spelling;

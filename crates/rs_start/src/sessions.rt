@@ -1,12 +1,20 @@
 //! The sessions of all peers, which a table begins.
 
-ghost use Rattle.std.specs.Prelude.{◌≡◌, length};
+ghost use Rattle.std.specs.Prelude.{◌≡◌, [], ◌∷◌, IfOk, OnOk};
+ghost use Rattle.rs_start.specs.Sessions.{AddsAll, AddsEntries, AddsNext, AddsRoutes, AllEnd, AllGo, EndsBy, GoesBy};
+ghost use Rattle.rs_start.specs.Sessions.{WritesTable};
+ghost use Rattle.rs_start.specs.Opening.{added_of, route_by};
+ghost use Rattle.rs_start.specs.Table.{IsIndex};
+ghost use Rattle.rs_start.specs.TableFile.{rows_of};
+ghost use Rattle.rs_start.specs.TableReading.{ReadsIndex, record_at};
+ghost use Rattle.rs_start.specs.TableView.{entry_of};
 
-use crate::counts::{Counts, LeftOut, PEER_INDEX_TABLE, RIB_IPV4_UNICAST, TABLE_DUMP_V2};
+use crate::counts::{Counts, LeftOut};
 use crate::fault::{Broken, PartFault, RoutesFault, StartFault, TableFault};
 use crate::index::{Index, read_index};
+use crate::part::{Part, part_by};
 use crate::rib::{Rib, RibEntry, read_rib, split_entry};
-use crate::table_reader::TableReader;
+use crate::table_reader::{Head, TableReader};
 use crate::writer::SessionWriter;
 use rs_mrt::{Read, Write};
 use rs_update::Prefix;
@@ -22,7 +30,10 @@ pub struct PeerSession<W: Write> {
 
 impl<W: Write + Drop> PeerSession<W> {
     // Adds an entry of the peer.
-    fn add(&mut self, prefix: Prefix, section: &[u8]) -> Result<(), StartFault> {
+    fn add(&mut self, prefix: Prefix, section: &[u8]) -> Result<(), StartFault>
+        ensures { OnOk result (GoesBy W.taken self.old.writer self.new.writer
+            (route_by (added_of prefix section.now) prefix section.now)) }
+    {
         match &mut self.writer {
             Some(writer) => {
                 let added = writer.add(prefix, section)?;
@@ -32,6 +43,16 @@ impl<W: Write + Drop> PeerSession<W> {
         }
         Ok(())
     }
+
+    // Writes all that waits.
+    fn finish(&mut self) -> Result<(), StartFault>
+        ensures { OnOk result (EndsBy W.taken self.old.writer self.new.writer []) }
+    {
+        match &mut self.writer {
+            Some(writer) => writer.finish(),
+            None => Ok(()),
+        }
+    }
 }
 
 impl<R: Read> TableReader<R> {
@@ -40,58 +61,111 @@ impl<R: Read> TableReader<R> {
     ///
     /// `Broken` tells what is at fault: a record or the index is cut short, or routes or the end of the file come
     /// before an index. `Read` comes where a read fails, `Memory` where memory is refused.
-    pub fn read_index(&mut self, left_out: &mut LeftOut) -> Result<(u32, Index), TableFault> {
+    pub fn read_index(&mut self, left_out: &mut LeftOut) -> Result<(u32, Index), TableFault>
+        ensures index { IfOk result (λ read.
+            ReadsIndex R.gives self.old self.new read.0 read.1.collector read.1.peers.items) }
+    {
         for _record in 0..u64::MAX {
             let Some(head) = self.next()? else {
                 return Err(self.broken(Broken::NoIndex));
             };
-            match (head.kind, head.subtype) {
-                (TABLE_DUMP_V2, PEER_INDEX_TABLE) => {
-                    return match read_index(self.alloc, self.body(&head)) {
-                        Ok(index) => Ok((head.time, index)),
-                        Err(fault) => Err(fault.in_file(head.at)),
-                    };
-                }
-                (TABLE_DUMP_V2, RIB_IPV4_UNICAST) => {
+            match part_by(head.kind, head.subtype) {
+                Part::Index => return self.index_in(&head),
+                Part::Routes => {
                     return Err(TableFault::Broken {
                         at: head.at,
                         what: Broken::NoIndex,
                     });
                 }
-                (kind, subtype) => left_out.add(kind, subtype),
+                Part::Other => left_out.add(head.kind, head.subtype),
             }
         }
         Err(TableFault::Read)
     }
 
-    /// Reads the records behind the index, and adds each entry to the session of its peer. Records without routes of
-    /// IPv4 unicast prefixes, and entries of peers that the index does not have, are counted.
-    pub fn read_routes<W: Write + Drop>(
+    // The time and the index of the record read last.
+    fn index_in(&self, head: &Head) -> Result<(u32, Index), TableFault>
+        ensures time { IfOk result (λ read. read.0 ≡ head.now.time) }
+        ensures index { IfOk result (λ read.
+            IsIndex (record_at head.now self.now.body).body read.1.collector read.1.peers.items) }
+    {
+        match read_index(self.alloc, self.body(head)) {
+            Ok(index) => Ok((head.time, index)),
+            Err(fault) => Err(fault.in_file(head.at)),
+        }
+    }
+
+    /// Reads the records behind the index to the end of the file, adds each entry to the session of its peer, and
+    /// writes the sessions whole. Records without routes of IPv4 unicast prefixes, and entries of peers that the index
+    /// does not have, are counted.
+    ///
+    /// Afterwards what was taken of each session says just what the table has of its peer, as the peer's session: one
+    /// announcement for each route that isn't left out, in order.
+    pub fn write_sessions<W: Write + Drop>(
         &mut self,
         sessions: &mut [PeerSession<W>],
         left_out: &mut LeftOut,
     ) -> Result<(), RoutesFault>
-        ensures count { length sessions.new ≡ length sessions.old }
+        ensures written { OnOk result (WritesTable R.gives W.taken self.old sessions.old sessions.new) }
+    {
+        self.read_routes(sessions, left_out)?;
+        finish_all(sessions)?;
+        Ok(())
+    }
+
+    // Reads the records behind the index, and adds each entry to the session of its peer.
+    fn read_routes<W: Write + Drop>(
+        &mut self,
+        sessions: &mut [PeerSession<W>],
+        left_out: &mut LeftOut,
+    ) -> Result<(), RoutesFault>
+        ensures { OnOk result (AddsAll R.gives W.taken self.old sessions.old sessions.new) }
     {
         for _record in 0..u64::MAX {
-            let Some(head) = self.next()? else {
+            if !self.add_next(sessions, left_out)? {
                 return Ok(());
-            };
-            match (head.kind, head.subtype) {
-                (TABLE_DUMP_V2, PEER_INDEX_TABLE) => {
-                    return Err(RoutesFault::Table(TableFault::Broken {
-                        at: head.at,
-                        what: Broken::SecondIndex,
-                    }));
-                }
-                (TABLE_DUMP_V2, RIB_IPV4_UNICAST) => {
-                    add_record(self.body(&head), head.at, sessions, left_out)?;
-                }
-                (kind, subtype) => left_out.add(kind, subtype),
             }
         }
         Err(RoutesFault::Table(TableFault::Read))
     }
+
+    // Reads the next record, and adds its entries. Answers whether there is one.
+    fn add_next<W: Write + Drop>(
+        &mut self,
+        sessions: &mut [PeerSession<W>],
+        left_out: &mut LeftOut,
+    ) -> Result<bool, RoutesFault>
+        ensures { IfOk result (λ more. AddsNext R.gives W.taken self.old self.new sessions.old sessions.new more) }
+    {
+        let Some(head) = self.next()? else {
+            return Ok(false);
+        };
+        match part_by(head.kind, head.subtype) {
+            Part::Index => {
+                return Err(RoutesFault::Table(TableFault::Broken {
+                    at: head.at,
+                    what: Broken::SecondIndex,
+                }));
+            }
+            Part::Routes => add_record(self.body(&head), head.at, sessions, left_out)?,
+            Part::Other => left_out.add(head.kind, head.subtype),
+        }
+        Ok(true)
+    }
+}
+
+// Writes all that waits of each session.
+fn finish_all<W: Write + Drop>(sessions: &mut [PeerSession<W>]) -> Result<(), RoutesFault>
+    ensures { OnOk result (AllEnd W.taken sessions.old sessions.new []) }
+{
+    for place in 0..sessions.len() {
+        match sessions[place].finish() {
+            Ok(()) => {}
+            Err(StartFault::Memory) => return Err(RoutesFault::Memory),
+            Err(StartFault::Write) => return Err(RoutesFault::Write(place)),
+        }
+    }
+    Ok(())
 }
 
 // Adds the entries of a record to the sessions of their peers. The body of the record begins at this octet of the file.
@@ -101,7 +175,7 @@ fn add_record<W: Write + Drop>(
     sessions: &mut [PeerSession<W>],
     left_out: &mut LeftOut,
 ) -> Result<(), RoutesFault>
-    ensures count { length sessions.new ≡ length sessions.old }
+    ensures { OnOk result (AddsRoutes W.taken body.now sessions.old sessions.new) }
 {
     let rib = match read_rib(body) {
         Ok(rib) => rib,
@@ -132,7 +206,8 @@ fn add_entries<W: Write + Drop>(
     sessions: &mut [PeerSession<W>],
     left_out: &mut LeftOut,
 ) -> Result<(), EntriesFault>
-    ensures count { length sessions.new ≡ length sessions.old }
+    ensures { OnOk result (AddsEntries W.taken rib.now.prefix rib.now.count rib.now.entries.now []
+        sessions.old sessions.new) }
 {
     let entries = rib.entries;
     let mut rest = entries;
@@ -162,7 +237,7 @@ fn add_entry<W: Write + Drop>(
     sessions: &mut [PeerSession<W>],
     left_out: &mut LeftOut,
 ) -> Result<(), EntriesFault>
-    ensures count { length sessions.new ≡ length sessions.old }
+    ensures { OnOk result (AllGo W.taken sessions.old sessions.new (rows_of prefix (entry_of entry.entry ∷ []))) }
 {
     let peer = usize::from(entry.peer);
     if peer >= sessions.len() {

@@ -5,7 +5,7 @@ use crate::faults::{by_routes, by_table};
 use crate::listed::{Listed, Table, first_unknown, listed_peers};
 use crate::peer_lines::as_text;
 use crate::session_files::{SessionFile, put_in_place, remove_parts};
-use crate::sessions::{begin_sessions, counts_of, finish_sessions};
+use crate::sessions::{begin_sessions, counts_of};
 use rs_glass_shell::{Reply, Unanswered};
 use rs_host::{DONE, Unready, open_file};
 use rs_mrt::Read;
@@ -88,10 +88,7 @@ fn counted<R: AllocGlobal + Files, F: Read>(
 ) -> Result<Vec<Counts>, Unanswered> {
     let alloc = rt.alloc();
     let mut sessions = begin_sessions(rt, query, table, files)?;
-    if let Err(fault) = reader.read_routes(&mut sessions, left_out) {
-        return Err(by_routes(alloc, query, table, fault));
-    }
-    if let Err(fault) = finish_sessions(&mut sessions) {
+    if let Err(fault) = reader.write_sessions(&mut sessions, left_out) {
         return Err(by_routes(alloc, query, table, fault));
     }
     Ok(counts_of(alloc, &sessions)?)

@@ -9,7 +9,7 @@ use rs_glass_shell::Unanswered;
 use rs_mrt::{IoWriter, Write};
 use rs_query::StartQuery;
 use rs_session::PeerId;
-use rs_start::{Counts, PeerSession, RoutesFault, SessionWriter, Start, StartFault};
+use rs_start::{Counts, PeerSession, SessionWriter, Start};
 use std::alloc::{AllocError, Global};
 use std::fs::Files;
 
@@ -61,28 +61,6 @@ fn begin_session<R: AllocGlobal + Files>(
     let file = create(rt, query, address, files)?;
     let writer = SessionWriter::begin(rt.alloc(), IoWriter::new(file), start)?;
     Ok(Some(writer))
-}
-
-/// Writes all that waits of the sessions.
-pub(crate) fn finish_sessions<W: Write + Drop>(
-    sessions: &mut [PeerSession<W>],
-) -> Result<(), RoutesFault> {
-    for (place, session) in sessions.iter_mut().enumerate() {
-        match finish(session) {
-            Ok(()) => {}
-            Err(StartFault::Memory) => return Err(RoutesFault::Memory),
-            Err(StartFault::Write) => return Err(RoutesFault::Write(place)),
-        }
-    }
-    Ok(())
-}
-
-// Writes all that waits of a session.
-fn finish<W: Write + Drop>(session: &mut PeerSession<W>) -> Result<(), StartFault> {
-    match &mut session.writer {
-        Some(writer) => writer.finish(),
-        None => Ok(()),
-    }
 }
 
 /// What became of the entries of each peer. Fails where memory is refused.

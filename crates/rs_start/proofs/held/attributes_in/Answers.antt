@@ -1,4 +1,4 @@
-use Rattle.std.proofs.Common.{◌≡◌, ◌∙◌, sym, ap, subst, Ok, Err}
+use Rattle.std.proofs.Common.{◌∙◌, subst, Ok, Err}
 use Rattle.rs_update.specs.Message.{Answers, content_of, message_of}
 use Rattle.rs_update.specs.declared.fault.MessageFault.TheVariants.{Bgp}
 use Rattle.rs_start.proofs.AddLemmas.{answer_tells}

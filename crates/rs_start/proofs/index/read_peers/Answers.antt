@@ -1,4 +1,4 @@
-use Rattle.std.proofs.Common.{◌∷◌, [], ◌++◌, ℕ, ◌≡◌, ◌+◌, length, length-append, arith, sym}
+use Rattle.std.proofs.Common.{◌∷◌, [], ◌++◌, ◌≡◌, ◌+◌, length, length-append, arith, sym}
 use Rattle.rs_start.specs.Table.{peer_at}
 use Rattle.rs_start.proofs.TableLemmas.{leads_more}
 use Rattle.rs_start.proofs.index.read_peers.Goals as goal

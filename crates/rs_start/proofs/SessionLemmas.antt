@@ -1,0 +1,191 @@
+-- The sessions of peers go on with the rows of a table.
+use Rattle.std.proofs.Common.{◌≡◌, ℕ, ◌+◌, ◌<◌, ◌≤◌, ◌∙◌, Bool, List, [], ◌∷◌, ◌++◌, get_or, set, length, Option, Some, None, ◌⊎◌, inl, inr}
+use Rattle.std.proofs.Common.{refl, ap, sym, subst, append_assoc, length-append, arith}
+use Rattle.std.specs.Prelude.{cond, ◌==◌}
+use Rattle.std.specs.List.{flat_map}
+use Rattle.std.proofs.lemmas.Bool.{cases_eq, eq-eqb, ne_eqb}
+use Rattle.std.proofs.lemmas.Grind.{flat_map-append}
+use Rattle.std.proofs.lemmas.List.{append-nil, get_or_default, get_or-set_other, get_or-set_same, length-set, map-append}
+use Rattle.std.proofs.lemmas.List.Elements.{filter-append}
+use Rattle.rs_mrt.specs.Record.{MrtRecord}
+use Rattle.rs_update.specs.IpPrefix.{IpPrefix}
+use Rattle.rs_start.specs.Opening.{TableRoute}
+use Rattle.rs_start.specs.Sessions.{AddsEntries, AllEnd, AllGo, EndsBy, EndsWith, GoesBy, GoesOn}
+use Rattle.rs_start.specs.Table.{TableEntry, entry_at}
+use Rattle.rs_start.specs.TableFile.{AllHave, TableRow, rows_from, rows_of, told_by, told_from}
+use Rattle.rs_start.specs.Writing.{IsWhole, Writing}
+use Rattle.rs_start.specs.declared.sessions.PeerSession.{PeerSession}
+use Rattle.rs_start.specs.declared.start.Start.{Start}
+use Rattle.rs_start.proofs.TableLemmas.{leads_more}
+use Rattle.rs_start.proofs.WritingLemmas.{goes-then, same_routes}
+
+-- ---- rows
+
+pub told_more : (place : ℕ) (rows later : List TableRow) → told_from place (rows ++ later) ≡ told_from place rows ++ told_from place later
+told_more place rows later =
+    ap (flat_map told_by) (filter-append (λ row. row.entry.peer == place) rows later)
+    ∙ flat_map-append told_by (rows_from place rows) (rows_from place later)
+
+told_own : (place : ℕ) (row : TableRow) → row.entry.peer ≡ place → told_from place (row ∷ []) ≡ told_by row
+told_own place row own =
+    ap (λ (b : Bool). flat_map told_by (cond b (row ∷ []) [])) (eq-eqb row.entry.peer place own) ∙ append-nil (told_by row)
+
+told_other : (place : ℕ) (row : TableRow) → (row.entry.peer ≡ place → ⊥) → told_from place (row ∷ []) ≡ []
+told_other place row other = ap (λ (b : Bool). flat_map told_by (cond b (row ∷ []) [])) (ne_eqb row.entry.peer place other)
+
+-- records behind the index, and others behind them
+pub all_have : (records later : List MrtRecord) (rows more : List TableRow) → AllHave records rows → AllHave later more
+    → AllHave (records ++ later) (rows ++ more)
+all_have [] later rows more has after = subst (λ (before : List TableRow). AllHave later (before ++ more)) (sym has) after
+all_have (first ∷ records) later rows more has after = (
+  has.0,
+  has.1 ++ more,
+  has.2,
+  all_have records later has.1 more has.3 after,
+  ap (λ (all : List TableRow). all ++ more) has.4 ∙ append_assoc has.0 has.1 more,
+)
+
+module _ {W : Type 0} (taken : W → Option (List ℕ)) where
+  -- ---- one session
+
+  goes_nothing : (session : Option (Writing W)) → GoesBy taken session session []
+  goes_nothing None = tt
+  goes_nothing (Some session) =
+      record { goes = λ before routes begun. same_routes taken before session routes begun; start = refl }
+
+  goes_on : (old mid new : Option (Writing W)) (more later : List TableRoute) → GoesBy taken old mid more → GoesBy taken mid new later
+      → GoesBy taken old new (more ++ later)
+  goes_on None None None more later first second = tt
+  goes_on None None (Some new) more later first second = absurd second
+  goes_on None (Some mid) new more later first second = absurd first
+  goes_on (Some old) None new more later first second = absurd first
+  goes_on (Some old) (Some mid) None more later first second = absurd second
+  goes_on (Some old) (Some mid) (Some new) more later first second =
+      record { goes = goes-then taken old mid new more later first.goes second.goes; start = second.start ∙ first.start }
+
+  end_with : (old mid new : Writing W) (more : List TableRoute) → GoesOn taken old mid more → EndsWith taken mid new []
+      → EndsWith taken old new more
+  end_with old mid new more first second before routes begun =
+      subst (λ (start : Start). IsWhole before (taken new.out) start (routes ++ more)) first.start
+      (subst (λ (all : List TableRoute). IsWhole before (taken new.out) mid.start all) (append-nil (routes ++ more))
+      (second before (routes ++ more) (first.goes before routes begun)))
+
+  ends_by : (old mid new : Option (Writing W)) (more : List TableRoute) → GoesBy taken old mid more → EndsBy taken mid new []
+      → EndsBy taken old new more
+  ends_by None None None more first second = tt
+  ends_by None None (Some new) more first second = absurd second
+  ends_by None (Some mid) new more first second = absurd first
+  ends_by (Some old) None new more first second = absurd first
+  ends_by (Some old) (Some mid) None more first second = absurd second
+  ends_by (Some old) (Some mid) (Some new) more first second = end_with old mid new more first second
+
+  -- ---- all of them
+
+  pub all_nothing : (sessions : List (PeerSession W)) → AllGo taken sessions sessions []
+  all_nothing sessions =
+      record { count = refl; each = λ place d within. goes_nothing (get_or sessions place d).writer }
+
+  pub all_then : (olds mids news : List (PeerSession W)) (rows later : List TableRow) → AllGo taken olds mids rows
+      → AllGo taken mids news later → AllGo taken olds news (rows ++ later)
+  all_then olds mids news rows later first second =
+      record {
+        count = second.count ∙ first.count;
+        each = λ place d within.
+            subst (λ (told : List TableRoute). GoesBy taken (get_or olds place d).writer (get_or news place d).writer told)
+            (sym (told_more place rows later))
+            (goes_on (get_or olds place d).writer (get_or mids place d).writer (get_or news place d).writer (told_from place rows)
+            (told_from place later) (first.each place d within) (second.each place d (omega (arith, within, first.count))));
+      }
+
+  -- the session of its peer goes on with a row
+  pub all_one : (olds : List (PeerSession W)) (peer : ℕ) (next new : PeerSession W) (row : TableRow) → peer < length olds
+      → row.entry.peer ≡ peer → GoesBy taken (get_or olds peer next).writer new.writer (told_by row)
+      → AllGo taken olds (set olds peer new) (row ∷ [])
+  all_one olds peer next new row within own goes =
+      record { count = length-set olds peer new; each = λ place d below. one place d below (cases_eq place peer) }
+    where
+      one : (place : ℕ) (d : PeerSession W) → place < length olds → (place ≡ peer) ⊎ (place ≡ peer → ⊥)
+          → GoesBy taken (get_or olds place d).writer (get_or (set olds peer new) place d).writer (told_from place (row ∷ []))
+      one place d below (inl same) =
+          let before : get_or olds peer next ≡ get_or olds place d =
+          get_or_default olds peer next d within ∙ ap (λ at. get_or olds at d) (sym same) in
+          let after : new ≡ get_or (set olds peer new) place d =
+          sym (get_or-set_same olds peer new d within) ∙ ap (λ at. get_or (set olds peer new) at d) (sym same) in
+          let told : told_by row ≡ told_from place (row ∷ []) = sym (told_own place row (own ∙ sym same)) in
+          subst (λ (x : PeerSession W). GoesBy taken x.writer (get_or (set olds peer new) place d).writer (told_from place (row ∷ [])))
+          before
+          (subst (λ (x : PeerSession W). GoesBy taken (get_or olds peer next).writer x.writer (told_from place (row ∷ []))) after
+          (subst (λ (told : List TableRoute). GoesBy taken (get_or olds peer next).writer new.writer told) told goes))
+      one place d below (inr other) =
+          let after : get_or olds place d ≡ get_or (set olds peer new) place d = sym (get_or-set_other olds peer place new d other) in
+          let told : [] ≡ told_from place (row ∷ []) = sym (told_other place row (λ own_too. other (sym own_too ∙ own))) in
+          subst (λ (x : PeerSession W). GoesBy taken (get_or olds place d).writer x.writer (told_from place (row ∷ []))) after
+          (subst (λ (told : List TableRoute). GoesBy taken (get_or olds place d).writer (get_or olds place d).writer told) told
+          (goes_nothing (get_or olds place d).writer))
+
+  -- a row of a peer that the index doesn't have
+  pub all_unknown : (olds : List (PeerSession W)) (row : TableRow) → length olds ≤ row.entry.peer → AllGo taken olds olds (row ∷ [])
+  all_unknown olds row past =
+      record {
+        count = refl;
+        each = λ place d within.
+            subst (λ (told : List TableRoute). GoesBy taken (get_or olds place d).writer (get_or olds place d).writer told)
+            (sym (told_other place row (λ own. omega (arith, own, past, within))))
+            (goes_nothing (get_or olds place d).writer);
+      }
+
+  pub all_end : (olds mids news : List (PeerSession W)) (rows : List TableRow) → AllGo taken olds mids rows → AllEnd taken mids news []
+      → AllEnd taken olds news rows
+  all_end olds mids news rows first second =
+      record {
+        count = second.count ∙ first.count;
+        each = λ place d within.
+            ends_by (get_or olds place d).writer (get_or mids place d).writer (get_or news place d).writer (told_from place rows)
+            (first.each place d within) (second.each place d (omega (arith, within, first.count)));
+      }
+
+  -- ---- the entries of a record
+
+  pub entries_none : (prefix : IpPrefix) (octets : List ℕ) (olds : List (PeerSession W))
+      → AddsEntries taken prefix 0 octets octets olds olds
+  entries_none prefix octets olds = record { entries = []; counted = refl; leads = refl; go = all_nothing olds }
+
+  pub entries_more : (prefix : IpPrefix) (count : ℕ) (octets rest behind : List ℕ) (entry : TableEntry)
+      (olds mids news : List (PeerSession W))
+      → AddsEntries taken prefix count octets rest olds mids → entry_at rest ≡ Some (entry, behind)
+      → AllGo taken mids news (rows_of prefix (entry ∷ [])) → AddsEntries taken prefix (count + 1) octets behind olds news
+  entries_more prefix count octets rest behind entry olds mids news so_far next more =
+      record {
+        entries = so_far.entries ++ entry ∷ [];
+        counted = omega (arith, so_far.counted, length-append so_far.entries (entry ∷ []));
+        leads = leads_more entry_at octets so_far.entries rest behind entry so_far.leads next;
+        go = subst (λ (rows : List TableRow). AllGo taken olds news rows)
+            (sym (map-append (λ one. record { prefix = prefix; entry = one }) so_far.entries (entry ∷ [])))
+            (all_then olds mids news (rows_of prefix so_far.entries) (rows_of prefix (entry ∷ [])) so_far.go more);
+      }
+
+-- ---- a loop over sessions
+
+-- one element more of a list is replaced by one that stands to it as it should
+module _ {X : Type 0} (R : X → X → Type 0) (old now : List X) (n : ℕ) (next new : X) (count : length now ≡ length old)
+    (within : n < length now) where
+  pub done-also : ((k : ℕ) (d : X) → k < n → k < length old → R (get_or old k d) (get_or now k d))
+      → ((k : ℕ) (d : X) → n ≤ k → get_or now k d ≡ get_or old k d) → R (get_or now n next) new
+      → (k : ℕ) (d : X) → k < n + 1 → k < length old → R (get_or old k d) (get_or (set now n new) k d)
+  done-also done to_do step k d below known = elim (cases_eq k n) [
+    | inl same ↦
+        let P : X → Type 0 = λ before. R before (get_or (set now n new) k d) in
+        let Q : X → Type 0 = λ after. R (get_or now n next) after in
+        let at : get_or now n next ≡ get_or old k d =
+        get_or_default now n next d within ∙ to_do n d (omega arith) ∙ ap (λ place. get_or old place d) (sym same) in
+        let put : get_or (set now n new) k d ≡ new =
+        ap (λ place. get_or (set now n new) place d) same ∙ get_or-set_same now n new d within in
+        subst P at (subst Q (sym put) step)
+    | inr other ↦
+        let P : X → Type 0 = λ after. R (get_or old k d) after in
+        subst P (sym (get_or-set_other now n k new d other)) (done k d (omega (arith, other)) known)
+  ]
+
+  pub to_do-also : ((k : ℕ) (d : X) → n ≤ k → get_or now k d ≡ get_or old k d) → (k : ℕ) (d : X) → n + 1 ≤ k
+      → get_or (set now n new) k d ≡ get_or old k d
+  to_do-also to_do k d later = get_or-set_other now n k new d (λ same. omega (arith, same, later)) ∙ to_do k d (omega (arith, later))

@@ -1,0 +1,85 @@
+-- The table that a file has: its index, and the routes that its records have of each peer (RFC 6396, section 4.3).
+use Rattle.std.specs.Prelude.{◌≡◌, ℕ, ◌==◌, if◌then◌else◌, List, [], ◌∷◌, ◌++◌, map, filter, None}
+use Rattle.std.specs.List.{flat_map, AllByRecursion}
+use Rattle.rs_mrt.specs.Record.{MrtRecord, end_of, records_of}
+use Rattle.rs_update.specs.IpPrefix.{IpPrefix}
+use Rattle.rs_start.specs.Opening.{TableRoute, added_of, route_by}
+use Rattle.rs_start.specs.Table.{IsIndex, IsRib, TableEntry}
+use Rattle.rs_start.specs.declared.index.IndexPeer.{IndexPeer}
+use Rattle.rs_start.specs.declared.part.Part.{Part}
+use Rattle.rs_start.specs.declared.part.Part.TheVariants.{Index, Routes, Other}
+
+-- ---- records
+
+-- by Type and Subtype: TABLE_DUMP_V2 is 13, PEER_INDEX_TABLE is 1 of it, and RIB_IPV4_UNICAST is 2 of it
+abbrev pub part_by : ℕ → ℕ → Part
+part_by kind subtype =
+    if kind == 13 then (if subtype == 1 then Index else if subtype == 2 then Routes else Other) else Other
+
+abbrev pub part_of : MrtRecord → Part
+part_of r = part_by r.kind r.subtype
+
+abbrev pub IsOther : MrtRecord → Type 0
+IsOther r = part_of r ≡ Other
+
+-- ---- rows
+
+-- a row of a table: a prefix, and a RIB entry
+pub record TableRow : Type 0 where
+  pub prefix : IpPrefix
+  pub entry : TableEntry
+
+abbrev pub rows_of : IpPrefix → List TableEntry → List TableRow
+rows_of prefix entries = map (λ entry. record { prefix = prefix; entry = entry }) entries
+
+-- a record of routes is whole, and these are its rows
+pub record HasRoutes (body : List ℕ) (rows : List TableRow) : Type 0 where
+  pub prefix : IpPrefix
+  pub entries : List TableEntry
+  pub is_rib : IsRib body prefix entries
+  pub rows_are : rows ≡ rows_of prefix entries
+
+-- a record behind the index has these rows: it is no second index, and a record of another kind has none
+abbrev pub HasBy : Part → List ℕ → List TableRow → Type 0
+HasBy Index body rows = ⊥
+HasBy Routes body rows = HasRoutes body rows
+HasBy Other body rows = rows ≡ []
+
+abbrev pub Has : MrtRecord → List TableRow → Type 0
+Has r rows = HasBy (part_of r) r.body rows
+
+-- records behind the index have these rows, in order
+abbrev pub AllHave : List MrtRecord → List TableRow → Type 0
+AllHave [] rows = rows ≡ []
+AllHave (r ∷ later) rows =
+    (first : List TableRow) × (behind : List TableRow) × Has r first × AllHave later behind × (rows ≡ first ++ behind)
+
+-- ---- a file
+
+-- The records of a file are an index behind records of other kinds, and then records that have these rows. The last one
+-- is whole.
+pub record IsTable (file : List ℕ) (time collector : ℕ) (peers : List IndexPeer) (rows : List TableRow) : Type 0 where
+  pub before : List MrtRecord
+  pub index : MrtRecord
+  pub behind : List MrtRecord
+  pub records : records_of file ≡ before ++ index ∷ behind
+  pub whole : end_of file ≡ None
+  pub others : AllByRecursion IsOther before
+  pub is_index : part_of index ≡ Index
+  pub time_is : index.time ≡ time
+  pub says : IsIndex index.body collector peers
+  pub has : AllHave behind rows
+
+-- ---- the routes of a peer
+
+-- the rows of the peer at a place of the index
+abbrev pub rows_from : ℕ → List TableRow → List TableRow
+rows_from place rows = filter (λ row. row.entry.peer == place) rows
+
+-- the route of a row, unless the row is left out
+abbrev pub told_by : TableRow → List TableRoute
+told_by row = route_by (added_of row.prefix row.entry.section) row.prefix row.entry.section
+
+-- the routes that a table has from that peer and that are not left out, in order
+abbrev pub told_from : ℕ → List TableRow → List TableRoute
+told_from place rows = flat_map told_by (rows_from place rows)
