@@ -4,14 +4,15 @@ ghost use Rattle.std.specs.Prelude.{◌<◌};
 
 use crate::axis::{PARTS, add_ticks, axis_of};
 use crate::elements::{
-    add_cell, add_rectangle, close_picture, close_row, close_section, close_table, name_of,
-    open_picture, open_row, open_section, open_table,
+    add_cell, close_row, close_section, close_table, name_of, open_row, open_section, open_table,
 };
 use crate::shown::Shown;
 use crate::spans::{End, Span};
 use rs_glass_shell::close_text;
 use rs_host::Utc;
-use rs_picture::{Lanes, MOST_LANES, TimeAxis, add_text};
+use rs_picture::{
+    Lanes, MOST_LANES, TimeAxis, add_mark, add_stretch, add_text, close_picture, open_picture,
+};
 use std::alloc::{AllocError, Global};
 
 const ABOUT: &str =
@@ -47,7 +48,7 @@ pub(crate) fn add_sessions(
         text.push_str("</div><div class=\"area\">\n")?;
         let axis = axis_of(shown.times.changes.first, shown.times.changes.last);
         add_lanes(text, alloc, shown, &axis)?;
-        add_ticks(text, &axis)?;
+        add_ticks(text, alloc, &axis)?;
         text.push_str("</div></div>\n")?;
         add_table(text, alloc, shown)?;
     } else {
@@ -108,27 +109,17 @@ fn add_span(
     (name, top): (&str, u32),
     span: &Span,
 ) -> Result<(), AllocError> {
-    let (from, to) = (axis.place(span.from), axis.place(span.to));
-    let length = to.saturating_sub(from).max(1);
     text.push_str("<g><title>")?;
     add_text(text, name)?;
     let (since, until) = (Utc(span.from), Utc(span.to));
     write!(text, ": {since} to {until}, ")?;
     add_text(text, &end_text(alloc, span.end)?)?;
     text.push_str("</title>")?;
-    let begin = (
-        from.min(PARTS - length.min(PARTS)),
-        top.saturating_add(INDENT),
-    );
-    add_rectangle(text, "kb", begin, (length, BAR))?;
-    text.push_str("/>")?;
+    let bar = (top.saturating_add(INDENT), BAR);
+    add_stretch(text, "kb", axis, (span.from, span.to), bar)?;
     match span.end {
         End::Up => {}
-        _ => {
-            let mark = to.min(PARTS - MARK);
-            add_rectangle(text, "km", (mark, top), (MARK, HEIGHT))?;
-            text.push_str("/>")?;
-        }
+        _ => add_mark(text, "km", axis, span.to, top, (MARK, HEIGHT))?,
     }
     text.push_str("</g>\n")
 }
