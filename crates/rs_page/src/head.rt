@@ -50,7 +50,7 @@ fn add_notes(text: &mut String, shown: &Shown<'_>) -> Result<(), AllocError> {
         return Ok(());
     }
     let count = shown.notes.len();
-    text.push_str("<section>\n<h2>Notes on the recordings</h2>\n<details")?;
+    text.push_str("<section>\n<h2>Notes on the recordings</h2>\n<details class=\"notes\"")?;
     if count <= FEW {
         text.push_str(" open=\"open\"")?;
     }

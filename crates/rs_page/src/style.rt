@@ -16,7 +16,7 @@ h2{font-size:18px;margin:28px 0 4px}
 p{margin:4px 0;max-width:75em}
 code{font:12px ui-monospace,monospace;overflow-wrap:anywhere}
 .command{color:var(--soft)}
-.wide{overflow-x:auto;max-width:100%}
+.wide{overflow:auto;max-width:100%;max-height:95vh}
 .cards{display:grid;grid-template-columns:repeat(auto-fill,minmax(min(320px,100%),1fr));gap:10px}
 figure{margin:0;padding:8px;background:var(--card);border-radius:6px;break-inside:avoid;overflow:hidden}
 figcaption{overflow-wrap:anywhere}
@@ -37,16 +37,22 @@ summary{cursor:pointer;color:var(--soft)}
 .area svg{width:100%;background:var(--card)}
 .ticks{position:relative;height:16px;font-size:11px;color:var(--soft)}
 .ticks span{position:absolute;min-height:16px;white-space:nowrap;border-left:1px solid var(--soft);padding-left:3px}
+.heat thead th,.heat th[scope=row]{position:sticky;background:var(--back)}
+.heat thead th{top:0;vertical-align:bottom}
+.heat th[scope=row]{left:0}
 .heat td{min-width:2.2em}
 .heat .a{background:var(--a)}.heat .b{background:var(--b)}.heat .c{background:var(--c)}.heat .d{background:var(--d)}
 .heat .e{background:var(--e)}.heat .f{background:var(--f)}.heat .g{background:var(--g)}.heat .h{background:var(--h)}
 .heat td{color:var(--low)}.heat .f,.heat .g,.heat .h{color:var(--high)}
+.tall thead th~th span{writing-mode:vertical-rl;max-height:12em;overflow:hidden}
 .small{font-size:10px}
 .small th,.small td{padding:0;border-width:0 1px 1px 0}
-.small td{min-width:9px;width:9px;height:9px;line-height:9px;font-size:0}
-.small td:hover,.small td:last-child{font-size:10px}
-.small thead span{writing-mode:vertical-rl;max-height:12em;overflow:hidden}
+.small td{min-width:9px;height:9px;line-height:9px}
+.small td:last-child{padding:0 3px}
 @media (max-width:800px){.ticks span:nth-child(even){display:none}}
-@media print{@page{size:A4;margin:12mm}body{padding:0;font-size:11px}.heat{zoom:.6}summary{display:none}section{break-inside:auto}
+@media print{@page{size:A4;margin:12mm}body{padding:0;font-size:11px}.wide{overflow:visible;max-height:none}.heat{zoom:var(--print)}
+.heat thead th,.heat th[scope=row]{position:static}summary{display:none}.notes summary{display:block}
+.small th,.small td{border:0}
+h2,h2+p{break-after:avoid}.plot,.area{break-inside:avoid}
 *{-webkit-print-color-adjust:exact;print-color-adjust:exact}}
 "#;

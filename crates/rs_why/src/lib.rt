@@ -2,7 +2,8 @@
 //! All of it is our choice, but for JSON (RFC 8259).
 //!
 //! Reading order: `answering` (the whole answer), `unread` (why there is none). `why_lines` and `why_object` (why a client
-//! has each peer's route, or not). `history_lines` and `history_object` (what happened). Below them `because` (the
+//! has each peer's route, or not). `history_lines` and `history_object` (what happened), `lives` (how long routes stood), `picture`, `picture_lanes` and `canvas` (the same as a
+//! picture). Below them `because` (the
 //! reasons), `starts` (since when recordings run), `clock` (times), `attribute_lines` and `attribute_object`.
 #![tactic(auto)]
 
@@ -10,9 +11,13 @@ mod answering;
 mod attribute_lines;
 mod attribute_object;
 mod because;
+mod canvas;
 mod clock;
 mod history_lines;
 mod history_object;
+mod lives;
+mod picture;
+mod picture_lanes;
 mod starts;
 mod unread;
 mod why_lines;
