@@ -41,7 +41,7 @@ text{font:15px system-ui,sans-serif}
 .edge{stroke:#fff;stroke-width:1.5px}
 @media (prefers-color-scheme:dark){:root{background:#11161b}.edge{stroke:#11161b}}
 @media (max-width:600px){text{font-size:20px}.time:nth-of-type(even) text{display:none}}
-@media print{svg{max-width:none}}
+@media print{svg{max-width:none;max-height:100vh}}
 ";
 
 /// What is drawn, and where.

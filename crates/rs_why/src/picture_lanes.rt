@@ -200,7 +200,7 @@ fn add_tick(text: &mut String, canvas: &Canvas<'_>, time: u32, top: u32) -> Resu
         return Ok(());
     }
     let y = top.saturating_add(TICK_TOP);
-    add_mark(text, "km", &canvas.axis, time, y, TICK)
+    add_mark(text, "km edge", &canvas.axis, time, y, TICK)
 }
 
 // Adds the title of a time: whose route, from when to when, which route, and who gets it.
