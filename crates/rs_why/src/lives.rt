@@ -111,26 +111,19 @@ fn other_event(
         return Ok(Some(life));
     }
     end_life(one, Some(life), gets.time)?;
-    Ok(Some(Life {
-        from: gets.time,
-        to: None,
-        announced: life.announced,
-        begins: false,
-        chosen,
-    }))
+    let mut next = life;
+    next.from = gets.time;
+    next.begins = false;
+    next.chosen = chosen;
+    Ok(Some(next))
 }
 
 // Notes a route that stood up to a time, if one did.
 fn end_life(one: &mut PeerLives, standing: Option<Life>, time: u32) -> Result<(), AllocError> {
-    let Some(life) = standing else {
-        return Ok(());
-    };
-    one.lives.push(Life {
-        from: life.from,
-        to: Some(time),
-        announced: life.announced,
-        begins: life.begins,
-        chosen: life.chosen,
-    })?;
+    if let Some(life) = standing {
+        let mut ended = life;
+        ended.to = Some(time);
+        one.lives.push(ended)?;
+    }
     Ok(())
 }

@@ -168,12 +168,10 @@ fn add_route_of(
     text.push_str("</g>\n")
 }
 
-// Whether any of a time is shown: not where it ends before the axis begins, nor where a route is left as soon as it is
-// chosen.
+// Whether a time is shown: where it has any length on the axis, or begins there with an announcement.
 fn is_drawn(canvas: &Canvas<'_>, life: &Life) -> bool {
-    let end = end_of(canvas, life);
-    end > canvas.axis.first && (life.begins || end > life.from)
-        || life.from >= canvas.axis.first && life.begins
+    let (first, end) = (canvas.axis.first, end_of(canvas, life));
+    end > life.from.max(first) || (life.begins && life.from >= first)
 }
 
 // Up to when a route is drawn.
@@ -200,7 +198,7 @@ fn add_tick(text: &mut String, canvas: &Canvas<'_>, time: u32, top: u32) -> Resu
         return Ok(());
     }
     let y = top.saturating_add(TICK_TOP);
-    add_mark(text, "km edge", &canvas.axis, time, y, TICK)
+    add_mark(text, "km", &canvas.axis, time, y, TICK)
 }
 
 // Adds the title of a time: whose route, from when to when, which route, and who gets it.
