@@ -45,6 +45,8 @@ struct Form {
     longest: usize,
     // Whether cells show no numbers.
     is_small: bool,
+    // The greatest number.
+    most: u64,
 }
 
 impl Form {
@@ -83,6 +85,7 @@ fn form_of(shown: &Shown<'_>) -> Form {
         peers,
         longest,
         is_small: peers > NUMBERED,
+        most: most_of(shown),
     }
 }
 
@@ -98,9 +101,8 @@ pub(crate) fn add_matrix(text: &mut String, shown: &Shown<'_>) -> Result<(), All
     text.push_str("<caption>Routes that each client gets from each sender</caption>\n")?;
     add_senders(text, shown)?;
     text.push_str("<tbody>\n")?;
-    let most = most_of(shown);
     for client in 0..shown.tally.peers() {
-        add_client(text, shown, client, (most, form))?;
+        add_client(text, shown, client, form)?;
     }
     text.push_str("</tbody></table></div>\n")?;
     close_section(text, shown, "table", " --client NAME --from NAME")
@@ -133,7 +135,7 @@ fn add_client(
     text: &mut String,
     shown: &Shown<'_>,
     client: usize,
-    (most, form): (u64, Form),
+    form: Form,
 ) -> Result<(), AllocError>
     requires { client < shown.now.tally.now.peers }
 {
@@ -144,24 +146,19 @@ fn add_client(
     for peer in 0..shown.tally.peers() {
         let routes = shown.tally.count(Finding::Best(client, peer));
         all = all.saturating_add(routes);
-        add_heat(text, name_of(shown, peer), (routes, most), form)?;
+        add_heat(text, name_of(shown, peer), routes, form)?;
     }
     add_number(text, all)?;
     text.push_str("</tr>\n")
 }
 
 // Adds the cell of a number of routes from a sender.
-fn add_heat(
-    text: &mut String,
-    sender: &str,
-    (routes, most): (u64, u64),
-    form: Form,
-) -> Result<(), AllocError> {
+fn add_heat(text: &mut String, sender: &str, routes: u64, form: Form) -> Result<(), AllocError> {
     if routes == 0 {
         return text.push_str("<td></td>");
     }
     text.push_str("<td class=\"")?;
-    text.push_str(CLASSES[bar_length(routes, most, LEVELS) as usize])?;
+    text.push_str(CLASSES[bar_length(routes, form.most, LEVELS) as usize])?;
     text.push_str("\" title=\"")?;
     add_text(text, sender)?;
     if form.is_small {
