@@ -6,14 +6,14 @@ _looking_glass() {
         return
     fi
     case $before in
-        --config | --table | --out) compopt -o filenames; mapfile -t COMPREPLY < <(compgen -f -- "$word"); return ;;
+        --config | --table | --out | --svg) compopt -o filenames; mapfile -t COMPREPLY < <(compgen -f -- "$word"); return ;;
         --errors) mapfile -t COMPREPLY < <(compgen -W "rfc4271 rfc7606" -- "$word"); return ;;
         --because) mapfile -t COMPREPLY < <(compgen -W "ineligible server_as_in_path server_address_as_next_hop next_hop_off_exchange refused name community lost preference path_length origin med identifier address" -- "$word"); return ;;
         --client | --peer | --shards | --prefix | --from | --until) COMPREPLY=(); return ;;
     esac
     case ${COMP_WORDS[1]} in
         why) options="--config --client --prefix --until --errors --all --attributes --json --help" ;;
-        history) options="--config --prefix --client --from --until --errors --ends --attributes --json --help" ;;
+        history) options="--config --prefix --client --from --until --errors --ends --attributes --json --svg --help" ;;
         table) options="--config --client --from --prefix --longer --until --count --shards --errors --csv --json --help" ;;
         missing) options="--config --client --from --because --until --count --shards --errors --csv --json --help" ;;
         summary) options="--config --until --shards --errors --csv --json --help" ;;

@@ -14,6 +14,7 @@ use rs_glass_shell::{Reply, Unanswered, answer_until, served, write_whole};
 use rs_host::configuration;
 use rs_mrt::{Bounds, Tail};
 use rs_notes::{Subject, notes_on};
+use rs_picture::PALETTE;
 use rs_query::PageQuery;
 use std::alloc::{AllocError, Global};
 use std::fs::Files;
@@ -73,6 +74,7 @@ fn page_text(alloc: Global, shown: &Shown<'_>) -> Result<String, AllocError> {
     )?;
     writeln!(text, "<title>Exchange of AS {asn}</title>")?;
     text.push_str("<style>")?;
+    text.push_str(PALETTE)?;
     text.push_str(STYLE)?;
     text.push_str("</style>\n</head>\n<body>\n")?;
     add_head(&mut text, shown)?;
@@ -81,7 +83,7 @@ fn page_text(alloc: Global, shown: &Shown<'_>) -> Result<String, AllocError> {
     add_cards(&mut text, shown)?;
     add_sessions(&mut text, alloc, shown)?;
     add_causes(&mut text, shown)?;
-    add_histogram(&mut text, shown)?;
+    add_histogram(&mut text, alloc, shown)?;
     text.push_str("</main>\n</body>\n</html>\n")?;
     Ok(text)
 }

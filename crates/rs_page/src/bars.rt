@@ -2,8 +2,7 @@
 
 ghost use Rattle.std.specs.Prelude.{◌<◌};
 
-use crate::elements::{add_rectangle, close_picture, open_picture};
-use rs_picture::{Lanes, MOST_LANES, bar_length};
+use rs_picture::{Lanes, MOST_LANES, add_rectangle, bar_length, close_picture, open_picture};
 use std::alloc::AllocError;
 
 // How wide the picture is, where bars begin in it, and how long the longest is, in pixels.
@@ -70,5 +69,5 @@ fn add_bar(text: &mut String, lanes: &Lanes, lane: u32, bar: &Bar) -> Result<(),
     text.push_str("</text>")?;
     add_rectangle(text, bar.class, (BEGIN, top), (length, HEIGHT))?;
     let number = bar.number;
-    writeln!(text, "/><text x=\"{behind}\" y=\"{base}\">{number}</text>")
+    writeln!(text, "<text x=\"{behind}\" y=\"{base}\">{number}</text>")
 }

@@ -36,31 +36,6 @@ pub(crate) fn close_section(
     text.push_str("</code></p>\n</section>\n")
 }
 
-/// Begins a picture of this size, with what it shows in few words and in a sentence.
-pub(crate) fn open_picture(
-    text: &mut String,
-    (width, height): (u32, u32),
-    class: &str,
-    title: &str,
-    about: &str,
-) -> Result<(), AllocError> {
-    write!(
-        text,
-        "<svg xmlns=\"http://www.w3.org/2000/svg\" viewBox=\"0 0 {width} {height}\" width=\"{width}\" height=\"{height}\""
-    )?;
-    text.push_str(class)?;
-    text.push_str(" role=\"img\">\n<title>")?;
-    add_text(text, title)?;
-    text.push_str("</title>\n<desc>")?;
-    text.push_str(about)?;
-    text.push_str("</desc>\n")
-}
-
-/// Ends a picture.
-pub(crate) fn close_picture(text: &mut String) -> Result<(), AllocError> {
-    text.push_str("</svg>\n")
-}
-
 /// Begins the table behind a picture, with these titles of its columns.
 pub(crate) fn open_table(text: &mut String, titles: &[&str]) -> Result<(), AllocError> {
     text.push_str(
@@ -101,21 +76,6 @@ pub(crate) fn add_cell(text: &mut String, cell: &str) -> Result<(), AllocError> 
 /// Ends a row.
 pub(crate) fn close_row(text: &mut String) -> Result<(), AllocError> {
     text.push_str("</tr>\n")
-}
-
-/// Adds a rectangle.
-pub(crate) fn add_rectangle(
-    text: &mut String,
-    class: &str,
-    (x, y): (u32, u32),
-    (width, height): (u32, u32),
-) -> Result<(), AllocError> {
-    text.push_str("<rect class=\"")?;
-    text.push_str(class)?;
-    write!(
-        text,
-        "\" x=\"{x}\" y=\"{y}\" width=\"{width}\" height=\"{height}\""
-    )
 }
 
 /// The name of a peer.

@@ -8,6 +8,9 @@ use rs_update::Errors;
 use std::alloc::AllocError;
 use std::net::Ipv4Addr;
 
+// Up to how many notes are seen at once.
+const FEW: usize = 8;
+
 /// Adds it.
 pub(crate) fn add_head(text: &mut String, shown: &Shown<'_>) -> Result<(), AllocError> {
     let local = shown.setup.plan.local();
@@ -41,17 +44,23 @@ fn add_range(text: &mut String, shown: &Shown<'_>) -> Result<(), AllocError> {
     }
 }
 
-// Adds the notes, where there are any.
+// Adds the notes, where there are any. Many are folded, so that the pictures stay in sight.
 fn add_notes(text: &mut String, shown: &Shown<'_>) -> Result<(), AllocError> {
     if shown.notes.is_empty() {
         return Ok(());
     }
-    text.push_str("<section>\n<h2>Notes on the recordings</h2>\n<ul>\n")?;
+    let count = shown.notes.len();
+    text.push_str("<section>\n<h2>Notes on the recordings</h2>\n<details class=\"notes\"")?;
+    if count <= FEW {
+        text.push_str(" open=\"open\"")?;
+    }
+    let noun = if count == 1 { "note" } else { "notes" };
+    writeln!(text, "><summary>{count} {noun}</summary>\n<ul>")?;
     for note in shown.notes {
         text.push_str("<li>")?;
         add_text(text, note)?;
         text.push_str("</li>\n")?;
     }
-    text.push_str("</ul>\n")?;
+    text.push_str("</ul>\n</details>\n")?;
     close_section(text, shown, "check", "")
 }

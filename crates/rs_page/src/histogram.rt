@@ -4,14 +4,11 @@ ghost use Rattle.std.specs.Prelude.{◌<◌};
 
 use crate::axis::{PARTS, add_ticks, axis_of};
 use crate::changes::{COLUMNS, Changes};
-use crate::elements::{
-    add_number, add_rectangle, close_picture, close_section, close_table, open_picture,
-    open_section, open_table,
-};
+use crate::elements::{add_number, close_section, close_table, open_section, open_table};
 use crate::shown::Shown;
 use rs_host::Utc;
-use rs_picture::bar_length;
-use std::alloc::AllocError;
+use rs_picture::{add_rectangle, bar_length, close_picture, open_picture};
+use std::alloc::{AllocError, Global};
 
 const ABOUT: &str =
     "How many prefixes were announced, upwards, and withdrawn, downwards, in each of sixty equal parts of the recordings. Times are in UTC.";
@@ -23,7 +20,11 @@ const HEIGHT: u32 = 70;
 const WIDTH: u32 = 14;
 
 /// Adds the section.
-pub(crate) fn add_histogram(text: &mut String, shown: &Shown<'_>) -> Result<(), AllocError> {
+pub(crate) fn add_histogram(
+    text: &mut String,
+    alloc: Global,
+    shown: &Shown<'_>,
+) -> Result<(), AllocError> {
     open_section(text, "When changes came", ABOUT)?;
     if shown.times.any {
         let changes = &shown.times.changes;
@@ -34,7 +35,7 @@ pub(crate) fn add_histogram(text: &mut String, shown: &Shown<'_>) -> Result<(), 
         )?;
         text.push_str("<div class=\"area\">\n")?;
         add_columns(text, changes, most)?;
-        add_ticks(text, &axis_of(changes.first, changes.last))?;
+        add_ticks(text, alloc, &axis_of(changes.first, changes.last))?;
         text.push_str("</div>\n")?;
         add_table(text, changes)?;
     } else {
@@ -56,7 +57,7 @@ fn add_columns(text: &mut String, changes: &Changes, most: u64) -> Result<(), Al
         add_column(text, changes, column, most)?;
     }
     add_rectangle(text, "line", (0, HEIGHT), (PARTS, 1))?;
-    text.push_str("/>\n")?;
+    text.push('\n')?;
     close_picture(text)
 }
 
@@ -84,9 +85,8 @@ fn add_column(
         "<g><title>from {begin}: announced {announced}, withdrawn {withdrawn}</title>"
     )?;
     add_rectangle(text, "kb", (left, HEIGHT - up), (WIDTH, up))?;
-    text.push_str("/>")?;
     add_rectangle(text, "kr", (left, HEIGHT + 1), (WIDTH, down))?;
-    text.push_str("/></g>\n")
+    text.push_str("</g>\n")
 }
 
 // Adds the table behind the picture.

@@ -4,18 +4,23 @@ ghost use Rattle.std.specs.Prelude.{◌<◌};
 
 use crate::axis::{PARTS, add_ticks, axis_of};
 use crate::elements::{
-    add_cell, add_rectangle, close_picture, close_row, close_section, close_table, name_of,
-    open_picture, open_row, open_section, open_table,
+    add_cell, close_row, close_section, close_table, name_of, open_row, open_section, open_table,
 };
 use crate::shown::Shown;
 use crate::spans::{End, Span};
+use crate::times::PeerTimes;
 use rs_glass_shell::close_text;
 use rs_host::Utc;
-use rs_picture::{Lanes, MOST_LANES, TimeAxis, add_text};
+use rs_picture::{
+    Lanes, MOST_LANES, TimeAxis, add_mark, add_stretch, add_text, close_picture, open_picture,
+};
 use std::alloc::{AllocError, Global};
 
 const ABOUT: &str =
     "When the session of each peer was up, as far as its records go. A mark at the end of a bar is a loss or a close. Times are in UTC.";
+
+// How many peers one picture has: as many as fit on a page of A4.
+const BLOCK: usize = 40;
 
 // How high a lane is, and the gap behind it, in pixels: as high as the lines of the names beside.
 const HEIGHT: u32 = 14;
@@ -38,17 +43,11 @@ pub(crate) fn add_sessions(
 ) -> Result<(), AllocError> {
     open_section(text, "Sessions", ABOUT)?;
     if shown.times.any {
-        text.push_str("<div class=\"plot\"><div class=\"names\">\n")?;
-        for peer in 0..shown.times.peers.len() {
-            text.push_str("<div>")?;
-            add_text(text, name_of(shown, peer))?;
-            text.push_str("</div>\n")?;
+        let mut first = 0;
+        for peers in shown.times.peers.chunks(BLOCK) {
+            add_block(text, alloc, shown, (first, peers))?;
+            first = first.saturating_add(BLOCK);
         }
-        text.push_str("</div><div class=\"area\">\n")?;
-        let axis = axis_of(shown.times.changes.first, shown.times.changes.last);
-        add_lanes(text, alloc, shown, &axis)?;
-        add_ticks(text, &axis)?;
-        text.push_str("</div></div>\n")?;
         add_table(text, alloc, shown)?;
     } else {
         text.push_str("<p>No record of a peer was read again.</p>\n")?;
@@ -56,15 +55,36 @@ pub(crate) fn add_sessions(
     close_section(text, shown, "check", "")
 }
 
-// Adds the picture: a lane for each peer.
+// Adds the names of some peers, which begin with this one, beside the picture of their sessions.
+fn add_block(
+    text: &mut String,
+    alloc: Global,
+    shown: &Shown<'_>,
+    (first, peers): (usize, &[PeerTimes]),
+) -> Result<(), AllocError> {
+    text.push_str("<div class=\"plot\"><div class=\"names\">\n")?;
+    for place in 0..peers.len() {
+        text.push_str("<div>")?;
+        add_text(text, name_of(shown, first.saturating_add(place)))?;
+        text.push_str("</div>\n")?;
+    }
+    text.push_str("</div><div class=\"area\">\n")?;
+    let axis = axis_of(shown.times.changes.first, shown.times.changes.last);
+    add_lanes(text, alloc, shown, (first, peers), &axis)?;
+    add_ticks(text, alloc, &axis)?;
+    text.push_str("</div></div>\n")
+}
+
+// Adds the picture: a lane for each of these peers.
 fn add_lanes(
     text: &mut String,
     alloc: Global,
     shown: &Shown<'_>,
+    (first, peers): (usize, &[PeerTimes]),
     axis: &TimeAxis,
 ) -> Result<(), AllocError> {
     let lanes = Lanes {
-        count: shown.times.peers.len().min(MOST_LANES as usize) as u32,
+        count: peers.len().min(MOST_LANES as usize) as u32,
         height: HEIGHT,
         gap: GAP,
     };
@@ -76,10 +96,10 @@ fn add_lanes(
         "A lane for each peer, with a bar for each of its sessions.",
     )?;
     let mut lane = 0;
-    for (peer, one) in shown.times.peers.iter().enumerate() {
+    for (place, one) in peers.iter().enumerate() {
         if lane < lanes.count {
-            let top = lanes.top(lane);
-            add_lane(text, alloc, axis, (name_of(shown, peer), top), &one.spans)?;
+            let (name, top) = (name_of(shown, first.saturating_add(place)), lanes.top(lane));
+            add_lane(text, alloc, axis, (name, top), &one.spans)?;
             lane += 1;
         }
     }
@@ -108,27 +128,17 @@ fn add_span(
     (name, top): (&str, u32),
     span: &Span,
 ) -> Result<(), AllocError> {
-    let (from, to) = (axis.place(span.from), axis.place(span.to));
-    let length = to.saturating_sub(from).max(1);
     text.push_str("<g><title>")?;
     add_text(text, name)?;
     let (since, until) = (Utc(span.from), Utc(span.to));
     write!(text, ": {since} to {until}, ")?;
     add_text(text, &end_text(alloc, span.end)?)?;
     text.push_str("</title>")?;
-    let begin = (
-        from.min(PARTS - length.min(PARTS)),
-        top.saturating_add(INDENT),
-    );
-    add_rectangle(text, "kb", begin, (length, BAR))?;
-    text.push_str("/>")?;
+    let bar = (top.saturating_add(INDENT), BAR);
+    add_stretch(text, "kb", axis, (span.from, span.to), bar)?;
     match span.end {
         End::Up => {}
-        _ => {
-            let mark = to.min(PARTS - MARK);
-            add_rectangle(text, "km", (mark, top), (MARK, HEIGHT))?;
-            text.push_str("/>")?;
-        }
+        _ => add_mark(text, "km", axis, span.to, top, (MARK, HEIGHT))?,
     }
     text.push_str("</g>\n")
 }

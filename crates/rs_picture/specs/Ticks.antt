@@ -22,3 +22,7 @@ steps = 1 ∷ 2 ∷ 5 ∷ 10 ∷ 15 ∷ 30 ∷ 60 ∷ 120 ∷ 300 ∷ 600 ∷ 90
 -- The mark is a multiple of the step, no earlier than the beginning, and the first such one.
 abbrev pub IsFirstTick : ℕ → ℕ → ℕ → Type 0
 IsFirstTick first step mark = (mark % step ≡ 0) × (first ≤ mark) × (mark < first + step)
+
+-- A mark lies on an axis from the first time to the last: in its time, and in its width.
+abbrev pub IsOnAxis : ℕ → ℕ → ℕ → ℕ → ℕ → Type 0
+IsOnAxis first last width time place = (first ≤ time) × (time ≤ last) × (place ≤ width)

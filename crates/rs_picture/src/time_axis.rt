@@ -7,7 +7,7 @@ ghost use Rattle.rs_picture.specs.Ticks.{most_ticks, steps, step_for, IsFirstTic
 use crate::bars::bar_length;
 
 // Fewer steps than these lie on an axis.
-const MOST_TICKS: u32 = 8;
+pub(crate) const MOST_TICKS: u32 = 8;
 
 // The steps between marks in seconds: 1, 2, 5, 10, 15 and 30 seconds and minutes, 1, 2, 3, 6 and 12 hours, 1, 2, 7, 14,
 // 30 and 90 days, and 1, 2 and 5 years of 365 days.
@@ -66,6 +66,26 @@ impl TimeAxis {
         let span = self.last.saturating_sub(self.first);
         bar_length(u64::from(past), u64::from(span), self.width)
     }
+
+    /// Where the time between two others lies. It is seen, even if both are one: then it has a pixel.
+    pub fn stretch(&self, from: u32, to: u32) -> Stretch
+        ensures inside { result.begin + result.length ≤ self.now.width }
+        ensures seen { 0 < self.now.width → 0 < result.length }
+    {
+        let end = self.place(to);
+        let begin = self.place(from).min(end).min(self.width.saturating_sub(1));
+        let length = end.saturating_sub(begin).max(1).min(self.width);
+        Stretch { begin, length }
+    }
+}
+
+/// A part of an axis, in pixels.
+#[derive(Clone, Copy, Debug, PartialEq, Eq, Drop)]
+pub struct Stretch {
+    /// Where it begins.
+    pub begin: u32,
+    /// How long it is.
+    pub length: u32,
 }
 
 /// How many seconds lie between two marks of an axis of so many seconds: the least round step of which less than

@@ -52,6 +52,7 @@ const COMMANDS: [Entry; 10] = [
             ENDS,
             ATTRIBUTES,
             JSON,
+            SVG,
         ],
     ),
     (
@@ -318,6 +319,14 @@ const PAGE: Row = Row {
     given: Given::Once,
     tie: Tie::Free,
     help: "File that is written (HTML)",
+};
+
+const SVG: Row = Row {
+    name: "svg",
+    takes: Takes::Value("FILE"),
+    given: Given::Maybe,
+    tie: Tie::Free,
+    help: "File that takes a picture of the history too (SVG)",
 };
 
 const FILES: Row = Row {

@@ -80,6 +80,8 @@ pub struct HistoryQuery {
     pub span: Span,
     /// Whether the ends of files are shown.
     pub ends: bool,
+    /// The path of the file that takes the picture, where one is asked for.
+    pub svg: Option<String>,
     /// Whether all attributes of the routes are shown.
     pub attributes: bool,
     /// Whether the answer is written as JSON.

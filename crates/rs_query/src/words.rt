@@ -2,7 +2,7 @@
 
 use crate::command::program;
 use crate::diff_words::diff_of;
-use crate::list_words::{missing_of, page_of, summary_of, table_of};
+use crate::list_words::{missing_of, optional, page_of, summary_of, table_of};
 use crate::query::{
     CheckQuery, Destination, HistoryQuery, PeersQuery, Query, Span, StartQuery, WhyQuery,
 };
@@ -78,13 +78,11 @@ fn history_of(alloc: Global, matches: &ArgMatches<'_>) -> Result<HistoryQuery, W
     Ok(HistoryQuery {
         config: text(alloc, matches, "config")?,
         prefix: destination(alloc, matches)?,
-        client: match matches.get_str("client") {
-            Some(client) => Some(String::from_str(alloc, client)?),
-            None => None,
-        },
+        client: optional(alloc, matches, "client")?,
         from: time(alloc, matches, "from")?,
         span: span(alloc, matches)?,
         ends: matches.get_flag("ends"),
+        svg: optional(alloc, matches, "svg")?,
         attributes: matches.get_flag("attributes"),
         json: matches.get_flag("json"),
     })

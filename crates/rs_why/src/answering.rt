@@ -4,6 +4,7 @@ ghost use Rattle.std.specs.Prelude.{◌≡◌, IfOk, length};
 
 use crate::history_lines::{HistoryView, history_text};
 use crate::history_object::history_json;
+use crate::picture::history_picture;
 use crate::starts::starts;
 use crate::unread::by_reading;
 use crate::why_lines::{WhyView, why_text};
@@ -12,7 +13,7 @@ use rs_glass::{
     History, Question, Reading, explain_all, fill_history, longest_announced, read_happenings,
     read_sessions,
 };
-use rs_glass_shell::{Reply, Unanswered, answer_until, peer_named};
+use rs_glass_shell::{Reply, Unanswered, answer_until, peer_named, write_whole};
 use rs_host::{WordsFault, configuration, first_unreadable, on_one_line, open_files};
 use rs_mrt::{Bounds, Tail};
 use rs_query::{Destination, HistoryQuery, Span, WhyQuery};
@@ -67,9 +68,11 @@ where
         Some(word) => Some(peer_named(rt, &setup, word)?),
         None => None,
     };
-    let history = replayed(rt, &setup, client, query)?;
+    let mut history = replayed(rt, &setup, client, query)?;
+    show_from(&mut history, query.from);
     let view = HistoryView {
         plan: &setup.plan,
+        from: query.from,
         until: query.span.until,
         ends: query.ends,
         attributes: query.attributes,
@@ -79,6 +82,10 @@ where
     } else {
         history_text(alloc, &view, &history)?
     };
+    if let Some(path) = &query.svg {
+        let lines = history_text(alloc, &view, &history)?;
+        write_whole(rt, path, &history_picture(alloc, &view, &history, &lines)?)?;
+    }
     Ok(answer_until(text, setup, query.span.until))
 }
 
@@ -171,7 +178,7 @@ fn bounds(span: Span) -> Bounds {
     }
 }
 
-// The history of a configuration.
+// The history of a configuration: for a picture also what happened before what is shown.
 fn replayed<R: AllocGlobal + Files + Threads + Sync>(
     rt: &R,
     setup: &Setup,
@@ -187,9 +194,29 @@ where
     let files = open_files(rt, &setup.files, bounds(query.span), |file| file)?;
     match read_happenings(rt, alloc, &setup.plan, files, &question) {
         Ok(happenings) => {
-            let asked = History::of(alloc, &question, client, query.from);
+            let from = if query.svg.is_some() {
+                None
+            } else {
+                query.from
+            };
+            let asked = History::of(alloc, &question, client, from);
             Ok(fill_history(alloc, &setup.plan, happenings, asked)?)
         }
         Err(fault) => Err(by_reading(alloc, fault, setup)),
     }
+}
+
+// Has a history begin at a time, where one is given, and notes what the client gets before that.
+fn show_from(history: &mut History, from: Option<u32>) {
+    let Some(from) = from else {
+        return;
+    };
+    history.from = Some(from);
+    let mut before = history.before;
+    for gets in &history.events {
+        if gets.time < from {
+            before = gets.best;
+        }
+    }
+    history.before = before;
 }

@@ -28,6 +28,8 @@ struct Layout {
 pub struct HistoryView<'a> {
     /// The exchange, whose peers are named.
     pub plan: &'a Exchange,
+    /// From when on changes are shown, in seconds since 1970, where that was asked for.
+    pub from: Option<u32>,
     /// Up to when records were read, in seconds since 1970, where that was asked for.
     pub until: Option<u32>,
     /// Whether the ends of files are shown.
@@ -39,7 +41,11 @@ pub struct HistoryView<'a> {
 impl HistoryView<'_> {
     // Whether a thing that happened is shown.
     pub(crate) fn shows(&self, one: &Gets) -> bool {
-        self.ends || !matches!(one.event, Event::Closed(Reason::EndOfFile))
+        let is_early = match self.from {
+            Some(from) => one.time < from,
+            None => false,
+        };
+        !is_early && (self.ends || !matches!(one.event, Event::Closed(Reason::EndOfFile)))
     }
 }
 
@@ -105,7 +111,7 @@ fn add_line(
 }
 
 // When a thing happened; a close of a session without any change before it has no time.
-fn time_of(one: &Gets) -> Option<u32> {
+pub(crate) fn time_of(one: &Gets) -> Option<u32> {
     match one.event {
         Event::Closed(_) if one.time == 0 => None,
         _ => Some(one.time),
@@ -113,7 +119,11 @@ fn time_of(one: &Gets) -> Option<u32> {
 }
 
 // The title of the column of what the client gets, as `b gets`; empty where no client is asked for.
-fn gets_title(alloc: Global, plan: &Exchange, history: &History) -> Result<String, AllocError> {
+pub(crate) fn gets_title(
+    alloc: Global,
+    plan: &Exchange,
+    history: &History,
+) -> Result<String, AllocError> {
     match history.client {
         Some(client) => {
             let name = name_at(plan, client);
@@ -194,7 +204,11 @@ fn add_titles(
 }
 
 // What happened, in words; the attributes of an announcement are left out where they have lines of their own.
-fn event_text(alloc: Global, view: &HistoryView<'_>, event: &Event) -> Result<String, AllocError> {
+pub(crate) fn event_text(
+    alloc: Global,
+    view: &HistoryView<'_>,
+    event: &Event,
+) -> Result<String, AllocError> {
     match event {
         Event::Announced(_) if view.attributes => String::from_str(alloc, "announced"),
         Event::Announced(attributes) => {

@@ -2,17 +2,22 @@
 //! All of it is our choice, but for JSON (RFC 8259).
 //!
 //! Reading order: `answering` (the whole answer), `unread` (why there is none). `why_lines` and `why_object` (why a client
-//! has each peer's route, or not). `history_lines` and `history_object` (what happened). Below them `because` (the
-//! reasons), `starts` (since when recordings run), `clock` (times), `attribute_lines` and `attribute_object`.
+//! has each peer's route, or not). `history_lines` and `history_object` (what happened). The same as a picture: `lives`
+//! (how long routes stood), `picture`, `picture_lanes` and `canvas`. Below them `because` (the reasons), `starts` (since
+//! when recordings run), `clock` (times), `attribute_lines` and `attribute_object`.
 #![tactic(auto)]
 
 mod answering;
 mod attribute_lines;
 mod attribute_object;
 mod because;
+mod canvas;
 mod clock;
 mod history_lines;
 mod history_object;
+mod lives;
+mod picture;
+mod picture_lanes;
 mod starts;
 mod unread;
 mod why_lines;
