@@ -10,3 +10,5 @@ pub mod CountLemmas
 pub mod SummaryLemmas
 pub mod StepLemmas
 pub mod AskedLemmas
+pub mod PrefixLemmas
+pub mod MissingCountLemmas

@@ -11,11 +11,11 @@ use rs_choice::MAX_PEERS;
 use std::alloc::{AllocError, Global};
 use std::marker::Model;
 
-// A digit of a place is below the number of peers and these: there are six steps.
-const MORE: usize = 6;
+// A digit of a place is below the number of peers and these: there are eleven reasons.
+const MORE: usize = 11;
 
 // How many kinds of findings there are.
-const KINDS: usize = 7;
+const KINDS: usize = 8;
 
 /// How often each finding was made. A count stops at the greatest number of 64 bits.
 #[derive(Drop)]
