@@ -10,7 +10,7 @@
 //! (each finding), `tally` (how often it was made). The routes that a client does not get: `missing_reason`,
 //! `missing_counts`. What a summary counts from: `seen` (the routes on a prefix), `removing` (the step that removes a
 //! candidate), `hidden` (what one decision for all clients would hide). How it counts: `counting` (on one prefix),
-//! `summary_of` (on all prefixes). Then `laws`.
+//! `summary_of` (on all prefixes), `on_threads` (the same on four threads). Then `laws`.
 #![tactic(auto)]
 
 mod asked_rows;
@@ -24,6 +24,7 @@ mod missing_counts;
 mod missing_reason;
 mod missing_routes;
 mod on_prefix;
+mod on_threads;
 mod prefix_list;
 mod removing;
 mod rows_to_come;
@@ -41,6 +42,7 @@ pub use missing_counts::count_missing;
 pub use missing_reason::MissingReason;
 pub use missing_routes::MissingRoutes;
 pub use on_prefix::{MissingOn, MissingRoute, missing_on};
+pub use on_threads::summary_on_threads;
 pub use prefix_list::every_prefix;
 pub use summary_of::summary;
 pub use tally::Tally;
