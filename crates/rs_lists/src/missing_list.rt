@@ -50,12 +50,12 @@ pub(crate) fn list_missing<R: AllocGlobal + Print + Threads + Sync>(
         tables,
         layout,
         wanted,
-        prefixes: (ROWS / tables.count()).max(1),
+        prefixes: (ROWS / tables.plan().count()).max(1),
     };
     let all = every_prefix(alloc, tables)?;
     let mut page = String::new(alloc);
     add_missing_titles(&mut page, alloc, &layout)?;
-    let at_once = listing.prefixes.saturating_mul(THREADS);
+    let at_once = listing.prefixes.saturating_mul(THREADS).max(1);
     for round in 0..all.len().div_ceil(at_once) {
         add_round(rt, &mut page, &listing, &all, round.saturating_mul(at_once))?;
     }
