@@ -69,7 +69,7 @@ where
         let counts = count_missing(rt.alloc(), tables, client)?;
         counts_text(rt.alloc(), &layout, wanted, &counts)?
     } else {
-        list_missing(rt, tables, layout, wanted)?
+        list_missing(rt, tables, client, layout, wanted)?
     };
     Ok(answer_until(text, setup, query.tables.until))
 }

@@ -29,6 +29,7 @@ const ROWS: usize = 16_384;
 struct Listing<'a> {
     alloc: Global,
     tables: &'a Tables,
+    client: usize,
     layout: Layout<'a>,
     wanted: Wanted<'a>,
     // On how many prefixes a thread lays out the rows at a time.
@@ -39,15 +40,17 @@ struct Listing<'a> {
 pub(crate) fn list_missing<R: AllocGlobal + Print + Threads + Sync>(
     rt: &R,
     tables: &Tables,
+    client: usize,
     layout: Layout<'_>,
     wanted: Wanted<'_>,
 ) -> Result<String, Unanswered>
-    requires { layout.client < length tables.now.plan.peers }
+    requires { client < length tables.now.plan.peers }
 {
     let alloc = rt.alloc();
     let listing = Listing {
         alloc,
         tables,
+        client,
         layout,
         wanted,
         prefixes: (ROWS / tables.plan().count()).max(1),
@@ -70,11 +73,11 @@ fn add_round<R: AllocGlobal + Print + Threads + Sync>(
     all: &[PrefixRoutes<'_>],
     first: usize,
 ) -> Result<(), Unanswered>
-    requires client { listing.now.layout.client < length listing.now.tables.now.plan.peers }
+    requires client { listing.now.client < length listing.now.tables.now.plan.peers }
     requires routes { All (λ on. AreRoutesOf listing.now.tables.now (entry_of on)) all.now }
 {
     let rows = |part: usize| -> Result<String, AllocError>
-        requires { (listing.now.layout.client < length listing.now.tables.now.plan.peers)
+        requires { (listing.now.client < length listing.now.tables.now.plan.peers)
             × All (λ on. AreRoutesOf listing.now.tables.now (entry_of on)) all.now }
     {
         rows_from(
@@ -96,7 +99,7 @@ fn rows_from(
     all: &[PrefixRoutes<'_>],
     first: usize,
 ) -> Result<String, AllocError>
-    requires client { listing.now.layout.client < length listing.now.tables.now.plan.peers }
+    requires client { listing.now.client < length listing.now.tables.now.plan.peers }
     requires routes { All (λ on. AreRoutesOf listing.now.tables.now (entry_of on)) all.now }
 {
     let mut rows = String::new(listing.alloc);
@@ -112,11 +115,10 @@ fn add_rows(
     listing: &Listing<'_>,
     on: &PrefixRoutes<'_>,
 ) -> Result<(), AllocError>
-    requires client { listing.now.layout.client < length listing.now.tables.now.plan.peers }
+    requires client { listing.now.client < length listing.now.tables.now.plan.peers }
     requires routes { AreRoutesOf listing.now.tables.now (entry_of on.now) }
 {
-    let client = listing.layout.client;
-    let missing = missing_on(listing.alloc, listing.tables, client, on)?;
+    let missing = missing_on(listing.alloc, listing.tables, listing.client, on)?;
     add_missing(rows, listing, &missing)
 }
 
