@@ -1,5 +1,6 @@
 -- Counts of two tallies are added: for tally.rt and on_threads.rt.
-use Rattle.std.proofs.Common.{◌≡◌, ◌∙◌, sym, ap, subst, refl, arith, ℕ, ◌<◌, ◌≤◌, ◌+◌, Bool, cond, List, ◌++◌, length, map, min, count_by, All}
+use Rattle.std.proofs.Common.{◌≡◌, ◌∙◌, sym, ap, subst, refl, arith, ℕ, ◌<◌, ◌≤◌, ◌+◌, Bool, cond}
+use Rattle.std.proofs.Common.{List, ◌++◌, length, map, min, count_by, All}
 use Rattle.std.proofs.Common.{drop, take}
 use Rattle.std.specs.Prelude.{Err, IfOk, Ok, Result, slice_index_or}
 use Rattle.std.specs.declared.alloc.AllocError.{AllocError}
@@ -67,10 +68,11 @@ counts_both tables some front back one other both is first second joined = recor
 }
 
 pub same_peers : (tables : TablesContent) (front back : List PrefixRoutes) (first second : Result TallyContent AllocError)
-    (one other : TallyContent) → IfOk first (CountsOn tables front) → IfOk second (CountsOn tables back) → first ≡ Ok one → second ≡ Ok other →
-    other.peers ≡ one.peers
+    (one other : TallyContent) → IfOk first (CountsOn tables front) → IfOk second (CountsOn tables back) →
+    first ≡ Ok one → second ≡ Ok other → other.peers ≡ one.peers
 same_peers tables front back first second one other counts also is later =
-    let here : CountsOn tables front one = subst (λ (result : Result TallyContent AllocError). IfOk result (CountsOn tables front)) is counts in
+    let here : CountsOn tables front one =
+    subst (λ (result : Result TallyContent AllocError). IfOk result (CountsOn tables front)) is counts in
     let there : CountsOn tables back other =
     subst (λ (result : Result TallyContent AllocError). IfOk result (CountsOn tables back)) later also in
     there.peers ∙ sym here.peers

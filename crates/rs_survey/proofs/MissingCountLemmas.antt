@@ -1,5 +1,6 @@
 -- The routes that a client does not get, counted by sender and reason: for missing_counts.rt.
-use Rattle.std.proofs.Common.{◌≡◌, ◌∙◌, sym, ap, subst, refl, arith, ℕ, zero, suc, ◌<◌, ◌+◌, ◌==◌, ◌||◌, Bool, true, false, cond, List, [], ◌∷◌}
+use Rattle.std.proofs.Common.{◌≡◌, ◌∙◌, sym, ap, subst, refl, arith, ℕ, zero, suc, ◌<◌, ◌+◌, ◌==◌, ◌||◌}
+use Rattle.std.proofs.Common.{Bool, true, false, cond, List, [], ◌∷◌}
 use Rattle.std.proofs.Common.{◌++◌, length, map, append_assoc, get_or, take}
 use Rattle.std.specs.Prelude.{All, IfOk, IfSome, Ok, Option, None, Result, Some, MatchOption}
 use Rattle.std.specs.declared.alloc.AllocError.{AllocError}

@@ -5,7 +5,8 @@ use Rattle.rs_choice.specs.declared.step.Step.TheVariants.{Preference, PathLengt
 use Rattle.rs_explain.specs.declared.condition.Condition.{Condition}
 use Rattle.rs_explain.specs.declared.condition.Condition.TheVariants as conditions
 use Rattle.rs_survey.specs.declared.finding.Finding.{Finding}
-use Rattle.rs_survey.specs.declared.finding.Finding.TheVariants.{Left, Ineligible, Refused, Lost, Best, Removed, Hidden, Missing}
+use Rattle.rs_survey.specs.declared.finding.Finding.TheVariants.{Left, Ineligible, Refused, Lost, Best}
+use Rattle.rs_survey.specs.declared.finding.Finding.TheVariants.{Removed, Hidden, Missing}
 use Rattle.rs_survey.specs.declared.finding.Flaw.{Flaw}
 use Rattle.rs_survey.specs.declared.finding.Flaw.TheVariants.{OwnAs, ServerAsNextHop, NextHopOffExchange}
 use Rattle.rs_survey.specs.declared.finding.Key.{Key}

@@ -13,7 +13,8 @@ use Rattle.rs_explain.specs.Reasons.{failed_condition, refusal_of}
 use Rattle.rs_survey.specs.declared.finding.Finding.{Finding}
 use Rattle.rs_survey.specs.declared.finding.Finding.TheVariants.{Missing}
 use Rattle.rs_survey.specs.declared.missing_reason.MissingReason.{MissingReason}
-use Rattle.rs_survey.specs.declared.missing_reason.MissingReason.TheVariants.{Ineligible, RefusedByName, RefusedByCommunity, Lost}
+use Rattle.rs_survey.specs.declared.missing_reason.MissingReason.TheVariants.{Ineligible, RefusedByName}
+use Rattle.rs_survey.specs.declared.missing_reason.MissingReason.TheVariants.{RefusedByCommunity, Lost}
 use Rattle.rs_survey.specs.declared.on_prefix.MissingRoute.{MissingRoute}
 use Rattle.rs_survey.specs.Findings.{flaw_of}
 use Rattle.rs_survey.specs.Missing.{missing_of}

@@ -21,6 +21,7 @@ returns c =
     (subst (λ (list : List ℕ). AreSums c.deref_mut.result.now list sums) others c.add_counts.ensures.sums) in
     let len : length sums ≡ inside.counts.len =
     c.add_counts.ensures.count ∙ ap length c.deref_mut.ensures.value ∙ sym inside.counts.ok.0 in
-    subst (λ (list : List ℕ). IsJoined one other (record { peers = inside.peers; counts = list })) (sym (with_items_is inside.counts sums len))
+    subst (λ (list : List ℕ). IsJoined one other (record { peers = inside.peers; counts = list }))
+    (sym (with_items_is inside.counts sums len))
     (subst (λ (peers : ℕ). IsJoined one other (record { peers = peers; counts = sums }))
     (sym (ap (λ (tally : TallyContent). tally.peers) c.self.view_is)) (joined_is one other sums c.requires are))
