@@ -5,18 +5,25 @@ use std::alloc::AllocError;
 /// Adds a cell, filled up with spaces to a width; one space at least stands behind it. Fails where memory is refused.
 pub fn add_cell(line: &mut String, cell: &str, width: usize) -> Result<(), AllocError> {
     line.push_str(cell)?;
-    line.push(' ')?;
-    for _ in cell.len().saturating_add(1)..width {
-        line.push(' ')?;
-    }
-    Ok(())
+    add_spaces(line, cell.len(), width)
 }
 
 /// Fills up a cell that begins at this place of a text, in the same way. Fails where memory is refused.
 pub fn fill_cell(text: &mut String, start: usize, width: usize) -> Result<(), AllocError> {
     let len = text.len().saturating_sub(start);
-    text.push(' ')?;
-    for _ in len.saturating_add(1)..width {
+    add_spaces(text, len, width)
+}
+
+// Spaces, as many as fill up most cells.
+const SPACES: &str = "                                ";
+
+// Adds the spaces behind a cell that is so long.
+fn add_spaces(text: &mut String, len: usize, width: usize) -> Result<(), AllocError> {
+    let count = width.saturating_sub(len).max(1);
+    if let Some(spaces) = SPACES.get(..count) {
+        return text.push_str(spaces);
+    }
+    for _ in 0..count {
         text.push(' ')?;
     }
     Ok(())

@@ -25,7 +25,9 @@ pub use columns::{add_cell, add_sentence, add_words, fill_cell};
 pub use lines::{PROGRAM, line};
 pub use names::{add_gets, asn_at, best_name, name_at, name_width, names_text, prefix_text};
 pub use reason_object::{name_of, put_condition, put_refusal, put_removal, put_text, step_key};
-pub use reasons::{answer_name, close_text, condition_text, lost_text, origin_name, refused_text};
+pub use reasons::{
+    add_lost, answer_name, close_text, condition_text, lost_text, origin_name, refused_text,
+};
 pub use reply::{Reply, answer_until};
 pub use route_object::{put_large_communities, put_route_attributes};
 pub use route_text::{

@@ -49,20 +49,31 @@ pub fn community_text(alloc: Global, refusal: Refusal) -> Result<Option<String>,
     }
 }
 
-// What a step asks of a candidate, as a text.
-pub(crate) fn standing_text(
-    alloc: Global,
-    step: Step,
-    standing: &Standing,
-) -> Result<String, AllocError> {
+// Adds what a step asks of a candidate.
+fn add_standing(text: &mut String, step: Step, standing: &Standing) -> Result<(), AllocError> {
+    let Standing {
+        preference,
+        path_length,
+        origin,
+        med,
+        id,
+        address,
+        ..
+    } = *standing;
     match step {
-        Step::Preference => standing.preference.to_string(alloc),
-        Step::PathLength => standing.path_length.to_string(alloc),
-        Step::Origin => String::from_str(alloc, origin_name(standing.origin)),
-        Step::Med => standing.med.to_string(alloc),
-        Step::Identifier => Ipv4Addr::from_bits(standing.id).to_string(alloc),
-        Step::Address => Ipv4Addr::from_bits(standing.address).to_string(alloc),
+        Step::Preference => write!(text, "{preference}"),
+        Step::PathLength => write!(text, "{path_length}"),
+        Step::Origin => text.push_str(origin_name(origin)),
+        Step::Med => write!(text, "{med}"),
+        Step::Identifier => add_address(text, id),
+        Step::Address => add_address(text, address),
     }
+}
+
+// Adds an address as it is written.
+fn add_address(text: &mut String, address: u32) -> Result<(), AllocError> {
+    let address = Ipv4Addr::from_bits(address);
+    write!(text, "{address}")
 }
 
 // What a step compares.
@@ -79,16 +90,26 @@ fn step_name(step: Step) -> &'static str {
 
 /// At which step a route was removed, with its value and that of the one that beat it. Fails where memory is refused.
 pub fn lost_text(alloc: Global, plan: &Exchange, removal: &Removal) -> Result<String, AllocError> {
-    let step = step_name(removal.step);
-    let value = standing_text(alloc, removal.step, &removal.loser.standing)?;
-    let rival_value = standing_text(alloc, removal.step, &removal.rival.standing)?;
-    let rival = name_at(plan, removal.rival.peer);
-    let mut text = format!(in alloc; "{step} {value}, {rival} has {rival_value}")?;
-    if let Step::Med = removal.step {
-        let neighbour = removal.rival.standing.neighbour;
+    let mut text = String::new(alloc);
+    add_lost(&mut text, plan, removal)?;
+    Ok(text)
+}
+
+/// Adds the same to a text. Fails where memory is refused.
+pub fn add_lost(text: &mut String, plan: &Exchange, removal: &Removal) -> Result<(), AllocError> {
+    let (step, loser, rival) = (removal.step, &removal.loser, &removal.rival);
+    text.push_str(step_name(step))?;
+    text.push(' ')?;
+    add_standing(text, step, &loser.standing)?;
+    text.push_str(", ")?;
+    text.push_str(name_at(plan, rival.peer))?;
+    text.push_str(" has ")?;
+    add_standing(text, step, &rival.standing)?;
+    if let Step::Med = step {
+        let neighbour = rival.standing.neighbour;
         write!(text, " (neighbour AS {neighbour})")?;
     }
-    Ok(text)
+    Ok(())
 }
 
 /// The condition of eligibility that fails. Fails where memory is refused.

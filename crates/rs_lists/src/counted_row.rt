@@ -1,11 +1,15 @@
 //! How many routes of each sender a client does not get, for each reason.
 
+ghost use Rattle.std.specs.Prelude.{◌<◌};
+
 use crate::csv_row::{CsvRow, add_csv_titles};
 use crate::layout::{Layout, add_json_line};
-use crate::missing_row::{ANSWER_WIDTH, reason_key};
+use crate::missing_row::ANSWER_WIDTH;
+use crate::wanted::Wanted;
+use rs_choice::Step;
 use rs_glass_shell::{add_cell, put_text};
 use rs_query::Form;
-use rs_survey::MissingRoute;
+use rs_survey::{Finding, Flaw, MissingReason, Tally};
 use serde_json::{Map, Value, put};
 use std::alloc::{AllocError, Global};
 
@@ -15,66 +19,47 @@ const REASON_WIDTH: usize = 28;
 // The titles of CSV.
 const TITLES: [&str; 5] = ["peer", "as", "answer", "reason", "routes"];
 
-// The answers and reasons, in the order in which they are counted.
-const REASONS: [(&str, &str); 11] = [
-    ("ineligible", "server_as_in_path"),
-    ("ineligible", "server_address_as_next_hop"),
-    ("ineligible", "next_hop_off_exchange"),
-    ("refused", "name"),
-    ("refused", "community"),
-    ("lost", "preference"),
-    ("lost", "path_length"),
-    ("lost", "origin"),
-    ("lost", "med"),
-    ("lost", "identifier"),
-    ("lost", "address"),
+// A reason by its answer, its name as a key, and as it is counted.
+type Reason = (&'static str, &'static str, MissingReason);
+
+// The reasons, in the order in which they are listed.
+const REASONS: [Reason; 11] = [
+    (
+        "ineligible",
+        "server_as_in_path",
+        MissingReason::Ineligible(Flaw::OwnAs),
+    ),
+    (
+        "ineligible",
+        "server_address_as_next_hop",
+        MissingReason::Ineligible(Flaw::ServerAsNextHop),
+    ),
+    (
+        "ineligible",
+        "next_hop_off_exchange",
+        MissingReason::Ineligible(Flaw::NextHopOffExchange),
+    ),
+    ("refused", "name", MissingReason::RefusedByName),
+    ("refused", "community", MissingReason::RefusedByCommunity),
+    ("lost", "preference", MissingReason::Lost(Step::Preference)),
+    ("lost", "path_length", MissingReason::Lost(Step::PathLength)),
+    ("lost", "origin", MissingReason::Lost(Step::Origin)),
+    ("lost", "med", MissingReason::Lost(Step::Med)),
+    ("lost", "identifier", MissingReason::Lost(Step::Identifier)),
+    ("lost", "address", MissingReason::Lost(Step::Address)),
 ];
 
-// Counts of routes: of each sender as many as there are reasons.
-#[derive(Drop)]
-pub(crate) struct Counts {
-    counts: Vec<[u64; 11]>,
-}
-
-impl Counts {
-    // Nothing is counted yet of so many senders.
-    pub(crate) fn new(alloc: Global, senders: usize) -> Result<Counts, AllocError> {
-        let mut counts = Vec::with_capacity(alloc, senders)?;
-        counts.resize(senders, [0; 11])?;
-        Ok(Counts { counts })
-    }
-
-    // Counts one route more.
-    pub(crate) fn add(&mut self, one: &MissingRoute) {
-        let key = reason_key(&one.explanation);
-        let Some(of_sender) = self.counts.get_mut(one.route.peer) else {
-            return;
-        };
-        for (place, (_, reason)) in REASONS.iter().enumerate() {
-            if *reason == key {
-                count_at(of_sender, place);
-            }
-        }
-    }
-}
-
-// Counts one more at a place.
-fn count_at(counts: &mut [u64; 11], place: usize) {
-    if let Some(count) = counts.get_mut(place) {
-        *count = count.saturating_add(1);
-    }
-}
-
-// The counts, a line for each sender and reason of which there are routes.
+// The counts, a line for each sender and reason that are wanted and of which there are routes.
 pub(crate) fn counts_text(
     alloc: Global,
     layout: &Layout,
-    counts: &Counts,
+    wanted: Wanted<'_>,
+    counts: &Tally,
 ) -> Result<String, AllocError> {
     let mut text = String::new(alloc);
     add_count_titles(&mut text, alloc, layout)?;
-    for (peer, of_sender) in counts.counts.iter().enumerate() {
-        add_sender(&mut text, alloc, layout, peer, of_sender)?;
+    for peer in 0..counts.peers() {
+        add_sender(&mut text, alloc, layout, wanted, counts, peer)?;
     }
     Ok(text)
 }
@@ -84,12 +69,16 @@ fn add_sender(
     text: &mut String,
     alloc: Global,
     layout: &Layout,
+    wanted: Wanted<'_>,
+    counts: &Tally,
     peer: usize,
-    counts: &[u64; 11],
-) -> Result<(), AllocError> {
-    for (count, (answer, reason)) in counts.iter().zip(REASONS.iter()) {
-        if *count > 0 {
-            add_count(text, alloc, layout, peer, (*answer, *reason, *count))?;
+) -> Result<(), AllocError>
+    requires { peer < counts.now.peers }
+{
+    for (answer, key, reason) in &REASONS {
+        let count = counts.count(Finding::Missing(peer, *reason));
+        if count > 0 && wanted.asks_for(peer, answer, key) {
+            add_count(text, alloc, layout, peer, (*answer, *key, count))?;
         }
     }
     Ok(())

@@ -1,8 +1,10 @@
 //! Answers about whole tables: the routes of a client's table, those that it does not get, a summary, and differences.
 //! All of it is our choice, but for JSON (RFC 8259) and CSV (RFC 4180).
 //!
-//! Reading order: `list_answering` (the whole answer), and the rows of lists: `layout`, `table_row`, `missing_row`, `counted_row` and `csv_row`. A summary: `summary_numbers` (its numbers),
-//! `summary_text` (its tables) and `summary_row` (a row of CSV or JSON). Differences: `diff_answering` and `diff_row`.
+//! Reading order: `list_answering` (the whole answer), `missing_list` and `wanted` (the list of `missing`). The rows of
+//! lists: `layout`, `table_row`, `missing_row`, `counted_row` and `csv_row`. A summary: `summary_numbers` (its
+//! numbers), `summary_text` (its tables) and `summary_row` (a row of CSV or JSON). Differences: `diff_answering` and
+//! `diff_row`.
 #![tactic(auto)]
 
 mod counted_row;
@@ -11,11 +13,13 @@ mod diff_answering;
 mod diff_row;
 mod layout;
 mod list_answering;
+mod missing_list;
 mod missing_row;
 mod summary_numbers;
 mod summary_row;
 mod summary_text;
 mod table_row;
+mod wanted;
 
 pub use diff_answering::{diff, end_status};
 pub use list_answering::{missing, summary, table};

@@ -1,17 +1,16 @@
 //! Answers the questions about whole tables: lists routes as they are found, or counts them.
 
-ghost use Rattle.std.specs.Prelude.{◌<◌, length};
-
-use crate::counted_row::{Counts, counts_text};
+use crate::counted_row::counts_text;
 use crate::layout::Layout;
-use crate::missing_row::{add_missing_row, add_missing_titles, reason_key};
+use crate::missing_list::list_missing;
 use crate::summary_numbers::written;
 use crate::table_row::{add_table_row, add_table_titles};
-use rs_glass_shell::{Reply, Unanswered, answer_name, answer_until, peer_named, served};
+use crate::wanted::Wanted;
+use rs_glass_shell::{Reply, Unanswered, answer_until, peer_named, served};
 use rs_host::configuration;
 use rs_query::{Form, MissingQuery, SummaryQuery, TableQuery};
 use rs_setup::Setup;
-use rs_survey::{AskedRows, MissingOn, MissingRoute, MissingRoutes, count_rows};
+use rs_survey::{AskedRows, count_missing, count_rows, summary_on_threads};
 use rs_table::{Row, Tables};
 use std::alloc::{AllocError, Global};
 use std::fs::Files;
@@ -21,13 +20,6 @@ use std::thread::Threads;
 
 // How many octets of rows are gathered before they are printed.
 const PAGE: usize = 65_536;
-
-// Which routes that a client does not get are listed: of which sender, and for which answer or reason.
-#[derive(Clone, Copy, Debug, PartialEq, Eq)]
-struct Wanted<'a> {
-    from: Option<usize>,
-    because: Option<&'a str>,
-}
 
 /// Lists the routes of a client's table; what is answered is the last part of the list, which isn't printed yet.
 pub fn table<R: AllocGlobal + Files + Threads + Wait + Sync + Print>(
@@ -71,10 +63,13 @@ where
         },
     };
     let served = served(rt, &setup, &query.tables)?;
+    let tables = served.tables();
+    let layout = Layout::new(tables.plan(), client, query.form);
     let text = if query.count {
-        count_missing(rt.alloc(), served.tables(), client, wanted, query.form)?
+        let counts = count_missing(rt.alloc(), tables, client)?;
+        counts_text(rt.alloc(), &layout, wanted, &counts)?
     } else {
-        list_missing(rt, served.tables(), client, wanted, query.form)?
+        list_missing(rt, tables, client, layout, wanted)?
     };
     Ok(answer_until(text, setup, query.tables.until))
 }
@@ -91,7 +86,7 @@ where
     let setup = configuration(rt, &query.tables.config)?;
     let served = served(rt, &setup, &query.tables)?;
     let tables = served.tables();
-    let tally = rs_survey::summary(alloc, tables)?;
+    let tally = summary_on_threads(rt, alloc, tables)?;
     let text = written(alloc, &Layout::new(tables.plan(), 0, query.form), &tally)?;
     Ok(answer_until(text, setup, query.tables.until))
 }
@@ -170,84 +165,4 @@ fn count_table(
         Form::Csv => format!(in alloc; "routes\r\n{count}\r\n"),
         Form::Json => format!(in alloc; "{{\"routes\":{count}}}\n"),
     }
-}
-
-// Whether a sender is the one that is asked for.
-fn is_from(from: Option<usize>, peer: usize) -> bool {
-    match from {
-        Some(from) => from == peer,
-        None => true,
-    }
-}
-
-// Lists the routes that a client does not get.
-fn list_missing<R: AllocGlobal + Print>(
-    rt: &R,
-    tables: &Tables,
-    client: usize,
-    wanted: Wanted<'_>,
-    form: Form,
-) -> Result<String, Unanswered>
-    requires { client < length tables.now.plan.peers }
-{
-    let alloc = rt.alloc();
-    let layout = Layout::new(tables.plan(), client, form);
-    let mut page = String::new(alloc);
-    add_missing_titles(&mut page, alloc, &layout)?;
-    for on in MissingRoutes::new(alloc, tables, client) {
-        let on = on?;
-        add_missing(&mut page, alloc, &layout, wanted, &on)?;
-        print_page(rt, &mut page)?;
-    }
-    Ok(page)
-}
-
-// Adds those on one prefix.
-fn add_missing(
-    page: &mut String,
-    alloc: Global,
-    layout: &Layout,
-    wanted: Wanted<'_>,
-    on: &MissingOn,
-) -> Result<(), AllocError> {
-    for one in &on.routes {
-        if is_wanted(wanted, one) {
-            add_missing_row(page, alloc, layout, on, one)?;
-        }
-    }
-    Ok(())
-}
-
-// Whether a route that a client does not get is listed.
-fn is_wanted(wanted: Wanted<'_>, one: &MissingRoute) -> bool {
-    if !is_from(wanted.from, one.route.peer) {
-        return false;
-    }
-    match wanted.because {
-        Some(because) => {
-            because == answer_name(&one.explanation) || because == reason_key(&one.explanation)
-        }
-        None => true,
-    }
-}
-
-// Counts them by sender and reason.
-fn count_missing(
-    alloc: Global,
-    tables: &Tables,
-    client: usize,
-    wanted: Wanted<'_>,
-    form: Form,
-) -> Result<String, AllocError>
-    requires { client < length tables.now.plan.peers }
-{
-    let mut counts = Counts::new(alloc, tables.count())?;
-    for on in MissingRoutes::new(alloc, tables, client) {
-        for one in &on?.routes {
-            if is_wanted(wanted, one) {
-                counts.add(one);
-            }
-        }
-    }
-    counts_text(alloc, &Layout::new(tables.plan(), client, form), &counts)
 }

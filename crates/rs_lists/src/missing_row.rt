@@ -4,7 +4,7 @@ use crate::csv_row::{CsvRow, add_csv_titles};
 use crate::layout::{Layout, add_json_line};
 use rs_explain::{Condition, Explanation, Refusal};
 use rs_glass_shell::{
-    add_cell, answer_name, best_name, condition_text, lost_text, name_of, prefix_text,
+    add_cell, add_lost, answer_name, best_name, condition_text, name_of, prefix_text,
     put_condition, put_refusal, put_removal, put_text, refused_text, step_key,
 };
 use rs_query::Form;
@@ -62,7 +62,6 @@ fn add_line(
     on: &MissingOn,
     one: &MissingRoute,
 ) -> Result<(), AllocError> {
-    let because = because_text(alloc, layout, one)?;
     layout.add_route(text, on.prefix, one.route.peer)?;
     add_cell(
         text,
@@ -70,7 +69,7 @@ fn add_line(
         layout.names,
     )?;
     add_cell(text, answer_name(&one.explanation), ANSWER_WIDTH)?;
-    text.push_str(&because)?;
+    add_because(text, alloc, layout, one)?;
     text.push('\n')
 }
 
@@ -150,15 +149,28 @@ fn best_peer(best: &Option<Route>) -> Option<usize> {
 
 // Why the client does not get the route, in the words of `why`.
 fn because_text(alloc: Global, layout: &Layout, one: &MissingRoute) -> Result<String, AllocError> {
+    let mut text = String::new(alloc);
+    add_because(&mut text, alloc, layout, one)?;
+    Ok(text)
+}
+
+// Adds the same to a text. Most routes are lost to another one: for them no text is made by itself.
+fn add_because(
+    text: &mut String,
+    alloc: Global,
+    layout: &Layout,
+    one: &MissingRoute,
+) -> Result<(), AllocError> {
     let plan = layout.plan;
-    match &one.explanation {
-        Explanation::Ineligible(condition) => condition_text(alloc, plan, *condition),
+    let because = match &one.explanation {
+        Explanation::Lost(removal) => return add_lost(text, plan, removal),
+        Explanation::Ineligible(condition) => condition_text(alloc, plan, *condition)?,
         Explanation::Refused(refusal) => {
-            refused_text(alloc, plan, layout.client, one.route.peer, *refusal)
+            refused_text(alloc, plan, layout.client, one.route.peer, *refusal)?
         }
-        Explanation::Lost(removal) => lost_text(alloc, plan, removal),
-        _ => Ok(String::new(alloc)),
-    }
+        _ => return Ok(()),
+    };
+    text.push_str(&because)
 }
 
 // The name of the reason for which a client does not get a route, as JSON has it.

@@ -10,3 +10,6 @@ pub mod CountLemmas
 pub mod SummaryLemmas
 pub mod StepLemmas
 pub mod AskedLemmas
+pub mod JoinLemmas
+pub mod PrefixLemmas
+pub mod MissingCountLemmas

@@ -1,19 +1,22 @@
 -- The routes on a prefix, peer after peer, and what is seen of each: for seen.rt and removing.rt.
 use Rattle.std.proofs.Common.{◌≡◌, ◌∙◌, sym, ap, refl, ℕ, ◌<◌, ◌+◌, Bool, true, false, ◌&&◌, List, [], ◌∷◌, ◌++◌, length, map, drop}
 use Rattle.std.proofs.Common.{drop-cons, add-one, append_assoc}
-use Rattle.std.specs.Prelude.{Option, None, Some, is_none, is_some}
+use Rattle.std.specs.Prelude.{Option, None, Some, is_none, is_some, not}
 use Rattle.std.specs.List.{cons_option, enumerate_from, filter_map}
 use Rattle.std.specs.Option.{option_map}
 use Rattle.std.specs.FinMap.{get}
 use Rattle.std.proofs.lemmas.Bool.{and_left, and_right}
 use Rattle.std.proofs.lemmas.List.{map-append}
 use Rattle.rs_update.specs.IpPrefix.{IpPrefix}
-use Rattle.rs_choice.specs.Decision.{SentRoute}
+use Rattle.rs_choice.specs.declared.candidate.Standing.{Standing}
+use Rattle.rs_choice.specs.declared.step.Step.TheVariants as steps
+use Rattle.rs_choice.specs.Decision.{SentRoute, beats}
 use Rattle.rs_choice.specs.Eligibility.{is_eligible}
 use Rattle.rs_choice.specs.Plan.{Plan}
 use Rattle.rs_table.specs.Content.{RibContent, TablesContent, nothing_held, rib_of}
 use Rattle.rs_table.specs.Table.{route_from, sent_by}
 use Rattle.rs_explain.specs.Reasons.{failed_condition}
+use Rattle.rs_explain.specs.Removals.{beats_by_med}
 use Rattle.rs_explain.proofs.AgreementLemmas.{eligible_unless}
 use Rattle.rs_survey.specs.declared.seen.Seen.{Seen}
 use Rattle.rs_survey.specs.Findings.{flaw_of}
@@ -56,6 +59,15 @@ first_fails x y z fails = sym (and_left x (y && z) fails)
 
 pub second_fails : (x y z : Bool) → y ≡ false → false ≡ (x && (y && z))
 second_fails x y z fails = sym (and_right x (y && z) (and_left y z fails))
+
+-- what MED does not beat is not kept out by MED
+last_fails : (x y z w : Bool) → w ≡ false → (x && (y && (z && w))) ≡ false
+last_fails x y z w fails = and_right x (y && (z && w)) (and_right y (z && w) (and_right z w fails))
+
+pub not_by_med : (best one other : Standing) → beats steps.Med other one ≡ false → beats_by_med best one other ≡ false
+not_by_med best one other fails =
+    last_fails (not (beats steps.Preference best other)) (not (beats steps.PathLength best other))
+    (not (beats steps.Origin best other)) (beats steps.Med other one) fails
 
 pub third_decides : (x y z : Bool) → x ≡ true → y ≡ true → z ≡ (x && (y && z))
 third_decides x y z first second = rw (first, second) refl

@@ -1,23 +1,27 @@
 -- One finding more is counted: for `add` of tally.rt.
-use Rattle.std.proofs.Common.{◌≡◌, ◌≢◌, ◌∙◌, sym, ap, refl, arith, ℕ, ◌<◌, ◌+◌, ◌*◌, ◌/◌, ◌%◌, ◌==◌, ◌&&◌, Bool, true, false, cond, inl}
+use Rattle.std.proofs.Common.{◌≡◌, ◌≢◌, ◌∙◌, sym, ap, subst, refl, arith, ℕ, ◌<◌, ◌+◌, ◌*◌, ◌/◌, ◌%◌}
+use Rattle.std.proofs.Common.{◌==◌, ◌&&◌, Bool, true, false, cond, inl}
 use Rattle.std.proofs.Common.{inr, List, []}
 use Rattle.std.proofs.Common.{◌∷◌, ◌++◌, length, get_or, count_by, min}
 use Rattle.std.proofs.Math.ListN.{set}
 use Rattle.std.proofs.lemmas.Bool.{cases_Bool}
 use Rattle.std.proofs.lemmas.Bool.Decides.{nat_tests}
-use Rattle.std.proofs.lemmas.Nat.{div-mul-add, mod-mul-add}
+use Rattle.std.proofs.Math.Nat.{mul_comm}
+use Rattle.std.proofs.lemmas.Nat.{div-mul-add, mod-mul-add, mul-add-lt}
 use Rattle.std.proofs.lemmas.List.{get_or-set_same, get_or-set_other}
 use Rattle.std.proofs.lemmas.List.Elements.{All-push}
 use Rattle.std.proofs.lemmas.List.Sums.{sum_by-append}
 use Rattle.rs_choice.specs.declared.step.Step.{Step}
 use Rattle.rs_choice.specs.declared.step.Step.TheVariants.{Preference, PathLength, Origin, Med, Identifier, Address}
 use Rattle.rs_survey.specs.declared.finding.Finding.{Finding}
-use Rattle.rs_survey.specs.declared.finding.Finding.TheVariants.{Left, Ineligible, Refused, Lost, Best, Removed, Hidden}
+use Rattle.rs_survey.specs.declared.finding.Finding.TheVariants.{Left, Ineligible, Refused, Lost, Best, Removed, Hidden, Missing}
 use Rattle.rs_survey.specs.declared.finding.Flaw.{Flaw}
 use Rattle.rs_survey.specs.declared.finding.Flaw.TheVariants.{OwnAs, ServerAsNextHop, NextHopOffExchange}
 use Rattle.rs_survey.specs.declared.finding.Key.{Key}
-use Rattle.rs_survey.specs.Findings.{IsKnown, flaw_number, is_same, is_same_key, key_of, step_number}
-use Rattle.rs_survey.specs.Tally.{IsTally, TallyContent, digits, most, place_in}
+use Rattle.rs_survey.specs.declared.missing_reason.MissingReason.{MissingReason}
+use Rattle.rs_survey.specs.declared.missing_reason.MissingReason.TheVariants as reasons
+use Rattle.rs_survey.specs.Findings.{IsKnown, flaw_number, is_same, is_same_key, key_of, reason_number, step_number}
+use Rattle.rs_survey.specs.Tally.{IsTally, TallyContent, digits, most, place_in, room_for}
 
 -- ---- places tell findings apart
 
@@ -44,6 +48,12 @@ step_below Med = omega arith
 step_below Identifier = omega arith
 step_below Address = omega arith
 
+reason_below : (reason : MissingReason) → reason_number reason < 11
+reason_below (reasons.Ineligible flaw) = omega (arith, flaw_below flaw)
+reason_below reasons.RefusedByName = omega arith
+reason_below reasons.RefusedByCommunity = omega arith
+reason_below (reasons.Lost step) = omega (arith, step_below step)
+
 has_digits : (peers : ℕ) (finding : Finding) → IsKnown peers finding → HasDigits (digits peers) (key_of finding)
 has_digits peers (Left sender) known = record { first = omega (arith, known); second = omega arith }
 has_digits peers (Ineligible sender flaw) known =
@@ -53,6 +63,8 @@ has_digits peers (Lost client sender) known = record { first = omega (arith, kno
 has_digits peers (Best client sender) known = record { first = omega (arith, known.0); second = omega (arith, known.1) }
 has_digits peers (Removed step) known = record { first = omega (arith, step_below step); second = omega arith }
 has_digits peers Hidden known = record { first = omega arith; second = omega arith }
+has_digits peers (Missing sender reason) known =
+    record { first = omega (arith, known); second = omega (arith, reason_below reason) }
 
 and_true : (x y : Bool) → (x && y) ≡ true → (x ≡ true) × (y ≡ true)
 and_true true true both = (refl, refl)
@@ -78,6 +90,19 @@ same_key width one other digits also same =
     digits.second also.second same in
     let first = digits_same width one.kind one.first other.kind other.first digits.first also.first second.0 in
     rw (is_equal one.kind other.kind first.0, is_equal one.first other.first first.1, is_equal one.second other.second second.1) refl
+
+kind_below : (finding : Finding) → (key_of finding).kind < 8
+kind_below (Left sender) = omega arith
+kind_below (Ineligible sender flaw) = omega arith
+kind_below (Refused client sender) = omega arith
+kind_below (Lost client sender) = omega arith
+kind_below (Best client sender) = omega arith
+kind_below (Removed step) = omega arith
+kind_below Hidden = omega arith
+kind_below (Missing sender reason) = omega arith
+
+room_is : (width : ℕ) → width * (width * 8) ≡ room_for width
+room_is width = mul_comm width (width * 8) ∙ ap (λ n. n * width) (mul_comm width 8)
 
 -- ---- one more
 
@@ -127,3 +152,16 @@ counts_one_more tally findings one place value at within is known counts = recor
   known = All-push (IsKnown tally.peers) findings one counts.known known;
   counted = λ other also. counted_if tally findings one other place value at within is known also counts;
 }
+
+-- ---- the place of a finding
+
+pub place_within : (peers : ℕ) (finding : Finding) → IsKnown peers finding →
+    place_in (digits peers) (key_of finding) < room_for (digits peers)
+place_within peers finding known =
+    let width = digits peers in
+    let key = key_of finding in
+    let has = has_digits peers finding known in
+    let outer : (key.kind * width + key.first) * width + key.second < width * (width * 8) =
+    mul-add-lt (key.kind * width + key.first) width key.second (width * 8) (mul-add-lt key.kind width key.first 8 (kind_below finding)
+    has.first) has.second in
+    subst (λ (room : ℕ). place_in width key < room) (room_is width) outer

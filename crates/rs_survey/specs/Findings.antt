@@ -1,14 +1,17 @@
--- What a summary counts on a prefix, and which findings are the same (our choice).
-use Rattle.std.specs.Prelude.{◌<◌, ℕ, ◌==◌, ◌&&◌, Bool}
+-- What is counted on a prefix, and which findings are the same (our choice).
+use Rattle.std.specs.Prelude.{◌<◌, ℕ, ◌+◌, ◌==◌, ◌&&◌, Bool}
 use Rattle.rs_choice.specs.declared.step.Step.{Step}
 use Rattle.rs_choice.specs.declared.step.Step.TheVariants.{Preference, PathLength, Origin, Med, Identifier, Address}
 use Rattle.rs_explain.specs.declared.condition.Condition.{Condition}
 use Rattle.rs_explain.specs.declared.condition.Condition.TheVariants as conditions
 use Rattle.rs_survey.specs.declared.finding.Finding.{Finding}
-use Rattle.rs_survey.specs.declared.finding.Finding.TheVariants.{Left, Ineligible, Refused, Lost, Best, Removed, Hidden}
+use Rattle.rs_survey.specs.declared.finding.Finding.TheVariants.{Left, Ineligible, Refused, Lost, Best}
+use Rattle.rs_survey.specs.declared.finding.Finding.TheVariants.{Removed, Hidden, Missing}
 use Rattle.rs_survey.specs.declared.finding.Flaw.{Flaw}
 use Rattle.rs_survey.specs.declared.finding.Flaw.TheVariants.{OwnAs, ServerAsNextHop, NextHopOffExchange}
 use Rattle.rs_survey.specs.declared.finding.Key.{Key}
+use Rattle.rs_survey.specs.declared.missing_reason.MissingReason.{MissingReason}
+use Rattle.rs_survey.specs.declared.missing_reason.MissingReason.TheVariants as reasons
 
 -- a condition without its value
 abbrev pub flaw_of : Condition → Flaw
@@ -30,6 +33,13 @@ step_number Med = 3
 step_number Identifier = 4
 step_number Address = 5
 
+-- the reasons by their places: conditions, rules, steps
+abbrev pub reason_number : MissingReason → ℕ
+reason_number (reasons.Ineligible flaw) = flaw_number flaw
+reason_number reasons.RefusedByName = 3
+reason_number reasons.RefusedByCommunity = 4
+reason_number (reasons.Lost step) = 5 + step_number step
+
 -- three numbers that tell a finding from every other one: of its kind, and what it is about
 abbrev pub key_of : Finding → Key
 key_of (Left sender) = record { kind = 0; first = sender; second = 0 }
@@ -39,6 +49,7 @@ key_of (Lost client sender) = record { kind = 3; first = client; second = sender
 key_of (Best client sender) = record { kind = 4; first = client; second = sender }
 key_of (Removed step) = record { kind = 5; first = step_number step; second = 0 }
 key_of Hidden = record { kind = 6; first = 0; second = 0 }
+key_of (Missing sender reason) = record { kind = 7; first = sender; second = reason_number reason }
 
 -- two findings are the same
 abbrev pub is_same_key : Key → Key → Bool
@@ -56,3 +67,4 @@ IsKnown peers (Lost client sender) = (client < peers) × (sender < peers)
 IsKnown peers (Best client sender) = (client < peers) × (sender < peers)
 IsKnown peers (Removed step) = Unit {0}
 IsKnown peers Hidden = Unit {0}
+IsKnown peers (Missing sender reason) = sender < peers

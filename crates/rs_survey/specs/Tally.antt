@@ -19,16 +19,16 @@ tally_code =
 abbrev pub tally_view : Inside → TallyContent
 tally_view fields = record { peers = fields.peers; counts = fields.counts.items }
 
--- a digit of a place is below this: a peer's number, that of one of six steps, or that of one of three conditions
+-- a digit of a place is below this: a peer's number, or that of one of eleven reasons, six steps or three conditions
 abbrev pub digits : ℕ → ℕ
-digits peers = peers + 6
+digits peers = peers + 11
 
 -- where a finding is counted: its key is a number of three digits
 abbrev pub place_in : ℕ → Key → ℕ
 place_in width key = (key.kind * width + key.first) * width + key.second
 
 abbrev pub room_for : ℕ → ℕ
-room_for width = 7 * width * width
+room_for width = 8 * width * width
 
 -- there is a count for each finding
 pub record HasRoom (fields : Inside) : Type 0 where

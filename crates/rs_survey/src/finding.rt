@@ -1,8 +1,9 @@
-//! What a summary counts on each prefix.
+//! What is counted on each prefix: by a summary, and of the routes that a client does not get.
 
 ghost use Rattle.std.specs.Prelude.{◌≡◌};
 ghost use Rattle.rs_survey.specs.Findings.{flaw_of, key_of, step_number};
 
+use crate::missing_reason::MissingReason;
 use rs_choice::Step;
 use rs_explain::Condition;
 
@@ -17,7 +18,7 @@ pub enum Flaw {
     NextHopOffExchange,
 }
 
-/// What a summary counts on a prefix. Peers stand by their numbers.
+/// What is counted on a prefix. Peers stand by their numbers.
 #[derive(Clone, Copy, Debug, PartialEq, Eq)]
 pub enum Finding {
     /// This peer has left a route.
@@ -34,6 +35,9 @@ pub enum Finding {
     Removed(Step),
     /// Some client gets a route now, and would get none if there were one decision for all clients.
     Hidden,
+    /// The client whose missing routes are counted does not get the route of this sender, for this reason. A summary
+    /// counts none of these.
+    Missing(usize, MissingReason),
 }
 
 impl Flaw {
@@ -70,6 +74,7 @@ impl Finding {
             Finding::Best(client, sender) => make_key(4, client, sender),
             Finding::Removed(step) => make_key(5, step_number(step), 0),
             Finding::Hidden => make_key(6, 0, 0),
+            Finding::Missing(sender, reason) => make_key(7, sender, reason.number()),
         }
     }
 }
@@ -86,7 +91,7 @@ fn make_key(kind: usize, first: usize, second: usize) -> Key
 }
 
 // The place of a step in the decision process.
-fn step_number(step: Step) -> usize
+pub(crate) fn step_number(step: Step) -> usize
     ensures { result ≡ step_number step }
 {
     step as usize

@@ -5,10 +5,12 @@
 //! client, its export policy before its decision).
 //!
 //! Reading order: `on_prefix` (the routes on one prefix that a client does not get), `missing_routes` (those on all
-//! prefixes), `asked_rows` (the rows of a table that are asked for). Two clients: `choices`, `rows_to_come`, `side_by_side` (the rows of both), `differences`. What a summary
-//! counts: `finding` (each finding), `tally` (how often it was made). What it counts from: `seen` (the routes on a
-//! prefix), `removing` (the step that removes a candidate), `hidden` (what one decision for all clients would hide).
-//! How it counts: `counting` (on one prefix), `summary_of` (on all prefixes). Then `laws`.
+//! prefixes). Then `prefix_list` (the prefixes as a list), `asked_rows` (the rows of a table that are asked for). Two
+//! clients: `choices`, `rows_to_come`, `side_by_side` (the rows of both), `differences`. What is counted: `finding`
+//! (each finding), `tally` (how often it was made). The routes that a client does not get: `missing_reason`,
+//! `missing_counts`. What a summary counts from: `seen` (the routes on a prefix), `removing` (the step that removes a
+//! candidate), `hidden` (what one decision for all clients would hide). How it counts: `counting` (on one prefix),
+//! `summary_of` (on all prefixes), `on_threads` (the same on four threads). Then `laws`.
 #![tactic(auto)]
 
 mod asked_rows;
@@ -18,8 +20,12 @@ mod differences;
 mod finding;
 mod hidden;
 mod laws;
+mod missing_counts;
+mod missing_reason;
 mod missing_routes;
 mod on_prefix;
+mod on_threads;
+mod prefix_list;
 mod removing;
 mod rows_to_come;
 mod seen;
@@ -32,7 +38,11 @@ pub use choices::Choices;
 pub use differences::Differences;
 pub use finding::{Finding, Flaw};
 pub use laws::the_step_that_is_counted_is_explained;
+pub use missing_counts::count_missing;
+pub use missing_reason::MissingReason;
 pub use missing_routes::MissingRoutes;
 pub use on_prefix::{MissingOn, MissingRoute, missing_on};
+pub use on_threads::summary_on_threads;
+pub use prefix_list::every_prefix;
 pub use summary_of::summary;
 pub use tally::Tally;

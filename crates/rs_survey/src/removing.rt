@@ -89,12 +89,15 @@ fn is_kept_out(
     found
 }
 
-// Whether a route is such a candidate.
+// Whether a route is such a candidate. Most routes have another neighbour AS, and no more is asked of them.
 fn keeps_out(plan: &Exchange, client: usize, best: &Standing, one: &Standing, other: &Seen) -> bool
     requires client_known { client < length plan.now.peers }
     requires seen { IsSeen plan.now other.now }
     ensures { result ≡ keeps_out plan.now client best.now one.now (sent_of_seen other.now) }
 {
+    if !Step::Med.beats(&other.standing, one) {
+        return false;
+    }
     if other.flaw.is_some() {
         return false;
     }

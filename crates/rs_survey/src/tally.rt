@@ -4,6 +4,7 @@ ghost use Rattle.std.specs.Prelude.{◌≡◌, ◌<◌, ◌≤◌, ◌∷◌, []
 ghost use Rattle.rs_survey.specs.declared.finding.Finding.{Finding};
 ghost use Rattle.rs_survey.specs.Findings.{IsKnown, is_same, key_of};
 ghost use Rattle.rs_survey.specs.Grows.{Grows};
+ghost use Rattle.rs_survey.specs.Joined.{AreSums, IsJoined};
 ghost use Rattle.rs_survey.specs.Tally.{IsTally, digits, most, place_in};
 
 use crate::finding::Finding as One;
@@ -11,11 +12,11 @@ use rs_choice::MAX_PEERS;
 use std::alloc::{AllocError, Global};
 use std::marker::Model;
 
-// A digit of a place is below the number of peers and these: there are six steps.
-const MORE: usize = 6;
+// A digit of a place is below the number of peers and these: there are eleven reasons.
+const MORE: usize = 11;
 
 // How many kinds of findings there are.
-const KINDS: usize = 7;
+const KINDS: usize = 8;
 
 /// How often each finding was made. A count stops at the greatest number of 64 bits.
 #[derive(Drop)]
@@ -59,6 +60,14 @@ impl Tally {
         self.counts[place] = self.counts[place].saturating_add(1);
     }
 
+    // Adds the counts of another tally.
+    pub(crate) fn add_all(&mut self, other: &Tally)
+        requires { other.now.peers ≡ self.old.peers }
+        ensures { IsJoined self.old other.now self.new }
+    {
+        add_counts(&mut self.counts, &other.counts);
+    }
+
     /// How often a finding was made.
     pub fn count(&self, finding: One) -> u64
         requires { IsKnown self.now.peers finding }
@@ -84,5 +93,16 @@ impl Tally {
         let width = self.peers + MORE;
         let key = finding.key();
         (key.kind * width + key.first) * width + key.second
+    }
+}
+
+// Adds counts to others, place by place.
+fn add_counts(counts: &mut [u64], others: &[u64])
+    requires { length others.now ≡ length counts.old }
+    ensures count { length counts.new ≡ length counts.old }
+    ensures sums { AreSums counts.old others.now counts.new }
+{
+    for place in 0..counts.len() {
+        counts[place] = counts[place].saturating_add(others[place]);
     }
 }

@@ -1,0 +1,138 @@
+//! Lists the routes that a client does not get. Four threads lay out the rows of some prefixes each, which are then
+//! printed in their order.
+//!
+//! Our choice: where a thread is refused, the calling thread lays out its rows.
+
+ghost use Rattle.std.specs.Prelude.{◌<◌, length};
+ghost use Rattle.std.specs.List.{All};
+ghost use Rattle.rs_table.specs.PrefixRoutes.{AreRoutesOf, entry_of};
+
+use crate::layout::Layout;
+use crate::list_answering::print_page;
+use crate::missing_row::{add_missing_row, add_missing_titles, reason_key};
+use crate::wanted::Wanted;
+use rs_glass_shell::{Unanswered, answer_name};
+use rs_survey::{MissingOn, every_prefix, missing_on};
+use rs_table::{PrefixRoutes, Tables};
+use std::alloc::{AllocError, Global};
+use std::io::Print;
+use std::thread::{Threads, map_indices};
+
+// How many threads lay out rows.
+const THREADS: usize = 4;
+
+// How many rows a thread lays out at a time, at most.
+const ROWS: usize = 16_384;
+
+// What is listed, and how.
+#[derive(Clone, Copy)]
+struct Listing<'a> {
+    alloc: Global,
+    tables: &'a Tables,
+    client: usize,
+    layout: Layout<'a>,
+    wanted: Wanted<'a>,
+    // On how many prefixes a thread lays out the rows at a time.
+    prefixes: usize,
+}
+
+// Lists them; what is answered is the last part of the list, which isn't printed yet.
+pub(crate) fn list_missing<R: AllocGlobal + Print + Threads + Sync>(
+    rt: &R,
+    tables: &Tables,
+    client: usize,
+    layout: Layout<'_>,
+    wanted: Wanted<'_>,
+) -> Result<String, Unanswered>
+    requires { client < length tables.now.plan.peers }
+{
+    let alloc = rt.alloc();
+    let listing = Listing {
+        alloc,
+        tables,
+        client,
+        layout,
+        wanted,
+        prefixes: (ROWS / tables.plan().count()).max(1),
+    };
+    let all = every_prefix(alloc, tables)?;
+    let mut page = String::new(alloc);
+    add_missing_titles(&mut page, alloc, &layout)?;
+    let at_once = listing.prefixes.saturating_mul(THREADS).max(1);
+    for round in 0..all.len().div_ceil(at_once) {
+        add_round(rt, &mut page, &listing, &all, round.saturating_mul(at_once))?;
+    }
+    Ok(page)
+}
+
+// Adds the rows on as many prefixes, from one place on, as are laid out at once, and prints what is many.
+fn add_round<R: AllocGlobal + Print + Threads + Sync>(
+    rt: &R,
+    page: &mut String,
+    listing: &Listing<'_>,
+    all: &[PrefixRoutes<'_>],
+    first: usize,
+) -> Result<(), Unanswered>
+    requires client { listing.now.client < length listing.now.tables.now.plan.peers }
+    requires routes { All (λ on. AreRoutesOf listing.now.tables.now (entry_of on)) all.now }
+{
+    let rows = |part: usize| -> Result<String, AllocError>
+        requires { (listing.now.client < length listing.now.tables.now.plan.peers)
+            × All (λ on. AreRoutesOf listing.now.tables.now (entry_of on)) all.now }
+    {
+        rows_from(
+            listing,
+            all,
+            first.saturating_add(part.saturating_mul(listing.prefixes)),
+        )
+    };
+    for part in map_indices(rt, listing.alloc, THREADS, &rows)? {
+        page.push_str(&part?)?;
+        print_page(rt, page)?;
+    }
+    Ok(())
+}
+
+// The rows on as many prefixes, from one place on, as a thread lays out at a time.
+fn rows_from(
+    listing: &Listing<'_>,
+    all: &[PrefixRoutes<'_>],
+    first: usize,
+) -> Result<String, AllocError>
+    requires client { listing.now.client < length listing.now.tables.now.plan.peers }
+    requires routes { All (λ on. AreRoutesOf listing.now.tables.now (entry_of on)) all.now }
+{
+    let mut rows = String::new(listing.alloc);
+    for place in first..first.saturating_add(listing.prefixes).min(all.len()) {
+        add_rows(&mut rows, listing, &all[place])?;
+    }
+    Ok(rows)
+}
+
+// Adds the rows on a prefix.
+fn add_rows(
+    rows: &mut String,
+    listing: &Listing<'_>,
+    on: &PrefixRoutes<'_>,
+) -> Result<(), AllocError>
+    requires client { listing.now.client < length listing.now.tables.now.plan.peers }
+    requires routes { AreRoutesOf listing.now.tables.now (entry_of on.now) }
+{
+    let missing = missing_on(listing.alloc, listing.tables, listing.client, on)?;
+    add_missing(rows, listing, &missing)
+}
+
+// Adds those of them that are wanted.
+fn add_missing(
+    rows: &mut String,
+    listing: &Listing<'_>,
+    on: &MissingOn<'_>,
+) -> Result<(), AllocError> {
+    for one in &on.routes {
+        let (answer, reason) = (answer_name(&one.explanation), reason_key(&one.explanation));
+        if listing.wanted.asks_for(one.route.peer, answer, reason) {
+            add_missing_row(rows, listing.alloc, &listing.layout, on, one)?;
+        }
+    }
+    Ok(())
+}

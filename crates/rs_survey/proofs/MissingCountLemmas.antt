@@ -1,0 +1,295 @@
+-- The routes that a client does not get, counted by sender and reason: for missing_counts.rt.
+use Rattle.std.proofs.Common.{◌≡◌, ◌∙◌, sym, ap, subst, refl, arith, ℕ, zero, suc, ◌<◌, ◌+◌, ◌==◌, ◌||◌}
+use Rattle.std.proofs.Common.{Bool, true, false, cond, List, [], ◌∷◌}
+use Rattle.std.proofs.Common.{◌++◌, length, map, append_assoc, get_or, take}
+use Rattle.std.specs.Prelude.{All, IfOk, IfSome, Ok, Option, None, Result, Some, MatchOption}
+use Rattle.std.specs.declared.alloc.AllocError.{AllocError}
+use Rattle.std.specs.FinMap.{get}
+use Rattle.std.specs.List.{cons_option, filter_map, flat_map, range_with_len}
+use Rattle.std.specs.Option.{option_map, option_or}
+use Rattle.std.proofs.lemmas.Bool.Decides.{nat_tests}
+use Rattle.std.proofs.lemmas.List.{append-nil, take_more}
+use Rattle.std.proofs.lemmas.List.Elements.{All-cons, All-head, All-nil, All-tail, filter_map-append}
+use Rattle.rs_update.specs.IpPrefix.{IpPrefix}
+use Rattle.rs_choice.specs.Decision.{SentRoute, decision_steps, standing_of}
+use Rattle.rs_table.specs.Content.{TablesContent, rib_of}
+use Rattle.rs_table.specs.RouteView.{sent_route_of}
+use Rattle.rs_table.specs.Table.{TableRow, best_of, candidates_of, is_from, prefixes_held, route_from}
+use Rattle.rs_explain.specs.declared.condition.Condition.{Condition}
+use Rattle.rs_explain.specs.declared.explanation.Explanation.{Explanation}
+use Rattle.rs_explain.specs.declared.explanation.Explanation.TheVariants.{Own, Absent, Ineligible, Refused, Best, Lost}
+use Rattle.rs_explain.specs.declared.refusal.Refusal.{Refusal}
+use Rattle.rs_explain.specs.Explanations.{IsDecided, IsExplanation, reason_of}
+use Rattle.rs_explain.specs.Reasons.{failed_condition, refusal_of}
+use Rattle.rs_survey.specs.declared.finding.Finding.{Finding}
+use Rattle.rs_survey.specs.declared.finding.Finding.TheVariants.{Missing}
+use Rattle.rs_survey.specs.declared.missing_reason.MissingReason.{MissingReason}
+use Rattle.rs_survey.specs.declared.missing_reason.MissingReason.TheVariants as reasons
+use Rattle.rs_survey.specs.declared.on_prefix.MissingOn.{MissingOn}
+use Rattle.rs_survey.specs.declared.on_prefix.MissingRoute.{MissingRoute}
+use Rattle.rs_survey.specs.Findings.{flaw_of}
+use Rattle.rs_survey.specs.Grows.{Grows}
+use Rattle.rs_survey.specs.Missing.{AreMissing, missing_from, missing_of, missing_on}
+use Rattle.rs_survey.specs.MissingCounts.{counted_of, missing_finding, missing_findings, reason_for, reason_in, reason_of_refusal}
+use Rattle.rs_survey.specs.MissingRoutesView.{GivesMissing, MissingContent}
+use Rattle.rs_survey.specs.Summary.{removed_at}
+use Rattle.rs_survey.specs.Tally.{IsTally, TallyContent}
+use Rattle.rs_survey.proofs.GrowthLemmas.{grows_none, grows_then}
+use Rattle.rs_survey.proofs.MissingLemmas.{missing_peer}
+use Rattle.rs_survey.proofs.StepLemmas.{counted_step}
+
+abbrev pub row_on : IpPrefix → SentRoute → TableRow
+row_on prefix route = record { prefix = prefix; route = route }
+
+-- a peer's route that is missing: the peer is known and isn't the client, and the client doesn't get the route
+pub record IsMissingRoute (tables : TablesContent) (client : ℕ) (prefix : IpPrefix) (route : SentRoute) : Type 0 where
+  pub known : route.peer < length tables.plan.peers
+  pub is_left : route_from tables prefix route.peer ≡ Some route
+  pub another : (route.peer == client) ≡ false
+  pub not_best : is_from route.peer (best_of tables client prefix) ≡ false
+
+-- ---- the reason of an explanation
+
+decided_reason : (tables : TablesContent) (client : ℕ) (prefix : IpPrefix) (route : SentRoute) (explanation : Explanation) →
+    IsMissingRoute tables client prefix route → IsExplanation tables client route.peer prefix explanation →
+    IsDecided tables client route.peer prefix explanation → reason_in explanation
+    ≡ option_map (λ step. reasons.Lost step)
+    (removed_at (standing_of tables.plan) decision_steps (candidates_of tables client prefix) route)
+decided_reason tables client prefix route Own missing is decided = absurd decided
+decided_reason tables client prefix route Absent missing is decided = absurd decided
+decided_reason tables client prefix route (Ineligible condition) missing is decided = absurd decided
+decided_reason tables client prefix route (Refused refusal) missing is decided = absurd decided
+decided_reason tables client prefix route (Best beaten) missing is decided =
+    absurd (cc (sym decided.0 ∙ missing.not_best))
+decided_reason tables client prefix route (Lost removal) missing is decided =
+    let step = counted_step tables client route.peer prefix removal is in
+    let same : step.0 ≡ route = cc (sym step.1 ∙ missing.is_left) in
+    sym (ap (option_map (λ step. reasons.Lost step))
+    (ap (removed_at (standing_of tables.plan) decision_steps (candidates_of tables client prefix)) (sym same) ∙ step.2))
+
+reason_by : (tables : TablesContent) (client : ℕ) (prefix : IpPrefix) (route : SentRoute) (explanation : Explanation)
+    (failed : Option Condition) (refusal : Option Refusal) →
+    IsMissingRoute tables client prefix route → IsExplanation tables client route.peer prefix explanation →
+    MatchOption (option_or (option_map (λ condition. Ineligible condition) failed) (option_map (λ refusal. Refused refusal) refusal))
+    (IsDecided tables client route.peer prefix explanation) (λ reason. explanation ≡ reason) → reason_in explanation
+    ≡ option_or (option_map (λ condition. reasons.Ineligible (flaw_of condition)) failed)
+    (option_or (option_map reason_of_refusal refusal)
+    (option_map (λ step. reasons.Lost step)
+    (removed_at (standing_of tables.plan) decision_steps (candidates_of tables client prefix) route)))
+reason_by tables client prefix route explanation (Some condition) refusal missing is says = ap reason_in says
+reason_by tables client prefix route explanation None (Some refusal) missing is says = ap reason_in says
+reason_by tables client prefix route explanation None None missing is says =
+    decided_reason tables client prefix route explanation missing is says
+
+other_client : (m n : ℕ) → (m == n) ≡ false → (n == m) ≡ false
+other_client m n differs = grind (arith, nat_tests)
+
+-- the reason for a missing route is that of its explanation
+pub reason_explained : (tables : TablesContent) (client : ℕ) (prefix : IpPrefix) (route : SentRoute) (explanation : Explanation) →
+    IsMissingRoute tables client prefix route → IsExplanation tables client route.peer prefix explanation →
+    reason_in explanation ≡ reason_for tables client (row_on prefix route)
+reason_explained tables client prefix route explanation missing is =
+    let other : (client == route.peer) ≡ false = other_client route.peer client missing.another in
+    let before : (if_own : Bool) → (left : Option SentRoute) → Type 0 = λ if_own left.
+    MatchOption (cond if_own (Some Own) (reason_of tables.plan client route.peer left))
+    (IsDecided tables client route.peer prefix explanation) (λ reason. explanation ≡ reason) in
+    reason_by tables client prefix route explanation (failed_condition tables.plan route.peer route.attributes)
+    (refusal_of tables.plan client route.peer route.attributes) missing is
+    (subst (before false) missing.is_left (subst (λ (own : Bool). before own (route_from tables prefix route.peer)) other is))
+
+-- ---- the routes on a prefix
+
+all-cons_option : {Y : Type 0} (Q : Y → Type 0) (y : Option Y) (ys : List Y) → IfSome y Q → All Q ys → All Q (cons_option y ys)
+all-cons_option Q None ys here later = later
+all-cons_option Q (Some y) ys here later = All-cons Q y ys here later
+
+some_holds : {X Y : Type 0} (P : X → Type 0) (Q : Y → Type 0) (f : X → Option Y) →
+    ((x : X) (y : Y) → P x → f x ≡ Some y → Q y) → (x : X) (y : Option Y) → P x → f x ≡ y → IfSome y Q
+some_holds P Q f step x None here is = tt
+some_holds P Q f step x (Some y) here is = step x y here is
+
+all-filter_map : {X Y : Type 0} (P : X → Type 0) (Q : Y → Type 0) (f : X → Option Y) →
+    ((x : X) (y : Y) → P x → f x ≡ Some y → Q y) → (xs : List X) → All P xs → All Q (filter_map f xs)
+all-filter_map P Q f step [] all = All-nil Q
+all-filter_map P Q f step (x ∷ xs) all =
+    all-cons_option Q (f x) (filter_map f xs) (some_holds P Q f step x (f x) (All-head P x xs all) refl)
+    (all-filter_map P Q f step xs (All-tail P x xs all))
+
+all-range : (first n : ℕ) → All (λ (x : ℕ). x < first + n) (range_with_len first n)
+all-range first zero = All-nil (λ (x : ℕ). x < first + zero)
+all-range first (suc n) =
+    let here : first < first + suc n = omega arith in
+    let place : first + 1 + n ≡ first + suc n = omega arith in
+    All-cons (λ (x : ℕ). x < first + suc n) first (range_with_len (first + 1) n) here
+    (subst (λ (bound : ℕ). All (λ (x : ℕ). x < bound) (range_with_len (first + 1) n)) place (all-range (first + 1) n))
+
+or_false : (x y : Bool) → (x || y) ≡ false → (x ≡ false) × (y ≡ false)
+or_false true y is = absurd (cc is)
+or_false false y is = (refl, is)
+
+by_test : (b : Bool) (left : Option SentRoute) (route : SentRoute) → cond b None left ≡ Some route → (b ≡ false) × (left ≡ Some route)
+by_test true left route is = absurd (cc is)
+by_test false left route is = (refl, is)
+
+missing_step : (tables : TablesContent) (client : ℕ) (prefix : IpPrefix) (peer : ℕ) (route : SentRoute) →
+    peer < length tables.plan.peers → missing_from tables client prefix peer ≡ Some route → IsMissingRoute tables client prefix route
+missing_step tables client prefix peer route known is =
+    let best = best_of tables client prefix in
+    let own : route.peer ≡ peer = missing_peer client peer best (get (rib_of tables peer).routes prefix) route (sym is) in
+    let tests = by_test ((peer == client) || is_from peer best) (route_from tables prefix peer) route is in
+    let parts = or_false (peer == client) (is_from peer best) tests.0 in
+    record {
+      known = subst (λ (p : ℕ). p < length tables.plan.peers) (sym own) known;
+      is_left = subst (λ (p : ℕ). route_from tables prefix p ≡ Some route) (sym own) tests.1;
+      another = subst (λ (p : ℕ). (p == client) ≡ false) (sym own) parts.0;
+      not_best = subst (λ (p : ℕ). is_from p best ≡ false) (sym own) parts.1;
+    }
+
+missing_are : (tables : TablesContent) (client : ℕ) (prefix : IpPrefix) →
+    All (IsMissingRoute tables client prefix) (missing_on tables client prefix)
+missing_are tables client prefix =
+    let count = length tables.plan.peers in
+    let place : 0 + count ≡ count = omega arith in
+    all-filter_map (λ (x : ℕ). x < count) (IsMissingRoute tables client prefix) (missing_from tables client prefix)
+    (missing_step tables client prefix) (range_with_len 0 count)
+    (subst (λ (bound : ℕ). All (λ (x : ℕ). x < bound) (range_with_len 0 count)) place (all-range 0 count))
+
+all-unmap : {X Y : Type 0} (P : Y → Type 0) (f : X → Y) (xs : List X) → All P (map f xs) → All (λ x. P (f x)) xs
+all-unmap P f [] all = All-nil (λ x. P (f x))
+all-unmap P f (x ∷ xs) all =
+    All-cons (λ x. P (f x)) x xs (All-head P (f x) (map f xs) all) (all-unmap P f xs (All-tail P (f x) (map f xs) all))
+
+all-means : {X : Type 0} (P Q : X → Type 0) → ((x : X) → P x → Q x) → (xs : List X) → All P xs → All Q xs
+all-means P Q step [] all = All-nil Q
+all-means P Q step (x ∷ xs) all =
+    All-cons Q x xs (step x (All-head P x xs all)) (all-means P Q step xs (All-tail P x xs all))
+
+abbrev sent_of_missing : MissingRoute → SentRoute
+sent_of_missing one = sent_route_of one.route
+
+routes_are_missing : (tables : TablesContent) (client : ℕ) (on : MissingOn) → AreMissing tables client on →
+    All (λ one. IsMissingRoute tables client on.prefix (sent_of_missing one)) on.routes.items
+routes_are_missing tables client on are =
+    all-unmap (IsMissingRoute tables client on.prefix) sent_of_missing on.routes.items
+    (subst (All (IsMissingRoute tables client on.prefix)) (sym are.routes) (missing_are tables client on.prefix))
+
+-- their senders are known
+pub known_senders : (tables : TablesContent) (client peers : ℕ) (on : MissingOn) → AreMissing tables client on →
+    peers ≡ length tables.plan.peers → All (λ one. one.route.peer < peers) on.routes.items
+known_senders tables client peers on are same =
+    subst (λ (count : ℕ). All (λ (one : MissingRoute). one.route.peer < count) on.routes.items) (sym same)
+    (all-means (λ (one : MissingRoute). IsMissingRoute tables client on.prefix (sent_of_missing one))
+    (λ one. one.route.peer < length tables.plan.peers) (λ one is. is.known) on.routes.items (routes_are_missing tables client on are))
+
+findings_explained : (tables : TablesContent) (client : ℕ) (prefix : IpPrefix) (items : List MissingRoute) →
+    All (λ one. IsMissingRoute tables client prefix (sent_of_missing one)) items →
+    All (λ one. IsExplanation tables client one.route.peer prefix one.explanation) items →
+    filter_map counted_of items ≡ filter_map (missing_finding tables client) (map (row_on prefix) (map sent_of_missing items))
+findings_explained tables client prefix [] missing explained = refl
+findings_explained tables client prefix (one ∷ items) missing explained =
+    let IsHere : MissingRoute → Type 0 = λ one. IsMissingRoute tables client prefix (sent_of_missing one) in
+    let IsSaid : MissingRoute → Type 0 = λ one. IsExplanation tables client one.route.peer prefix one.explanation in
+    let here : counted_of one ≡ missing_finding tables client (row_on prefix (sent_of_missing one)) =
+    ap (option_map (Missing one.route.peer))
+    (reason_explained tables client prefix (sent_of_missing one) one.explanation (All-head IsHere one items missing)
+    (All-head IsSaid one items explained)) in
+    let later = findings_explained tables client prefix items (All-tail IsHere one items missing) (All-tail IsSaid one items explained) in
+    λ i. cons_option (here i) (later i)
+
+-- the findings on a prefix
+abbrev pub missing_findings_on : TablesContent → ℕ → IpPrefix → List Finding
+missing_findings_on tables client prefix =
+    filter_map (missing_finding tables client) (map (row_on prefix) (missing_on tables client prefix))
+
+findings_here : (tables : TablesContent) (client : ℕ) (on : MissingOn) → AreMissing tables client on →
+    filter_map counted_of on.routes.items ≡ missing_findings_on tables client on.prefix
+findings_here tables client on are =
+    findings_explained tables client on.prefix on.routes.items (routes_are_missing tables client on are) are.explained
+    ∙ ap (λ (routes : List SentRoute). filter_map (missing_finding tables client) (map (row_on on.prefix) routes)) are.routes
+
+-- ---- the routes on all prefixes
+
+filter_map-flat_map : {X Y Z : Type 0} (f : Y → Option Z) (g : X → List Y) (xs : List X) →
+    filter_map f (flat_map g xs) ≡ flat_map (λ x. filter_map f (g x)) xs
+filter_map-flat_map f g [] = refl
+filter_map-flat_map f g (x ∷ xs) =
+    filter_map-append f (g x) (flat_map g xs) ∙ ap (λ later. filter_map f (g x) ++ later) (filter_map-flat_map f g xs)
+
+-- the findings so far are counted, and with those of the prefixes to come they are all
+pub record IsCountingMissing (tables : TablesContent) (client : ℕ) (initial tally : TallyContent) (rest : MissingContent) : Type 0 where
+  pub more : List Finding
+  pub grown : Grows initial tally more
+  pub splits : more ++ flat_map (missing_findings_on tables client) rest.prefixes ≡ missing_findings tables client
+  pub tables_are : rest.tables ≡ tables
+  pub client_is : rest.client ≡ client
+
+pub missing_none : (tables : TablesContent) (client : ℕ) (tally : TallyContent) (rest : MissingContent) → rest.tables ≡ tables →
+    rest.client ≡ client → rest.prefixes ≡ prefixes_held tables.ribs → IsCountingMissing tables client tally tally rest
+missing_none tables client tally rest same own prefixes = record {
+  more = [];
+  grown = grows_none tally;
+  splits = ap (flat_map (missing_findings_on tables client)) prefixes
+      ∙ sym (filter_map-flat_map (missing_finding tables client)
+      (λ prefix. map (row_on prefix) (missing_on tables client prefix)) (prefixes_held tables.ribs));
+  tables_are = same;
+  client_is = own;
+}
+
+pub missing_more : (tables : TablesContent) (client : ℕ) (initial tally later : TallyContent) (before after : MissingContent)
+    (on : MissingOn) → IsCountingMissing tables client initial tally before → after.tables ≡ before.tables → after.client ≡ before.client →
+    before.prefixes ≡ on.prefix ∷ after.prefixes → AreMissing tables client on →
+    Grows tally later (filter_map counted_of on.routes.items) → IsCountingMissing tables client initial later after
+missing_more tables client initial tally later before after on counting same own first are grows =
+    let here = missing_findings_on tables client on.prefix in
+    let findings = missing_findings_on tables client in
+    record {
+      more = counting.more ++ here;
+      grown = grows_then initial tally later counting.more here counting.grown
+          (subst (Grows tally later) (findings_here tables client on are) grows);
+      splits = append_assoc counting.more here (flat_map findings after.prefixes)
+          ∙ ap (λ prefixes. counting.more ++ flat_map findings prefixes) (sym first) ∙ counting.splits;
+      tables_are = same ∙ counting.tables_are;
+      client_is = own ∙ counting.client_is;
+    }
+
+pub missing_counted : (tables : TablesContent) (client : ℕ) (initial tally : TallyContent) (rest : MissingContent) → IsTally initial [] →
+    IsCountingMissing tables client initial tally rest → rest.prefixes ≡ [] → IsTally tally (missing_findings tables client)
+missing_counted tables client initial tally rest none counting ends =
+    subst (IsTally tally)
+    (sym (append-nil counting.more) ∙ ap (λ prefixes. counting.more ++ flat_map (missing_findings_on tables client) prefixes) (sym ends)
+    ∙ counting.splits)
+    (counting.grown.counts [] none)
+
+-- ---- one route more
+
+pub grows-one : (routes : List MissingRoute) (i : ℕ) (d : MissingRoute) (one two three : TallyContent) → i < length routes →
+    Grows one two (filter_map counted_of (take i routes)) → Grows two three (filter_map counted_of (get_or routes i d ∷ [])) →
+    Grows one three (filter_map counted_of (take (i + 1) routes))
+grows-one routes i d one two three within first later =
+    subst (Grows one three)
+    (sym (ap (filter_map counted_of) (take_more routes i d within) ∙ filter_map-append counted_of (take i routes) (get_or routes i d ∷ [])))
+    (grows_then one two three (filter_map counted_of (take i routes)) (filter_map counted_of (get_or routes i d ∷ [])) first later)
+
+-- ---- one prefix more
+
+of_ok : {T F : Type 0} (P : T → Type 0) (result : Result T F) (value : T) → IfOk result P → result ≡ Ok value → P value
+of_ok {T = T} {F = F} P result value holds is = subst (λ (one : Result T F). IfOk one P) is holds
+
+pub missing_here : (tables : TablesContent) (client : ℕ) (initial tally : TallyContent) (before after : MissingContent)
+    (result : Result MissingOn AllocError) (on : MissingOn) → IsCountingMissing tables client initial tally before →
+    GivesMissing before (Some result) after → result ≡ Ok on → AreMissing tables client on
+missing_here tables client initial tally before after result on counting gives is =
+    subst (λ (number : ℕ). AreMissing tables number on) counting.client_is
+    (subst (λ (content : TablesContent). AreMissing content before.client on) counting.tables_are
+    (of_ok (AreMissing before.tables before.client) result on gives.2.missing is))
+
+pub missing_turn : (tables : TablesContent) (client : ℕ) (initial tally later : TallyContent) (before after : MissingContent)
+    (result : Result MissingOn AllocError) (on : MissingOn) → IsCountingMissing tables client initial tally before →
+    GivesMissing before (Some result) after → result ≡ Ok on → Grows tally later (filter_map counted_of on.routes.items) →
+    IsCountingMissing tables client initial later after
+missing_turn tables client initial tally later before after result on counting gives is grows =
+    let next = gives.2 in
+    let here : on.prefix ≡ next.prefix = of_ok (λ (missing : MissingOn). missing.prefix ≡ next.prefix) result on next.here is in
+    missing_more tables client initial tally later before after on counting gives.0 gives.1
+    (next.first ∙ ap (λ (prefix : IpPrefix). prefix ∷ after.prefixes) (sym here))
+    (missing_here tables client initial tally before after result on counting gives is) grows

@@ -1,0 +1,59 @@
+-- How many routes of each sender a client does not get, for each reason (RFC 4271, section 9.1; RFC 7947, section 2.3).
+use Rattle.std.specs.Prelude.{ℕ, List, Option, None, Some}
+use Rattle.std.specs.List.{filter_map}
+use Rattle.std.specs.Option.{option_map, option_or}
+use Rattle.rs_choice.specs.Decision.{decision_steps, standing_of}
+use Rattle.rs_table.specs.Content.{TablesContent}
+use Rattle.rs_table.specs.Table.{TableRow, candidates_of}
+use Rattle.rs_explain.specs.declared.explanation.Explanation.{Explanation}
+use Rattle.rs_explain.specs.declared.explanation.Explanation.TheVariants as explanations
+use Rattle.rs_explain.specs.declared.refusal.Refusal.{Refusal}
+use Rattle.rs_explain.specs.declared.refusal.Refusal.TheVariants.{ByName, ToClient, ToAll}
+use Rattle.rs_explain.specs.Reasons.{failed_condition, refusal_of}
+use Rattle.rs_survey.specs.declared.finding.Finding.{Finding}
+use Rattle.rs_survey.specs.declared.finding.Finding.TheVariants.{Missing}
+use Rattle.rs_survey.specs.declared.missing_reason.MissingReason.{MissingReason}
+use Rattle.rs_survey.specs.declared.missing_reason.MissingReason.TheVariants.{Ineligible, RefusedByName}
+use Rattle.rs_survey.specs.declared.missing_reason.MissingReason.TheVariants.{RefusedByCommunity, Lost}
+use Rattle.rs_survey.specs.declared.on_prefix.MissingRoute.{MissingRoute}
+use Rattle.rs_survey.specs.Findings.{flaw_of}
+use Rattle.rs_survey.specs.Missing.{missing_of}
+use Rattle.rs_survey.specs.Summary.{removed_at}
+
+-- a rule that refuses, as a reason
+abbrev pub reason_of_refusal : Refusal → MissingReason
+reason_of_refusal ByName = RefusedByName
+reason_of_refusal (ToClient asn) = RefusedByCommunity
+reason_of_refusal (ToAll asn) = RefusedByCommunity
+
+-- the reason for which a client does not get a route of another peer: the first condition that fails, or else the rule
+-- that refuses, or else the step of the decision process that removes it
+abbrev pub reason_for : TablesContent → ℕ → TableRow → Option MissingReason
+reason_for tables client row =
+    option_or (option_map (λ condition. Ineligible (flaw_of condition))
+    (failed_condition tables.plan row.route.peer row.route.attributes))
+    (option_or (option_map reason_of_refusal (refusal_of tables.plan client row.route.peer row.route.attributes))
+    (option_map (λ step. Lost step)
+    (removed_at (standing_of tables.plan) decision_steps (candidates_of tables client row.prefix) row.route)))
+
+-- what is counted of a route that a client does not get
+abbrev pub missing_finding : TablesContent → ℕ → TableRow → Option Finding
+missing_finding tables client row = option_map (Missing row.route.peer) (reason_for tables client row)
+
+-- and of the whole list of these routes
+abbrev pub missing_findings : TablesContent → ℕ → List Finding
+missing_findings tables client = filter_map (missing_finding tables client) (missing_of tables client)
+
+-- ---- the same by an explanation
+
+-- the reason that an explanation has
+abbrev pub reason_in : Explanation → Option MissingReason
+reason_in explanations.Own = None
+reason_in explanations.Absent = None
+reason_in (explanations.Ineligible condition) = Some (Ineligible (flaw_of condition))
+reason_in (explanations.Refused refusal) = Some (reason_of_refusal refusal)
+reason_in (explanations.Best beaten) = None
+reason_in (explanations.Lost removal) = Some (Lost removal.step)
+
+abbrev pub counted_of : MissingRoute → Option Finding
+counted_of one = option_map (Missing one.route.peer) (reason_in one.explanation)
