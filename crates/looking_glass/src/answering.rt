@@ -1,12 +1,11 @@
 //! Answers the question of the command line: reads what it names, and writes what comes of it.
 
-use rs_files::{check, peers};
+use rs_files::{check, peers, start};
 use rs_glass_shell::{PROGRAM, Reply, Unanswered};
 use rs_host::{DONE, WordsFault, read_arguments};
 use rs_lists::{diff, missing, summary, table};
 use rs_page::page;
 use rs_query::{Query, read_query};
-use rs_start_shell::start;
 use rs_why::{history, why};
 use std::env::Env;
 use std::fs::Files;

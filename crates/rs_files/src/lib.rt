@@ -1,20 +1,31 @@
-//! Answers about recorded files alone: what they hold, and what a run over a configuration would meet.
+//! Answers about files: what recorded ones hold, what a run over a configuration would meet, and the beginnings of
+//! sessions that a collector's table gives.
 //! All of it is our choice, but for JSON (RFC 8259) and TOML 1.0.
 //!
 //! Reading order: `recordings` (the whole answer), `recorded_file`, `listing_lines`, `listing_object`, `listing_pieces` and
 //! `listing_toml` (what recorded files hold, as a text, as JSON and as a configuration). `checking`, `refused` and
-//! `closing` (what a run would meet).
+//! `closing` (what a run would meet). `starting` (sessions of a table): `listed` (which peers get a file),
+//! `session_files` (the files, which are put in place when all are whole), `sessions` (what is written to them),
+//! `peer_lines` and `configuration` (the texts), `table_faults` (why no session is written).
 #![tactic(auto)]
 
 mod checking;
 mod closing;
+mod configuration;
+mod listed;
 mod listing_lines;
 mod listing_object;
 mod listing_pieces;
 mod listing_toml;
+mod peer_lines;
 mod recorded_file;
 mod recordings;
 mod refused;
+mod session_files;
+mod sessions;
+mod starting;
+mod table_faults;
 
 pub use checking::check;
 pub use recordings::peers;
+pub use starting::start;

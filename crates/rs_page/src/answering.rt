@@ -16,6 +16,7 @@ use rs_mrt::{Bounds, Tail};
 use rs_notes::{Subject, notes_on};
 use rs_picture::PALETTE;
 use rs_query::PageQuery;
+use rs_survey::summary_on_threads;
 use std::alloc::{AllocError, Global};
 use std::fs::Files;
 use std::sync::Wait;
@@ -32,7 +33,7 @@ where
     let alloc = rt.alloc();
     let setup = configuration(rt, &query.tables.config)?;
     let served = served(rt, &setup, &query.tables)?;
-    let tally = rs_survey::summary(alloc, served.tables())?;
+    let tally = summary_on_threads(rt, alloc, served.tables())?;
     let bounds = Bounds {
         until: query.tables.until,
         tail: Tail::Strict,

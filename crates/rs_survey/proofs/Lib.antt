@@ -7,7 +7,6 @@ pub mod RemovingLemmas
 pub mod SeenLemmas
 pub mod HiddenLemmas
 pub mod CountLemmas
-pub mod SummaryLemmas
 pub mod StepLemmas
 pub mod AskedLemmas
 pub mod JoinLemmas

@@ -10,7 +10,7 @@
 //! (each finding), `tally` (how often it was made). The routes that a client does not get: `missing_reason`,
 //! `missing_counts`. What a summary counts from: `seen` (the routes on a prefix), `removing` (the step that removes a
 //! candidate), `hidden` (what one decision for all clients would hide). How it counts: `counting` (on one prefix),
-//! `summary_of` (on all prefixes), `on_threads` (the same on four threads). Then `laws`.
+//! `on_threads` (on all prefixes, on four threads). Then `laws`.
 #![tactic(auto)]
 
 mod asked_rows;
@@ -30,7 +30,6 @@ mod removing;
 mod rows_to_come;
 mod seen;
 mod side_by_side;
-mod summary_of;
 mod tally;
 
 pub use asked_rows::{AskedRows, count_rows};
@@ -44,5 +43,4 @@ pub use missing_routes::MissingRoutes;
 pub use on_prefix::{MissingOn, MissingRoute, missing_on};
 pub use on_threads::summary_on_threads;
 pub use prefix_list::every_prefix;
-pub use summary_of::summary;
 pub use tally::Tally;

@@ -16,7 +16,8 @@ use rs_table::{PrefixRoutes, Tables};
 use std::alloc::{AllocError, Global};
 use std::thread::{Threads, join};
 
-/// Counts what `summary` counts, on four threads.
+/// Counts what is found on every prefix of some tables, on four threads: which routes are left and why they are not
+/// eligible, what becomes of each at each client, and on which prefixes one decision for all clients would hide routes.
 ///
 /// It holds where each prefix is, in 16 octets, and the counts of each thread. Fails where memory is refused.
 pub fn summary_on_threads<T: Threads + Sync>(

@@ -1,11 +1,11 @@
 //! Answers with the beginning of each peer's session, in files.
 
 use crate::configuration::as_toml;
-use crate::faults::{by_routes, by_table};
 use crate::listed::{Listed, Table, first_unknown, listed_peers};
 use crate::peer_lines::as_text;
 use crate::session_files::{SessionFile, put_in_place, remove_parts};
 use crate::sessions::{begin_sessions, counts_of};
+use crate::table_faults::{by_routes, by_table};
 use rs_glass_shell::{Reply, Unanswered};
 use rs_host::{DONE, Unready, open_file};
 use rs_mrt::Read;

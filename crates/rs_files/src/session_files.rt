@@ -4,7 +4,7 @@
 //! sessions are whole, so that a reader never finds a part of one. Where something else than a file stands in a place,
 //! such as a link or a device, or the table itself, nothing is written.
 
-use crate::faults::unwritten;
+use crate::table_faults::unwritten;
 use rs_glass_shell::Unanswered;
 use rs_host::{FileIdentity, found_at};
 use rs_query::StartQuery;
