@@ -1,4 +1,5 @@
-//! Rings in one thread and between two; workers, the router and shards on threads of their own; whole runs and schedules.
+//! Rings in one thread and between two; workers, the router and shards on threads of their own; whole runs and
+//! schedules.
 
 mod by_hand;
 mod changes;

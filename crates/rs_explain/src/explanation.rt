@@ -36,7 +36,8 @@ pub enum Explanation {
     Lost(Removal),
 }
 
-/// The candidates of a client for a prefix, collected once. The routes there are explained from them, one after another.
+/// The candidates of a client for a prefix, collected once. The routes there are explained from them, one after
+/// another.
 #[derive(Drop)]
 pub struct Candidates {
     // The one that the client gets, if there is one.
@@ -106,7 +107,8 @@ impl Candidates {
         requires routes { AreRoutesOf tables.now (entry_of on.now) }
         requires candidates { AreCandidates tables.now client on.now.prefix self.now }
         ensures explains { IfOk result (IsExplanation tables.now client peer on.now.prefix) }
-        ensures agrees { IfOk result (λ explanation. answer_of explanation ≡ why_of tables.now client peer on.now.prefix) }
+        ensures agrees { IfOk result (λ explanation.
+            answer_of explanation ≡ why_of tables.now client peer on.now.prefix) }
     {
         if client == peer {
             return Ok(Explanation::Own);

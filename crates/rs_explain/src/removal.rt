@@ -31,8 +31,8 @@ pub(crate) const STEPS: [Step; 6] = [
     Step::Address,
 ];
 
-// How the steps of the decision process remove a candidate of a set, of which the best one is the choice; none where all
-// of them leave it. The best one is named first of those that beat it.
+// How the steps of the decision process remove a candidate of a set, of which the best one is the choice; none where
+// all of them leave it. The best one is named first of those that beat it.
 pub(crate) fn removed_by(
     steps: &[Step],
     set: &[Contender],
@@ -57,8 +57,8 @@ pub(crate) fn removed_by(
     None
 }
 
-// The best one, if it beats a candidate at a step, or else the first of those that reach the step that does. But for MED,
-// whoever is removed at a step is beaten there by the best one.
+// The best one, if it beats a candidate at a step, or else the first of those that reach the step that does. But for
+// MED, whoever is removed at a step is beaten there by the best one.
 fn rival(step: Step, set: &[Contender], loser: &Contender, best: &Contender) -> Option<Contender>
     requires chosen { choice standing_in set.now ≡ Some best.now }
     ensures { (before : List spec.Step) → (after : List spec.Step) → decision_steps ≡ before ++ step ∷ after

@@ -2,11 +2,11 @@
 //! sessions that a collector's table gives.
 //! All of it is our choice, but for JSON (RFC 8259) and TOML 1.0.
 //!
-//! Reading order: `recordings` (the whole answer), `recorded_file`, `listing_lines`, `listing_object`, `listing_pieces` and
-//! `listing_toml` (what recorded files hold, as a text, as JSON and as a configuration). `checking`, `refused` and
-//! `closing` (what a run would meet). `starting` (sessions of a table): `listed` (which peers get a file),
-//! `session_files` (the files, which are put in place when all are whole), `sessions` (what is written to them),
-//! `peer_lines` and `configuration` (the texts), `table_faults` (why no session is written).
+//! Reading order: `recordings` (the whole answer), `recorded_file`, `listing_lines`, `listing_object`, `listing_pieces`
+//! and `listing_toml` (what recorded files hold, as a text, as JSON and as a configuration). `checking`, `refused` and
+//! `closing` (what a run would meet). Sessions of a table: `starting` (the whole answer), `listed` (which peers get a
+//! file), `session_files` (the files, which are put in place when all are whole), `sessions` (what is written to them).
+//! Then `peer_lines` and `configuration` (the texts), `table_faults` (why no session is written).
 #![tactic(auto)]
 
 mod checking;

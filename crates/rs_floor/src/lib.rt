@@ -20,8 +20,10 @@ mod turn;
 
 pub use floor::Floor;
 pub use laws::{drained_schedules_agree, drained_schedules_dump_alike};
-pub use rs_serve::{Routed, ShardEnd, route, shard_of, shard_worker};
-pub use rs_serve::{FloorRefused, PeerEnd, Served, serve_by, verdict};
+pub use rs_serve::{
+    FloorRefused, PeerEnd, Routed, Served, ShardEnd, route, serve_by, shard_of, shard_worker,
+    verdict,
+};
 pub use rs_worker::{Gate, Open, WorkerEnd, worker, worker_by, worker_over};
 pub use schedule::replay;
 pub use serving::{serve, serve_readers, serve_sharded};

@@ -2,7 +2,8 @@
 use Rattle.std.specs.Prelude.{◌++◌, codes, string_bytes}
 use Rattle.rs_glass_shell.specs.declared.unanswered.Unanswered.{Unanswered}
 use Rattle.rs_glass_shell.specs.declared.unanswered.Unanswered.TheVariants.{Words, Setup, NoPeer, SeveralPeers, Unread}
-use Rattle.rs_glass_shell.specs.declared.unanswered.Unanswered.TheVariants.{AtFault, Unwritten, Unsettled, Output, Memory}
+use Rattle.rs_glass_shell.specs.declared.unanswered.Unanswered.TheVariants.{AtFault, Unwritten, Unsettled, Output}
+use Rattle.rs_glass_shell.specs.declared.unanswered.Unanswered.TheVariants.{Memory}
 use Rattle.rs_host.specs.Line.{Text, named as named_by, one_line, out_of_memory, unread_line}
 use Rattle.rs_host.specs.Refusal.{setup_line, words_text}
 

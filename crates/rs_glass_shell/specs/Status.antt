@@ -3,7 +3,8 @@
 use Rattle.std.specs.Prelude.{ℕ}
 use Rattle.rs_glass_shell.specs.declared.unanswered.Unanswered.{Unanswered}
 use Rattle.rs_glass_shell.specs.declared.unanswered.Unanswered.TheVariants.{Words, Setup, NoPeer, SeveralPeers, Unread}
-use Rattle.rs_glass_shell.specs.declared.unanswered.Unanswered.TheVariants.{AtFault, Unwritten, Unsettled, Output, Memory}
+use Rattle.rs_glass_shell.specs.declared.unanswered.Unanswered.TheVariants.{AtFault, Unwritten, Unsettled, Output}
+use Rattle.rs_glass_shell.specs.declared.unanswered.Unanswered.TheVariants.{Memory}
 use Rattle.rs_host.specs.Status.{failed, out_of_memory, refused, setup_status, words_status}
 use Rattle.rs_host.specs.declared.unready.Unready.{Unready}
 use Rattle.rs_host.specs.declared.unready.Unready.TheVariants as unready

@@ -1,10 +1,10 @@
-//! What all answers of the looking glass have in common: the peer that a word names, how tables are built, why there is no
-//! answer, and how peers, reasons and path attributes are written.
+//! What all answers of the looking glass have in common: the peer that a word names, how tables are built, why there is
+//! no answer, and how peers, reasons and path attributes are written.
 //! All of it is our choice, but for JSON (RFC 8259) and TOML 1.0.
 //!
 //! Reading order: `setup` (the peer that a word names). `serving` (how tables are built). `reply` (an answer).
-//! `unanswered` and `lines` (why there is none). `writing` (a file that is written whole). `columns`, `names`, `reasons`
-//! and `route_text` (texts). `reason_object` and `route_object` (JSON). `toml_text` (TOML).
+//! `unanswered` and `lines` (why there is none). `writing` (a file that is written whole). `columns`, `names`,
+//! `reasons` and `route_text` (texts). `reason_object` and `route_object` (JSON). `toml_text` (TOML).
 #![tactic(auto)]
 
 mod columns;

@@ -22,7 +22,8 @@ MayBeCompressed gives reader compression =
 
 -- it is what these records hold, which may come, all of them, where messages are read so deep, and it says how the
 -- records end
-pub record IsReadingOf {S : Type 0} (depth : Depth) (comes : S → List MrtRecord → Option SourceFault → Type 0) (source : S)
+pub record IsReadingOf {S : Type 0} (depth : Depth)
+    (comes : S → List MrtRecord → Option SourceFault → Type 0) (source : S)
     (content : Content) : Type 0 where
   pub records : List MrtRecord
   pub come : comes source records (source_end content.end)
@@ -42,7 +43,8 @@ abbrev pub MayFail : {S : Type 0} → (S → List MrtRecord → Option SourceFau
 MayFail comes source = (records : List MrtRecord) × comes source records (Some Read)
 
 -- these records came so far, with whatever may still come behind them, and this is what they hold
-pub record Going {S : Type 0} (depth : Depth) (comes : S → List MrtRecord → Option SourceFault → Type 0) (initial now : S)
+pub record Going {S : Type 0} (depth : Depth)
+    (comes : S → List MrtRecord → Option SourceFault → Type 0) (initial now : S)
     (content : Content) : Type 0 where
   pub done : List MrtRecord
   pub behind : (later : List MrtRecord) (fault : Option SourceFault) → comes now later fault

@@ -83,8 +83,8 @@ pub(crate) fn is_file<R: Files>(rt: &R, path: &str) -> bool {
     }
 }
 
-/// Of what format other than MRT the file at a path is, by its first octets: zip, pcap or text. `held` is what its records
-/// hold. None where one of them is of a known kind, and where the file gives its octets only once.
+/// Of what format other than MRT the file at a path is, by its first octets: zip, pcap or text. `held` is what its
+/// records hold. None where one of them is of a known kind, and where the file gives its octets only once.
 pub fn format_at<R: AllocGlobal + Files>(rt: &R, path: &str, held: &Inventory) -> Option<Format> {
     if is_known(held) {
         return None;

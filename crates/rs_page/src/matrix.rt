@@ -1,7 +1,8 @@
-//! How many routes each client gets from each sender, as a table whose cells have the stronger colour the more they are.
+//! How many routes each client gets from each sender, as a table whose cells have the stronger colour the more they
+//! are.
 //!
-//! Our choices: numbers are seen at up to 32 peers; beyond, a cell shows its number while it is pointed at. On paper the
-//! table is made as small as the width of A4 needs.
+//! Our choices: numbers are seen at up to 32 peers; beyond, a cell shows its number while it is pointed at. On paper
+//! the table is made as small as the width of A4 needs.
 
 ghost use Rattle.std.specs.Prelude.{◌<◌, ◌≤◌};
 
@@ -25,7 +26,8 @@ const CLASSES: [&str; 9] = ["", "a", "b", "c", "d", "e", "f", "g", "h"];
 // Names of up to so many letters stand upright above their columns.
 const SHORT: usize = 5;
 
-// How wide a letter, a cell with a number, a cell without and the sums are at most, and A4 between its margins, in pixels.
+// How wide a letter, a cell with a number, a cell without and the sums are at most, and A4 between its margins, in
+// pixels.
 const LETTER: usize = 9;
 
 const CELL: usize = 52;

@@ -1,7 +1,7 @@
 //! How the page looks.
 //!
-//! Our choice: the colours of pictures are those of the palette, for bars and for the keys to them. Texts have a contrast
-//! of at least 4.5 to what is behind them.
+//! Our choice: the colours of pictures are those of the palette, for bars and for the keys to them. Texts have a
+//! contrast of at least 4.5 to what is behind them.
 
 /// The style sheet, but for the palette.
 pub(crate) const STYLE: &str =

@@ -4,8 +4,8 @@ use crate::markup::add_text;
 use crate::time_axis::TimeAxis;
 use std::alloc::AllocError;
 
-/// Begins a picture of this size, with what it shows in few words and in a sentence. `attributes` are further ones of its
-/// element, each with a space before it.
+/// Begins a picture of this size, with what it shows in few words and in a sentence. `attributes` are further ones of
+/// its element, each with a space before it.
 pub fn open_picture(
     text: &mut String,
     (width, height): (u32, u32),

@@ -1,5 +1,6 @@
 //! How pictures are laid out and written: bars, lanes, axes of time, and texts in markup.
-//! The characters of markup are those of XML 1.0, sections 2.2 and 2.4, elements those of SVG 1.1; all else is our choice.
+//! The characters of markup are those of XML 1.0, sections 2.2 and 2.4, elements those of SVG 1.1; all else is our
+//! choice.
 //!
 //! Reading order: `bars` (how long a bar is), `lanes` (where a lane lies), `time_axis` (where a time lies, and the
 //! round times on an axis), `marking` (how they are shown). Then `markup` (texts that no reader takes for markup),

@@ -1,10 +1,11 @@
 //! The colours of pictures.
 //!
-//! Our choices: bars are blue, green, orange and red, which differ in lightness too, so that those who see few colours can
-//! tell them apart. Texts have a contrast of at least 4.5 to what is behind them, in the light scheme and in the dark one.
+//! Our choices: bars are blue, green, orange and red, which differ in lightness too, so that those who see few colours
+//! can tell them apart. Texts have a contrast of at least 4.5 to what is behind them, in the light scheme and in the
+//! dark one.
 
-/// The rules of a style sheet for the classes of pictures: bars (`kb`, `kg`, `ko`, `kr`), marks (`km`), lines (`line`), the
-/// background (`back`), and texts, those on bars too (`on`).
+/// The rules of a style sheet for the classes of pictures: bars (`kb`, `kg`, `ko`, `kr`), marks (`km`), lines (`line`),
+/// the background (`back`), and texts, those on bars too (`on`).
 pub const PALETTE: &str = "
 svg text,.km{fill:#1b2126}
 .back,svg .on{fill:#fff}

@@ -15,7 +15,8 @@ pub record IsOfPlan (plan : Plan) (tables : TablesContent) : Type 0 where
   pub plan_is : tables.plan ≡ plan
   pub count : length tables.ribs ≡ length plan.peers
 
--- the tables of one of some shards, where this was received of each peer: they hold what the shard's part of that leaves
+-- the tables of one of some shards, where this was received of each peer: they hold what the shard's part of that
+-- leaves
 pub record IsShardOf (plan : Plan) (received : List (List Word)) (shards shard : ℕ)
     (part : TablesContent) : Type 0 where
   pub of_plan : IsOfPlan plan part

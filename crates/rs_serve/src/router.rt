@@ -3,7 +3,8 @@
 ghost use Rattle.std.specs.Prelude.{◌≡◌, ◌≤◌, ◌<◌, [], true, All, length};
 ghost use Rattle.rs_serve.specs.ShardParts.{IsShardCount};
 ghost use Rattle.rs_serve.specs.Delivery.{sent_lists, SameSenders};
-ghost use Rattle.rs_serve.specs.Routing.{AreClosed, AreShardParts, AreKnown, EndLast, IsRouted, all_closed, received_lists};
+ghost use Rattle.rs_serve.specs.Routing.{AreClosed, AreShardParts, AreKnown, EndLast, IsRouted, all_closed};
+ghost use Rattle.rs_serve.specs.Routing.{received_lists};
 ghost use Rattle.rs_serve.specs.Routing.{SameReceivers};
 
 use crate::delivery::{Shared, deliver, send_to_all};

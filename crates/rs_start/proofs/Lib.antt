@@ -1,6 +1,5 @@
 pub mod PrefixLemmas
 pub mod UpdateLemmas
-pub mod RecordLemmas
 pub mod SaidLemmas
 pub mod AddLemmas
 pub mod WritingLemmas

@@ -12,7 +12,7 @@ use Rattle.rs_mrt.specs.Reader.{ReadEnd, FileEnds, ReadGives}
 use Rattle.rs_mrt.specs.Record.{MrtRecord, after_record, front_record, has_record, headed, length_field, records_of, rest_of}
 use Rattle.rs_mrt.specs.Record.{records_within, rest_within}
 use Rattle.rs_start.specs.TableReading.{Came, Fills, Takes}
-use Rattle.rs_start.proofs.RecordLemmas.{step}
+use Rattle.rs_mrt.proofs.FirstRecord.{records_of-first, rest_of-first}
 
 -- ---- octets
 
@@ -79,12 +79,12 @@ module _ (header body later : List ℕ) (long : length header ≡ 12) (len : len
 
   one_record : records_of ((header ++ body) ++ later) ≡ headed header body ∷ records_of later
   one_record =
-      ap records_of (append_assoc header body later) ∙ (step octets stands).0
+      ap records_of (append_assoc header body later) ∙ records_of-first octets stands
       ∙ ap (λ (r : MrtRecord). r ∷ records_of (after_record octets)) front
       ∙ ap (λ (rest : List ℕ). headed header body ∷ records_of rest) after
 
   one_rest : rest_of ((header ++ body) ++ later) ≡ rest_of later
-  one_rest = ap rest_of (append_assoc header body later) ∙ (step octets stands).1 ∙ ap rest_of after
+  one_rest = ap rest_of (append_assoc header body later) ∙ rest_of-first octets stands ∙ ap rest_of after
 
 -- ---- records
 

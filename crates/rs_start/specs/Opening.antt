@@ -56,7 +56,8 @@ fixed_len = 23
 -- Marker, Length, Type; no Withdrawn Routes; how many octets of path attributes
 abbrev pub update_head : ℕ → ℕ → List ℕ
 update_head section_len nlri_len =
-    replicate 16 0xFF ++ big_bytes 2 (fixed_len + section_len + nlri_len) ++ 2 ∷ (big_bytes 2 0 ++ big_bytes 2 section_len)
+    replicate 16 0xFF ++ big_bytes 2 (fixed_len + section_len + nlri_len)
+    ++ 2 ∷ (big_bytes 2 0 ++ big_bytes 2 section_len)
 
 -- the same, path attributes, NLRI
 unfoldable pub update_spelling : List ℕ → List ℕ → List ℕ
@@ -141,9 +142,9 @@ abbrev pub added_by : Option PathAttributes → Added
 added_by None = LeftOut AttributesAtFault
 added_by (Some attributes) = Written
 
--- What becomes of an entry, by its prefix and path attributes: it is written, or left out, since the prefix is multicast,
--- since no message holds the attributes beside the prefix, or since the attributes are at fault; in this order (our
--- choice).
+-- What becomes of an entry, by its prefix and path attributes: it is written, or left out, since the prefix is
+-- multicast, since no message holds the attributes beside the prefix, or since the attributes are at fault; in this
+-- order (our choice).
 abbrev pub added_of : IpPrefix → List ℕ → Added
 added_of prefix section =
     if is_multicast prefix then LeftOut Multicast

@@ -44,7 +44,8 @@ peer_at (kind ∷ octets) =
     if nat_lt (length octets) (4 + address_len kind + asn_len kind) then None
     else Some (peer_of kind octets, drop (4 + address_len kind + asn_len kind) octets)
 
--- the index: Collector BGP ID, View Name Length, View Name, Peer Count, and so many peer entries, and nothing behind them
+-- the index: Collector BGP ID, View Name Length, View Name, Peer Count, and so many peer entries, and nothing behind
+-- them
 abbrev pub name_len : List ℕ → ℕ
 name_len body = big_number 2 (drop 4 body)
 
@@ -95,7 +96,8 @@ EntryIsRead =
 
 -- Sequence Number, prefix, Entry Count: the prefix is that of an UPDATE, of at most 32 bits
 abbrev pub rib_prefix : List ℕ → IpPrefix
-rib_prefix body = network_of (big_number 4 (take (octets_for (big_number 1 (drop 4 body))) (drop 5 body))) (big_number 1 (drop 4 body))
+rib_prefix body =
+    network_of (big_number 4 (take (octets_for (big_number 1 (drop 4 body))) (drop 5 body))) (big_number 1 (drop 4 body))
 
 abbrev pub behind_prefix : List ℕ → List ℕ
 behind_prefix body = drop (octets_for (big_number 1 (drop 4 body))) (drop 5 body)

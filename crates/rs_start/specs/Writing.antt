@@ -5,7 +5,8 @@ use Rattle.std.specs.Io.KnownBytes.{Appends}
 use Rattle.rs_session.specs.FileChanges.{changes_in_by}
 use Rattle.rs_update.specs.declared.errors.Errors.{Errors}
 use Rattle.rs_start.specs.declared.start.Start.{Start}
-use Rattle.rs_start.specs.Opening.{Announcing, IsSound, TableRoute, announced, opening_spelling, routes_in, updates_spelling}
+use Rattle.rs_start.specs.Opening.{Announcing, IsSound, TableRoute, announced, opening_spelling, routes_in}
+use Rattle.rs_start.specs.Opening.{updates_spelling}
 
 -- the writer, whose session it is, the octets that wait to be written, and the UPDATE that is being filled, if one is
 pub record Writing (W : Type 0) : Type 0 where

@@ -1,4 +1,5 @@
-//! The UPDATE of a session that is being filled: prefixes with equal path attributes stand in one (RFC 4271, section 4.3).
+//! The UPDATE of a session that is being filled: prefixes with equal path attributes stand in one (RFC 4271, section
+//! 4.3).
 
 ghost use Rattle.std.specs.Prelude.{◌≡◌, ◌+◌, ◌^◌, ◌<◌, ◌≤◌, [], ◌++◌, length, IfOk, IsTrue, OnOk, OnErr};
 ghost use Rattle.std.specs.List.{AllByRecursion};

@@ -1,4 +1,4 @@
--- What is held of a peer of which no change was taken, and of one of which one change more was taken: for rs_router, rs_shard, rs_floor and
+-- What is held of a peer of which no change was taken, and of one of which one change more was taken: for rs_serve, rs_floor and
 -- rs_glass.
 use Rattle.std.proofs.Common.{◌≡◌, ◌∙◌, sym, ap, refl, Bool, true, false, ◌||◌, List, [], ◌∷◌, ◌++◌}
 use Rattle.std.specs.List.{list_any}

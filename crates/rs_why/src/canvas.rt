@@ -1,8 +1,8 @@
 //! The measures of the picture of a history, and its style.
 //!
 //! Our choices: pixels are those of a picture 800 wide, which grows and shrinks with its place. Below 600 its texts are
-//! larger, and every second time is left out. The axis goes on behind the last event for a twentieth of its time: so the
-//! route that came last is seen to stay.
+//! larger, and every second time is left out. The axis goes on behind the last event for a twentieth of its time: so
+//! the route that came last is seen to stay.
 
 use crate::clock::Clock;
 use crate::history_lines::{HistoryView, time_of};

@@ -1,10 +1,10 @@
 //! Answers about one prefix: why a client has each peer's route, or not, and what happened on the prefix.
 //! All of it is our choice, but for JSON (RFC 8259).
 //!
-//! Reading order: `answering` (the whole answer), `unread` (why there is none). `why_lines` and `why_object` (why a client
-//! has each peer's route, or not). `history_lines` and `history_object` (what happened). The same as a picture: `lives`
-//! (how long routes stood), `picture`, `picture_lanes` and `canvas`. Below them `because` (the reasons), `starts` (since
-//! when recordings run), `clock` (times), `attribute_lines` and `attribute_object`.
+//! Reading order: `answering` (the whole answer), `unread` (why there is none). `why_lines` and `why_object` (why a
+//! client has each peer's route, or not). `history_lines` and `history_object` (what happened). The same as a picture:
+//! `lives` (how long routes stood), `picture`, `picture_lanes` and `canvas`. Below them `because` (the reasons),
+//! `starts` (since when recordings run), `clock` (times), `attribute_lines` and `attribute_object`.
 #![tactic(auto)]
 
 mod answering;

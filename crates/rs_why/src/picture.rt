@@ -1,7 +1,7 @@
 //! The history of a prefix as a picture of SVG 1.1.
 //!
-//! Our choices: there is a lane for what the client gets, and one for each peer that ever announced the prefix. The same
-//! history as a text stands in the description.
+//! Our choices: there is a lane for what the client gets, and one for each peer that ever announced the prefix. The
+//! same history as a text stands in the description.
 
 use crate::canvas::{BASE, Canvas, EDGE, HEAD, ROW, STYLE, WIDTH};
 use crate::history_lines::HistoryView;

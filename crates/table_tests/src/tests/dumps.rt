@@ -132,8 +132,8 @@ pub fn check_dump<T: Abort + Threads + Sync>(rt: &T, alloc: Global, tables: &Tab
     );
 }
 
-// Each dump has the client's name, its time, and a record for the peers and for each row. A record is its Timestamp, type
-// 13, subtype and Length, and its body.
+// Each dump has the client's name, its time, and a record for the peers and for each row. A record is its Timestamp,
+// type 13, subtype and Length, and its body.
 const DUMPS: &str = "
 exchange 64500 192.0.2.0/24; a,64501,192.0.2.11,192.0.2.11; b,64502,192.0.2.12,192.0.2.12
 dump a 0 | 00000000 000D 0001 00000023 C0000201 0001 61 0002 02 C000020B C000020B 0000FBF5 02 C000020C C000020C 0000FBF6
@@ -172,8 +172,8 @@ fn tables_are_dumped_as_the_standard_says(rt: HostRuntime) {
     check_rows(&rt, rt.alloc(), DUMPS);
 }
 
-// The dumps of all clients of two exchanges. In the first, a's route isn't for b, and hides c's from nobody; in the second
-// a has a route on each of two prefixes.
+// The dumps of all clients of two exchanges. In the first, a's route isn't for b, and hides c's from nobody; in the
+// second a has a route on each of two prefixes.
 const DUMPS_OF_ALL: &str = "
 exchange 64500 192.0.2.0/24; a,64501,192.0.2.11,192.0.2.11; b,64502,192.0.2.12,192.0.2.12; \
     c,64503,192.0.2.13,192.0.2.13; d,64504,192.0.2.14,192.0.2.14

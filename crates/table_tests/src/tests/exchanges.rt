@@ -1,8 +1,8 @@
 //! Exchanges as text: the server, its peers, and the attributes of routes.
 //!
-//! An exchange is the server's AS and its subnet, if it has one, and behind each semicolon a peer: its name, AS, address,
-//! BGP Identifier and preference, which is 100 where none stands, and the names from which it refuses routes. The
-//! server's address is 192.0.2.1. The attributes of a route are words, which WORDS spells.
+//! An exchange is the server's AS and its subnet, if it has one, and behind each semicolon a peer: its name, AS,
+//! address, BGP Identifier and preference, which is 100 where none stands, and the names from which it refuses routes.
+//! The server's address is 192.0.2.1. The attributes of a route are words, which WORDS spells.
 
 ghost use Rattle.std.specs.Prelude.{◌<◌, IfSome, length};
 

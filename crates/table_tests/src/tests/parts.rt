@@ -70,7 +70,8 @@ pub fn merged(alloc: Global, plan: &str, changes: &str) -> Option<String> {
     all_tables(alloc, &Tables::merge(parts).ok()?)
 }
 
-// Changes, and behind them the table of each client: rows ascend by address and then by length, whichever part has them.
+// Changes, and behind them the table of each client: rows ascend by address and then by length, whichever part has
+// them.
 const MERGED: &str = "
 exchange 64500 192.0.2.0/24; a,64501,192.0.2.11,192.0.2.11; b,64502,192.0.2.12,192.0.2.12; c,64503,192.0.2.13,192.0.2.13
 merged: no route | a 100 lost | a[] b[] c[]

@@ -23,7 +23,8 @@ pub fn fault_of(alloc: Global, text: &str) -> Option<String> {
     format!(in alloc; "{fault:?}").ok()
 }
 
-// A plan, and its first fault: of the whole plan first, then of one peer after another, and last a name that no peer has.
+// A plan, and its first fault: of the whole plan first, then of one peer after another, and last a name that no peer
+// has.
 const PLANS: &str = "
 exchange 64500 192.0.2.0/24; a,64501,192.0.2.11,192.0.2.11; b,64502,192.0.2.12,192.0.2.12; \
     c,64503,192.0.2.13,192.0.2.13; d,64504,192.0.2.14,192.0.2.14

@@ -1,6 +1,6 @@
-//! Memory that is refused, whichever allocation of the process it is: a change that wants it changes nothing, and the same
-//! change again is taken; of gathered changes no tables come, or the right ones. One allocation is refused in a run at
-//! most, so what is asked a second time comes.
+//! Memory that is refused, whichever allocation of the process it is: a change that wants it changes nothing, and the
+//! same change again is taken; of gathered changes no tables come, or the right ones. One allocation is refused in a
+//! run at most, so what is asked a second time comes.
 
 use super::changes::{after, change, take};
 use super::exchanges::exchange;
@@ -104,8 +104,8 @@ fn a_refused_change_changes_nothing_and_comes_when_taken_again(rt: HostRuntime) 
     assert!(rt; checked.is_some());
 }
 
-// Changes most of which are on prefixes of one first octet. At the end b's session was lost after its first route, and a
-// has withdrawn one of its own.
+// Changes most of which are on prefixes of one first octet. At the end b's session was lost after its first route, and
+// a has withdrawn one of its own.
 const GATHERED: &str =
     "a 1 10.0.0.0/8 plain; a 2 10.1.0.0/16 plain; c 3 10.1.0.0/16 igp 64503-65010 hop-a; \
     a 4 10.2.0.0/16 plain; a 5 10.3.0.0/16 plain 0:64502; a 6 10.4.0.0/16 plain; \

@@ -91,8 +91,8 @@ pub fn list_dump(
     Some((answer, out.into_octets()))
 }
 
-// A dump of b's table answers so, and a beginning of the whole dump is out, all of it where the answer is Ok; answers how
-// many octets that are.
+// A dump of b's table answers so, and a beginning of the whole dump is out, all of it where the answer is Ok; answers
+// how many octets that are.
 fn taken<T: Abort + Threads + Sync>(
     rt: &T,
     alloc: Global,
@@ -123,8 +123,8 @@ fn within(calls_before_failure: Option<u64>, piece: usize) -> Limits {
     }
 }
 
-// The dump of one row, of 97 octets, is written an octet a call, fails at each of them in turn, and ends where the device
-// is full.
+// The dump of one row, of 97 octets, is written an octet a call, fails at each of them in turn, and ends where the
+// device is full.
 fn check_small<T: Abort + Threads + Sync>(
     rt: &T,
     alloc: Global,

@@ -142,8 +142,8 @@ fn next<S: Source>(
     }
 }
 
-/// Appends what a session says in its first thousand changes, and how many records are passed over, where there are any.
-/// After its last change there is none, also where it is asked again.
+/// Appends what a session says in its first thousand changes, and how many records are passed over, where there are
+/// any. After its last change there is none, also where it is asked again.
 pub fn add_session<S: Source>(
     said: &mut String,
     session: &mut Session<S>,
