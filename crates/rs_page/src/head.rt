@@ -17,7 +17,8 @@ pub(crate) fn add_head(text: &mut String, shown: &Shown<'_>) -> Result<(), Alloc
     let (asn, address) = (local.asn, Ipv4Addr::from_bits(local.address));
     let peers = shown.tally.peers();
     writeln!(text, "<header>\n<h1>Exchange of AS {asn}</h1>")?;
-    write!(text, "<p>Route server {address}, {peers} peers")?;
+    let noun = if peers == 1 { "peer" } else { "peers" };
+    write!(text, "<p>Route server {address}, {peers} {noun}")?;
     add_range(text, shown)?;
     text.push_str(match shown.query.tables.errors {
         Errors::Rfc4271 => ". Faults in path attributes are handled by RFC 4271.</p>\n</header>\n",
