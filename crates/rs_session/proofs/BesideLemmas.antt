@@ -11,8 +11,9 @@ use Rattle.rs_update.specs.Message.{MessageContent, IsUpdate, IsTreated}
 use Rattle.rs_update.specs.PathAttributes.{PathAttributes}
 use Rattle.rs_update.specs.declared.fault.MessageFault.{MessageFault}
 use Rattle.rs_session.specs.Change.{Change}
-use Rattle.rs_session.specs.Concerning.{ArePassedOver, IsBeside, concerns, is_later, is_past}
+use Rattle.rs_session.specs.Concerning.{IsBeside, MayPass, concerns, is_later, is_past}
 use Rattle.rs_session.specs.Effect.{effect_of_message}
+use Rattle.rs_session.specs.declared.beside.Only.{Only}
 use Rattle.rs_session.specs.UpdateChanges.{withdraws, announces, announcements, withdrawn_only, unicast}
 
 -- what holds of none of a list holds of none of a part of it
@@ -27,47 +28,47 @@ none-part {A} p keeps (x ∷ xs) none =
     none_if false first later = later
 
 -- some changes, all beside the prefix and in time
-module _ (prefix : IpPrefix) (until : Option ℕ) where
+module _ (only : Only) where
   -- more is passed over behind some
-  pub over-more : (xs ys : List Change) → ArePassedOver prefix until xs → ArePassedOver prefix until ys
-      → ArePassedOver prefix until (xs ++ ys)
+  pub over-more : (xs ys : List Change) → MayPass (Some only) xs → MayPass (Some only) ys
+      → MayPass (Some only) (xs ++ ys)
   over-more xs ys first second = record {
-    beside = list_any-append (concerns prefix) xs ys ∙ rw (first.beside, second.beside) refl;
-    in_time = list_any-append (is_later until) xs ys ∙ rw (first.in_time, second.in_time) refl;
+    beside = list_any-append (concerns only.prefix) xs ys ∙ rw (first.beside, second.beside) refl;
+    in_time = list_any-append (is_later only.until) xs ys ∙ rw (first.in_time, second.in_time) refl;
   }
 
-  module _ (time : ℕ) (at : is_past until time ≡ false) where
+  module _ (time : ℕ) (at : is_past only.until time ≡ false) where
     -- a change on each of these prefixes
-    over-each : (says : IpPrefix → Change) → ((one : IpPrefix) → concerns prefix (says one) ≡ covers one prefix)
-        → ((one : IpPrefix) → is_later until (says one) ≡ false) → (prefixes : List IpPrefix) → lists_cover prefix prefixes ≡ false
-        → ArePassedOver prefix until (map says prefixes)
+    over-each : (says : IpPrefix → Change) → ((one : IpPrefix) → concerns only.prefix (says one) ≡ covers one only.prefix)
+        → ((one : IpPrefix) → is_later only.until (says one) ≡ false) → (prefixes : List IpPrefix) → lists_cover only.prefix prefixes ≡ false
+        → MayPass (Some only) (map says prefixes)
     over-each says on early [] none = record { beside = refl; in_time = refl }
     over-each says on early (one ∷ prefixes) none =
-        let parts = or_parts (covers one prefix) (lists_cover prefix prefixes) none in
+        let parts = or_parts (covers one only.prefix) (lists_cover only.prefix prefixes) none in
         let rest = over-each says on early prefixes parts.1 in
         record { beside = rw (on one, parts.0, rest.beside) refl; in_time = rw (early one, rest.in_time) refl }
 
-    over-withdraws : (prefixes : List IpPrefix) → lists_cover prefix prefixes ≡ false
-        → ArePassedOver prefix until (map (withdraws time) prefixes)
+    over-withdraws : (prefixes : List IpPrefix) → lists_cover only.prefix prefixes ≡ false
+        → MayPass (Some only) (map (withdraws time) prefixes)
     over-withdraws = over-each (withdraws time) (λ one. refl) (λ one. at)
 
-    over-announcements : (attributes : Option PathAttributes) (prefixes : List IpPrefix) → lists_cover prefix prefixes ≡ false
-        → ArePassedOver prefix until (announcements time attributes prefixes)
+    over-announcements : (attributes : Option PathAttributes) (prefixes : List IpPrefix) → lists_cover only.prefix prefixes ≡ false
+        → MayPass (Some only) (announcements time attributes prefixes)
     over-announcements None prefixes none = record { beside = refl; in_time = refl }
     over-announcements (Some attributes) prefixes none = over-each (announces time attributes) (λ one. refl) (λ one. at) prefixes none
 
     -- changes that withdraw those of the first list that stay, before changes on those of the second
-    over-lists : (withdrawn nlri : List IpPrefix) (behind : List Change) → (lists_cover prefix withdrawn || lists_cover prefix nlri) ≡ false
-        → (lists_cover prefix (unicast nlri) ≡ false → ArePassedOver prefix until behind)
-        → ArePassedOver prefix until (map (withdraws time) (withdrawn_only withdrawn nlri) ++ behind)
+    over-lists : (withdrawn nlri : List IpPrefix) (behind : List Change) → (lists_cover only.prefix withdrawn || lists_cover only.prefix nlri) ≡ false
+        → (lists_cover only.prefix (unicast nlri) ≡ false → MayPass (Some only) behind)
+        → MayPass (Some only) (map (withdraws time) (withdrawn_only withdrawn nlri) ++ behind)
     over-lists withdrawn nlri behind none over =
-        let parts = or_parts (lists_cover prefix withdrawn) (lists_cover prefix nlri) none in
-        over-more _ _ (over-withdraws (withdrawn_only withdrawn nlri) (none-part (λ wide. covers wide prefix) _ withdrawn parts.0))
-        (over (none-part (λ wide. covers wide prefix) _ nlri parts.1))
+        let parts = or_parts (lists_cover only.prefix withdrawn) (lists_cover only.prefix nlri) none in
+        over-more _ _ (over-withdraws (withdrawn_only withdrawn nlri) (none-part (λ wide. covers wide only.prefix) _ withdrawn parts.0))
+        (over (none-part (λ wide. covers wide only.prefix) _ nlri parts.1))
 
     -- what a message that doesn't concern the prefix says
-    pub beside_message : (answer : Result MessageContent MessageFault) → message_concerns prefix answer ≡ false
-        → IsBeside prefix until (effect_of_message time answer)
+    pub beside_message : (answer : Result MessageContent MessageFault) → message_concerns only.prefix answer ≡ false
+        → IsBeside (Some only) (effect_of_message time answer)
     beside_message (Ok (IsUpdate update)) none =
         over-lists update.withdrawn update.nlri _ none (over-announcements update.attributes (unicast update.nlri))
     beside_message (Ok (IsTreated treated)) none = over-lists treated.withdrawn treated.nlri _ none (over-withdraws (unicast treated.nlri))

@@ -7,6 +7,7 @@ use Rattle.rs_mrt.specs.Record.{MrtRecord, reading_of, records_of, end_of, octet
 use Rattle.rs_mrt.specs.Source.{Advances, IsLeft, SomethingComes, source_end}
 use Rattle.rs_mrt.specs.declared.fault.SourceFault.{SourceFault}
 use Rattle.rs_session.specs.Change.{Change, change_of}
+use Rattle.rs_session.specs.Concerning.{StepsBehind}
 use Rattle.rs_session.specs.Effect.{RecordEffect, PassesOver, Gives, Ends, effect_of}
 use Rattle.rs_session.specs.FileChanges.{changes_in_by, passed_in_by, changes_of, close_at}
 use Rattle.rs_session.specs.Stage.{Comes, Stage, MayRead, May, Keeps, KeepsBehind, IsOver, SaysJust, fresh, to_read, changes_left}
@@ -14,7 +15,7 @@ use Rattle.rs_session.specs.Stage.{passed_in_the_end, held_octets, most_changes,
 use Rattle.rs_session.specs.Laws.{SomethingMayCome}
 use Rattle.rs_update.specs.declared.errors.Errors.{Errors}
 use Rattle.rs_session.specs.declared.peer.PeerId.{PeerId}
-use Rattle.rs_session.specs.Steps.{closed_by, GivesWaiting, Fetches, Applies, ReadsShown, Steps}
+use Rattle.rs_session.specs.Steps.{closed_by, GivesWaiting, Fetches, Applies, ReadsShown}
 use Rattle.rs_session.specs.declared.word.Reason.{Reason}
 use Rattle.rs_session.specs.declared.word.Word.{Word}
 use Rattle.rs_session.proofs.EffectLemmas.{IsFine, fine-effect}
@@ -90,7 +91,7 @@ module _ {S : Type 0} (comes : Comes S) (shows : S → Option MrtRecord) where
 
   pub steps-applied : (old new : Stage S) (r : MrtRecord) (effect : RecordEffect) (given : Option Word) → old.held ≡ true
       → old.closed ≡ false → old.waiting ≡ [] → shows old.source ≡ Some r → effect_of old.errors old.peer r ≡ effect
-      → Applies r.time effect old given new → Steps comes shows old new (Ok given)
+      → Applies r.time effect old given new → StepsBehind comes shows [] old new (Ok given)
   steps-applied old new r PassesOver None full unclosed idle shown says h = (
     (λ changes passed m. record {
       records = r ∷ m.records;
@@ -131,7 +132,7 @@ module _ {S : Type 0} (comes : Comes S) (shows : S → Option MrtRecord) where
   -- ---- a whole step
 
   steps-shown : (old new : Stage S) (shown : Option MrtRecord) (given : Option Word) → old.held ≡ true → old.closed ≡ false
-      → old.waiting ≡ [] → shows old.source ≡ shown → ReadsShown shown old given new → Steps comes shows old new (Ok given)
+      → old.waiting ≡ [] → shows old.source ≡ shown → ReadsShown shown old given new → StepsBehind comes shows [] old new (Ok given)
   steps-shown old new (Some r) given full unclosed idle shown says =
       steps-applied old new r (effect_of old.errors old.peer r) given full unclosed idle shown refl says
   steps-shown old new None (Some word) full unclosed idle shown says = cc
@@ -153,7 +154,7 @@ module _ {S : Type 0} (comes : Comes S) (shows : S → Option MrtRecord) where
   )
 
   steps-after : (old between new : Stage S) (result : Result (Option Word) AllocError) → Keeps comes shows old between
-      → between.passed ≡ old.passed → Steps comes shows between new result → Steps comes shows old new result
+      → between.passed ≡ old.passed → StepsBehind comes shows [] between new result → StepsBehind comes shows [] old new result
   steps-after old between new (Ok None) keeps same h = ((λ changes passed m. keeps changes passed (h.0 changes passed m)), h.1, h.2 ∙ same)
   steps-after old between new (Ok (Some word)) keeps same h =
       ((λ changes passed m. keeps (change_of word ∷ changes) passed (h.0 changes passed m)), h.1, h.2)
@@ -161,7 +162,7 @@ module _ {S : Type 0} (comes : Comes S) (shows : S → Option MrtRecord) where
       ((λ changes passed m. keeps changes passed (h.0 changes passed m)), h.1, h.2 ∙ same)
 
   steps-result : (old new : Stage S) (result : Result (Option Word) AllocError) → old.held ≡ true → old.closed ≡ false → old.waiting ≡ []
-      → IfOk result (λ given. ReadsShown (shows old.source) old given new) → OnErr result (new ≡ old) → Steps comes shows old new result
+      → IfOk result (λ given. ReadsShown (shows old.source) old given new) → OnErr result (new ≡ old) → StepsBehind comes shows [] old new result
   steps-result old new (Ok given) full unclosed idle says refused =
       steps-shown old new (shows old.source) given full unclosed idle refl says
   steps-result old new (Err e) full unclosed idle says refused =
@@ -171,7 +172,7 @@ module _ {S : Type 0} (comes : Comes S) (shows : S → Option MrtRecord) where
   pub steps-read : (old fetched new : Stage S) (result : Result (Option Word) AllocError) → old.closed ≡ false → old.waiting ≡ []
       → fetched ≡ record old { source = fetched.source; held = true } → Fetches comes shows old fetched None
       → IfOk result (λ given. ReadsShown (shows fetched.source) fetched given new) → OnErr result (new ≡ fetched)
-      → Steps comes shows old new result
+      → StepsBehind comes shows [] old new result
   steps-read old fetched new result unclosed idle same h says refused =
       steps-after old fetched new result
       (keeps_by_reading old fetched same h)

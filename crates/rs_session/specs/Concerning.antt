@@ -9,7 +9,8 @@ use Rattle.rs_update.specs.Covering.{covers}
 use Rattle.rs_update.specs.IpPrefix.{IpPrefix}
 use Rattle.rs_session.specs.Change.{Change, ChangeBody, Announced, Withdrawn, Lost, Closed, change_of, is_close}
 use Rattle.rs_session.specs.Effect.{RecordEffect, PassesOver, Gives, Ends, effect_of}
-use Rattle.rs_session.specs.Stage.{Comes, Stage, May, IsOver}
+use Rattle.rs_session.specs.Stage.{Comes, Stage, May, IsOver, Says}
+use Rattle.rs_session.specs.declared.beside.Only.{Only}
 use Rattle.rs_session.specs.declared.word.Word.{Word}
 
 -- a change concerns a prefix: it announces or withdraws one that covers it, or is a loss or a close of the session
@@ -61,20 +62,31 @@ pub record SaysOn {S : Type 0} (comes : Comes S) (shows : S → Option MrtRecord
   pub are_over : ArePassedOver prefix until over
   pub says : SaysBehind comes shows over old new result
 
--- ---- one step
+-- ---- what both answers rest on; where None, every change is asked for
 
--- what a record says may be passed over: changes that don't concern the prefix and aren't later than the time
-abbrev pub IsBeside : IpPrefix → Option ℕ → RecordEffect → Type 0
-IsBeside prefix until (Gives changes) = ArePassedOver prefix until changes
-IsBeside prefix until PassesOver = ⊥
-IsBeside prefix until (Ends reason) = ⊥
+-- changes that may be passed over: none where every change is asked for
+abbrev pub MayPass : Option Only → List Change → Type 0
+MayPass None changes = changes ≡ []
+MayPass (Some only) changes = ArePassedOver only.prefix only.until changes
+
+-- what an answer says
+abbrev pub SaysOf : {S : Type 0} → Comes S → (S → Option MrtRecord) → Option Only → Stage S → Stage S
+    → Result (Option Word) AllocError → Type 0
+SaysOf comes shows None old new result = Says comes shows old new result
+SaysOf comes shows (Some only) old new result = SaysOn comes shows only.prefix only.until old new result
+
+-- what a record says may be passed over
+abbrev pub IsBeside : Option Only → RecordEffect → Type 0
+IsBeside only (Gives changes) = MayPass only changes
+IsBeside only PassesOver = ⊥
+IsBeside only (Ends reason) = ⊥
 
 -- the record that is shown is passed over, as what it says may be; or nothing changes
-abbrev pub PassesShown : {S : Type 0} → Option MrtRecord → IpPrefix → Option ℕ → Stage S → Bool → Stage S → Type 0
-PassesShown shown prefix until old false new = new ≡ old
-PassesShown (Some r) prefix until old true new =
-    IsBeside prefix until (effect_of old.errors old.peer r) × (new ≡ record old { held = false })
-PassesShown None prefix until old true new = ⊥
+abbrev pub PassesShown : {S : Type 0} → Option MrtRecord → Option Only → Stage S → Bool → Stage S → Type 0
+PassesShown shown only old false new = new ≡ old
+PassesShown (Some r) only old true new =
+    IsBeside only (effect_of old.errors old.peer r) × (new ≡ record old { held = false })
+PassesShown None only old true new = ⊥
 
 -- behind the changes that were passed over, the session goes on, and no more may come than before; or the close is
 -- given
@@ -88,8 +100,8 @@ StepsBehind comes shows over old new (Ok (Some word)) =
 StepsBehind comes shows over old new (Err refused) =
     KeepsBehindAll comes shows over old new × (new.closed ≡ false) × (new.passed ≡ old.passed)
 
-pub record StepsOn {S : Type 0} (comes : Comes S) (shows : S → Option MrtRecord) (prefix : IpPrefix)
-    (until : Option ℕ) (old new : Stage S) (result : Result (Option Word) AllocError) : Type 0 where
+pub record StepsOf {S : Type 0} (comes : Comes S) (shows : S → Option MrtRecord) (only : Option Only)
+    (old new : Stage S) (result : Result (Option Word) AllocError) : Type 0 where
   pub over : List Change
-  pub are_over : ArePassedOver prefix until over
+  pub may_pass : MayPass only over
   pub steps : StepsBehind comes shows over old new result

@@ -1,13 +1,12 @@
 -- One step in the reading of a session: a record is fetched, and what it says is applied (our choice).
 use Rattle.std.specs.Prelude.{◌≡◌, ℕ, ◌+◌, Bool, true, false, List, [], ◌∷◌, Option, Some, None, Result, Ok, Err}
-use Rattle.std.specs.declared.alloc.AllocError.{AllocError}
 use Rattle.rs_mrt.specs.Record.{MrtRecord}
 use Rattle.rs_mrt.specs.declared.fault.SourceFault.{SourceFault}
 use Rattle.rs_mrt.specs.declared.fault.SourceFault.TheVariants as faults
 use Rattle.rs_session.specs.Change.{change_of, closing_word, is_close, is_read}
 use Rattle.rs_session.specs.Effect.{RecordEffect, PassesOver, Gives, Ends, effect_of}
 use Rattle.rs_session.specs.FileChanges.{reason_at_end}
-use Rattle.rs_session.specs.Stage.{Comes, Stage, MayRead, Keeps, KeepsBehind}
+use Rattle.rs_session.specs.Stage.{Comes, Stage, MayRead}
 use Rattle.rs_session.specs.declared.word.Reason.{Reason}
 use Rattle.rs_session.specs.declared.word.Reason.TheVariants as reasons
 use Rattle.rs_session.specs.declared.word.Word.{Word}
@@ -58,13 +57,3 @@ Applies time (Ends reason) old None new = ⊥
 abbrev pub ReadsShown : {S : Type 0} → Option MrtRecord → Stage S → Option Word → Stage S → Type 0
 ReadsShown None old given new = (given ≡ None) × (new ≡ record old { held = false })
 ReadsShown (Some r) old given new = Applies r.time (effect_of old.errors old.peer r) old given new
-
--- ---- a whole step
-
--- the session goes on, and no more may come than before; or the close is given
-abbrev pub Steps : {S : Type 0} → Comes S → (S → Option MrtRecord) → Stage S → Stage S
-    → Result (Option Word) AllocError → Type 0
-Steps comes shows old new (Ok None) = Keeps comes shows old new × (new.closed ≡ false) × (new.passed ≡ old.passed)
-Steps comes shows old new (Ok (Some word)) =
-    KeepsBehind comes shows (change_of word) old new × (is_close (change_of word) ≡ true) × (new.closed ≡ true)
-Steps comes shows old new (Err refused) = Keeps comes shows old new × (new.closed ≡ false) × (new.passed ≡ old.passed)

@@ -1,7 +1,7 @@
 //! Which records may be passed over where one prefix is asked for, up to a time: UPDATEs that list no prefix that
 //! covers it (RFC 4271, sections 4.3 and 9.1.4).
 
-ghost use Rattle.std.specs.Prelude.{◌≡◌, IsTrue};
+ghost use Rattle.std.specs.Prelude.{◌≡◌, IsTrue, Some};
 ghost use Rattle.rs_mrt.specs.Record.{record_of};
 ghost use Rattle.rs_session.specs.Concerning.{IsBeside, is_past};
 ghost use Rattle.rs_session.specs.Effect.{effect_of};
@@ -10,19 +10,21 @@ use crate::peer::PeerId;
 use rs_mrt::{Entry, Record, entry};
 use rs_update::{Errors, Prefix, concerns_prefix};
 
+// What is asked for, where not every change is: the changes on one prefix, up to a time.
+#[derive(Clone, Copy, Drop)]
+pub(crate) struct Only {
+    pub(crate) prefix: Prefix,
+    // In seconds since 1970; None is no limit.
+    pub(crate) until: Option<u32>,
+}
+
 // Whether a record may be passed over: it is an UPDATE of the peer, its faults handled by one of the standards,
-// that lists no prefix that covers this one, and it isn't past the time. Nothing is allocated.
+// that lists no prefix that covers the one asked for, and it isn't past the time. Nothing is allocated.
 #[tactic(auto, unfolding(crate::specs::Effect::effect_of), using(crate::proofs::BesideLemmas::beside_message))]
-pub(crate) fn is_beside(
-    errors: Errors,
-    peer: PeerId,
-    record: &Record<'_>,
-    prefix: Prefix,
-    until: Option<u32>,
-) -> bool
-    ensures { IsTrue result → IsBeside prefix until (effect_of errors peer (record_of «record».now)) }
+pub(crate) fn is_beside(errors: Errors, peer: PeerId, record: &Record<'_>, only: Only) -> bool
+    ensures { IsTrue result → IsBeside (Some only) (effect_of errors peer (record_of «record».now)) }
 {
-    if is_past(until, record.time) {
+    if is_past(only.until, record.time) {
         return false;
     }
     match entry(record) {
@@ -32,7 +34,7 @@ pub(crate) fn is_beside(
                 peer: address,
                 message,
             },
-        ) if peer.is(peer_as, address) => !concerns_prefix(errors, message, prefix),
+        ) if peer.is(peer_as, address) => !concerns_prefix(errors, message, only.prefix),
         _ => false,
     }
 }

@@ -3,13 +3,13 @@
 //!
 //! Our choice: an UPDATE past the time is read, and its changes are given, so that the caller sees where to stop.
 
-ghost use Rattle.std.specs.Prelude.{◌≡◌, ◌+◌, ◌<◌, ◌≤◌, false, [], IfOk, IfNone};
+ghost use Rattle.std.specs.Prelude.{◌≡◌};
 ghost use Rattle.rs_mrt.specs.Source.{CountsFailure};
-ghost use Rattle.rs_session.specs.Concerning.{SaysOn, StepsOn};
-ghost use Rattle.rs_session.specs.Counts.{held_count};
+ghost use Rattle.rs_session.specs.Concerning.{SaysOn};
 ghost use Rattle.rs_session.specs.Laws.{SomethingMayCome};
 ghost use Rattle.rs_session.specs.Stage.{Closes, Fewer, GoesOn, answer_behind, most_changes};
 
+use crate::beside::Only;
 use crate::session::Session;
 use crate::word::Word;
 use rs_mrt::Source;
@@ -20,6 +20,7 @@ impl<S: Source> Session<S> {
     /// Gives the next change, passing over UPDATEs that list no prefix that covers `prefix` and aren't later than
     /// `until`, in seconds since 1970; None is no limit. Their faults are found all the same. Memory is taken
     /// only for what is given. Refused, what was passed over stays passed over, and nothing else is lost.
+    #[tactic(auto, using(crate::proofs::StageLemmas::something_comes))]
     pub fn next_word_on(
         &mut self,
         prefix: Prefix,
@@ -34,35 +35,6 @@ impl<S: Source> Session<S> {
         ensures goes_on { GoesOn (S.stopped self.old.source) (S.stopped self.new.source) result }
         ensures more { SomethingMayCome S.comes S.shows self.new }
     {
-        while !self.is_closed() {
-            if let Some(word) = self.give_waiting()? {
-                return Ok(Some(word));
-            }
-            if let Some(close) = self.step_on(prefix, until)? {
-                return Ok(Some(close));
-            }
-        }
-        Ok(None)
-    }
-
-    // Reads one record or passes it over, and gives the close where that ends the session.
-    fn step_on(&mut self, prefix: Prefix, until: Option<u32>) -> Result<Option<Word>, AllocError>
-        requires closed { self.old.closed ≡ false }
-        requires waiting { self.old.waiting ≡ [] }
-        ensures says { StepsOn S.comes S.shows prefix until self.old self.new result }
-        ensures room { IfOk result (λ given. IfNone given
-            (S.room self.new.source + held_count self.new.held < S.room self.old.source + held_count self.old.held)) }
-        ensures failures { CountsFailure (S.failures self.old.source) (S.failures self.new.source)
-            (S.full self.new.source) (S.stopped self.old.source) (answer_behind result) }
-        ensures goes_on { GoesOn (S.stopped self.old.source) (S.stopped self.new.source) result }
-        ensures fewer { most_changes S.room S.shows self.new ≤ most_changes S.room S.shows self.old }
-    {
-        if let Some(reason) = self.fetch() {
-            return Ok(Some(self.close(0, reason)));
-        }
-        if self.pass_held(prefix, until) {
-            return Ok(None);
-        }
-        self.read_held()
+        self.next_where(&Some(Only { prefix, until }))
     }
 }

@@ -10,22 +10,22 @@ ghost use Rattle.rs_update.specs.declared.errors.Errors.TheVariants.{Rfc4271};
 ghost use Rattle.std.specs.Option.{option_map};
 ghost use Rattle.rs_mrt.specs.Record.{reading_of, record_of};
 ghost use Rattle.rs_mrt.specs.Source.{CountsFailure};
-ghost use Rattle.rs_session.specs.Concerning.{PassesShown};
+ghost use Rattle.rs_session.specs.Concerning.{PassesShown, SaysOf, StepsOf};
 ghost use Rattle.rs_session.specs.FileChanges.{changes_in, passed_in};
 ghost use Rattle.rs_session.specs.Laws.{SomethingMayCome};
 ghost use Rattle.rs_session.specs.Stage.{fresh, May, Says, SaysJust, Closes, Fewer, GoesOn, answer_behind};
 ghost use Rattle.rs_session.specs.Stage.{most_changes};
 ghost use Rattle.rs_session.specs.Change.{Change, closing_word};
-ghost use Rattle.rs_session.specs.Steps.{Fetches, GivesWaiting, ReadsShown, Steps, answer_of_fetch, closed_by};
+ghost use Rattle.rs_session.specs.Steps.{Fetches, GivesWaiting, ReadsShown, answer_of_fetch, closed_by};
 ghost use Rattle.rs_session.specs.Counts.{held_count};
 
-use crate::beside::is_beside;
+use crate::beside::{Only, is_beside};
 use crate::effect::{Effect, read_record};
 use crate::peer::PeerId;
 use crate::pending::Pending;
 use crate::word::{Body, Reason, Word};
 use rs_mrt::{Record, Records, Source, SourceFault};
-use rs_update::{Errors, Prefix};
+use rs_update::Errors;
 use std::alloc::{AllocError, Global};
 use std::marker::Model;
 
@@ -111,6 +111,7 @@ impl<S: Source> Session<S> {
     /// Gives the next change; after the close none. A close says the end of the records, or why the session
     /// ended before it. Refused, the session is as before: nothing is lost, and the same call gives the same
     /// change once there is memory.
+    #[tactic(auto, using(crate::proofs::StageLemmas::something_comes))]
     pub fn next_word(&mut self) -> Result<Option<Word>, AllocError>
         ensures says { Says S.comes S.shows self.old self.new result }
         ensures closes { Closes self.old.closed self.new.closed result }
@@ -124,11 +125,23 @@ impl<S: Source> Session<S> {
         // What is given is always a beginning of something that may come.
         ensures more { SomethingMayCome S.comes S.shows self.new }
     {
-        while !self.is_closed() {
+        self.next_where(&None)
+    }
+
+    // Gives the next change of those that are asked for; where None, all are.
+    pub(crate) fn next_where(&mut self, only: &Option<Only>) -> Result<Option<Word>, AllocError>
+        ensures says { SaysOf S.comes S.shows only.now self.old self.new result }
+        ensures closes { Closes self.old.closed self.new.closed result }
+        ensures fewer { Fewer (most_changes S.room S.shows self.old) (most_changes S.room S.shows self.new) result }
+        ensures failures { CountsFailure (S.failures self.old.source) (S.failures self.new.source)
+            (S.full self.new.source) (S.stopped self.old.source) (answer_behind result) }
+        ensures goes_on { GoesOn (S.stopped self.old.source) (S.stopped self.new.source) result }
+    {
+        while !self.closed {
             if let Some(word) = self.give_waiting()? {
                 return Ok(Some(word));
             }
-            if let Some(close) = self.step()? {
+            if let Some(close) = self.step(only)? {
                 return Ok(Some(close));
             }
         }
@@ -153,15 +166,8 @@ impl<S: Source> Session<S> {
         self.source.shown()
     }
 
-    // Whether the close was given.
-    pub(crate) fn is_closed(&self) -> bool
-        ensures { result ≡ self.now.closed }
-    {
-        self.closed
-    }
-
     // Gives a change that waits.
-    pub(crate) fn give_waiting(&mut self) -> Result<Option<Word>, AllocError>
+    fn give_waiting(&mut self) -> Result<Option<Word>, AllocError>
         ensures ok { IfOk result (λ given. GivesWaiting self.old given self.new) }
         ensures err { OnErr result (self.new ≡ self.old) }
     {
@@ -172,11 +178,11 @@ impl<S: Source> Session<S> {
         Ok(Some(word))
     }
 
-    // Reads one record, and gives the close where that ends the session.
-    fn step(&mut self) -> Result<Option<Word>, AllocError>
+    // Reads one record or passes it over, and gives the close where that ends the session.
+    fn step(&mut self, only: &Option<Only>) -> Result<Option<Word>, AllocError>
         requires closed { self.old.closed ≡ false }
         requires waiting { self.old.waiting ≡ [] }
-        ensures says { Steps S.comes S.shows self.old self.new result }
+        ensures says { StepsOf S.comes S.shows only.now self.old self.new result }
         ensures room { IfOk result (λ given. IfNone given
             (S.room self.new.source + held_count self.new.held < S.room self.old.source + held_count self.old.held)) }
         ensures failures { CountsFailure (S.failures self.old.source) (S.failures self.new.source)
@@ -187,11 +193,14 @@ impl<S: Source> Session<S> {
         if let Some(reason) = self.fetch() {
             return Ok(Some(self.close(0, reason)));
         }
+        if self.pass_held(only) {
+            return Ok(None);
+        }
         self.read_held()
     }
 
     // Goes to the next record, unless one is still to be read. Where there is none, gives the reason for the close.
-    pub(crate) fn fetch(&mut self) -> Option<Reason>
+    fn fetch(&mut self) -> Option<Reason>
         ensures same { self.new ≡ record self.old { source = self.new.source; held = is_none result } }
         ensures says { Fetches S.comes S.shows self.old self.new result }
         ensures room { IfNone result (S.room self.new.source + 1 ≤ S.room self.old.source + held_count self.old.held) }
@@ -216,7 +225,7 @@ impl<S: Source> Session<S> {
     }
 
     // Reads the record that the source shows. Refused, it is still to be read.
-    pub(crate) fn read_held(&mut self) -> Result<Option<Word>, AllocError>
+    fn read_held(&mut self) -> Result<Option<Word>, AllocError>
         requires { self.old.held ≡ true }
         ensures ok { IfOk result (λ given. ReadsShown (S.shows self.old.source) self.old given self.new) }
         ensures err { OnErr result (self.new ≡ self.old) }
@@ -242,15 +251,18 @@ impl<S: Source> Session<S> {
     }
 
     // Passes over the record that the source shows, where it is an UPDATE of the peer that lists no prefix that
-    // covers this one, and isn't past the time.
-    pub(crate) fn pass_held(&mut self, prefix: Prefix, until: Option<u32>) -> bool
+    // covers the one asked for, and isn't past the time.
+    fn pass_held(&mut self, only: &Option<Only>) -> bool
         requires { self.old.held ≡ true }
-        ensures { PassesShown (S.shows self.old.source) prefix until self.old result self.new }
+        ensures { PassesShown (S.shows self.old.source) only.now self.old result self.new }
     {
+        let Some(only) = only else {
+            return false;
+        };
         let Some(record) = self.source.shown() else {
             return false;
         };
-        let passes = is_beside(self.errors, self.peer, &record, prefix, until);
+        let passes = is_beside(self.errors, self.peer, &record, *only);
         if passes {
             self.held = false;
         }
@@ -258,7 +270,7 @@ impl<S: Source> Session<S> {
     }
 
     // Closes the session.
-    pub(crate) fn close(&mut self, time: u32, reason: Reason) -> Word
+    fn close(&mut self, time: u32, reason: Reason) -> Word
         ensures word { result ≡ closing_word time reason }
         ensures closed { self.new ≡ closed_by self.old }
     {

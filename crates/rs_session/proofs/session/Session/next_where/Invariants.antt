@@ -4,11 +4,11 @@ use Rattle.rs_mrt.specs.declared.fault.SourceFault.{SourceFault}
 use Rattle.rs_session.specs.Counts.{held_count}
 use Rattle.rs_session.specs.Stage.{most_changes}
 use Rattle.rs_session.proofs.PassingLemmas.{IsBehind}
-use Rattle.rs_session.proofs.session.Session.next_word_on.Given as goal
+use Rattle.rs_session.proofs.session.Session.next_where.Given as goal
 
-abbrev pub invariant-loop-prefix : goal.invariant-loop-prefix
-invariant-loop-prefix g l = record {
-  behind : IsBehind g.S.Source.comes g.S.Source.shows l.prefix l.until l.initial.self l.self;
+abbrev pub invariant-loop-self : goal.invariant-loop-self
+invariant-loop-self g l = record {
+  behind : IsBehind g.S.Source.comes g.S.Source.shows l.only l.initial.self l.self;
   passed : l.self.passed ≡ l.initial.self.passed;
   failures : g.S.Source.failures l.self.source ≡ g.S.Source.failures l.initial.self.source;
   goes_on : (last : Result Bool SourceFault) → g.S.Source.stopped l.self.source ≡ Some last
@@ -18,5 +18,5 @@ invariant-loop-prefix g l = record {
   fewer : most_changes g.S.Source.room g.S.Source.shows l.self ≤ most_changes g.S.Source.room g.S.Source.shows l.initial.self;
 }
 
-abbrev pub decreases-loop-prefix : goal.decreases-loop-prefix
-decreases-loop-prefix g l = g.S.Source.room l.self.source + held_count l.self.held
+abbrev pub decreases-loop-self : goal.decreases-loop-self
+decreases-loop-self g l = g.S.Source.room l.self.source + held_count l.self.held
