@@ -40,8 +40,8 @@ module _ (only : Only) where
   module _ (time : ℕ) (at : is_past only.until time ≡ false) where
     -- a change on each of these prefixes
     over-each : (says : IpPrefix → Change) → ((one : IpPrefix) → concerns only.prefix (says one) ≡ covers one only.prefix)
-        → ((one : IpPrefix) → is_later only.until (says one) ≡ false) → (prefixes : List IpPrefix) → lists_cover only.prefix prefixes ≡ false
-        → MayPass (Some only) (map says prefixes)
+        → ((one : IpPrefix) → is_later only.until (says one) ≡ false) → (prefixes : List IpPrefix)
+        → lists_cover only.prefix prefixes ≡ false → MayPass (Some only) (map says prefixes)
     over-each says on early [] none = record { beside = refl; in_time = refl }
     over-each says on early (one ∷ prefixes) none =
         let parts = or_parts (covers one only.prefix) (lists_cover only.prefix prefixes) none in
@@ -58,7 +58,8 @@ module _ (only : Only) where
     over-announcements (Some attributes) prefixes none = over-each (announces time attributes) (λ one. refl) (λ one. at) prefixes none
 
     -- changes that withdraw those of the first list that stay, before changes on those of the second
-    over-lists : (withdrawn nlri : List IpPrefix) (behind : List Change) → (lists_cover only.prefix withdrawn || lists_cover only.prefix nlri) ≡ false
+    over-lists : (withdrawn nlri : List IpPrefix) (behind : List Change)
+        → (lists_cover only.prefix withdrawn || lists_cover only.prefix nlri) ≡ false
         → (lists_cover only.prefix (unicast nlri) ≡ false → MayPass (Some only) behind)
         → MayPass (Some only) (map (withdraws time) (withdrawn_only withdrawn nlri) ++ behind)
     over-lists withdrawn nlri behind none over =

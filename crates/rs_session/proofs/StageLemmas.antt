@@ -162,7 +162,8 @@ module _ {S : Type 0} (comes : Comes S) (shows : S → Option MrtRecord) where
       ((λ changes passed m. keeps changes passed (h.0 changes passed m)), h.1, h.2 ∙ same)
 
   steps-result : (old new : Stage S) (result : Result (Option Word) AllocError) → old.held ≡ true → old.closed ≡ false → old.waiting ≡ []
-      → IfOk result (λ given. ReadsShown (shows old.source) old given new) → OnErr result (new ≡ old) → StepsBehind comes shows [] old new result
+      → IfOk result (λ given. ReadsShown (shows old.source) old given new) → OnErr result (new ≡ old)
+      → StepsBehind comes shows [] old new result
   steps-result old new (Ok given) full unclosed idle says refused =
       steps-shown old new (shows old.source) given full unclosed idle refl says
   steps-result old new (Err e) full unclosed idle says refused =

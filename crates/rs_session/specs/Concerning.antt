@@ -62,7 +62,7 @@ pub record SaysOn {S : Type 0} (comes : Comes S) (shows : S → Option MrtRecord
   pub are_over : ArePassedOver prefix until over
   pub says : SaysBehind comes shows over old new result
 
--- ---- what both answers rest on; where None, every change is asked for
+-- ---- the loop and the step of both `next_word`, which asks for every change (None), and `next_word_on`
 
 -- changes that may be passed over: none where every change is asked for
 abbrev pub MayPass : Option Only → List Change → Type 0

@@ -2,9 +2,9 @@
 //!
 //! Reading order:
 //! - One change: `word` (a change), `closing` (which one closes a ring), `peer` (whose it is).
-//! - One record: `withdrawn` and `pending` (its changes), `effect` (what it says).
-//! - One session: `session` (one change after another), `beside` and `passing` (which records are passed over where
-//!   the session is asked for one prefix).
+//! - One record: `withdrawn` and `pending` (its changes), `effect` (what it says), `beside` (whether it may be passed
+//!   over where one prefix is asked for).
+//! - One session: `session` (one change after another), `passing` (only those on one prefix).
 //! - What holds of the definitions that the contracts cite: `laws`.
 #![tactic(auto)]
 

@@ -3,7 +3,6 @@
 //!
 //! Our choice: an UPDATE past the time is read, and its changes are given, so that the caller sees where to stop.
 
-ghost use Rattle.std.specs.Prelude.{◌≡◌};
 ghost use Rattle.rs_mrt.specs.Source.{CountsFailure};
 ghost use Rattle.rs_session.specs.Concerning.{SaysOn};
 ghost use Rattle.rs_session.specs.Laws.{SomethingMayCome};

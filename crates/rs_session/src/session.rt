@@ -128,7 +128,8 @@ impl<S: Source> Session<S> {
         self.next_where(&None)
     }
 
-    // Gives the next change of those that are asked for; where None, all are.
+    // Gives the next change, passing over records that may be where only one prefix is asked for; None asks for every
+    // change.
     pub(crate) fn next_where(&mut self, only: &Option<Only>) -> Result<Option<Word>, AllocError>
         ensures says { SaysOf S.comes S.shows only.now self.old self.new result }
         ensures closes { Closes self.old.closed self.new.closed result }
