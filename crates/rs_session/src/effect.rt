@@ -21,21 +21,23 @@ use std::alloc::{AllocError, Global};
 // State 6: the session is up (RFC 6396, section 4.4.1).
 const ESTABLISHED: u16 = 6;
 
-// What a record says to a session.
+/// What a record says to the session of one peer.
 #[derive(Drop)]
-pub(crate) enum Effect {
-    // The record is passed over.
+pub enum Effect {
+    /// Nothing: it is of another peer, or of a kind that is not read.
     PassesOver,
-    // The session goes on with these changes.
+    /// The session goes on with these changes, perhaps none, in this order.
     Gives(Pending),
-    // The session ends.
+    /// The session ends, for this reason. The close is its last change, at the time of the record.
     Ends(Reason),
 }
 
-// What a record says to the session of a peer, faults in messages being handled by one of the standards.
-// Nothing is allocated for a record that is passed over.
+/// Reads what a record says to the session of a peer (RFC 6396, sections 4.4.3 and 4.4.4), faults in messages being
+/// handled by one of the standards. The record counts alone: what the session said before makes no difference.
+///
+/// Fails where memory is refused. Nothing is allocated for a record that is passed over.
 #[tactic(auto, unfolding(crate::specs::Effect::effect_of))]
-pub(crate) fn read_record(
+pub fn read_record(
     alloc: Global,
     errors: Errors,
     peer: PeerId,

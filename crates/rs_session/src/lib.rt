@@ -19,11 +19,13 @@ mod session;
 mod withdrawn;
 mod word;
 
+pub use effect::{Effect, read_record};
 pub use laws::{
     a_failed_read_closes_last, a_file_says_no_more_changes_than_octets,
     a_reader_gives_a_file_or_fails, a_session_closes_once, something_may_come,
     the_front_of_a_record_suffices,
 };
 pub use peer::PeerId;
+pub use pending::Pending;
 pub use session::Session;
 pub use word::{Body, Reason, Word};

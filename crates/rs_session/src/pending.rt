@@ -17,9 +17,9 @@ use std::marker::Model;
 use std::sync::Arc;
 use std::vec::IntoIter;
 
-// The changes of a record that haven't been given yet.
+/// The changes of a record that haven't been given yet, the next one first.
 #[derive(Drop)]
-pub(crate) struct Pending {
+pub struct Pending {
     time: u32,
     // Whether the session goes down, before any other change.
     lost: bool,
@@ -108,8 +108,10 @@ impl Pending {
         })
     }
 
-    // The next change. Refused, nothing is given, and the changes are as before.
-    pub(crate) fn next(&mut self) -> Result<Option<Word>, AllocError>
+    /// Gives the next change; none once all were given. It is never a close.
+    ///
+    /// Fails where memory is refused: then nothing is given, and the changes are as before.
+    pub fn next(&mut self) -> Result<Option<Word>, AllocError>
         ensures ok { IfOk result (λ given. GivesFirst self.old given self.new) }
         ensures open { IfOk result (λ given. IfSome given (λ word. is_close (change_of word) ≡ false)) }
         ensures err { OnErr result (self.new ≡ self.old) }
