@@ -10,7 +10,8 @@
 //!
 //! Below them are `counts` (how many routes each peer has), `cells` (of all prefixes) and `cell` (of one prefix).
 //! `rs_choice` decides who gets which route on it.
-//! Below `gathering` are `logged` (a change in a list), `log` (a list) and `settling` (the cells of such lists).
+//! Below `gathering` are `logged` (a change in a list), `log` (a list), `read_ahead` (a list with its attributes read
+//! ahead) and `settling` (the cells of such lists).
 #![tactic(auto)]
 
 mod cell;
@@ -25,6 +26,7 @@ mod logged;
 mod merge;
 mod prefix_routes;
 mod prefixes;
+mod read_ahead;
 mod route;
 mod settling;
 mod tables;

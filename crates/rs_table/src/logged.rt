@@ -149,6 +149,14 @@ impl LoggedChange {
         matches!(self.change, Packed::Announced { .. })
     }
 
+    /// Reads from the memory in which the attributes of an announcement lie, so that they are at hand soon after.
+    /// What is read is how many share them: no compiler leaves out this read, which is atomic.
+    pub(crate) fn read_attributes(&self) {
+        if let Packed::Announced { attributes, .. } = &self.change {
+            let _shared = Arc::strong_count(attributes);
+        }
+    }
+
     /// Its peer, when it came, and the attributes of an announcement.
     pub(crate) fn into_parts(self) -> (u8, u32, Option<Arc<Attributes>>)
         ensures peer { result.0 ≡ self.peer }

@@ -16,6 +16,7 @@ use crate::cell::Cell;
 use crate::cells::join;
 use crate::log::{Log, compact};
 use crate::logged::LoggedChange;
+use crate::read_ahead::ReadAhead;
 use rs_choice::{Exchange, HeldRoute};
 use rs_update::Prefix;
 use std::alloc::{AllocError, Global};
@@ -67,7 +68,8 @@ fn cells_of(
         held: Vec::with_capacity(alloc, plan.count())?,
         cells: BTreeMap::new(alloc),
     };
-    for entry in entries {
+    let mut ahead = ReadAhead::new(entries);
+    while let Some(entry) = ahead.next() {
         making.add(alloc, plan, entry, keeps_room)?;
     }
     making.close(alloc, plan, keeps_room)?;

@@ -2,7 +2,6 @@
 use Rattle.std.proofs.Common.{◌≡◌, ◌∙◌, ◌∷◌, [], List, All, Some, cond, length, map, ap, sym, subst, arith, rules}
 use Rattle.std.specs.Prelude.{slice_get}
 use Rattle.std.specs.List.Sorted.{IsStrictlySortedBy}
-use Rattle.std.specs.Vec.Iter.{into_iter_items}
 use Rattle.std.proofs.lemmas.List.Elements.{All-head, All-nil, All-tail, All-weaker}
 use Rattle.rs_choice.specs.Held.{sent_of_held, IsJudged}
 use Rattle.rs_choice.specs.declared.held_route.HeldRoute.{HeldRoute}
@@ -23,7 +22,7 @@ loop-entry-init c =
     let losses = c.args.losses.now in
     let making : Making = record { cells = c.new-2.result; prefix = c.prefix.result; held = c.in_ok-with_capacity.field-0 } in
     let entries = c.compact.new.entries.items in
-    let gives : into_iter_items c.into_iter-entry-iterator.result ≡ entries = c.into_iter-entry-iterator.ensures.into_iter_gives.0 in
+    let gives : c.new-ahead.result.rest.items ≡ entries = c.new-ahead.ensures in
     let first_is : slice_get entries 0 ≡ Some c.in-Some.first.now = search rules in
     let empty : map sent_of_held making.held.items ≡ [] =
     ap (λ (held : List HeldRoute). map sent_of_held held) c.in_ok-with_capacity.ensures.items in
@@ -48,24 +47,24 @@ loop-entry-init c =
 
 pub add-requires-clause-next : goal.add-requires-clause-next
 add-requires-clause-next c =
-    All-head (IsNext c.loop-entry.making) c.in-Some-entry.entry (into_iter_items c.next.new.self)
-    (subst (All (IsNext c.loop-entry.making)) c.in-Some-entry.ensures.steps.0 c.loop-entry.invariant.next)
+    All-head (IsNext c.loop-entry.making) c.in-Some-next.entry c.next.new.self.rest.items
+    (subst (All (IsNext c.loop-entry.making)) c.in-Some-next.ensures c.loop-entry.invariant.next)
 
 pub add-requires-clause-known : goal.add-requires-clause-known
 add-requires-clause-known c =
     let losses = c.args.losses.now in
-    let announced : IsAnnounced losses c.in-Some-entry.entry =
-    All-head (IsAnnounced losses) c.in-Some-entry.entry (into_iter_items c.next.new.self)
-    (subst (All (IsAnnounced losses)) c.in-Some-entry.ensures.steps.0 c.loop-entry.invariant.announced) in
-    omega (arith, known-current losses c.in-Some-entry.entry announced.0, c.requires)
+    let announced : IsAnnounced losses c.in-Some-next.entry =
+    All-head (IsAnnounced losses) c.in-Some-next.entry c.next.new.self.rest.items
+    (subst (All (IsAnnounced losses)) c.in-Some-next.ensures c.loop-entry.invariant.announced) in
+    omega (arith, known-current losses c.in-Some-next.entry announced.0, c.requires)
 
 pub loop-entry-preserved : goal.loop-entry-preserved
 loop-entry-preserved c =
     let losses = c.args.losses.now in
-    let entry = c.in-Some-entry.entry in
-    let rest = into_iter_items c.next.new.self in
+    let entry = c.in-Some-next.entry in
+    let rest = c.next.new.self.rest.items in
     let before = c.loop-entry.making in
-    let steps : into_iter_items c.loop-entry.entry-iterator ≡ entry ∷ rest = c.in-Some-entry.ensures.steps.0 in
+    let steps : c.loop-entry.ahead.rest.items ≡ entry ∷ rest = c.in-Some-next.ensures in
     let sorted : IsStrictlySortedBy logged_cmp (entry ∷ rest) = subst (IsStrictlySortedBy logged_cmp) steps c.loop-entry.invariant.sorted in
     let announced : All (IsAnnounced losses) (entry ∷ rest) = subst (All (IsAnnounced losses)) steps c.loop-entry.invariant.announced in
     record {
@@ -83,3 +82,10 @@ loop-entry-preserved c =
           ∙ ap (λ (list : List Logged). left_over losses list peer q was) (sym steps)
           ∙ c.loop-entry.invariant.routes peer q;
     }
+
+pub returns-clause-routes : goal.returns-clause-routes
+returns-clause-routes c = λ peer q.
+    let so_far = route_at (routes_so_far c.loop-entry.making q) peer in
+    ap (λ routes. route_at routes peer) (c.in_ok-close.ensures.routes q)
+    ∙ ap (λ (list : List Logged). left_over c.args.losses.now list peer q so_far) (sym c.in_default-next.ensures)
+    ∙ c.loop-entry.invariant.routes peer q

@@ -1,6 +1,5 @@
-use Rattle.std.proofs.Common.{◌≡◌, ℕ, All}
+use Rattle.std.proofs.Common.{◌≡◌, ℕ, All, length}
 use Rattle.std.specs.List.Sorted.{IsStrictlySortedBy}
-use Rattle.std.specs.Vec.Iter.{into_iter_items}
 use Rattle.rs_update.specs.IpPrefix.{IpPrefix}
 use Rattle.rs_table.specs.ByPeer.{route_at}
 use Rattle.rs_table.specs.Gathered.{left_in, left_over, logged_cmp, IsAnnounced}
@@ -11,10 +10,13 @@ use Rattle.rs_table.proofs.settling.cells_of.Given as goal
 abbrev pub invariant-loop-entry : goal.invariant-loop-entry
 invariant-loop-entry l = record {
   making : IsMaking l.fn.keeps_room l.plan l.making;
-  next : All (IsNext l.making) (into_iter_items l.entry-iterator);
-  sorted : IsStrictlySortedBy logged_cmp (into_iter_items l.entry-iterator);
-  announced : All (IsAnnounced l.losses) (into_iter_items l.entry-iterator);
+  next : All (IsNext l.making) l.ahead.rest.items;
+  sorted : IsStrictlySortedBy logged_cmp l.ahead.rest.items;
+  announced : All (IsAnnounced l.losses) l.ahead.rest.items;
   routes : (peer : ℕ) (prefix : IpPrefix)
-      → left_over l.losses (into_iter_items l.entry-iterator) peer prefix (route_at (routes_so_far l.making prefix) peer)
+      → left_over l.losses l.ahead.rest.items peer prefix (route_at (routes_so_far l.making prefix) peer)
       ≡ left_in l.fn.losses l.fn.entries.items peer prefix;
 }
+
+abbrev pub decreases-loop-entry : goal.decreases-loop-entry
+decreases-loop-entry l = length l.ahead.rest.items

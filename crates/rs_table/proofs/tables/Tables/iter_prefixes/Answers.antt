@@ -1,14 +1,12 @@
 -- The prefixes of all cells are all prefixes on which some peer has a route.
-use Rattle.std.proofs.Common.{◌≡◌, ◌<◌, ℕ, All, List, Bool, true, false, Option, Some, None, refl, map, sym, ap, subst, ◌∙◌}
+use Rattle.std.proofs.Common.{◌≡◌, All, List, Option, Some, None, refl, map, sym, ap, subst, ◌∙◌}
 use Rattle.std.specs.BTreeMap.{is_at}
-use Rattle.std.specs.List.{list_any}
 use Rattle.std.specs.Option.{is_some}
 use Rattle.std.proofs.lemmas.Map.Made.{is_some-lookup}
 use Rattle.rs_update.specs.IpPrefix.{IpPrefix}
 use Rattle.rs_update.specs.PrefixOrder.{prefix_cmp}
 use Rattle.rs_table.specs.Cell.{CellContent}
 use Rattle.rs_table.specs.Cells.{Entries, cell_at}
-use Rattle.rs_table.specs.Left.{same_prefix}
 use Rattle.rs_table.specs.Listing.{is_held}
 use Rattle.rs_table.specs.PrefixRoutes.{AreRoutesOf}
 use Rattle.rs_table.proofs.prefixes.HeldLemmas.{prefixes-held}
