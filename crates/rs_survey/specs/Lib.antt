@@ -12,5 +12,6 @@ pub mod Summary  -- the findings on one prefix and on all
 pub mod Tally  -- how often each is made
 pub mod Grows  -- findings that are counted one after another
 pub mod Joined  -- tallies that are added
+pub mod Counted  -- what is counted on some prefixes
 pub mod Seen  -- the routes on a prefix as it sees them
 pub mod Laws  -- what holds of these
