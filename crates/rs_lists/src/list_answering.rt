@@ -66,7 +66,7 @@ where
     let tables = served.tables();
     let layout = Layout::new(tables.plan(), client, query.form);
     let text = if query.count {
-        let counts = count_missing(rt.alloc(), tables, client)?;
+        let counts = count_missing(rt, rt.alloc(), tables, client)?;
         counts_text(rt.alloc(), &layout, wanted, &counts)?
     } else {
         list_missing(rt, tables, client, layout, wanted)?

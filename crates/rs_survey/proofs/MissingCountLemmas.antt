@@ -1,14 +1,13 @@
 -- The routes that a client does not get, counted by sender and reason: for missing_counts.rt.
 use Rattle.std.proofs.Common.{◌≡◌, ◌∙◌, sym, ap, subst, refl, arith, ℕ, zero, suc, ◌<◌, ◌+◌, ◌==◌, ◌||◌}
 use Rattle.std.proofs.Common.{Bool, true, false, cond, List, [], ◌∷◌}
-use Rattle.std.proofs.Common.{◌++◌, length, map, append_assoc, get_or, take}
-use Rattle.std.specs.Prelude.{All, IfOk, IfSome, Ok, Option, None, Result, Some, MatchOption}
-use Rattle.std.specs.declared.alloc.AllocError.{AllocError}
+use Rattle.std.proofs.Common.{◌++◌, length, map, get_or, take}
+use Rattle.std.specs.Prelude.{All, IfSome, Option, None, Some, MatchOption}
 use Rattle.std.specs.FinMap.{get}
 use Rattle.std.specs.List.{cons_option, filter_map, flat_map, range_with_len}
 use Rattle.std.specs.Option.{option_map, option_or}
 use Rattle.std.proofs.lemmas.Bool.Decides.{nat_tests}
-use Rattle.std.proofs.lemmas.List.{append-nil, take_more}
+use Rattle.std.proofs.lemmas.List.{take_more}
 use Rattle.std.proofs.lemmas.List.Elements.{All-cons, All-head, All-nil, All-tail, filter_map-append}
 use Rattle.rs_update.specs.IpPrefix.{IpPrefix}
 use Rattle.rs_choice.specs.Decision.{SentRoute, decision_steps, standing_of}
@@ -21,20 +20,18 @@ use Rattle.rs_explain.specs.declared.explanation.Explanation.TheVariants.{Own, A
 use Rattle.rs_explain.specs.declared.refusal.Refusal.{Refusal}
 use Rattle.rs_explain.specs.Explanations.{IsDecided, IsExplanation, reason_of}
 use Rattle.rs_explain.specs.Reasons.{failed_condition, refusal_of}
-use Rattle.rs_survey.specs.declared.finding.Finding.{Finding}
 use Rattle.rs_survey.specs.declared.finding.Finding.TheVariants.{Missing}
-use Rattle.rs_survey.specs.declared.missing_reason.MissingReason.{MissingReason}
 use Rattle.rs_survey.specs.declared.missing_reason.MissingReason.TheVariants as reasons
 use Rattle.rs_survey.specs.declared.on_prefix.MissingOn.{MissingOn}
 use Rattle.rs_survey.specs.declared.on_prefix.MissingRoute.{MissingRoute}
 use Rattle.rs_survey.specs.Findings.{flaw_of}
 use Rattle.rs_survey.specs.Grows.{Grows}
-use Rattle.rs_survey.specs.Missing.{AreMissing, missing_from, missing_of, missing_on}
-use Rattle.rs_survey.specs.MissingCounts.{counted_of, missing_finding, missing_findings, reason_for, reason_in, reason_of_refusal}
-use Rattle.rs_survey.specs.MissingRoutesView.{GivesMissing, MissingContent}
+use Rattle.rs_survey.specs.Missing.{AreMissing, missing_from, missing_on}
+use Rattle.rs_survey.specs.MissingCounts.{counted_of, missing_finding, missing_findings, missing_findings_on, reason_for, reason_in}
+use Rattle.rs_survey.specs.MissingCounts.{reason_of_refusal}
 use Rattle.rs_survey.specs.Summary.{removed_at}
-use Rattle.rs_survey.specs.Tally.{IsTally, TallyContent}
-use Rattle.rs_survey.proofs.GrowthLemmas.{grows_none, grows_then}
+use Rattle.rs_survey.specs.Tally.{TallyContent}
+use Rattle.rs_survey.proofs.GrowthLemmas.{grows_then}
 use Rattle.rs_survey.proofs.MissingLemmas.{missing_peer}
 use Rattle.rs_survey.proofs.StepLemmas.{counted_step}
 
@@ -197,11 +194,7 @@ findings_explained tables client prefix (one ∷ items) missing explained =
     λ i. cons_option (here i) (later i)
 
 -- the findings on a prefix
-abbrev pub missing_findings_on : TablesContent → ℕ → IpPrefix → List Finding
-missing_findings_on tables client prefix =
-    filter_map (missing_finding tables client) (map (row_on prefix) (missing_on tables client prefix))
-
-findings_here : (tables : TablesContent) (client : ℕ) (on : MissingOn) → AreMissing tables client on →
+pub findings_here : (tables : TablesContent) (client : ℕ) (on : MissingOn) → AreMissing tables client on →
     filter_map counted_of on.routes.items ≡ missing_findings_on tables client on.prefix
 findings_here tables client on are =
     findings_explained tables client on.prefix on.routes.items (routes_are_missing tables client on are) are.explained
@@ -215,50 +208,11 @@ filter_map-flat_map f g [] = refl
 filter_map-flat_map f g (x ∷ xs) =
     filter_map-append f (g x) (flat_map g xs) ∙ ap (λ later. filter_map f (g x) ++ later) (filter_map-flat_map f g xs)
 
--- the findings so far are counted, and with those of the prefixes to come they are all
-pub record IsCountingMissing (tables : TablesContent) (client : ℕ) (initial tally : TallyContent) (rest : MissingContent) : Type 0 where
-  pub more : List Finding
-  pub grown : Grows initial tally more
-  pub splits : more ++ flat_map (missing_findings_on tables client) rest.prefixes ≡ missing_findings tables client
-  pub tables_are : rest.tables ≡ tables
-  pub client_is : rest.client ≡ client
-
-pub missing_none : (tables : TablesContent) (client : ℕ) (tally : TallyContent) (rest : MissingContent) → rest.tables ≡ tables →
-    rest.client ≡ client → rest.prefixes ≡ prefixes_held tables.ribs → IsCountingMissing tables client tally tally rest
-missing_none tables client tally rest same own prefixes = record {
-  more = [];
-  grown = grows_none tally;
-  splits = ap (flat_map (missing_findings_on tables client)) prefixes
-      ∙ sym (filter_map-flat_map (missing_finding tables client)
-      (λ prefix. map (row_on prefix) (missing_on tables client prefix)) (prefixes_held tables.ribs));
-  tables_are = same;
-  client_is = own;
-}
-
-pub missing_more : (tables : TablesContent) (client : ℕ) (initial tally later : TallyContent) (before after : MissingContent)
-    (on : MissingOn) → IsCountingMissing tables client initial tally before → after.tables ≡ before.tables → after.client ≡ before.client →
-    before.prefixes ≡ on.prefix ∷ after.prefixes → AreMissing tables client on →
-    Grows tally later (filter_map counted_of on.routes.items) → IsCountingMissing tables client initial later after
-missing_more tables client initial tally later before after on counting same own first are grows =
-    let here = missing_findings_on tables client on.prefix in
-    let findings = missing_findings_on tables client in
-    record {
-      more = counting.more ++ here;
-      grown = grows_then initial tally later counting.more here counting.grown
-          (subst (Grows tally later) (findings_here tables client on are) grows);
-      splits = append_assoc counting.more here (flat_map findings after.prefixes)
-          ∙ ap (λ prefixes. counting.more ++ flat_map findings prefixes) (sym first) ∙ counting.splits;
-      tables_are = same ∙ counting.tables_are;
-      client_is = own ∙ counting.client_is;
-    }
-
-pub missing_counted : (tables : TablesContent) (client : ℕ) (initial tally : TallyContent) (rest : MissingContent) → IsTally initial [] →
-    IsCountingMissing tables client initial tally rest → rest.prefixes ≡ [] → IsTally tally (missing_findings tables client)
-missing_counted tables client initial tally rest none counting ends =
-    subst (IsTally tally)
-    (sym (append-nil counting.more) ∙ ap (λ prefixes. counting.more ++ flat_map (missing_findings_on tables client) prefixes) (sym ends)
-    ∙ counting.splits)
-    (counting.grown.counts [] none)
+pub missing_on_each : (tables : TablesContent) (client : ℕ) →
+    missing_findings tables client ≡ flat_map (missing_findings_on tables client) (prefixes_held tables.ribs)
+missing_on_each tables client =
+    filter_map-flat_map (missing_finding tables client) (λ prefix. map (row_on prefix) (missing_on tables client prefix))
+    (prefixes_held tables.ribs)
 
 -- ---- one route more
 
@@ -269,27 +223,3 @@ grows-one routes i d one two three within first later =
     subst (Grows one three)
     (sym (ap (filter_map counted_of) (take_more routes i d within) ∙ filter_map-append counted_of (take i routes) (get_or routes i d ∷ [])))
     (grows_then one two three (filter_map counted_of (take i routes)) (filter_map counted_of (get_or routes i d ∷ [])) first later)
-
--- ---- one prefix more
-
-of_ok : {T F : Type 0} (P : T → Type 0) (result : Result T F) (value : T) → IfOk result P → result ≡ Ok value → P value
-of_ok {T = T} {F = F} P result value holds is = subst (λ (one : Result T F). IfOk one P) is holds
-
-pub missing_here : (tables : TablesContent) (client : ℕ) (initial tally : TallyContent) (before after : MissingContent)
-    (result : Result MissingOn AllocError) (on : MissingOn) → IsCountingMissing tables client initial tally before →
-    GivesMissing before (Some result) after → result ≡ Ok on → AreMissing tables client on
-missing_here tables client initial tally before after result on counting gives is =
-    subst (λ (number : ℕ). AreMissing tables number on) counting.client_is
-    (subst (λ (content : TablesContent). AreMissing content before.client on) counting.tables_are
-    (of_ok (AreMissing before.tables before.client) result on gives.2.missing is))
-
-pub missing_turn : (tables : TablesContent) (client : ℕ) (initial tally later : TallyContent) (before after : MissingContent)
-    (result : Result MissingOn AllocError) (on : MissingOn) → IsCountingMissing tables client initial tally before →
-    GivesMissing before (Some result) after → result ≡ Ok on → Grows tally later (filter_map counted_of on.routes.items) →
-    IsCountingMissing tables client initial later after
-missing_turn tables client initial tally later before after result on counting gives is grows =
-    let next = gives.2 in
-    let here : on.prefix ≡ next.prefix = of_ok (λ (missing : MissingOn). missing.prefix ≡ next.prefix) result on next.here is in
-    missing_more tables client initial tally later before after on counting gives.0 gives.1
-    (next.first ∙ ap (λ (prefix : IpPrefix). prefix ∷ after.prefixes) (sym here))
-    (missing_here tables client initial tally before after result on counting gives is) grows

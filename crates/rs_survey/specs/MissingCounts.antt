@@ -1,7 +1,8 @@
 -- How many routes of each sender a client does not get, for each reason (RFC 4271, section 9.1; RFC 7947, section 2.3).
-use Rattle.std.specs.Prelude.{ℕ, List, Option, None, Some}
+use Rattle.std.specs.Prelude.{ℕ, List, Option, None, Some, map}
 use Rattle.std.specs.List.{filter_map}
 use Rattle.std.specs.Option.{option_map, option_or}
+use Rattle.rs_update.specs.IpPrefix.{IpPrefix}
 use Rattle.rs_choice.specs.Decision.{decision_steps, standing_of}
 use Rattle.rs_table.specs.Content.{TablesContent}
 use Rattle.rs_table.specs.Table.{TableRow, candidates_of}
@@ -17,7 +18,7 @@ use Rattle.rs_survey.specs.declared.missing_reason.MissingReason.TheVariants.{In
 use Rattle.rs_survey.specs.declared.missing_reason.MissingReason.TheVariants.{RefusedByCommunity, Lost}
 use Rattle.rs_survey.specs.declared.on_prefix.MissingRoute.{MissingRoute}
 use Rattle.rs_survey.specs.Findings.{flaw_of}
-use Rattle.rs_survey.specs.Missing.{missing_of}
+use Rattle.rs_survey.specs.Missing.{missing_of, missing_on}
 use Rattle.rs_survey.specs.Summary.{removed_at}
 
 -- a rule that refuses, as a reason
@@ -39,6 +40,12 @@ reason_for tables client row =
 -- what is counted of a route that a client does not get
 abbrev pub missing_finding : TablesContent → ℕ → TableRow → Option Finding
 missing_finding tables client row = option_map (Missing row.route.peer) (reason_for tables client row)
+
+-- and of those on a prefix
+abbrev pub missing_findings_on : TablesContent → ℕ → IpPrefix → List Finding
+missing_findings_on tables client prefix =
+    filter_map (missing_finding tables client)
+    (map (λ route. record { prefix = prefix; route = route }) (missing_on tables client prefix))
 
 -- and of the whole list of these routes
 abbrev pub missing_findings : TablesContent → ℕ → List Finding

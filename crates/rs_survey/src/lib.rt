@@ -4,13 +4,13 @@
 //! Standards: RFC 4271, section 9.1 (eligible routes, decision process); RFC 7947, section 2.3 (a table for each
 //! client, its export policy before its decision).
 //!
-//! Reading order: `on_prefix` (the routes on one prefix that a client does not get), `missing_routes` (those on all
-//! prefixes). Then `prefix_list` (the prefixes as a list), `asked_rows` (the rows of a table that are asked for). Two
-//! clients: `choices`, `rows_to_come`, `side_by_side` (the rows of both), `differences`. What is counted: `finding`
-//! (each finding), `tally` (how often it was made). The routes that a client does not get: `missing_reason`,
-//! `missing_counts`. What a summary counts from: `seen` (the routes on a prefix), `removing` (the step that removes a
-//! candidate), `hidden` (what one decision for all clients would hide). How it counts: `counting` (on one prefix),
-//! `on_threads` (on all prefixes, on four threads). Then `laws`.
+//! Reading order: `on_prefix` (the routes on one prefix that a client does not get), `prefix_list` (the prefixes as a
+//! list), `asked_rows` (the rows of a table that are asked for). Two clients: `choices`, `rows_to_come`, `side_by_side`
+//! (the rows of both), `differences`. What is counted: `finding` (each finding), `tally` (how often it was made). What
+//! a summary counts from: `seen` (the routes on a prefix), `removing` (the step that removes a candidate), `hidden`
+//! (what one decision for all clients would hide). On one prefix are counted: the findings of a summary (`counting`),
+//! and the routes that a client does not get, by reason (`missing_reason`, `missing_counts`). On all prefixes:
+//! `on_threads`. Then `laws`.
 #![tactic(auto)]
 
 mod asked_rows;
@@ -22,7 +22,6 @@ mod hidden;
 mod laws;
 mod missing_counts;
 mod missing_reason;
-mod missing_routes;
 mod on_prefix;
 mod on_threads;
 mod prefix_list;
@@ -37,10 +36,8 @@ pub use choices::Choices;
 pub use differences::Differences;
 pub use finding::{Finding, Flaw};
 pub use laws::the_step_that_is_counted_is_explained;
-pub use missing_counts::count_missing;
 pub use missing_reason::MissingReason;
-pub use missing_routes::MissingRoutes;
 pub use on_prefix::{MissingOn, MissingRoute, missing_on};
-pub use on_threads::summary_on_threads;
+pub use on_threads::{count_missing, summary_on_threads};
 pub use prefix_list::every_prefix;
 pub use tally::Tally;

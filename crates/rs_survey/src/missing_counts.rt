@@ -1,37 +1,37 @@
-//! How many routes of each sender a client does not get, for each reason.
+//! How many routes of each sender a client does not get on one prefix, for each reason.
 
-ghost use Rattle.std.specs.Prelude.{◌≡◌, ◌<◌, ◌∷◌, [], All, IfOk, length};
+ghost use Rattle.std.specs.Prelude.{◌≡◌, ◌<◌, ◌∷◌, [], All, OnOk, length};
 ghost use Rattle.std.specs.List.{filter_map};
+ghost use Rattle.rs_table.specs.PrefixRoutes.{AreRoutesOf, entry_of};
 ghost use Rattle.rs_survey.specs.Grows.{Grows};
-ghost use Rattle.rs_survey.specs.MissingCounts.{counted_of, missing_findings};
-ghost use Rattle.rs_survey.specs.Tally.{IsTally};
+ghost use Rattle.rs_survey.specs.MissingCounts.{counted_of, missing_findings_on};
 
 use crate::finding::Finding;
 use crate::missing_reason::MissingReason;
-use crate::missing_routes::MissingRoutes;
-use crate::on_prefix::MissingRoute;
+use crate::on_prefix::{MissingRoute, missing_on};
 use crate::tally::Tally;
-use rs_table::Tables;
+use rs_table::{PrefixRoutes, Tables};
 use std::alloc::{AllocError, Global};
 
-/// Counts the routes that the peer of number `client` does not get, by sender and reason: a `Finding::Missing` is
-/// made once for each such route of the list that `MissingRoutes` gives.
-///
-/// It holds the routes of one prefix at a time. Fails where memory is refused.
-pub fn count_missing(alloc: Global, tables: &Tables, client: usize) -> Result<Tally, AllocError>
-    requires { client < length tables.now.plan.peers }
-    ensures peers { IfOk result (λ tally. tally.peers ≡ length tables.now.plan.peers) }
-    ensures counts { IfOk result (λ tally. IsTally tally (missing_findings tables.now client)) }
+// Counts the routes on a prefix that a client does not get, by sender and reason.
+pub(crate) fn count_missing_on(
+    alloc: Global,
+    tables: &Tables,
+    client: usize,
+    on: &PrefixRoutes<'_>,
+    tally: &mut Tally,
+) -> Result<(), AllocError>
+    requires client_known { client < length tables.now.plan.peers }
+    requires routes { AreRoutesOf tables.now (entry_of on.now) }
+    requires peers { tally.old.peers ≡ length tables.now.plan.peers }
+    ensures { OnOk result (Grows tally.old tally.new (missing_findings_on tables.now client on.now.prefix)) }
 {
-    let mut tally = Tally::new(alloc, tables.count())?;
-    for on in MissingRoutes::new(alloc, tables, client) {
-        let on = on?;
-        count_routes(&on.routes, &mut tally);
-    }
-    Ok(tally)
+    let missing = missing_on(alloc, tables, client, on)?;
+    count_routes(&missing.routes, tally);
+    Ok(())
 }
 
-// Counts the routes on a prefix.
+// Counts the routes.
 fn count_routes(routes: &[MissingRoute<'_>], tally: &mut Tally)
     requires { All (λ one. one.route.peer < tally.old.peers) routes.now }
     ensures { Grows tally.old tally.new (filter_map counted_of routes.now) }

@@ -1,20 +1,37 @@
-//! A summary on four threads, each of which counts on a quarter of the prefixes.
+//! Counts on four threads, each of which counts on a quarter of the prefixes: a summary, and the routes that a client
+//! does not get.
 //!
 //! Our choice: where a thread is refused, the calling thread counts in its place.
 
-ghost use Rattle.std.specs.Prelude.{◌≡◌, IfOk, length};
+ghost use Rattle.std.specs.Prelude.{◌≡◌, ◌<◌, IfOk, OnOk, length, map};
 ghost use Rattle.std.specs.List.{All};
 ghost use Rattle.rs_table.specs.PrefixRoutes.{AreRoutesOf, entry_of};
-ghost use Rattle.rs_survey.specs.Joined.{CountsOn};
+ghost use Rattle.rs_table.specs.Table.{prefixes_held};
+ghost use Rattle.rs_survey.specs.Counted.{CountsOn, IsOfPeer, counted_on};
+ghost use Rattle.rs_survey.specs.Grows.{Grows};
+ghost use Rattle.rs_survey.specs.MissingCounts.{missing_findings};
 ghost use Rattle.rs_survey.specs.Summary.{findings_of};
 ghost use Rattle.rs_survey.specs.Tally.{IsTally};
 
 use crate::counting::count_on;
+use crate::missing_counts::count_missing_on;
 use crate::prefix_list::every_prefix;
 use crate::tally::Tally;
 use rs_table::{PrefixRoutes, Tables};
 use std::alloc::{AllocError, Global};
-use std::thread::{Threads, join};
+use std::thread::{Threads, map_chunks};
+
+// How many threads count.
+const THREADS: usize = 4;
+
+// What is counted on each prefix.
+#[derive(Clone, Copy)]
+enum Counted {
+    // The findings of a summary.
+    Summary,
+    // The routes that the client of this number does not get.
+    Missing(usize),
+}
 
 /// Counts what is found on every prefix of some tables, on four threads: which routes are left and why they are not
 /// eligible, what becomes of each at each client, and on which prefixes one decision for all clients would hide routes.
@@ -28,57 +45,48 @@ pub fn summary_on_threads<T: Threads + Sync>(
     ensures peers { IfOk result (λ tally. tally.peers ≡ length tables.now.plan.peers) }
     ensures counts { IfOk result (λ tally. IsTally tally (findings_of tables.now)) }
 {
+    count_on_threads(rt, alloc, tables, Counted::Summary)
+}
+
+/// Counts the routes that the peer of number `client` does not get, by sender and reason, on four threads: a
+/// `Finding::Missing` is made once for each such route that `missing_on` gives on every prefix.
+///
+/// It holds where each prefix is, in 16 octets, and on each thread the counts and the routes of one prefix at a time.
+/// Fails where memory is refused.
+pub fn count_missing<T: Threads + Sync>(
+    rt: &T,
+    alloc: Global,
+    tables: &Tables,
+    client: usize,
+) -> Result<Tally, AllocError>
+    requires { client < length tables.now.plan.peers }
+    ensures peers { IfOk result (λ tally. tally.peers ≡ length tables.now.plan.peers) }
+    ensures counts { IfOk result (λ tally. IsTally tally (missing_findings tables.now client)) }
+{
+    count_on_threads(rt, alloc, tables, Counted::Missing(client))
+}
+
+// Counts on every prefix.
+fn count_on_threads<T: Threads + Sync>(
+    rt: &T,
+    alloc: Global,
+    tables: &Tables,
+    what: Counted,
+) -> Result<Tally, AllocError>
+    requires { IsOfPeer tables.now what }
+    ensures { IfOk result (CountsOn tables.now what (prefixes_held tables.now.ribs)) }
+{
     let all = every_prefix(alloc, tables)?;
-    count_on_four(rt, alloc, tables, &all)
-}
-
-// Counts on some prefixes, on four threads.
-fn count_on_four<T: Threads + Sync>(
-    rt: &T,
-    alloc: Global,
-    tables: &Tables,
-    some: &[PrefixRoutes<'_>],
-) -> Result<Tally, AllocError>
-    requires { All (λ on. AreRoutesOf tables.now (entry_of on)) some.now }
-    ensures { IfOk result (CountsOn tables.now some.now) }
-{
-    let (front, back) = some.split_at(some.len() / 2);
-    let count_front = move || -> Result<Tally, AllocError>
-        requires { All (λ on. AreRoutesOf tables.now (entry_of on)) front.now }
-        ensures { IfOk result (CountsOn tables.entry.now front.entry.now) }
-    { count_on_two(rt, alloc, tables, front) };
-    let count_back = move || -> Result<Tally, AllocError>
-        requires { All (λ on. AreRoutesOf tables.now (entry_of on)) back.now }
-        ensures { IfOk result (CountsOn tables.entry.now back.entry.now) }
-    { count_on_two(rt, alloc, tables, back) };
-    let (first, second) = join(rt, count_front, count_back);
-    let mut tally = first?;
-    tally.add_all(&second?);
-    Ok(tally)
-}
-
-// The same on two threads.
-fn count_on_two<T: Threads + Sync>(
-    rt: &T,
-    alloc: Global,
-    tables: &Tables,
-    some: &[PrefixRoutes<'_>],
-) -> Result<Tally, AllocError>
-    requires { All (λ on. AreRoutesOf tables.now (entry_of on)) some.now }
-    ensures { IfOk result (CountsOn tables.now some.now) }
-{
-    let (front, back) = some.split_at(some.len() / 2);
-    let count_front = move || -> Result<Tally, AllocError>
-        requires { All (λ on. AreRoutesOf tables.now (entry_of on)) front.now }
-        ensures { IfOk result (CountsOn tables.entry.now front.entry.now) }
-    { count_each(alloc, tables, front) };
-    let count_back = move || -> Result<Tally, AllocError>
-        requires { All (λ on. AreRoutesOf tables.now (entry_of on)) back.now }
-        ensures { IfOk result (CountsOn tables.entry.now back.entry.now) }
-    { count_each(alloc, tables, back) };
-    let (first, second) = join(rt, count_front, count_back);
-    let mut tally = first?;
-    tally.add_all(&second?);
+    let quarter = all.len().div_ceil(THREADS).max(1);
+    let count_part = |_start: usize, part: &[PrefixRoutes<'_>]| -> Result<Tally, AllocError>
+        requires { IsOfPeer tables.now what × All (λ on. AreRoutesOf tables.now (entry_of on)) part.now }
+        ensures { IfOk result (CountsOn tables.entry.now what (map (λ on. on.prefix) part.now)) }
+    { count_each(alloc, tables, what, part) };
+    let parts = map_chunks(rt, alloc, &all, quarter, &count_part)?;
+    let mut tally = Tally::new(alloc, tables.count())?;
+    for part in parts {
+        tally.add_all(&part?);
+    }
     Ok(tally)
 }
 
@@ -86,14 +94,37 @@ fn count_on_two<T: Threads + Sync>(
 fn count_each(
     alloc: Global,
     tables: &Tables,
+    what: Counted,
     some: &[PrefixRoutes<'_>],
 ) -> Result<Tally, AllocError>
-    requires { All (λ on. AreRoutesOf tables.now (entry_of on)) some.now }
-    ensures { IfOk result (CountsOn tables.now some.now) }
+    requires client { IsOfPeer tables.now what }
+    requires routes { All (λ on. AreRoutesOf tables.now (entry_of on)) some.now }
+    ensures { IfOk result (CountsOn tables.now what (map (λ on. on.prefix) some.now)) }
 {
     let mut tally = Tally::new(alloc, tables.count())?;
     for on in some {
-        count_on(alloc, tables, on, &mut tally)?;
+        what.count_findings(alloc, tables, on, &mut tally)?;
     }
     Ok(tally)
+}
+
+impl Counted {
+    // Counts it on a prefix.
+    fn count_findings(
+        self,
+        alloc: Global,
+        tables: &Tables,
+        on: &PrefixRoutes<'_>,
+        tally: &mut Tally,
+    ) -> Result<(), AllocError>
+        requires client { IsOfPeer tables.now self }
+        requires routes { AreRoutesOf tables.now (entry_of on.now) }
+        requires peers { tally.old.peers ≡ length tables.now.plan.peers }
+        ensures { OnOk result (Grows tally.old tally.new (counted_on tables.now self on.now.prefix)) }
+    {
+        match self {
+            Counted::Summary => count_on(alloc, tables, on, tally),
+            Counted::Missing(client) => count_missing_on(alloc, tables, client, on, tally),
+        }
+    }
 }

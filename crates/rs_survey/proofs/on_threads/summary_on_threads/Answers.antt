@@ -1,7 +1,8 @@
-use Rattle.rs_survey.proofs.JoinLemmas.{counts_on_all}
+use Rattle.std.proofs.lemmas.Result.{IfOk-weaker}
+use Rattle.rs_survey.specs.Summary.{findings_of}
 use Rattle.rs_survey.proofs.on_threads.summary_on_threads.Goals as goal
 
 pub returns-clause-counts : goal.returns-clause-counts
+unfolding findings_of
 returns-clause-counts g c =
-    counts_on_all c.args.tables.now c.in_ok-all.all.items c.deref.result.now c.count_on_four.result c.in_ok-all.ensures.prefixes
-    c.deref.ensures.value c.count_on_four.ensures
+    IfOk-weaker c.count_on_threads.result _ _ (λ tally counts. counts.counts) c.count_on_threads.ensures

@@ -1,5 +1,4 @@
-use Rattle.std.proofs.Common.{◌≡◌, ◌∙◌, ◌++◌, arith, sym, ap, subst, ℕ, List, length}
-use Rattle.std.specs.Vec.{with_items}
+use Rattle.std.proofs.Common.{◌≡◌, ◌∙◌, sym, ap, subst, ℕ, List, length}
 use Rattle.std.proofs.lemmas.List.{with_items_is}
 use Rattle.rs_survey.specs.Joined.{AreSums, IsJoined}
 use Rattle.rs_survey.specs.Tally.{TallyContent}
