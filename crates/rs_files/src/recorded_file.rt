@@ -1,7 +1,6 @@
 //! A file of which it is shown what it holds.
 
-use rs_inventory::Inventory;
-use rs_notes::Format;
+use rs_inventory::{Format, Inventory};
 
 /// A recorded file, and what it holds.
 #[derive(Drop)]
