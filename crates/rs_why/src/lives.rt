@@ -30,100 +30,91 @@ pub(crate) struct PeerLives {
     pub(crate) ends: Vec<usize>,
 }
 
-/// What happened to each of so many peers that announced the prefix.
+/// What happened to each of so many peers that announced the prefix, in ascending order of their numbers.
 pub(crate) fn lives_of(
     alloc: Global,
     history: &History,
     peers: usize,
 ) -> Result<Vec<PeerLives>, AllocError> {
-    let mut all = Vec::new(alloc);
-    for peer in 0..peers {
-        let one = peer_lives(alloc, history, peer)?;
-        if !one.lives.is_empty() {
-            all.push(one)?;
+    let mut all = none_yet(alloc, peers)?;
+    let mut best = None;
+    for (place, gets) in history.events.iter().enumerate() {
+        take_event(&mut all, place, gets)?;
+        if best != gets.best {
+            choose(&mut all, best, false, gets.time)?;
+            choose(&mut all, gets.best, true, gets.time)?;
+            best = gets.best;
         }
+    }
+    all.retain(|one| !one.lives.is_empty());
+    Ok(all)
+}
+
+// So many peers to which nothing happened yet.
+fn none_yet(alloc: Global, peers: usize) -> Result<Vec<PeerLives>, AllocError> {
+    let mut all = Vec::with_capacity(alloc, peers)?;
+    for peer in 0..peers {
+        all.push(PeerLives {
+            peer,
+            lives: Vec::new(alloc),
+            ends: Vec::new(alloc),
+        })?;
     }
     Ok(all)
 }
 
-// What happened to one peer.
-fn peer_lives(alloc: Global, history: &History, peer: usize) -> Result<PeerLives, AllocError> {
-    let mut one = PeerLives {
-        peer,
-        lives: Vec::new(alloc),
-        ends: Vec::new(alloc),
+// Takes what happened to a peer. Where its file ends, its route stands on.
+fn take_event(all: &mut [PeerLives], place: usize, gets: &Gets) -> Result<(), AllocError> {
+    let Some(one) = all.get_mut(gets.peer) else {
+        return Ok(());
     };
-    let mut standing = None;
-    for (place, gets) in history.events.iter().enumerate() {
-        if gets.peer == peer {
-            standing = own_event(&mut one, standing, place, gets)?;
-        } else {
-            standing = other_event(&mut one, standing, gets)?;
-        }
-    }
-    if let Some(life) = standing {
-        one.lives.push(life)?;
-    }
-    Ok(one)
-}
-
-// Takes what happened to the peer itself. Answers which route stands behind it: where its file ends, the same.
-fn own_event(
-    one: &mut PeerLives,
-    standing: Option<Life>,
-    place: usize,
-    gets: &Gets,
-) -> Result<Option<Life>, AllocError> {
     match gets.event {
         Event::Announced(_) => {
-            end_life(one, standing, gets.time)?;
-            return Ok(Some(Life {
+            end_life(one, gets.time);
+            one.lives.push(Life {
                 from: gets.time,
                 to: None,
                 announced: place,
                 begins: true,
-                chosen: gets.best == Some(one.peer),
-            }));
+                chosen: gets.best == Some(gets.peer),
+            })?;
         }
-        Event::Withdrawn => {}
-        Event::Lost(_) => one.ends.push(place)?,
-        Event::Closed(Reason::EndOfFile) => {
+        Event::Withdrawn => end_life(one, gets.time),
+        Event::Closed(Reason::EndOfFile) => one.ends.push(place)?,
+        Event::Lost(_) | Event::Closed(_) => {
+            end_life(one, gets.time);
             one.ends.push(place)?;
-            return Ok(standing);
         }
-        Event::Closed(_) => one.ends.push(place)?,
-    }
-    end_life(one, standing, gets.time)?;
-    Ok(None)
-}
-
-// Takes what happened to another peer: the client may get the route from then on, or no longer.
-fn other_event(
-    one: &mut PeerLives,
-    standing: Option<Life>,
-    gets: &Gets,
-) -> Result<Option<Life>, AllocError> {
-    let Some(life) = standing else {
-        return Ok(None);
-    };
-    let chosen = gets.best == Some(one.peer);
-    if life.chosen == chosen {
-        return Ok(Some(life));
-    }
-    end_life(one, Some(life), gets.time)?;
-    let mut next = life;
-    next.from = gets.time;
-    next.begins = false;
-    next.chosen = chosen;
-    Ok(Some(next))
-}
-
-// Notes a route that stood up to a time, if one did.
-fn end_life(one: &mut PeerLives, standing: Option<Life>, time: u32) -> Result<(), AllocError> {
-    if let Some(life) = standing {
-        let mut ended = life;
-        ended.to = Some(time);
-        one.lives.push(ended)?;
     }
     Ok(())
+}
+
+// Ends the time of the route that a peer has, if it has one.
+fn end_life(one: &mut PeerLives, time: u32) {
+    if let Some(life) = one.lives.last_mut() {
+        if life.to.is_none() {
+            life.to = Some(time);
+        }
+    }
+}
+
+// Notes that from a time on the client gets the route that a peer has, or no longer gets it.
+fn choose(
+    all: &mut [PeerLives],
+    peer: Option<usize>,
+    chosen: bool,
+    time: u32,
+) -> Result<(), AllocError> {
+    let Some(one) = peer.and_then(|peer| all.get_mut(peer)) else {
+        return Ok(());
+    };
+    let mut next = match one.lives.last() {
+        Some(life) if life.to.is_none() && life.chosen != chosen => *life,
+        _ => return Ok(()),
+    };
+    end_life(one, time);
+    next.from = time;
+    next.begins = false;
+    next.chosen = chosen;
+    Ok(one.lives.push(next)?)
 }
