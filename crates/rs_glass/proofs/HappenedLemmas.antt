@@ -1,133 +1,156 @@
 -- What happens in the files of all peers, one change and one file after another.
-use Rattle.std.proofs.Common.{◌≡◌, ◌∙◌, sym, ap, subst, refl, ℕ, ◌+◌, true, false, List, [], ◌∷◌, ◌++◌, Option, Some, append_assoc, length}
+use Rattle.std.proofs.Common.{◌≡◌, ◌∙◌, sym, ap, subst, refl, ℕ, ◌+◌, Bool, true, false, cond, List, [], ◌∷◌, ◌++◌, Option, Some, append_assoc, length}
 use Rattle.std.proofs.Common.{length-append, arith, inl, inr}
-use Rattle.std.specs.Prelude.{max, slice_get}
-use Rattle.std.proofs.lemmas.List.{append-nil}
+use Rattle.std.specs.Prelude.{slice_get}
+use Rattle.std.proofs.lemmas.List.{append-nil, map-append}
 use Rattle.rs_update.specs.IpPrefix.{IpPrefix}
 use Rattle.rs_mrt.specs.Reader.{ReadEnd}
 use Rattle.rs_mrt.specs.Record.{MrtRecord}
 use Rattle.rs_choice.specs.Plan.{Plan}
-use Rattle.rs_session.specs.Change.{Change, body_of, body_closes, change_of, is_read_failure}
-use Rattle.rs_session.specs.Stage.{Comes, Stage}
+use Rattle.rs_session.specs.Change.{Change}
 use Rattle.rs_session.specs.declared.peer.PeerId.{PeerId}
-use Rattle.rs_session.specs.declared.word.Body.{Body}
-use Rattle.rs_session.specs.declared.word.Body.TheVariants.{Close}
-use Rattle.rs_session.specs.declared.word.Reason.{Reason}
-use Rattle.rs_session.specs.declared.word.Word.{Word}
-use Rattle.rs_glass.specs.Happened.{AreHappeningsOf, AreWhole, HappeningContent, contents_of, happened_among, happened_in, happens_at}
-use Rattle.rs_glass.specs.Happened.{happens_behind, latest_of}
-use Rattle.rs_glass.specs.Recorded.{AreChangesOf, close_after, close_in, is_failed_read}
+use Rattle.rs_glass.specs.FileSaid.{SaidChange, all_said_by, counts_at, loss_in, moment_of}
+use Rattle.rs_glass.specs.Happened.{AreHappeningsOf, AreWhole, HappeningContent, IsSaidWhole, contents_of, happened_among, happened_in}
+use Rattle.rs_glass.specs.Happened.{happens_at, happens_behind, happens_on}
 use Rattle.rs_glass.specs.Heard.{IsRecording}
+use Rattle.rs_glass.specs.Listed.{IsListing, Lists}
+use Rattle.rs_glass.specs.Moments.{later_of}
 use Rattle.rs_glass.specs.declared.happened.Happening.{Happening}
+use Rattle.rs_glass.specs.declared.listing.Listing.{Listing}
+use Rattle.rs_glass.specs.declared.loss.Loss.{Loss}
+use Rattle.rs_glass.specs.declared.moment.Moment.{Moment}
 use Rattle.rs_glass.specs.declared.question.Question.{Question}
 use Rattle.rs_glass.specs.declared.recording.Recording.{Recording}
-use Rattle.rs_glass.proofs.GivenLemmas.{IsGiven}
 use Rattle.rs_glass.proofs.ListLemmas.{at-pushed, each_behind-more}
-use Rattle.rs_glass.proofs.SaidLemmas.{close_in-more}
-
--- ---- failed reads
-
-still-unfailed : (body : Body) (before : Option Reason) → is_read_failure body ≡ false → is_failed_read before ≡ false
-    → is_failed_read (close_after before (body_of body)) ≡ false
-still-unfailed (Close reason) before not_failing unfailed = not_failing
-still-unfailed body before not_failing unfailed = unfailed
-
-now-failed : (body : Body) (before : Option Reason) → is_read_failure body ≡ true
-    → is_failed_read (close_after before (body_of body)) ≡ true
-now-failed (Close reason) before failing = failing
-now-failed body before failing = absurd cc
-
-pub failing-closes : (body : Body) → is_read_failure body ≡ true → body_closes (body_of body) ≡ true
-failing-closes (Close reason) failing = refl
-failing-closes body failing = absurd cc
-
-pub unfailed-more : (given : List Change) (word : Word) → is_read_failure word.body ≡ false → is_failed_read (close_in given) ≡ false
-    → is_failed_read (close_in (given ++ change_of word ∷ [])) ≡ false
-unfailed-more given word not_failing unfailed =
-    ap is_failed_read (close_in-more given (change_of word)) ∙ still-unfailed word.body (close_in given) not_failing unfailed
-
-pub failed-more : (given : List Change) (word : Word) → is_read_failure word.body ≡ true
-    → is_failed_read (close_in (given ++ change_of word ∷ [])) ≡ true
-failed-more given word failing = ap is_failed_read (close_in-more given (change_of word)) ∙ now-failed word.body (close_in given) failing
+use Rattle.rs_glass.proofs.MomentLemmas.{counts_at-more}
 
 -- ---- one file
 
-latest_of-more : (changes : List Change) (one : Change) → latest_of (changes ++ one ∷ []) ≡ max one.time (latest_of changes)
-latest_of-more [] one = refl
-latest_of-more (first ∷ later) one = omega (arith, latest_of-more later one)
+-- nothing more is listed
+pub lists-none : (listing : Listing) → Lists listing [] listing
+lists-none listing prefix peer said is =
+    subst (λ (all : List SaidChange). IsListing prefix peer all listing) (sym (append-nil said)) is
 
-module _ {S : Type 0} (comes : Comes S) (shows : S → Option MrtRecord) (start : Stage S) (prefix : IpPrefix) (peer : ℕ)
-  where
-    -- these changes of a file were given, no read failed, and what happens by them is listed
-    pub record IsListing (stage : Stage S) (latest : ℕ) (listed : List HappeningContent) : Type 0 where
-      pub given : List Change
-      pub is_given : IsGiven comes shows start given stage
-      pub unfailed : is_failed_read (close_in given) ≡ false
-      pub time : latest ≡ latest_of given
-      pub lists : listed ≡ happened_in prefix peer given
+-- some changes, and then others
+pub lists-both : (old between new : Listing) (some more : List SaidChange) → Lists old some between → Lists between more new
+    → Lists old (some ++ more) new
+lists-both old between new some more first next prefix peer said is =
+    subst (λ (all : List SaidChange). IsListing prefix peer all new) (append_assoc said some more)
+    (next prefix peer (said ++ some) (first prefix peer said is))
 
--- the time of one change more
-pub latest-more : (given : List Change) (one : Change) (latest next : ℕ) → latest ≡ latest_of given → next ≡ max one.time latest
-    → next ≡ latest_of (given ++ one ∷ [])
-latest-more given one latest next is steps = steps ∙ ap (max one.time) is ∙ sym (latest_of-more given one)
+-- one change more
+pub lists-one : (old new : Listing) (one : SaidChange) → new.prefix ≡ old.prefix → new.peer ≡ old.peer
+    → new.latest ≡ later_of old.latest (moment_of one)
+    → contents_of new.all.items ≡ contents_of old.all.items ++ happens_at old.prefix old.peer new.latest one
+    → Lists old (one ∷ []) new
+lists-one old new one same_prefix same_peer latest adds prefix peer said is =
+    let at : new.latest ≡ counts_at said one = latest ∙ sym (is.latest one) in
+    record {
+      prefix_is = same_prefix ∙ is.prefix_is;
+      peer_is = same_peer ∙ is.peer_is;
+      latest = λ next. counts_at-more said one next ∙ ap (λ (moment : Moment). later_of moment (moment_of next)) (sym at);
+      lists = adds
+          ∙ ap (λ (p : IpPrefix). contents_of old.all.items ++ happens_at p old.peer new.latest one) is.prefix_is
+          ∙ ap (λ (p : ℕ). contents_of old.all.items ++ happens_at prefix p new.latest one) is.peer_is
+          ∙ ap (λ (moment : Moment). contents_of old.all.items ++ happens_at prefix peer moment one) at
+          ∙ ap (λ (all : List HappeningContent). all ++ happens_behind prefix peer said one) is.lists
+          ∙ sym (each_behind-more (happens_behind prefix peer) [] said one);
+    }
 
--- what it adds
-pub listed-more : (prefix : IpPrefix) (peer : ℕ) (given : List Change) (one : Change) (time : ℕ) (listed next : List HappeningContent)
-    → listed ≡ happened_in prefix peer given → time ≡ latest_of (given ++ one ∷ []) → next ≡ listed ++ happens_at prefix peer time one
-    → next ≡ happened_in prefix peer (given ++ one ∷ [])
-listed-more prefix peer given one time listed next is at adds =
-    adds ∙ ap (λ (latest : ℕ). listed ++ happens_at prefix peer latest one) at
-    ∙ ap (λ (all : List HappeningContent). all ++ happens_behind prefix peer given one) is
-    ∙ sym (each_behind-more (happens_behind prefix peer) [] given one)
+-- what a change adds, where it happens on the prefix, and where it doesn't
+pub adds-here : (prefix : IpPrefix) (peer : ℕ) (moment : Moment) (one : SaidChange) (loss : Option Loss)
+    → happens_on prefix one.change ≡ true → loss ≡ loss_in one
+    → record { peer = peer; moment = moment; change = one.change; loss = loss } ∷ [] ≡ happens_at prefix peer moment one
+adds-here prefix peer moment one loss happens is =
+    ap (λ (l : Option Loss). record { peer = peer; moment = moment; change = one.change; loss = l } ∷ []) is
+    ∙ sym (ap (λ (b : Bool). cond b (record { peer = peer; moment = moment; change = one.change; loss = loss_in one } ∷ []) []) happens)
+
+pub adds-nothing : (prefix : IpPrefix) (peer : ℕ) (moment : Moment) (one : SaidChange) → happens_on prefix one.change ≡ false
+    → [] ≡ happens_at prefix peer moment one
+adds-nothing prefix peer moment one happens =
+    sym (ap (λ (b : Bool). cond b (record { peer = peer; moment = moment; change = one.change; loss = loss_in one } ∷ []) []) happens)
+
+-- of the changes of a record some were taken, and others are left
+pub record AreTaken (r : MrtRecord) (changes left : List Change) (old new : Listing) : Type 0 where
+  pub given : List Change
+  pub splits : changes ≡ given ++ left
+  pub lists : Lists old (all_said_by r given) new
+
+pub taken-none : (r : MrtRecord) (changes : List Change) (listing : Listing) → AreTaken r changes changes listing listing
+taken-none r changes listing = record {
+  given = [];
+  splits = refl;
+  lists = lists-none listing;
+}
+
+pub taken-one : (r : MrtRecord) (changes left later : List Change) (change : Change) (old between new : Listing)
+    → AreTaken r changes left old between → left ≡ change ∷ later
+    → Lists between (record { change = change; said_by = Some r } ∷ []) new → AreTaken r changes later old new
+taken-one r changes left later change old between new taken first lists =
+    let one : SaidChange = record { change = change; said_by = Some r } in
+    record {
+      given = taken.given ++ change ∷ [];
+      splits = taken.splits ∙ ap (λ (rest : List Change). taken.given ++ rest) first
+          ∙ sym (append_assoc taken.given (change ∷ []) later);
+      lists = subst (λ (all : List SaidChange). Lists old all new)
+          (sym (map-append (λ (c : Change). record { change = c; said_by = Some r }) taken.given (change ∷ [])))
+          (lists-both old between new (all_said_by r taken.given) (one ∷ []) taken.lists lists);
+    }
+
+pub taken-all : (r : MrtRecord) (changes left : List Change) (old new : Listing) → AreTaken r changes left old new → left ≡ []
+    → Lists old (all_said_by r changes) new
+taken-all r changes left old new taken none =
+    subst (λ (all : List Change). Lists old (all_said_by r all) new)
+    (sym (taken.splits ∙ ap (λ (rest : List Change). taken.given ++ rest) none ∙ append-nil taken.given)) taken.lists
 
 -- ---- one file after another
 
-happened_among-more : (prefix : IpPrefix) (number : ℕ) (files : List (List Change)) (changes : List Change)
-    → happened_among prefix number (files ++ changes ∷ []) ≡ happened_among prefix number files
-    ++ happened_in prefix (number + length files) changes
-happened_among-more prefix number [] changes =
-    append-nil (happened_in prefix number changes) ∙ ap (λ (n : ℕ). happened_in prefix n changes) (omega arith)
-happened_among-more prefix number (first ∷ later) changes =
+happened_among-more : (prefix : IpPrefix) (number : ℕ) (files : List (List SaidChange)) (said : List SaidChange)
+    → happened_among prefix number (files ++ said ∷ []) ≡ happened_among prefix number files
+    ++ happened_in prefix (number + length files) said
+happened_among-more prefix number [] said =
+    append-nil (happened_in prefix number said) ∙ ap (λ (n : ℕ). happened_in prefix n said) (omega arith)
+happened_among-more prefix number (first ∷ later) said =
     ap (λ (all : List HappeningContent). happened_in prefix number first ++ all)
-    (happened_among-more prefix (number + 1) later changes
-    ∙ ap (λ (n : ℕ). happened_among prefix (number + 1) later ++ happened_in prefix n changes) (omega arith))
+    (happened_among-more prefix (number + 1) later said
+    ∙ ap (λ (n : ℕ). happened_among prefix (number + 1) later ++ happened_in prefix n said) (omega arith))
     ∙ sym (append_assoc (happened_in prefix number first) (happened_among prefix (number + 1) later)
-    (happened_in prefix (number + length (first ∷ later)) changes))
+    (happened_in prefix (number + length (first ∷ later)) said))
 
 module _ {R : Type 0} (gives : R → List ℕ → ReadEnd → Type 0) (question : Question) (plan : Plan) (readers : List R) where
   -- what happens by the files of so many peers
   pub record AreListed (count : ℕ) (listed : List HappeningContent) : Type 0 where
-    pub files : List (List Change)
+    pub files : List (List SaidChange)
     pub as_many : length files ≡ count
-    pub each : (number : ℕ) (changes : List Change) → slice_get files number ≡ Some changes
-        → AreWhole gives question plan readers number changes
+    pub each : (number : ℕ) (said : List SaidChange) → slice_get files number ≡ Some said
+        → AreWhole gives question plan readers number said
     pub says : listed ≡ happened_among question.prefix 0 files
 
   pub listed-none : AreListed 0 []
   listed-none = record {
     files = [];
     as_many = refl;
-    each = λ number changes at. absurd cc;
+    each = λ number said at. absurd cc;
     says = refl;
   }
 
-  pub listed-file : (count : ℕ) (changes : List Change) (before listed : List HappeningContent) → AreListed count before
-      → AreWhole gives question plan readers count changes → listed ≡ before ++ happened_in question.prefix count changes
+  pub listed-file : (count : ℕ) (said : List SaidChange) (before listed : List HappeningContent) → AreListed count before
+      → AreWhole gives question plan readers count said → listed ≡ before ++ happened_in question.prefix count said
       → AreListed (count + 1) listed
-  listed-file count changes before listed so_far whole adds = record {
-    files = so_far.files ++ changes ∷ [];
-    as_many = omega (arith, so_far.as_many, length-append so_far.files (changes ∷ []));
-    each = λ number one at. elim (at-pushed so_far.files changes one number at) [
+  listed-file count said before listed so_far whole adds = record {
+    files = so_far.files ++ said ∷ [];
+    as_many = omega (arith, so_far.as_many, length-append so_far.files (said ∷ []));
+    each = λ number one at. elim (at-pushed so_far.files said one number at) [
       | inl earlier ↦ so_far.each number one earlier
       | inr last ↦
           let place : count ≡ number = sym (last.0 ∙ so_far.as_many) in
           subst (λ (n : ℕ). AreWhole gives question plan readers n one) place
           (subst (AreWhole gives question plan readers count) last.1 whole)
     ];
-    says = adds ∙ ap (λ (all : List HappeningContent). all ++ happened_in question.prefix count changes) so_far.says
-        ∙ ap (λ (n : ℕ). happened_among question.prefix 0 so_far.files ++ happened_in question.prefix n changes)
+    says = adds ∙ ap (λ (all : List HappeningContent). all ++ happened_in question.prefix count said) so_far.says
+        ∙ ap (λ (n : ℕ). happened_among question.prefix 0 so_far.files ++ happened_in question.prefix n said)
         (omega (arith, so_far.as_many))
-        ∙ sym (happened_among-more question.prefix 0 so_far.files changes);
+        ∙ sym (happened_among-more question.prefix 0 so_far.files said);
   }
 
   -- what happens by the recorded session of a peer is listed at its place
@@ -142,8 +165,7 @@ module _ {R : Type 0} (gives : R → List ℕ → ReadEnd → Type 0) (question 
         peer_is = is.peer_is;
         reader = one.reader;
         reader_is = is.reader_is;
-        says = subst (λ (id : PeerId). AreChangesOf gives question id one.reader says.0) is.id_is says.1;
-        unfailed = says.2;
+        whole = subst (λ (id : PeerId). IsSaidWhole gives question id one.reader says.0) is.id_is says.1;
       })
       (adds ∙ ap (λ (more : List HappeningContent). before ++ more)
-      (says.3 ∙ ap (λ (n : ℕ). happened_in question.prefix n says.0) is.number_is))
+      (says.2 ∙ ap (λ (n : ℕ). happened_in question.prefix n says.0) is.number_is))

@@ -1,8 +1,11 @@
 pub mod CoveringLemmas
+pub mod FileSaidLemmas
 pub mod GivenLemmas
 pub mod HappenedLemmas
 pub mod HistoryLemmas
 pub mod ListLemmas
+pub mod ListingLemmas
+pub mod MomentLemmas
 pub mod PassedOverLemmas
 pub mod ReadingLemmas
 pub mod RecordingLemmas

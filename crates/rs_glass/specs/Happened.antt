@@ -1,18 +1,26 @@
--- What happens on a prefix in the recorded files of all peers, in the order of time. Our choice: a change counts
--- at the latest time of those up to it in its file, since a close at the end of a file has no time of its own.
-use Rattle.std.specs.Prelude.{◌≡◌, ℕ, ◌+◌, max, Bool, true, false, if◌then◌else◌, List, [], ◌∷◌, ◌++◌}
+-- What happens on a prefix in the recorded files of all peers, in the order of time. Our choice: a change counts no
+-- earlier than those before it in its file. A close at the end of a file has no time of its own, and so counts at the
+-- latest moment of the file.
+use Rattle.std.specs.Prelude.{◌≡◌, ℕ, ◌+◌, Bool, true, false, if◌then◌else◌, List, [], ◌∷◌, ◌++◌, Option}
 use Rattle.std.specs.Prelude.{Some, length, map, slice_get}
 use Rattle.std.specs.List.Sorted.{IsPermutation, IsSortedByKey, IsStableByKey}
 use Rattle.std.specs.Ordering.{nat_cmp}
 use Rattle.rs_update.specs.IpPrefix.{IpPrefix}
 use Rattle.rs_mrt.specs.Reader.{ReadEnd}
+use Rattle.rs_mrt.specs.Record.{MrtRecord}
+use Rattle.rs_mrt.specs.RecordReading.{MayCome, unread}
+use Rattle.rs_mrt.specs.declared.fault.SourceFault.{SourceFault}
 use Rattle.rs_session.specs.declared.peer.PeerId.{PeerId}
 use Rattle.rs_session.specs.Change.{Change, ChangeBody, Announced, Withdrawn, Lost, Closed, change_of}
 use Rattle.rs_choice.specs.Plan.{Peer, Plan}
 use Rattle.rs_table.specs.Left.{same_prefix}
 use Rattle.rs_glass.specs.Behind.{each_behind}
+use Rattle.rs_glass.specs.FileSaid.{SaidChange, counts_at, loss_in, said_in}
+use Rattle.rs_glass.specs.Moments.{in_microseconds}
 use Rattle.rs_glass.specs.Recorded.{AreChangesOf, close_in, id_of, is_failed_read}
 use Rattle.rs_glass.specs.declared.happened.Happening.{Happening}
+use Rattle.rs_glass.specs.declared.loss.Loss.{Loss}
+use Rattle.rs_glass.specs.declared.moment.Moment.{Moment}
 use Rattle.rs_glass.specs.declared.question.Question.{Question}
 
 -- a change happens on a prefix: it announces or withdraws just that one, or is a loss or a close of the session
@@ -25,68 +33,82 @@ body_happens prefix (Closed reason) = true
 abbrev pub happens_on : IpPrefix → Change → Bool
 happens_on prefix change = body_happens prefix change.body
 
--- the latest time of changes
-abbrev pub latest_of : List Change → ℕ
-latest_of [] = 0
-latest_of (change ∷ later) = max change.time (latest_of later)
-
--- what happened, of whom, when it counts, and what changed
+-- what happened, of whom, when it counts, what changed, and how the session was lost where that is the change
 pub record HappeningContent : Type 0 where
   pub peer : ℕ
-  pub time : ℕ
+  pub moment : Moment
   pub change : Change
+  pub loss : Option Loss
+
+abbrev pub happened_at : Happening → Moment
+happened_at one = record { seconds = one.time; microseconds = one.microseconds }
 
 abbrev pub happening_content : Happening → HappeningContent
-happening_content one = record { peer = one.peer; time = one.time; change = change_of one.word }
+happening_content one =
+    record { peer = one.peer; moment = happened_at one; change = change_of one.word; loss = one.loss }
 
 abbrev pub contents_of : List Happening → List HappeningContent
 contents_of = map happening_content
 
 -- what happens on a prefix in the file of a peer
-abbrev pub happens_at : IpPrefix → ℕ → ℕ → Change → List HappeningContent
-happens_at prefix peer time change =
-    if happens_on prefix change then record { peer = peer; time = time; change = change } ∷ [] else []
+abbrev pub happens_at : IpPrefix → ℕ → Moment → SaidChange → List HappeningContent
+happens_at prefix peer moment one =
+    if happens_on prefix one.change
+    then record { peer = peer; moment = moment; change = one.change; loss = loss_in one } ∷ [] else []
 
-abbrev pub happens_behind : IpPrefix → ℕ → List Change → Change → List HappeningContent
-happens_behind prefix peer before change = happens_at prefix peer (latest_of (before ++ change ∷ [])) change
+abbrev pub happens_behind : IpPrefix → ℕ → List SaidChange → SaidChange → List HappeningContent
+happens_behind prefix peer before one = happens_at prefix peer (counts_at before one) one
 
-abbrev pub happened_in : IpPrefix → ℕ → List Change → List HappeningContent
-happened_in prefix peer changes = each_behind (happens_behind prefix peer) [] changes
+abbrev pub happened_in : IpPrefix → ℕ → List SaidChange → List HappeningContent
+happened_in prefix peer said = each_behind (happens_behind prefix peer) [] said
 
 -- and in the files of all peers, from a number on, file after file
-abbrev pub happened_among : IpPrefix → ℕ → List (List Change) → List HappeningContent
+abbrev pub happened_among : IpPrefix → ℕ → List (List SaidChange) → List HappeningContent
 happened_among prefix number [] = []
-happened_among prefix number (changes ∷ later) =
-    happened_in prefix number changes ++ happened_among prefix (number + 1) later
+happened_among prefix number (said ∷ later) =
+    happened_in prefix number said ++ happened_among prefix (number + 1) later
 
--- the changes of a peer's recorded session, no read having failed
+-- what a peer's recorded session says in all, each change with its record, no read having failed: its records may come
+-- of the reader
+pub record IsSaidWhole {R : Type 0} (gives : R → List ℕ → ReadEnd → Type 0) (question : Question) (peer : PeerId)
+    (reader : R) (said : List SaidChange) : Type 0 where
+  pub records : List MrtRecord
+  pub end : Option SourceFault
+  pub come : MayCome gives (unread reader) records end
+  pub said_is : said ≡ said_in question.errors peer records end
+  pub says : AreChangesOf gives question peer reader (map (λ one. one.change) said)
+  pub unfailed : is_failed_read (close_in (map (λ one. one.change) said)) ≡ false
+
+-- the same of the peer of a number
 pub record AreWhole {R : Type 0} (gives : R → List ℕ → ReadEnd → Type 0) (question : Question) (plan : Plan)
-    (readers : List R) (number : ℕ) (changes : List Change) : Type 0 where
+    (readers : List R) (number : ℕ) (said : List SaidChange) : Type 0 where
   pub peer : Peer
   pub peer_is : slice_get plan.peers number ≡ Some peer
   pub reader : R
   pub reader_is : slice_get readers number ≡ Some reader
-  pub says : AreChangesOf gives question (id_of peer) reader changes
-  pub unfailed : is_failed_read (close_in changes) ≡ false
+  pub whole : IsSaidWhole gives question (id_of peer) reader said
 
 -- what happens by the recorded file of a peer, no read having failed
 abbrev pub AreHappeningsOf : {R : Type 0} → (R → List ℕ → ReadEnd → Type 0) → Question → PeerId → R → ℕ
     → List Happening → Type 0
 AreHappeningsOf gives question peer reader number all =
-    (changes : List Change) × AreChangesOf gives question peer reader changes
-    × (is_failed_read (close_in changes) ≡ false)
-    × (contents_of all ≡ happened_in question.prefix number changes)
+    (said : List SaidChange) × IsSaidWhole gives question peer reader said
+    × (contents_of all ≡ happened_in question.prefix number said)
 
--- what happened on the prefix by the recorded files of all peers, in the order of time; what is of one time
+-- when a thing happened, to be ordered by: in microseconds since 1970
+abbrev pub ordered_by : Happening → ℕ
+ordered_by one = in_microseconds (happened_at one)
+
+-- what happened on the prefix by the recorded files of all peers, in the order of time; what is of one moment
 -- stays in the order of the peers, and then of the file
 pub record AreHappenings {R : Type 0} (gives : R → List ℕ → ReadEnd → Type 0) (question : Question) (plan : Plan)
     (readers : List R) (all : List Happening) : Type 0 where
-  pub files : List (List Change)
+  pub files : List (List SaidChange)
   pub as_many : length files ≡ length readers
-  pub each : (number : ℕ) (changes : List Change) → slice_get files number ≡ Some changes
-      → AreWhole gives question plan readers number changes
+  pub each : (number : ℕ) (said : List SaidChange) → slice_get files number ≡ Some said
+      → AreWhole gives question plan readers number said
   pub unsorted : List Happening
   pub says : contents_of unsorted ≡ happened_among question.prefix 0 files
   pub permutation : IsPermutation unsorted all
-  pub sorted : IsSortedByKey (λ one. one.time) nat_cmp all
-  pub stable : IsStableByKey (λ one. one.time) nat_cmp unsorted all
+  pub sorted : IsSortedByKey (λ one. ordered_by one) nat_cmp all
+  pub stable : IsStableByKey (λ one. ordered_by one) nat_cmp unsorted all

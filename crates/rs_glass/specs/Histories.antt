@@ -65,13 +65,20 @@ event_of (Closed reason) loss = CloseFor reason
 -- an event and what the client gets from then on
 pub record GetsContent : Type 0 where
   pub time : ℕ
+  pub microseconds : Option ℕ
   pub peer : ℕ
   pub event : EventContent
   pub best : Option ℕ
 
 abbrev pub gets_content : Gets → GetsContent
 gets_content gets =
-    record { time = gets.time; peer = gets.peer; event = event_content gets.event; best = gets.best }
+    record {
+      time = gets.time;
+      microseconds = gets.microseconds;
+      peer = gets.peer;
+      event = event_content gets.event;
+      best = gets.best;
+    }
 
 -- the number of the peer whose route the client gets, where one is asked for
 abbrev pub best_for : TablesContent → Option ℕ → IpPrefix → Option ℕ
@@ -83,6 +90,7 @@ gets_by false tables client prefix one = None
 gets_by true tables client prefix one =
     Some (record {
       time = one.time;
+      microseconds = one.microseconds;
       peer = one.peer;
       event = event_of (body_of one.word.body) one.loss;
       best = best_for tables client prefix;

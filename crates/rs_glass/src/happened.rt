@@ -2,21 +2,22 @@
 //!
 //! Each peer's file is read on a thread of its own, where the system grants one.
 
-ghost use Rattle.std.specs.Prelude.{◌≡◌, ◌<◌, ◌++◌, All, IfErr, IfOk, OnOk, length};
-ghost use Rattle.rs_session.specs.Change.{change_of, is_read_failure};
-ghost use Rattle.rs_glass.specs.Happened.{AreHappenings, AreHappeningsOf, contents_of, happens_at, happens_on};
+ghost use Rattle.std.specs.Prelude.{◌≡◌, ◌+◌, ◌<◌, ◌≤◌, true, All, IfErr, IfOk, length};
+ghost use Rattle.rs_glass.specs.Happened.{AreHappenings, AreHappeningsOf, happened_at};
+ghost use Rattle.rs_glass.specs.Listed.{FailsNext, TakesNext};
 ghost use Rattle.rs_glass.specs.Recorded.{IsFaultAmong, IsFaultOf};
 
 use crate::fault::GlassFault;
-use crate::hearing::loss_behind;
+use crate::listing::Listing;
 use crate::loss::Loss;
+use crate::moment::Moment;
 use crate::question::Question;
 use crate::recording::{Recording, recordings};
 use rs_choice::Exchange;
-use rs_mrt::{Read, RecordReader};
-use rs_session::{Body, Reason, Session, Word, a_reader_gives_a_file_or_fails};
-use rs_update::Prefix;
-use std::alloc::{AllocError, Global};
+use rs_mrt::{Read, RecordReader, Source, SourceFault};
+use rs_session::{PeerId, Reason, Word, a_reader_gives_a_file_or_fails};
+use rs_update::Errors;
+use std::alloc::Global;
 use std::thread;
 use std::thread::Threads;
 
@@ -28,14 +29,29 @@ pub struct Happening {
     /// When it counts, in seconds since 1970: its own time, but no earlier than anything before it in its file.
     /// A close at the end of a file has no time of its own, and counts at the latest time before it.
     pub time: u32,
+    /// The microseconds of that time, where they are known.
+    pub microseconds: Option<u32>,
     /// What changed.
     pub word: Word,
     /// How the session was lost, where that is what changed.
     pub loss: Option<Loss>,
 }
 
-/// What happened on the prefix, of all peers, in the order of time; at one time by the peers in their order,
-/// and then in the order of the file. `readers` gives the recorded file of each peer.
+impl Happening {
+    // When it counts.
+    fn moment(&self) -> Moment
+        ensures { result ≡ happened_at self.now }
+    {
+        Moment {
+            seconds: self.time,
+            microseconds: self.microseconds,
+        }
+    }
+}
+
+/// What happened on the prefix, of all peers, in the order of time, to the microsecond where that is known. What is of
+/// one time comes by the peers in their order, and then in the order of the file. `readers` gives the recorded file of
+/// each peer.
 ///
 /// Fails where memory is refused, and where a session closes because its file can't be read.
 pub fn read_happenings<T: Threads + Sync, R: Read + Send + Drop>(
@@ -62,7 +78,7 @@ pub fn read_happenings<T: Threads + Sync, R: Read + Send + Drop>(
         let mut listed = list?;
         all.append(&mut listed)?;
     }
-    all.sort_by_key(|happening: &Happening| happening.time)?;
+    all.sort_by_key(|happening: &Happening| happening.moment().in_microseconds())?;
     Ok(all)
 }
 
@@ -79,58 +95,39 @@ fn happenings_of<R: Read + Drop>(
 {
     let Recording { peer, id, reader } = recording;
     a_reader_gives_a_file_or_fails(&reader);
-    let mut session = Session::over_by(alloc, RecordReader::new(reader), id, question.errors);
-    let mut latest = 0;
-    let mut all = Vec::new(alloc);
-    while let Some(word) = session.next_word()? {
-        if fails_to_read(&word) {
-            return Err(GlassFault::Read(peer));
+    let mut records = RecordReader::new(reader);
+    let mut listing = Listing::of_nothing(alloc, peer, question.prefix);
+    while take_next(alloc, &mut listing, &mut records, id, question.errors)? {}
+    Ok(listing.all)
+}
+
+// Takes what the next record says, or the close at the end of the file. Answers whether the session goes on.
+fn take_next<S: Source>(
+    alloc: Global,
+    listing: &mut Listing,
+    source: &mut S,
+    id: PeerId,
+    errors: Errors,
+) -> Result<bool, GlassFault>
+    ensures takes { IfOk result
+        (TakesNext S.comes errors id source.old source.new listing.old listing.new) }
+    ensures room { IfOk result (λ goes_on. goes_on ≡ true → S.room source.new + 12 ≤ S.room source.old) }
+    ensures fault { IfErr result (FailsNext S.comes source.old listing.old.peer) }
+{
+    match source.advance() {
+        Ok(true) => {}
+        Ok(false) => {
+            listing.take_end(Reason::EndOfFile)?;
+            return Ok(false);
         }
-        latest = word.time.max(latest);
-        let loss = loss_behind(&session, &word);
-        add_happening(&mut all, peer, latest, word, loss, question.prefix)?;
+        Err(SourceFault::Mrt(fault)) => {
+            listing.take_end(Reason::Mrt(fault.number()))?;
+            return Ok(false);
+        }
+        Err(SourceFault::Read) => return Err(GlassFault::Read(listing.peer)),
     }
-    Ok(all)
-}
-
-// Adds a change, where it happens on the prefix.
-fn add_happening(
-    all: &mut Vec<Happening>,
-    peer: usize,
-    time: u32,
-    word: Word,
-    loss: Option<Loss>,
-    prefix: Prefix,
-) -> Result<(), AllocError>
-    ensures { OnOk result (contents_of all.new.items
-        ≡ contents_of all.old.items ++ happens_at prefix peer time (change_of word)) }
-{
-    if happens_on(&word, prefix) {
-        all.push(Happening {
-            peer,
-            time,
-            word,
-            loss,
-        })?;
-    }
-    Ok(())
-}
-
-// Whether a change is the close at a failed read.
-fn fails_to_read(word: &Word) -> bool
-    ensures { result ≡ is_read_failure word.now.body }
-{
-    matches!(word.body, Body::Close(Reason::Read))
-}
-
-// Whether a change announces or withdraws a prefix, or is a loss or a close.
-fn happens_on(word: &Word, prefix: Prefix) -> bool
-    ensures { result ≡ happens_on prefix (change_of word.now) }
-{
-    match &word.body {
-        Body::Announce(changed, _) => *changed == prefix,
-        Body::Withdraw(changed) => *changed == prefix,
-        Body::Down => true,
-        Body::Close(_) => true,
-    }
+    let Some(record) = source.shown() else {
+        unreachable!();
+    };
+    Ok(listing.take_record(alloc, errors, id, &record)?)
 }

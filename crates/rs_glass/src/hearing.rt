@@ -75,7 +75,7 @@ fn hear_changes<R: Read + Drop>(
 }
 
 // How the session was lost, where that is the change that it gave last.
-pub(crate) fn loss_behind<R: Read>(session: &Session<RecordReader<R>>, word: &Word) -> Option<Loss>
+fn loss_behind<R: Read>(session: &Session<RecordReader<R>>, word: &Word) -> Option<Loss>
     ensures { result ≡ loss_behind session.now.source.shown (change_of word.now) }
 {
     match word.body {

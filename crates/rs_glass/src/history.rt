@@ -35,6 +35,8 @@ pub enum Event {
 pub struct Gets {
     /// When it counts, in seconds since 1970.
     pub time: u32,
+    /// The microseconds of that time, where they are known.
+    pub microseconds: Option<u32>,
     /// The number of the peer.
     pub peer: usize,
     /// What happened.
@@ -134,6 +136,7 @@ fn take(
     let Happening {
         peer,
         time,
+        microseconds,
         word,
         loss,
     } = happening;
@@ -141,6 +144,7 @@ fn take(
     tables.apply(peer, word)?;
     Ok(Some(Gets {
         time,
+        microseconds,
         peer,
         event,
         best: best_for(tables, client, prefix),

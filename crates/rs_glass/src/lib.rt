@@ -9,8 +9,9 @@
 //! Reading order, the question first: `question`, `covering` (the prefixes that count). One peer: `loss` (how its
 //! session was lost), `said` (what its changes say last of the prefix), `routes_left` (the routes that they leave).
 //! The recorded sessions: `recording` (one for each peer), `hearing` (what one says), `reading` (what all say). The
-//! answers: `answers`. The history: `happened` (what happened on the prefix, in the order of time), `history` (what a
-//! client gets after each event). Faults: `fault`.
+//! answers: `answers`. Time: `microseconds` (of a record), `moment` (which one is later). The history: `listing` (what
+//! happened by one file), `happened` (by all, in the order of time), `history` (what a client gets after each event).
+//! Faults: `fault`.
 #![tactic(auto)]
 
 mod answers;
@@ -19,7 +20,10 @@ mod fault;
 mod happened;
 mod hearing;
 mod history;
+mod listing;
 mod loss;
+mod microseconds;
+mod moment;
 mod question;
 mod reading;
 mod recording;
@@ -31,6 +35,7 @@ pub use fault::GlassFault;
 pub use happened::{Happening, read_happenings};
 pub use history::{Event, Gets, History, fill_history};
 pub use loss::{Loss, loss_of};
+pub use microseconds::microseconds_of;
 pub use question::Question;
 pub use reading::{Reading, read_sessions};
 pub use said::Said;

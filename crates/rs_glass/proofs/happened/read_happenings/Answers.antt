@@ -7,7 +7,7 @@ use Rattle.std.proofs.lemmas.Iterator.Consumers.{YieldsList-turn, YieldsList-end
 use Rattle.std.proofs.lemmas.List.{map-append}
 use Rattle.std.proofs.lemmas.Option.{slice_get_read}
 use Rattle.std.proofs.lemmas.Result.{IfErr-at_err, IfOk-at_ok, err_from_is_err_and}
-use Rattle.rs_glass.specs.Happened.{AreHappeningsOf, contents_of, happening_content}
+use Rattle.rs_glass.specs.Happened.{AreHappeningsOf, contents_of, happening_content, ordered_by}
 use Rattle.rs_glass.specs.Recorded.{IsFaultOf}
 use Rattle.rs_glass.proofs.HappenedLemmas.{listed-none, listed-recorded}
 use Rattle.rs_glass.proofs.RecordingLemmas.{fault-recorded}
@@ -57,8 +57,8 @@ returns-clause-happenings g c =
       unsorted = c.loop-list.all.items;
       says = r.says;
       permutation = c.in_ok-sort_by_key.ensures.permutation;
-      sorted = c.in_ok-sort_by_key.ensures.sorted (λ one. one.time) (always_returns_same _ _ _ (λ a r q k. search rules));
-      stable = c.in_ok-sort_by_key.ensures.stable (λ one. one.time) (always_returns_same _ _ _ (λ a r q k. search rules));
+      sorted = c.in_ok-sort_by_key.ensures.sorted (λ one. ordered_by one) (always_returns_same _ _ _ (λ a r q k. search rules));
+      stable = c.in_ok-sort_by_key.ensures.stable (λ one. ordered_by one) (always_returns_same _ _ _ (λ a r q k. search rules));
     }
 
 pub returns-in_err-listed-clause-fault : goal.returns-in_err-listed-clause-fault
