@@ -68,6 +68,20 @@ impl Clock {
         }
     }
 
+    // The same, with its microseconds in six digits where they are known.
+    pub(crate) fn text_to_microseconds(
+        self,
+        alloc: Global,
+        time: u32,
+        microseconds: Option<u32>,
+    ) -> Result<String, AllocError> {
+        let mut text = self.text(alloc, time)?;
+        if let Some(microseconds) = microseconds {
+            write!(text, ".{microseconds:06}")?;
+        }
+        Ok(text)
+    }
+
     // Adds to a head line how the times below it are shown: with the day where all are of one, and in UTC.
     pub(crate) fn add_day(self, text: &mut String) -> Result<(), AllocError> {
         match self {
@@ -101,7 +115,7 @@ impl Clock {
     }
 
     // How wide a column of times is: three spaces stand behind a time.
-    fn width(self) -> usize {
+    pub(crate) fn width(self) -> usize {
         match self {
             Clock::Days => 22,
             _ => 11,

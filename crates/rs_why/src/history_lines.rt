@@ -12,11 +12,16 @@ use rs_host::Utc;
 use rs_session::Reason;
 use std::alloc::{AllocError, Global};
 
+// How wide a point and six digits are.
+const MICROSECONDS_WIDTH: usize = 7;
+
 // How the lines are laid out.
 #[derive(Clone, Copy, Debug, PartialEq, Eq)]
 struct Layout {
     // How times are shown.
     clock: Clock,
+    // How wide the column of times is.
+    times: usize,
     // How wide the column of peers is.
     names: usize,
     // How wide the column of what the client gets is; 0 where no client is asked for.
@@ -80,8 +85,10 @@ fn layout_of(
         Some(_) => name_width(plan, &title),
         None => 0,
     };
+    let clock = clock_of(view, history);
     Ok(Layout {
-        clock: clock_of(view, history),
+        clock,
+        times: clock.width() + microseconds_width(view, history),
         names: name_width(plan, "peer"),
         gets,
     })
@@ -96,7 +103,7 @@ fn add_line(
     one: &Gets,
 ) -> Result<(), AllocError> {
     let line = text.len();
-    layout.clock.add_cell(text, alloc, time_of(one))?;
+    add_cell(text, &time_text(alloc, layout.clock, one)?, layout.times)?;
     add_cell(text, name_at(view.plan, one.peer), layout.names)?;
     if layout.gets > 0 {
         add_cell(text, best_name(view.plan, one.best), layout.gets)?;
@@ -108,6 +115,24 @@ fn add_line(
         Event::Announced(attributes) if view.attributes => add_attributes(text, alloc, attributes),
         _ => Ok(()),
     }
+}
+
+// When a thing happened, as it is shown: to the microsecond, where that is known; empty where no time is.
+fn time_text(alloc: Global, clock: Clock, one: &Gets) -> Result<String, AllocError> {
+    match time_of(one) {
+        Some(time) => clock.text_to_microseconds(alloc, time, one.microseconds),
+        None => Ok(String::new(alloc)),
+    }
+}
+
+// How wide the microseconds are that are shown: a point and six digits, where there are any.
+fn microseconds_width(view: &HistoryView<'_>, history: &History) -> usize {
+    for gets in &history.events {
+        if view.shows(gets) && gets.microseconds.is_some() {
+            return MICROSECONDS_WIDTH;
+        }
+    }
+    0
 }
 
 // When a thing happened; a close of a session without any change before it has no time.
@@ -194,7 +219,7 @@ fn add_titles(
     history: &History,
     layout: Layout,
 ) -> Result<(), AllocError> {
-    layout.clock.add_title(text)?;
+    add_cell(text, "time", layout.times)?;
     add_cell(text, "peer", layout.names)?;
     if layout.gets > 0 {
         let title = gets_title(alloc, plan, history)?;

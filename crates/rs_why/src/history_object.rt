@@ -54,6 +54,14 @@ fn event_object(alloc: Global, view: &HistoryView<'_>, gets: &Gets) -> Result<Va
     let plan = view.plan;
     let mut object = Map::new(alloc);
     put(&mut object, alloc, "time", Value::from(gets.time))?;
+    if let Some(microseconds) = gets.microseconds {
+        put(
+            &mut object,
+            alloc,
+            "microseconds",
+            Value::from(microseconds),
+        )?;
+    }
     put(
         &mut object,
         alloc,

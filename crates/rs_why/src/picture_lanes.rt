@@ -254,7 +254,9 @@ fn add_end(
     }
     let (name, shown) = (
         name_at(canvas.view.plan, gets.peer),
-        canvas.clock.text(canvas.alloc, time)?,
+        canvas
+            .clock
+            .text_to_microseconds(canvas.alloc, time, gets.microseconds)?,
     );
     let event = event_text(canvas.alloc, canvas.view, &gets.event)?;
     text.push_str("<g>")?;
