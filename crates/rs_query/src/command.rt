@@ -154,11 +154,8 @@ const CONFIG: Row = Row {
 };
 
 const CONFIGS: Row = Row {
-    name: "config",
-    takes: Takes::Value("FILE"),
     given: Given::OnceOrMore,
-    tie: Tie::Free,
-    help: "Configuration of the exchange, as route_server takes it",
+    ..CONFIG
 };
 
 const CLIENT: Row = Row {
@@ -170,11 +167,8 @@ const CLIENT: Row = Row {
 };
 
 const ANY_CLIENT: Row = Row {
-    name: "client",
-    takes: Takes::Value("NAME"),
     given: Given::Maybe,
-    tie: Tie::Free,
-    help: "Name of the client, or its address or AS number",
+    ..CLIENT
 };
 
 const PREFIX: Row = Row {
@@ -234,11 +228,8 @@ const UNTIL: Row = Row {
 };
 
 const UNTILS: Row = Row {
-    name: "until",
-    takes: Takes::Value("TIME"),
     given: Given::Often,
-    tie: Tie::Free,
-    help: "Stops reading at the first later record: seconds since 1970, or as 2026-11-22T06:36:20Z",
+    ..UNTIL
 };
 
 const ERRORS: Row = Row {
@@ -250,11 +241,8 @@ const ERRORS: Row = Row {
 };
 
 const STANDARDS: Row = Row {
-    name: "errors",
-    takes: Takes::Choice("STANDARD", &["rfc4271", "rfc7606"]),
     given: Given::Often,
-    tie: Tie::Free,
-    help: "How faults in path attributes are handled",
+    ..ERRORS
 };
 
 const JSON: Row = Row {
@@ -266,11 +254,8 @@ const JSON: Row = Row {
 };
 
 const JSON_OR_TOML: Row = Row {
-    name: "json",
-    takes: Takes::Nothing,
-    given: Given::Maybe,
     tie: Tie::Against("toml"),
-    help: "Writes the answer as JSON",
+    ..JSON
 };
 
 const TOML: Row = Row {
