@@ -16,7 +16,8 @@ use Rattle.rs_session.specs.Change.{Change, ChangeBody, Announced, Withdrawn, Lo
 use Rattle.rs_session.specs.declared.word.Word.{Word}
 use Rattle.rs_table.specs.Laws.{LeftAfterOneMore}
 use Rattle.rs_table.specs.Left.{HasNoClose, RouteLeft, Routes, after, after_body, body_prefix, is_on, left, reason_drops, same_prefix}
-use Rattle.rs_glass.specs.RoutesLeftView.{body_announces, body_ends_route, ends_route, is_announcement}
+use Rattle.rs_table.specs.Counts.{announces, body_announces}
+use Rattle.rs_glass.specs.RoutesLeftView.{body_ends_route, ends_route}
 use Rattle.rs_session.proofs.BesideLemmas.{none-part}
 use Rattle.rs_table.proofs.PrefixLemmas.{prefix_cmp-IsAntisymmetric, prefix_total, same_prefix-true}
 use Rattle.rs_table.proofs.RibLemmas.{any-one_more, left-nothing}
@@ -204,12 +205,12 @@ module _ (one_more : LeftAfterOneMore) (kept : List Change) (unclosed : HasNoClo
       by_reason false = ap left (append-nil (filter (λ one. true) kept) ∙ filter-all kept)
 
   pub left-taken : (change : Change) → left (filter (λ one. not (ends_route change one)) kept
-      ++ cond (is_announcement change) (change ∷ []) []) ≡ after (left kept) change
+      ++ cond (announces change) (change ∷ []) []) ≡ after (left kept) change
   left-taken change = left-taken-body change.time change.body
 
   -- no close is kept
   pub taken-unclosed : (change : Change) → HasNoClose (filter (λ one. not (ends_route change one)) kept
-      ++ cond (is_announcement change) (change ∷ []) [])
+      ++ cond (announces change) (change ∷ []) [])
   taken-unclosed change = by_body change.time change.body
     where
       part : (body : ChangeBody) → HasNoClose (filter (λ one. not (body_ends_route body one)) kept)
@@ -244,24 +245,24 @@ module _ (words : List Word) (word : Word) (unclosed : HasNoClose (map change_of
   dropped-are : map change_of dropped ≡ rest
   dropped-are = ap (map change_of) drops ∙ map-filter change_of (λ one. not (ends_route (change_of word) one)) words
 
-  later-are : later ≡ dropped ++ cond (is_announcement (change_of word)) (word ∷ []) []
-      → map change_of later ≡ rest ++ cond (is_announcement (change_of word)) (change_of word ∷ []) []
+  later-are : later ≡ dropped ++ cond (announces (change_of word)) (word ∷ []) []
+      → map change_of later ≡ rest ++ cond (announces (change_of word)) (change_of word ∷ []) []
   later-are grown =
       ap (map change_of) grown
-      ∙ map-append change_of dropped (cond (is_announcement (change_of word)) (word ∷ []) [])
-      ∙ ap (λ (front : List Change). front ++ map change_of (cond (is_announcement (change_of word)) (word ∷ []) [])) dropped-are
+      ∙ map-append change_of dropped (cond (announces (change_of word)) (word ∷ []) [])
+      ∙ ap (λ (front : List Change). front ++ map change_of (cond (announces (change_of word)) (word ∷ []) [])) dropped-are
       ∙ ap (λ (back : List Change). rest ++ back)
-      (elim (is_announcement (change_of word)) as (λ b. map change_of (cond b (word ∷ []) []) ≡ cond b (change_of word ∷ []) [])
+      (elim (announces (change_of word)) as (λ b. map change_of (cond b (word ∷ []) []) ≡ cond b (change_of word ∷ []) [])
       [ true ↦ refl | false ↦ refl ])
 
   -- what the words leave, once a change ended some of them and was kept where it is an announcement
-  pub words-left : (one_more : LeftAfterOneMore) → later ≡ dropped ++ cond (is_announcement (change_of word)) (word ∷ []) []
+  pub words-left : (one_more : LeftAfterOneMore) → later ≡ dropped ++ cond (announces (change_of word)) (word ∷ []) []
       → left (map change_of later) ≡ after (left (map change_of words)) (change_of word)
   words-left one_more grown = ap left (later-are grown) ∙ left-taken one_more (map change_of words) unclosed (change_of word)
 
   -- no close is among them, were memory refused or not
   pub words-unclosed : (one_more : LeftAfterOneMore) → (r : Result (Unit {0}) AllocError)
-      → OnOk r (later ≡ dropped ++ cond (is_announcement (change_of word)) (word ∷ []) []) → OnErr r (later ≡ dropped)
+      → OnOk r (later ≡ dropped ++ cond (announces (change_of word)) (word ∷ []) []) → OnErr r (later ≡ dropped)
       → HasNoClose (map change_of later)
   words-unclosed one_more (Ok done) grown same =
       subst HasNoClose (sym (later-are grown)) (taken-unclosed one_more (map change_of words) unclosed (change_of word))

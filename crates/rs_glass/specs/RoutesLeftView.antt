@@ -1,5 +1,5 @@
 -- The routes that a peer's changes leave, by the announcements that are kept of them.
-use Rattle.std.specs.Prelude.{Bool, true, false, List, map}
+use Rattle.std.specs.Prelude.{Bool, true, List, map}
 use Rattle.rs_session.specs.Change.{Change, ChangeBody, Announced, Withdrawn, Lost, Closed, change_of}
 use Rattle.rs_table.specs.Left.{HasNoClose, Routes, is_on, left, reason_drops}
 use Rattle.rs_glass.specs.declared.routes_left.RoutesLeft.TheInside.{Inside}
@@ -23,13 +23,3 @@ body_ends_route (Closed reason) kept = reason_drops reason
 
 abbrev pub ends_route : Change → Change → Bool
 ends_route change kept = body_ends_route change.body kept
-
--- a change announces a route
-abbrev pub body_announces : ChangeBody → Bool
-body_announces (Announced prefix attributes) = true
-body_announces (Withdrawn prefix) = false
-body_announces Lost = false
-body_announces (Closed reason) = false
-
-abbrev pub is_announcement : Change → Bool
-is_announcement change = body_announces change.body

@@ -5,7 +5,8 @@ ghost use Rattle.std.specs.FinMap.{empty};
 ghost use Rattle.rs_session.specs.Change.{change_of};
 ghost use Rattle.rs_table.specs.Content.{nothing_held, rib_of};
 ghost use Rattle.rs_table.specs.Left.{after, is_on};
-ghost use Rattle.rs_glass.specs.RoutesLeftView.{ends_route, is_announcement};
+ghost use Rattle.rs_table.specs.Counts.{announces};
+ghost use Rattle.rs_glass.specs.RoutesLeftView.{ends_route};
 
 use rs_session::{Body, Reason, Word};
 use rs_table::{Tables, left_after_one_more};
@@ -72,10 +73,10 @@ impl RoutesLeft {
 // Keeps a change where it announces a route.
 fn keep(announcements: &mut Vec<Word>, word: Word) -> Result<(), AllocError>
     ensures ok { OnOk result (announcements.new.items
-        ≡ announcements.old.items ++ (if is_announcement (change_of word) then word ∷ [] else [])) }
+        ≡ announcements.old.items ++ (if announces (change_of word) then word ∷ [] else [])) }
     ensures err { OnErr result (announcements.new.items ≡ announcements.old.items) }
 {
-    if !is_announcement(&word) {
+    if !announces(&word) {
         return Ok(());
     }
     announcements.push(word)?;
@@ -83,8 +84,8 @@ fn keep(announcements: &mut Vec<Word>, word: Word) -> Result<(), AllocError>
 }
 
 // Whether a change announces a route.
-fn is_announcement(word: &Word) -> bool
-    ensures { result ≡ is_announcement (change_of word.now) }
+fn announces(word: &Word) -> bool
+    ensures { result ≡ announces (change_of word.now) }
 {
     matches!(word.body, Body::Announce(..))
 }

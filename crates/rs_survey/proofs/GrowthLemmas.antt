@@ -1,4 +1,4 @@
--- Findings counted one after another: for the loops of counting.rt and summary_of.rt.
+-- Findings counted one after another: for the loops of counting.rt and on_threads.rt.
 use Rattle.std.proofs.Common.{◌≡◌, ◌∙◌, sym, ap, subst, refl, arith, ℕ, zero, suc, ◌<◌, ◌+◌, List, [], ◌∷◌, ◌++◌, length, map, get_or, take}
 use Rattle.std.proofs.Common.{append_assoc}
 use Rattle.std.specs.Prelude.{Bool, ◌||◌, false}
