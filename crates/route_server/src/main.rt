@@ -10,8 +10,8 @@ ghost use Rattle.std.specs.Prelude.{◌≡◌, ◌<◌, ◌≤◌, All, Some, If
 ghost use Rattle.rs_program.specs.Texts.{CanTell};
 
 use rs_host::{Options, configuration};
-use rs_inventory::{Close, Ending, Subject, print_notes};
 use rs_mrt::{Bounds, IoWriter, Read};
+use rs_notes::{Close, Ending, Subject, print_notes};
 use rs_program::{
     Cleared, Ended, FolderOutlet, Progress, command_line, end, progress_on, ready_files, run_status,
 };

@@ -11,8 +11,9 @@ use rs_host::{
     FAILED, NOT_CLEAN, REFUSED, Unready, Utc, first_unreadable, found_at, on_one_line, open_file,
     read_file,
 };
-use rs_inventory::{Close, Ending, Kind, Peer, Subject, notes_on};
+use rs_inventory::{Kind, Peer};
 use rs_mrt::Bounds;
+use rs_notes::{Close, Ending, Subject, notes_on};
 use rs_setup::{Setup, SetupFault, read_setup};
 use std::alloc::{AllocError, Global};
 use std::env;

@@ -1,6 +1,7 @@
 //! A file of which it is shown what it holds.
 
-use rs_inventory::{Format, Inventory};
+use rs_inventory::Inventory;
+use rs_notes::Format;
 
 /// A recorded file, and what it holds.
 #[derive(Drop)]

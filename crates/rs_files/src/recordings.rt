@@ -6,7 +6,8 @@ use crate::listing_toml::as_toml;
 use crate::recorded_file::RecordedFile;
 use rs_glass_shell::Unanswered;
 use rs_host::{Unready, first_unreadable, open_file};
-use rs_inventory::{InventoryFault, format_at, read_inventory};
+use rs_inventory::{InventoryFault, read_inventory};
+use rs_notes::format_at;
 use rs_query::PeersQuery;
 use std::fs::Files;
 

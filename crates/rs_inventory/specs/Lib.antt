@@ -10,7 +10,3 @@ pub mod Compression  -- how a compressed file begins
 -- How it is read:
 pub mod Front  -- a reader whose first octets were taken
 pub mod Reading  -- the inventory of a source
--- What is probably wrong with it:
-pub mod Format  -- how a file of another format begins
-pub mod Hint  -- what is noted of a file of which nothing was kept
-pub mod Note  -- the texts of notes

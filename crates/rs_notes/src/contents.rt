@@ -5,10 +5,8 @@
 
 use crate::format::{FRONT_LEN, Format};
 use crate::hint::is_known;
-use crate::inventory::Inventory;
-use crate::peer::Peer;
-use crate::reading::read_outline;
 use rs_host::{found_at, open_file};
+use rs_inventory::{Inventory, Peer, read_outline};
 use rs_mrt::{BoundedReader, Bounds};
 use std::alloc::AllocFailed;
 use std::fs::{File, Files};

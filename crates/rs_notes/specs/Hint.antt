@@ -3,10 +3,10 @@
 use Rattle.std.specs.Prelude.{ℕ, ◌==◌, ◌+◌, ◌*◌, ◌&&◌, ◌||◌, nat_le, nat_lt, not, true, Bool, if◌then◌else◌, List}
 use Rattle.std.specs.Prelude.{Option, Some, None, length, slice_index}
 use Rattle.std.specs.Option.{option_map}
-use Rattle.rs_inventory.specs.Format.{format_of}
-use Rattle.rs_inventory.specs.declared.format.Format.TheVariants.{Compressed}
-use Rattle.rs_inventory.specs.declared.hint.Hint.{Hint}
-use Rattle.rs_inventory.specs.declared.hint.Hint.TheVariants.{NotMrt, NoRecord}
+use Rattle.rs_notes.specs.Format.{format_of}
+use Rattle.rs_notes.specs.declared.format.Format.TheVariants.{Compressed}
+use Rattle.rs_notes.specs.declared.hint.Hint.{Hint}
+use Rattle.rs_notes.specs.declared.hint.Hint.TheVariants.{NotMrt, NoRecord}
 use Rattle.rs_inventory.specs.Inventory.{Content, peer_at}
 use Rattle.rs_inventory.specs.Kind.{place_of}
 use Rattle.rs_inventory.specs.Peer.{PeerContent, counted}

@@ -3,14 +3,13 @@
 ghost use Rattle.std.specs.Prelude.{◌≡◌, IfOk, string_bytes};
 ghost use Rattle.std.specs.Int.{to_be_bytes, w32};
 ghost use Rattle.std.specs.Net.Addr.{ipv4_octets};
-ghost use Rattle.rs_inventory.specs.Note.{count_text, cut_note, format_text, kind_text};
-ghost use Rattle.rs_inventory.specs.Note.{loss_text, note_of, others_text, text_of, whose_text};
+ghost use Rattle.rs_notes.specs.Note.{count_text, cut_note, format_text, kind_text};
+ghost use Rattle.rs_notes.specs.Note.{loss_text, note_of, others_text, text_of, whose_text};
 
 use crate::cut::Cut;
 use crate::hint::Hint;
-use crate::kind::Kind;
-use crate::peer::Peer;
 use rs_host::{Utc, on_one_line};
+use rs_inventory::{Kind, Peer};
 use rs_mrt::Tail;
 use std::alloc::{AllocError, Global};
 use std::net::Ipv4Addr;

@@ -5,12 +5,10 @@
 //! kind and long enough for its fields.
 
 ghost use Rattle.std.specs.Prelude.{◌≡◌};
-ghost use Rattle.rs_inventory.specs.Hint.{has_bodies, hint_of, is_all, is_known, only_kind, records_of};
+ghost use Rattle.rs_notes.specs.Hint.{has_bodies, hint_of, is_all, is_known, only_kind, records_of};
 
 use crate::format::Format;
-use crate::inventory::Inventory;
-use crate::kind::Kind;
-use crate::peer::Peer;
+use rs_inventory::{Inventory, Kind, Peer};
 
 /// What is noted of a recorded file.
 #[derive(Clone, Copy, Debug, PartialEq, Eq)]

@@ -9,11 +9,10 @@
 use crate::contents::{Contents, contents_at, contents_of, is_file, outline_at};
 use crate::cut::{Cut, cut_of};
 use crate::hint::hint_on;
-use crate::inventory::Inventory;
 use crate::note::{again_line, cut_line, inside_line, note_line, server_line};
-use crate::peer::Peer;
 use rs_choice::PeerSpec;
 use rs_host::open_file;
+use rs_inventory::{Inventory, Peer};
 use rs_mrt::{Bounds, Tail};
 use rs_setup::Setup;
 use std::alloc::{AllocError, Global};

@@ -5,9 +5,9 @@
 
 ghost use Rattle.std.specs.Prelude.{◌≡◌};
 ghost use Rattle.std.specs.List.{list_all};
-ghost use Rattle.rs_inventory.specs.Format.{format_of, format_name, is_pcap, is_text, is_text_octet};
+ghost use Rattle.rs_notes.specs.Format.{format_of, format_name, is_pcap, is_text, is_text_octet};
 
-use crate::compression::Compression;
+use rs_inventory::Compression;
 
 /// Of what format a file is that isn't uncompressed MRT.
 #[derive(Clone, Copy, Debug, PartialEq, Eq)]

@@ -3,8 +3,8 @@
 use Rattle.std.specs.Prelude.{ℕ, ◌==◌, ◌&&◌, ◌||◌, nat_le, Bool, if◌then◌else◌, List, [], ◌∷◌, Option}
 use Rattle.std.specs.Prelude.{Some, None, codes, length, not}
 use Rattle.std.specs.List.{list_all}
-use Rattle.rs_inventory.specs.declared.format.Format.{Format}
-use Rattle.rs_inventory.specs.declared.format.Format.TheVariants.{Compressed, Zip, Pcap, Text}
+use Rattle.rs_notes.specs.declared.format.Format.{Format}
+use Rattle.rs_notes.specs.declared.format.Format.TheVariants.{Compressed, Zip, Pcap, Text}
 use Rattle.rs_inventory.specs.Compression.{begins, compression_name}
 
 -- packets: the magic number of pcap in either order of octets, by microseconds and by nanoseconds, and that of pcapng

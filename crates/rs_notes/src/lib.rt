@@ -1,0 +1,21 @@
+//! Notes on recorded files: what is probably wrong with them, or missing from them, in both programs. All of it is our
+//! choice.
+//!
+//! Reading order, what may be wrong with a file first: `format` (its format), `hint` (the note on a file without a
+//! record of its peer), `cut` (where it ends within a record). Then the notes: `note` (their texts), `contents` (what
+//! files hold), `notes`.
+#![tactic(auto)]
+
+mod contents;
+mod cut;
+mod format;
+mod hint;
+mod note;
+mod notes;
+
+pub use contents::format_at;
+pub use cut::Cut;
+pub use format::Format;
+pub use hint::{Hint, hint_on};
+pub use note::{cut_line, note_line};
+pub use notes::{Close, Ending, Notes, Subject, notes_on, print_notes};
