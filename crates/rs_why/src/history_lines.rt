@@ -88,7 +88,9 @@ fn layout_of(
     let clock = clock_of(view, history);
     Ok(Layout {
         clock,
-        times: clock.width() + microseconds_width(view, history),
+        times: clock
+            .width()
+            .saturating_add(microseconds_width(view, history)),
         names: name_width(plan, "peer"),
         gets,
     })
