@@ -9,8 +9,8 @@
 //! (what the part of a list leaves). Then `router` (all peers, until each one's session closed), `delivery` (one
 //! change). The shards: `taking` (what one item makes of the tables), `shard` (all items), `shard_crew` (all shards),
 //! `laws` (what their tables come to). Before a run: `identity` (who a peer is), `capacity` (of rings), `lines` and
-//! `rings` (what each thread takes). Then its threads: `crew` (their start and join). Then its end: `outcome` (how a run
-//! ended), `ended` and `served` (what it leaves). Last `serving` (a whole run) and `fault` (why a run is refused).
+//! `rings` (what each thread takes). Then its threads: `crew` (their start and join). Then its end: `outcome` (how a
+//! run ended), `ended` and `served` (what it leaves). Last `serving` (a whole run) and `fault` (why a run is refused).
 #![tactic(auto)]
 
 mod capacity;

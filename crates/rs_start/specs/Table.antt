@@ -97,7 +97,8 @@ EntryIsRead =
 -- Sequence Number, prefix, Entry Count: the prefix is that of an UPDATE, of at most 32 bits
 abbrev pub rib_prefix : List ℕ → IpPrefix
 rib_prefix body =
-    network_of (big_number 4 (take (octets_for (big_number 1 (drop 4 body))) (drop 5 body))) (big_number 1 (drop 4 body))
+    network_of (big_number 4 (take (octets_for (big_number 1 (drop 4 body))) (drop 5 body)))
+    (big_number 1 (drop 4 body))
 
 abbrev pub behind_prefix : List ℕ → List ℕ
 behind_prefix body = drop (octets_for (big_number 1 (drop 4 body))) (drop 5 body)
