@@ -9,7 +9,7 @@ use Rattle.std.proofs.lemmas.Bool.Decides.{not_from_Decides, Decides-and, Decide
 use Rattle.rs_choice.specs.declared.candidate.Standing.{Standing}
 use Rattle.rs_choice.specs.declared.step.Step.{Step}
 use Rattle.rs_choice.specs.declared.step.Step.TheVariants as steps
-use Rattle.rs_update.specs.Spelling.{origin_code}
+use Rattle.rs_types.specs.Spelling.{origin_code}
 use Rattle.rs_choice.specs.Decision.{beats, decision_steps, unbeaten, remaining, first_member, choice}
 use Rattle.rs_choice.specs.Comparison.{FirstOrSecond, IsPreferred, IsAsPreferred, IsShorter, IsPreferredOrShorter, IsAsLong, HasLowerOrigin}
 use Rattle.rs_choice.specs.Comparison.{IsAhead, IsLevel, HasLowerMed, IsAheadByMed, HasLowerId, HasSameId, HasLowerAddress, Precedes}

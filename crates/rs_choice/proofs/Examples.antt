@@ -3,13 +3,13 @@
 -- The exchange: the server has AS 64500 and 192.0.2.1 in 192.0.2.0/24; peers a, b, c and d have AS 64501 to 64504 and 192.0.2.11 to .14.
 use Rattle.std.proofs.Common.{◌≡◌, refl, ℕ, true, false, List, [], ◌∷◌, Option, Some, None}
 use Rattle.std.specs.Prelude.{codes, replicate}
-use Rattle.rs_update.specs.declared.values.Origin.TheVariants.{Igp, Egp}
-use Rattle.rs_update.specs.PathAttributes.{PathAttributes, AsSet, AsSequence}
+use Rattle.rs_types.specs.declared.values.Origin.TheVariants.{Igp, Egp}
+use Rattle.rs_types.specs.PathAttributes.{PathAttributes, AsSet, AsSequence}
 use Rattle.rs_choice.specs.declared.plan.Local.{Local}
 use Rattle.rs_choice.specs.declared.step.Step.TheVariants as steps
 use Rattle.rs_choice.specs.declared.fault.PlanFault.TheVariants.{NoPeer, TooManyPeers, RepeatedName, RepeatedAddress, ZeroAs, UnknownName}
 use Rattle.rs_choice.specs.Plan.{Peer, Plan, plan_fault, whole_tests, is_name}
-use Rattle.rs_update.specs.Fault.{first_fault}
+use Rattle.rs_types.specs.FirstFault.{first_fault}
 use Rattle.rs_choice.specs.Eligibility.{is_eligible, is_inside}
 use Rattle.rs_choice.specs.Policy.{is_permitted, permits_by_communities}
 use Rattle.rs_choice.specs.Decision.{SentRoute, standing_of, beats, unbeaten, remaining, choice, place_of_choice}

@@ -6,8 +6,8 @@ use Rattle.std.specs.Prelude.{slice_get, nat_lt, if◌then◌else◌}
 use Rattle.std.specs.List.{list_any}
 use Rattle.std.proofs.lemmas.Bool.{and_left, and_right, cases_Bool, ltb-true, ne_eqb, or_parts}
 use Rattle.std.proofs.lemmas.Bool.Decides.{nat_tests}
-use Rattle.rs_update.specs.PathAttributes.{PathAttributes, CommunityList}
-use Rattle.rs_update.specs.Community.{has_community_in, has_community_of_in, has_value_of}
+use Rattle.rs_types.specs.PathAttributes.{PathAttributes, CommunityList}
+use Rattle.rs_types.specs.Community.{has_community_in, has_community_of_in, has_value_of}
 use Rattle.rs_choice.specs.Plan.{Peer, Plan}
 use Rattle.rs_choice.specs.Refusal.{refuses, IsRefusal}
 use Rattle.rs_choice.specs.Policy.{is_permitted, is_permitted_from, permits_by_communities}

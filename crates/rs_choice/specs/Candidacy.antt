@@ -1,7 +1,7 @@
 -- What decisions ask of a route before they look at the others (RFC 4271, section 9.1.2; RFC 7947, section 2.3).
 use Rattle.std.specs.Prelude.{◌≡◌, Bool, true, false}
-use Rattle.rs_update.specs.declared.values.Origin.{Origin}
-use Rattle.rs_update.specs.declared.values.Origin.TheVariants.{Igp, Egp, Incomplete}
+use Rattle.rs_types.specs.declared.values.Origin.{Origin}
+use Rattle.rs_types.specs.declared.values.Origin.TheVariants.{Igp, Egp, Incomplete}
 use Rattle.rs_choice.specs.declared.candidacy.Candidacy.{Candidacy}
 use Rattle.rs_choice.specs.declared.candidacy.Candidacy.TheVariants as is
 

@@ -2,7 +2,7 @@
 -- and 9.1.2.2).
 use Rattle.std.specs.Prelude.{◌≡◌, ◌<◌, ◌⊎◌}
 use Rattle.rs_choice.specs.declared.candidate.Standing.{Standing}
-use Rattle.rs_update.specs.Spelling.{origin_code}
+use Rattle.rs_types.specs.Spelling.{origin_code}
 
 -- the first relation holds, or else both are equal by it and the second holds
 abbrev pub FirstOrSecond : {M : Type 0} → (M → M → Type 0) → (M → M → Type 0) → (M → M → Type 0) → M → M → Type 0

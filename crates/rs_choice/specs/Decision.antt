@@ -3,10 +3,10 @@ use Rattle.std.specs.Prelude.{ℕ, ◌==◌, nat_lt, Bool, not, ◌&&◌, List, 
 use Rattle.std.specs.Prelude.{unwrap_or}
 use Rattle.std.specs.List.{list_any, enumerate_from}
 use Rattle.std.specs.Option.{option_map, option_map_or}
-use Rattle.rs_update.specs.declared.values.Origin.TheVariants.{Igp}
-use Rattle.rs_update.specs.PathAttributes.{PathAttributes}
-use Rattle.rs_update.specs.AsPath.{path_length_of, neighbour_of}
-use Rattle.rs_update.specs.Spelling.{origin_code}
+use Rattle.rs_types.specs.declared.values.Origin.TheVariants.{Igp}
+use Rattle.rs_types.specs.PathAttributes.{PathAttributes}
+use Rattle.rs_types.specs.AsPath.{path_length_of, neighbour_of}
+use Rattle.rs_types.specs.Spelling.{origin_code}
 use Rattle.rs_choice.specs.declared.candidate.Candidate.{Candidate}
 use Rattle.rs_choice.specs.declared.candidate.Standing.{Standing}
 use Rattle.rs_choice.specs.declared.step.Step.{Step}

@@ -2,10 +2,10 @@
 -- (section 6.3). That the subnet of the exchange is configured is our choice.
 use Rattle.std.specs.Prelude.{ℕ, ◌==◌, Bool, true, false, not, ◌&&◌, ◌||◌, Option, None, Some, slice_get}
 use Rattle.std.specs.Option.{option_map_or}
-use Rattle.rs_update.specs.IpPrefix.{IpPrefix}
-use Rattle.rs_update.specs.Prefix.{network_of}
-use Rattle.rs_update.specs.PathAttributes.{PathAttributes}
-use Rattle.rs_update.specs.AsPath.{holds_as_in}
+use Rattle.rs_types.specs.IpPrefix.{IpPrefix}
+use Rattle.rs_types.specs.Prefix.{network_of}
+use Rattle.rs_types.specs.PathAttributes.{PathAttributes}
+use Rattle.rs_types.specs.AsPath.{holds_as_in}
 use Rattle.rs_choice.specs.declared.plan.Local.{Local}
 use Rattle.rs_choice.specs.Plan.{Peer, Plan}
 

@@ -3,8 +3,8 @@ use Rattle.std.specs.Prelude.{◌≡◌, ◌≢◌, ◌<◌, ◌↔◌, ℕ, IfS
 use Rattle.std.specs.Prelude.{unwrap_or, Some}
 use Rattle.std.specs.List.{All}
 use Rattle.std.specs.Option.{option_map_or}
-use Rattle.rs_update.specs.AsPath.{neighbour_of}
-use Rattle.rs_update.specs.PathAttributes.{PathAttributes}
+use Rattle.rs_types.specs.AsPath.{neighbour_of}
+use Rattle.rs_types.specs.PathAttributes.{PathAttributes}
 use Rattle.rs_choice.specs.declared.candidate.Standing.{Standing}
 use Rattle.rs_choice.specs.declared.held_route.HeldRoute.{HeldRoute}
 use Rattle.rs_choice.specs.Candidacy.{is_candidate, is_open_candidate, is_plain_candidate, origin_of_candidacy}

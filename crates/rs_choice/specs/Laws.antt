@@ -9,7 +9,7 @@ use Rattle.rs_choice.specs.Clients.{best_peer_for, is_sent_to}
 use Rattle.rs_choice.specs.Comparison.{IsAhead, Outdoes}
 use Rattle.rs_choice.specs.Eligibility.{is_eligible}
 use Rattle.rs_choice.specs.Plan.{Peer, Plan, Test, plan_fault}
-use Rattle.rs_update.specs.Fault.{first_fault}
+use Rattle.rs_types.specs.FirstFault.{first_fault}
 use Rattle.rs_choice.specs.Policy.{is_permitted}
 use Rattle.rs_choice.specs.Decision.{SentRoute, beats, choice, decision_steps, remaining, standing_of, unbeaten}
 

@@ -4,7 +4,7 @@ use Rattle.std.specs.Prelude.{length, map, take, Option, None, Some, string_byte
 use Rattle.std.specs.List.{list_any, list_all, flat_map, enumerate_from}
 use Rattle.std.specs.Char.{is_ascii_alphanumeric}
 use Rattle.std.specs.Str.{bytes_eq}
-use Rattle.rs_update.specs.Fault.{first_fault}
+use Rattle.rs_types.specs.FirstFault.{first_fault}
 use Rattle.rs_choice.specs.declared.plan.Local.{Local}
 use Rattle.rs_choice.specs.declared.plan.PeerSpec.{PeerSpec}
 use Rattle.rs_choice.specs.declared.plan.TheConstants.{MAX_PEERS, MAX_NAME_LEN, HYPHEN, UNDERSCORE}

@@ -2,8 +2,8 @@
 -- the communities of RFC 1997).
 use Rattle.std.specs.Prelude.{ℕ, ◌==◌, Bool, true, false, not, ◌&&◌, if◌then◌else◌, Option, slice_get}
 use Rattle.std.specs.Option.{option_map_or}
-use Rattle.rs_update.specs.PathAttributes.{PathAttributes, CommunityList}
-use Rattle.rs_update.specs.Community.{has_community_in}
+use Rattle.rs_types.specs.PathAttributes.{PathAttributes, CommunityList}
+use Rattle.rs_types.specs.Community.{has_community_in}
 use Rattle.rs_choice.specs.declared.plan.Local.{Local}
 use Rattle.rs_choice.specs.Plan.{Peer, Plan}
 use Rattle.rs_choice.specs.Refusal.{refuses}

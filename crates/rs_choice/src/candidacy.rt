@@ -4,7 +4,7 @@ ghost use Rattle.std.specs.Prelude.{◌≡◌};
 ghost use Rattle.rs_choice.specs.Candidacy.{origin_of_candidacy, is_candidate, is_open_candidate, is_plain_candidate};
 ghost use Rattle.rs_choice.specs.Candidacy.{CandidacyOf};
 
-use rs_update::Origin;
+use rs_types::Origin;
 
 /// Whether a route may be a candidate at all, whether it may be one of every client but its sender, its ORIGIN, and
 /// whether it is plain: its neighbour AS is its sender's AS, and its MED is 0 or missing. One octet holds it, where a

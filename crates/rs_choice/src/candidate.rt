@@ -5,7 +5,7 @@ ghost use Rattle.rs_choice.specs.Decision.{standing_of_candidate};
 ghost use Rattle.rs_choice.specs.Grouping.{GoesBefore};
 
 use crate::exchange::Exchange;
-use rs_update::{Attributes, Origin};
+use rs_types::{Attributes, Origin};
 
 /// A route that a client may get: the number of the peer that sent it, and its attributes.
 #[derive(Clone, Copy)]

@@ -8,7 +8,7 @@ ghost use Rattle.std.specs.List.{list_all};
 ghost use Rattle.rs_choice.specs.Checks.{has_address_among, has_name_among};
 ghost use Rattle.rs_choice.specs.Plan as spec;
 ghost use Rattle.rs_choice.specs.Plan.{names_tests, peer_of, peer_tests, peers_tests, whole_tests};
-ghost use Rattle.rs_update.specs.Fault.{first_fault};
+ghost use Rattle.rs_types.specs.FirstFault.{first_fault};
 
 use crate::fault::PlanFault;
 use crate::plan::{HYPHEN, Local, MAX_NAME_LEN, MAX_PEERS, PeerSpec, UNDERSCORE};

@@ -8,7 +8,7 @@ ghost use Rattle.std.specs.Prelude.{◌≡◌, ◌<◌, length};
 ghost use Rattle.rs_choice.specs.Eligibility.{is_eligible, is_inside, is_on_exchange};
 
 use crate::exchange::Exchange;
-use rs_update::{Attributes, Prefix};
+use rs_types::{Attributes, Prefix};
 
 impl Exchange {
     /// Whether a route of the peer of number `peer` is eligible. It takes no memory.

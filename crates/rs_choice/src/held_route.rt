@@ -6,7 +6,7 @@
 //! its sender.
 
 ghost use Rattle.std.specs.Prelude.{◌≡◌, ◌<◌, ◌↔◌, IsTrue, length};
-ghost use Rattle.rs_update.specs.AsPath.{path_length_of};
+ghost use Rattle.rs_types.specs.AsPath.{path_length_of};
 ghost use Rattle.rs_choice.specs.Candidacy.{is_candidate, is_open_candidate, is_plain_candidate, origin_of_candidacy};
 ghost use Rattle.rs_choice.specs.Clients.{is_sent_to};
 ghost use Rattle.rs_choice.specs.Eligibility.{is_eligible};
@@ -16,7 +16,7 @@ ghost use Rattle.rs_choice.specs.Comparison.{IsAhead, Outdoes};
 use crate::candidacy::Candidacy;
 use crate::candidate::Standing;
 use crate::exchange::Exchange;
-use rs_update::Attributes;
+use rs_types::Attributes;
 use std::mem::size_of;
 use std::sync::Arc;
 

@@ -1,6 +1,6 @@
 //! The plan of an exchange: the server and its peers, as they are configured.
 
-use rs_update::Prefix;
+use rs_types::Prefix;
 
 /// The most peers that a plan may have.
 pub const MAX_PEERS: usize = 256;

@@ -1,13 +1,13 @@
 //! Export policy: which routes a client may get (RFC 7947, section 2.3). The five cases are our choice.
 
 ghost use Rattle.std.specs.Prelude.{◌≡◌, ◌≢◌, ◌<◌, ◌↔◌, ◌∷◌, [], IsTrue, Some, length};
-ghost use Rattle.rs_update.specs.Community.{has_community_of_in, has_value};
-ghost use Rattle.rs_update.specs.Shapes.{communities_of};
+ghost use Rattle.rs_types.specs.Community.{has_community_of_in, has_value};
+ghost use Rattle.rs_types.specs.Shapes.{communities_of};
 ghost use Rattle.rs_choice.specs.Held.{IsOpen};
 ghost use Rattle.rs_choice.specs.Policy.{is_permitted, permits_by_communities};
 
 use crate::exchange::Exchange;
-use rs_update::{Attributes, Communities};
+use rs_types::{Attributes, Communities};
 
 // The numbers that half a community can hold (RFC 1997).
 const HALF: u32 = 65536;

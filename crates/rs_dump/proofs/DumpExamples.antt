@@ -4,7 +4,7 @@
 -- are identifiers.
 use Rattle.std.proofs.Common.{◌≡◌, ℕ, List, [], ◌∷◌, Some, None, false, refl}
 use Rattle.std.specs.Str.{bytes_eq}
-use Rattle.rs_update.specs.declared.values.Origin.TheVariants.{Igp}
+use Rattle.rs_types.specs.declared.values.Origin.TheVariants.{Igp}
 use Rattle.rs_update.specs.PathAttributes.{PathAttributes, AsSequence}
 use Rattle.rs_update.specs.Spelling.{written, written_items}
 use Rattle.rs_choice.specs.Plan.{Plan, Peer}

@@ -2,7 +2,7 @@
 use Rattle.std.proofs.Common.{◌≡◌, ℕ, ◌<◌, ◌≤◌, List, [], ◌∷◌, length, drop, ltb, Option, Some, None, ap, ◌∙◌, arith, inl, inr, length-drop}
 use Rattle.std.specs.Option.{option_or}
 use Rattle.std.proofs.lemmas.Bool.{cases_Bool}
-use Rattle.rs_update.proofs.fields.PartsLemmas.{Shrinks, parts_of-some, parts_of-none}
+use Rattle.rs_types.proofs.fields.PartsLemmas.{Shrinks, parts_of-some, parts_of-none}
 use Rattle.rs_inventory.specs.Opening.{ItemContent, first_found, item_at, items_of}
 
 length-drop-le : (n : ℕ) (octets : List ℕ) → length (drop n octets) ≤ length octets

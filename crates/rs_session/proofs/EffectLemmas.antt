@@ -22,8 +22,8 @@ use Rattle.rs_update.specs.Parts.{parts_within}
 use Rattle.rs_update.specs.PathAttributes.{PathAttributes}
 use Rattle.rs_update.specs.Prefix.{prefix_at, is_multicast}
 use Rattle.rs_update.specs.declared.fault.HeaderFault.{HeaderFault}
-use Rattle.rs_update.specs.declared.fault.UpdateFault.{UpdateFault}
-use Rattle.rs_update.specs.declared.fault.UpdateFault.TheVariants.{InvalidNetworkField}
+use Rattle.rs_types.specs.declared.fault.UpdateFault.{UpdateFault}
+use Rattle.rs_types.specs.declared.fault.UpdateFault.TheVariants.{InvalidNetworkField}
 use Rattle.rs_update.specs.declared.header.MessageType.{MessageType}
 use Rattle.rs_update.specs.declared.header.MessageType.TheVariants as types
 use Rattle.rs_session.specs.Effect.{RecordEffect, PassesOver, Gives, Ends, effect_of, effect_of_entry, effect_of_message, effect_of_state}

@@ -9,7 +9,7 @@ use Rattle.rs_update.specs.PathAttributes.{PathAttributes}
 use Rattle.rs_update.specs.Prefix.{spelled_prefix, prefixes_of}
 use Rattle.rs_update.specs.Section.{items_of, section_fault}
 use Rattle.rs_update.specs.declared.fault.MessageFault.{MessageFault}
-use Rattle.rs_update.specs.declared.fault.UpdateFault.{UpdateFault}
+use Rattle.rs_types.specs.declared.fault.UpdateFault.{UpdateFault}
 use Rattle.rs_start.specs.Joins.{attributes_told}
 use Rattle.rs_start.specs.Opening.{IsRoutePrefix, attributes_by, fixed_len, nlri_spelling, sound_attributes, update_spelling}
 use Rattle.rs_start.proofs.PrefixLemmas.{nlri_read, nlri_some}

@@ -25,8 +25,8 @@ use Rattle.rs_update.specs.declared.errors.Errors.TheVariants.{Rfc4271, Rfc7606}
 use Rattle.rs_update.specs.declared.fault.HeaderFault.{HeaderFault}
 use Rattle.rs_update.specs.declared.fault.HeaderFault.TheVariants.{BadType}
 use Rattle.rs_update.specs.declared.fault.MessageFault.{MessageFault}
-use Rattle.rs_update.specs.declared.fault.UpdateFault.{UpdateFault}
-use Rattle.rs_update.specs.declared.fault.UpdateFault.TheVariants.{InvalidNetworkField, MissingWellKnown}
+use Rattle.rs_types.specs.declared.fault.UpdateFault.{UpdateFault}
+use Rattle.rs_types.specs.declared.fault.UpdateFault.TheVariants.{InvalidNetworkField, MissingWellKnown}
 use Rattle.rs_update.specs.declared.header.MessageType.{MessageType}
 use Rattle.rs_update.specs.declared.header.MessageType.TheVariants.{Update}
 use Rattle.rs_start.specs.Opening.{fixed_len, update_spelling}

@@ -13,7 +13,7 @@ use Rattle.rs_update.specs.IpPrefix.{IpPrefix, IsPrefix}
 use Rattle.rs_update.specs.PathAttributes.{PathAttributes}
 use Rattle.rs_update.specs.Prefix.{spelled_prefix, is_multicast}
 use Rattle.rs_update.specs.Section.{items_of, section_fault}
-use Rattle.rs_update.specs.declared.fault.UpdateFault.{UpdateFault}
+use Rattle.rs_types.specs.declared.fault.UpdateFault.{UpdateFault}
 use Rattle.rs_start.specs.declared.added.Added.{Added}
 use Rattle.rs_start.specs.declared.added.Added.TheVariants.{Written, LeftOut}
 use Rattle.rs_start.specs.declared.added.Reason.TheVariants.{Multicast, TooLong, AttributesAtFault}

@@ -2,7 +2,7 @@
 use Rattle.std.specs.Prelude.{◌≡◌, ℕ, false, List, [], ◌∷◌, Option, Some, None}
 use Rattle.std.specs.FinMap.{get}
 use Rattle.std.specs.Option.{option_map}
-use Rattle.rs_update.specs.declared.values.Origin.TheVariants.{Igp}
+use Rattle.rs_types.specs.declared.values.Origin.TheVariants.{Igp}
 use Rattle.rs_update.specs.IpPrefix.{IpPrefix}
 use Rattle.rs_update.specs.PathAttributes.{PathAttributes, AsSequence, CommunityList}
 use Rattle.rs_session.specs.declared.word.Reason.TheVariants.{EndOfFile, Bgp}

@@ -1,8 +1,5 @@
--- Fields of octets: the parts, numbers and prefixes that are read of them, one after another.
-pub mod PartsLemmas
+-- Fields of octets: the parts and prefixes that are read of them, one after another.
 pub mod SplitLemmas
 pub mod SpelledParts
-pub mod ProgressLemmas
-pub mod OctetLemmas
 pub mod PrefixLemmas
 pub mod WrittenPrefix

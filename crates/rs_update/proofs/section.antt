@@ -1,7 +1,4 @@
--- A section of path attributes: how each attribute is spelled, and its first fault.
-pub mod ItemLemmas
-pub mod ReceivedLemmas
+-- A section of path attributes: its first fault.
 pub mod SectionLemmas
 pub mod FirstFaultLemmas
-pub mod SoundLemmas
 pub mod SectionExamples

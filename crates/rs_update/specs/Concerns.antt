@@ -6,13 +6,13 @@ use Rattle.std.specs.Option.{option_map_or}
 use Rattle.rs_update.specs.declared.errors.Errors.{Errors}
 use Rattle.rs_update.specs.declared.errors.Errors.TheVariants.{Rfc4271, Rfc7606}
 use Rattle.rs_update.specs.declared.fault.MessageFault.{MessageFault}
-use Rattle.rs_update.specs.Covering.{lists_cover}
+use Rattle.rs_types.specs.Covering.{lists_cover}
 use Rattle.rs_update.specs.Handling.{strongest_in}
-use Rattle.rs_update.specs.IpPrefix.{IpPrefix}
+use Rattle.rs_types.specs.IpPrefix.{IpPrefix}
 use Rattle.rs_update.specs.Message.{MessageContent, IsOpen, IsUpdate, IsTreated, IsNotification, IsKeepAlive}
 use Rattle.rs_update.specs.Message.{IsRefresh, announced_attributes}
-use Rattle.rs_update.specs.Prefix.{prefixes_of}
-use Rattle.rs_update.specs.Section.{Item, has_type, section_fault}
+use Rattle.rs_types.specs.Prefix.{prefixes_of}
+use Rattle.rs_types.specs.Section.{Item, has_type, section_fault}
 use Rattle.rs_update.specs.Treating.{reset_of}
 
 -- an UPDATE may concern a prefix where its withdrawn routes or its NLRI list one that covers it, whether or not

@@ -1,14 +1,15 @@
 -- The faults of a message, by error code and subcode (RFC 4271, section 4.5).
-use Rattle.std.specs.Prelude.{ℕ, Bool, List, [], ◌∷◌, Option, Some, None, if◌then◌else◌}
+use Rattle.std.specs.Prelude.{ℕ}
 use Rattle.rs_update.specs.declared.fault.HeaderFault.{HeaderFault}
 use Rattle.rs_update.specs.declared.fault.HeaderFault.TheVariants.{NotSynchronized, BadLength, BadType}
-use Rattle.rs_update.specs.declared.fault.UpdateFault.{UpdateFault}
-use Rattle.rs_update.specs.declared.fault.UpdateFault.TheVariants.{MalformedAttributeList, UnrecognizedWellKnown}
-use Rattle.rs_update.specs.declared.fault.UpdateFault.TheVariants.{MissingWellKnown, AttributeFlags, AttributeLength}
-use Rattle.rs_update.specs.declared.fault.UpdateFault.TheVariants.{InvalidOrigin, InvalidNextHop, InvalidNetworkField}
-use Rattle.rs_update.specs.declared.fault.UpdateFault.TheVariants.{MalformedAsPath}
+use Rattle.rs_types.specs.declared.fault.UpdateFault.{UpdateFault}
+use Rattle.rs_types.specs.declared.fault.UpdateFault.TheVariants.{MalformedAttributeList, UnrecognizedWellKnown}
+use Rattle.rs_types.specs.declared.fault.UpdateFault.TheVariants.{MissingWellKnown, AttributeFlags, AttributeLength}
+use Rattle.rs_types.specs.declared.fault.UpdateFault.TheVariants.{InvalidOrigin, InvalidNextHop, InvalidNetworkField}
+use Rattle.rs_types.specs.declared.fault.UpdateFault.TheVariants.{MalformedAsPath}
 use Rattle.rs_update.specs.declared.fault.MessageFault.{MessageFault}
 use Rattle.rs_update.specs.declared.fault.MessageFault.TheVariants.{Bgp}
+pub use Rattle.rs_types.specs.FirstFault.{first_fault, or_else}
 
 -- Message Header Error, code 1 (section 6.1)
 abbrev pub header_subcode : HeaderFault → ℕ
@@ -33,13 +34,3 @@ of_header fault = Bgp 1 (header_subcode fault)
 
 abbrev pub of_update : UpdateFault → MessageFault
 of_update fault = Bgp 3 (update_subcode fault)
-
--- tests in their order, each with the fault that it finds: the first that finds one decides
-abbrev pub first_fault : {F : Type 0} → List (Bool × F) → Option F
-first_fault [] = None
-first_fault (test ∷ later) = if test.0 then Some test.1 else first_fault later
-
--- a fault, or else what is found later
-abbrev pub or_else : {F : Type 0} → Option F → Option F → Option F
-or_else None later = later
-or_else (Some fault) later = Some fault

@@ -2,17 +2,17 @@
 use Rattle.std.specs.Prelude.{◌≡◌, ℕ, ◌+◌, ◌<◌, ◌≤◌, Bool, true, false, not, ◌&&◌, ◌==◌, List, [], length}
 use Rattle.std.specs.Prelude.{slice_index_or, Option, Some, None, is_some, option_and_then, if◌then◌else◌}
 use Rattle.std.specs.List.{filter_map, flat_map, range_with_len}
-use Rattle.rs_update.specs.declared.attribute_type.AttributeType.{AttributeType}
-use Rattle.rs_update.specs.declared.attribute_type.WantedFlags.{WantedFlags}
-use Rattle.rs_update.specs.declared.attribute_type.WantedFlags.TheVariants.{WellKnown, OptionalNonTransitive}
-use Rattle.rs_update.specs.declared.attribute_type.WantedFlags.TheVariants.{OptionalTransitive, Optional, Any}
+use Rattle.rs_types.specs.declared.attribute_type.AttributeType.{AttributeType}
+use Rattle.rs_types.specs.declared.attribute_type.WantedFlags.{WantedFlags}
+use Rattle.rs_types.specs.declared.attribute_type.WantedFlags.TheVariants.{WellKnown, OptionalNonTransitive}
+use Rattle.rs_types.specs.declared.attribute_type.WantedFlags.TheVariants.{OptionalTransitive, Optional, Any}
 use Rattle.rs_update.specs.declared.found.Found.{Found}
-use Rattle.rs_update.specs.declared.item.Item.{Item as ItemThere}
-use Rattle.rs_update.specs.AttributeType.{type_of, row_of, is_transitive, is_partial, is_extended}
-use Rattle.rs_update.specs.AttributesView.{item_from}
-use Rattle.rs_update.specs.Gathered.{look}
-use Rattle.rs_update.specs.Section.{Item, items_of}
-use Rattle.rs_update.specs.Spelling.{well_known, optional_non_transitive, optional_transitive, spelled_item}
+use Rattle.rs_types.specs.declared.item.Item.{Item as ItemThere}
+use Rattle.rs_types.specs.AttributeType.{type_of, row_of, is_transitive, is_partial, is_extended}
+use Rattle.rs_types.specs.AttributesView.{item_from}
+use Rattle.rs_types.specs.Gathered.{look}
+use Rattle.rs_types.specs.Section.{Item, items_of}
+use Rattle.rs_types.specs.Spelling.{well_known, optional_non_transitive, optional_transitive, spelled_item}
 
 -- a type has a place
 abbrev pub stands : Found → ℕ → Bool

@@ -2,16 +2,16 @@
 use Rattle.std.specs.Prelude.{ℕ, Bool, true, false, ◌==◌, List, [], ◌∷◌, ◌++◌, length, Option, Some, None}
 use Rattle.std.specs.Prelude.{if◌then◌else◌}
 use Rattle.std.specs.List.{flat_map}
-use Rattle.rs_update.specs.declared.attribute_type.AttributeType.{AttributeType}
-use Rattle.rs_update.specs.declared.fault.UpdateFault.{UpdateFault}
-use Rattle.rs_update.specs.declared.fault.UpdateFault.TheVariants.{MalformedAttributeList, UnrecognizedWellKnown}
-use Rattle.rs_update.specs.declared.fault.UpdateFault.TheVariants.{AttributeLength}
-use Rattle.rs_update.specs.declared.handling.Handling.{Handling}
-use Rattle.rs_update.specs.declared.handling.Handling.TheVariants.{Keep, AttributeDiscard, TreatAsWithdraw}
-use Rattle.rs_update.specs.declared.handling.Handling.TheVariants.{SessionReset}
-use Rattle.rs_update.specs.AttributeType.{type_of, row_of}
-use Rattle.rs_update.specs.Section.{Item, has_type, items_of, rest_of, own_fault_of}
-use Rattle.rs_update.specs.Spelling.{spelled_item}
+use Rattle.rs_types.specs.declared.attribute_type.AttributeType.{AttributeType}
+use Rattle.rs_types.specs.declared.fault.UpdateFault.{UpdateFault}
+use Rattle.rs_types.specs.declared.fault.UpdateFault.TheVariants.{MalformedAttributeList, UnrecognizedWellKnown}
+use Rattle.rs_types.specs.declared.fault.UpdateFault.TheVariants.{AttributeLength}
+use Rattle.rs_types.specs.declared.handling.Handling.{Handling}
+use Rattle.rs_types.specs.declared.handling.Handling.TheVariants.{Keep, AttributeDiscard, TreatAsWithdraw}
+use Rattle.rs_types.specs.declared.handling.Handling.TheVariants.{SessionReset}
+use Rattle.rs_types.specs.AttributeType.{type_of, row_of}
+use Rattle.rs_types.specs.Section.{Item, has_type, items_of, rest_of, own_fault_of}
+use Rattle.rs_types.specs.Spelling.{spelled_item}
 
 -- the stronger of two: a reset of the session, then treat-as-withdraw, then attribute discard; of two resets the first
 abbrev pub stronger : Handling → Handling → Handling

@@ -8,7 +8,7 @@ use Rattle.rs_update.specs.declared.fault.HeaderFault.{HeaderFault}
 use Rattle.rs_update.specs.declared.fault.HeaderFault.TheVariants.{NotSynchronized, BadLength, BadType}
 use Rattle.rs_update.specs.declared.header.MessageType.{MessageType}
 use Rattle.rs_update.specs.declared.header.MessageType.TheVariants.{Open, Update, Notification, KeepAlive, Refresh}
-use Rattle.rs_update.specs.Fault.{first_fault}
+use Rattle.rs_types.specs.FirstFault.{first_fault}
 
 -- the Marker is sixteen octets of ones
 abbrev pub is_marked : List ℕ → Bool

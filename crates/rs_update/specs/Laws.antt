@@ -3,21 +3,21 @@ use Rattle.std.specs.Prelude.{◌≡◌, ◌≢◌, ◌⊎◌, ℕ, ◌<◌, ◌
 use Rattle.std.specs.Prelude.{IsSome}
 use Rattle.rs_update.specs.declared.errors.Errors.TheVariants.{Rfc4271, Rfc7606}
 use Rattle.rs_update.specs.declared.fault.MessageFault.{MessageFault}
-use Rattle.rs_update.specs.declared.fault.UpdateFault.{UpdateFault}
-use Rattle.rs_update.specs.declared.fault.UpdateFault.TheVariants.{MalformedAttributeList}
-use Rattle.rs_update.specs.Gathered.{attributes_of}
-use Rattle.rs_update.specs.declared.handling.Handling.{Handling}
-use Rattle.rs_update.specs.declared.handling.Handling.TheVariants.{Keep, AttributeDiscard, TreatAsWithdraw}
-use Rattle.rs_update.specs.declared.handling.Handling.TheVariants.{SessionReset}
+use Rattle.rs_types.specs.declared.fault.UpdateFault.{UpdateFault}
+use Rattle.rs_types.specs.declared.fault.UpdateFault.TheVariants.{MalformedAttributeList}
+use Rattle.rs_types.specs.Gathered.{attributes_of}
+use Rattle.rs_types.specs.declared.handling.Handling.{Handling}
+use Rattle.rs_types.specs.declared.handling.Handling.TheVariants.{Keep, AttributeDiscard, TreatAsWithdraw}
+use Rattle.rs_types.specs.declared.handling.Handling.TheVariants.{SessionReset}
 use Rattle.rs_update.specs.Handling.{handling_behind, handling_of_rest, strongest_in}
-use Rattle.rs_update.specs.IpPrefix.{IpPrefix}
+use Rattle.rs_types.specs.IpPrefix.{IpPrefix}
 use Rattle.rs_update.specs.Message.{MessageContent, UpdateContent, update_of, message_of, message_fault}
-use Rattle.rs_update.specs.Parts.{AreOctets, IsWholeFront}
-use Rattle.rs_update.specs.PathAttributes.{PathAttributes, PathSegment}
-use Rattle.rs_update.specs.PathSegments.{SpellsSegment, segments_of}
-use Rattle.rs_update.specs.Prefix.{IsField, prefixes_of}
-use Rattle.rs_update.specs.Section.{Item, SpellsItem, items_of, rest_of, section_fault, AreFaultless, IsFirstAtFault}
-use Rattle.rs_update.specs.Spelling.{written}
+use Rattle.rs_types.specs.Parts.{AreOctets, IsWholeFront}
+use Rattle.rs_types.specs.PathAttributes.{PathAttributes, PathSegment}
+use Rattle.rs_types.specs.PathSegments.{SpellsSegment, segments_of}
+use Rattle.rs_types.specs.Prefix.{IsField, prefixes_of}
+use Rattle.rs_types.specs.Section.{Item, SpellsItem, items_of, rest_of, section_fault, AreFaultless, IsFirstAtFault}
+use Rattle.rs_types.specs.Spelling.{written}
 use Rattle.rs_update.specs.Treating.{message_by}
 
 -- a field lists at most one list of prefixes, and reading finds it exactly where there is one (RFC 4271, section 4.3)

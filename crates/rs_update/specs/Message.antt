@@ -3,9 +3,9 @@ use Rattle.std.specs.Prelude.{◌≡◌, ◌↔◌, ℕ, ◌+◌, ◌<◌, Bool,
 use Rattle.std.specs.Prelude.{Option, Some, None, IsSome, Result, Ok, Err}
 use Rattle.std.specs.Option.{is_none, option_map}
 use Rattle.byteorder.specs.Endian.{big_number}
-use Rattle.rs_update.specs.declared.fault.UpdateFault.{UpdateFault}
-use Rattle.rs_update.specs.declared.fault.UpdateFault.TheVariants.{MalformedAttributeList, MissingWellKnown}
-use Rattle.rs_update.specs.declared.fault.UpdateFault.TheVariants.{InvalidNetworkField}
+use Rattle.rs_types.specs.declared.fault.UpdateFault.{UpdateFault}
+use Rattle.rs_types.specs.declared.fault.UpdateFault.TheVariants.{MalformedAttributeList, MissingWellKnown}
+use Rattle.rs_types.specs.declared.fault.UpdateFault.TheVariants.{InvalidNetworkField}
 use Rattle.rs_update.specs.declared.fault.MessageFault.{MessageFault}
 use Rattle.rs_update.specs.declared.fault.MessageFault.TheVariants as faults
 use Rattle.rs_update.specs.declared.header.MessageType.{MessageType}
@@ -13,13 +13,14 @@ use Rattle.rs_update.specs.declared.header.MessageType.TheVariants as types
 use Rattle.rs_update.specs.declared.message.Message.{Message}
 use Rattle.rs_update.specs.declared.message.Message.TheVariants as kinds
 use Rattle.rs_update.specs.declared.message.Update.{Update}
-use Rattle.rs_update.specs.Fault.{first_fault, or_else, of_header, of_update}
+use Rattle.rs_types.specs.FirstFault.{first_fault, or_else}
+use Rattle.rs_update.specs.Fault.{of_header, of_update}
 use Rattle.rs_update.specs.Header.{header_fault, header_of, type_of, type_field}
-use Rattle.rs_update.specs.IpPrefix.{IpPrefix}
-use Rattle.rs_update.specs.PathAttributes.{PathAttributes}
-use Rattle.rs_update.specs.Prefix.{prefixes_of}
-use Rattle.rs_update.specs.Section.{items_of, section_fault}
-use Rattle.rs_update.specs.Gathered.{attributes_of}
+use Rattle.rs_types.specs.IpPrefix.{IpPrefix}
+use Rattle.rs_types.specs.PathAttributes.{PathAttributes}
+use Rattle.rs_types.specs.Prefix.{prefixes_of}
+use Rattle.rs_types.specs.Section.{items_of, section_fault}
+use Rattle.rs_types.specs.Gathered.{attributes_of}
 
 -- what an UPDATE says: prefixes withdrawn, and prefixes announced with their attributes
 pub record UpdateContent : Type 0 where

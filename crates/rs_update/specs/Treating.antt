@@ -3,24 +3,25 @@ use Rattle.std.specs.Prelude.{ℕ, List, [], ◌∷◌, drop, Option, Some, None
 use Rattle.std.specs.Option.{option_map}
 use Rattle.rs_update.specs.declared.errors.Errors.{Errors}
 use Rattle.rs_update.specs.declared.errors.Errors.TheVariants.{Rfc4271, Rfc7606}
-use Rattle.rs_update.specs.declared.fault.UpdateFault.{UpdateFault}
+use Rattle.rs_types.specs.declared.fault.UpdateFault.{UpdateFault}
 use Rattle.rs_update.specs.declared.fault.MessageFault.{MessageFault}
-use Rattle.rs_update.specs.declared.handling.Handling.{Handling}
-use Rattle.rs_update.specs.declared.handling.Handling.TheVariants.{TreatAsWithdraw, SessionReset}
+use Rattle.rs_types.specs.declared.handling.Handling.{Handling}
+use Rattle.rs_types.specs.declared.handling.Handling.TheVariants.{TreatAsWithdraw, SessionReset}
 use Rattle.rs_update.specs.declared.header.MessageType.{MessageType}
 use Rattle.rs_update.specs.declared.header.MessageType.TheVariants as types
 use Rattle.rs_update.specs.declared.update.Treatment.{Treatment}
 use Rattle.rs_update.specs.declared.update.Treatment.TheVariants.{Withdrawn, Stands}
-use Rattle.rs_update.specs.Fault.{first_fault, of_header, of_update}
-use Rattle.rs_update.specs.Gathered.{attributes_of}
+use Rattle.rs_types.specs.FirstFault.{first_fault}
+use Rattle.rs_update.specs.Fault.{of_header, of_update}
+use Rattle.rs_types.specs.Gathered.{attributes_of}
 use Rattle.rs_update.specs.Handling.{kept_of, strongest_in}
 use Rattle.rs_update.specs.Header.{header_of}
-use Rattle.rs_update.specs.IpPrefix.{IpPrefix}
+use Rattle.rs_types.specs.IpPrefix.{IpPrefix}
 use Rattle.rs_update.specs.Message.{MessageContent, IsOpen, IsUpdate, IsTreated, IsNotification, IsKeepAlive}
 use Rattle.rs_update.specs.Message.{IsRefresh, ◌>>=◌, passes, length_tests, listed_prefixes, withdrawn_field}
 use Rattle.rs_update.specs.Message.{section_field, nlri_field, update_message, update_of}
-use Rattle.rs_update.specs.PathAttributes.{PathAttributes}
-use Rattle.rs_update.specs.Section.{items_of}
+use Rattle.rs_types.specs.PathAttributes.{PathAttributes}
+use Rattle.rs_types.specs.Section.{items_of}
 
 -- a fault that resets the session
 abbrev pub reset_of : Handling → Option UpdateFault

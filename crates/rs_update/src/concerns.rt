@@ -10,13 +10,12 @@ ghost use Rattle.rs_update.specs.Concerns.{message_concerns, section_closes};
 ghost use Rattle.rs_update.specs.Treating.{message_by, reset_of, update_by};
 
 use crate::errors::Errors;
-use crate::found::{AS_PATH, NEXT_HOP, ORIGIN};
-use crate::handling::Handling;
 use crate::header::{HEADER_LEN, MessageType, read_header};
-use crate::prefix::{Prefix, covers, split_first};
+use crate::prefix_list::split_first;
 use crate::section::{TYPES, find_fault};
 use crate::treating::section_handling;
 use crate::update::split_fields;
+use rs_types::{AS_PATH, Handling, NEXT_HOP, ORIGIN, Prefix, covers};
 
 /// Whether a message with these octets may concern a prefix. An UPDATE without fault concerns it only if a
 /// withdrawn route or NLRI covers it. Each faulty message and each message of another type may concern it.

@@ -4,6 +4,7 @@ ghost use Rattle.std.specs.Prelude.{◌≡◌};
 ghost use Rattle.rs_update.specs.declared.fault.MessageFault.TheVariants.{Memory};
 ghost use Rattle.rs_update.specs.Fault.{header_subcode, update_subcode, of_header, of_update};
 
+use rs_types::UpdateFault;
 use std::alloc::{AllocError, AllocFailed};
 use thiserror::Error;
 
@@ -19,39 +20,6 @@ pub enum HeaderFault {
     /// Bad Message Type. Subcode 3.
     #[error("Bad Message Type")]
     BadType,
-}
-
-/// What is wrong with an UPDATE: error code 3, UPDATE Message Error (RFC 4271, section 6.3).
-#[derive(Clone, Copy, Debug, PartialEq, Eq, Error)]
-pub enum UpdateFault {
-    /// Malformed Attribute List: lengths that pass the message, an attribute that passes the section, or a
-    /// type that stands again. Subcode 1.
-    #[error("Malformed Attribute List")]
-    MalformedAttributeList,
-    /// Unrecognized Well-known Attribute. Subcode 2.
-    #[error("Unrecognized Well-known Attribute")]
-    UnrecognizedWellKnown,
-    /// Missing Well-known Attribute: ORIGIN, AS_PATH or NEXT_HOP. Subcode 3.
-    #[error("Missing Well-known Attribute")]
-    MissingWellKnown,
-    /// Attribute Flags Error: the Optional or the Transitive bit isn't the type's. Subcode 4.
-    #[error("Attribute Flags Error")]
-    AttributeFlags,
-    /// Attribute Length Error. Subcode 5.
-    #[error("Attribute Length Error")]
-    AttributeLength,
-    /// Invalid ORIGIN Attribute. Subcode 6.
-    #[error("Invalid ORIGIN Attribute")]
-    InvalidOrigin,
-    /// Invalid NEXT_HOP Attribute. Subcode 8.
-    #[error("Invalid NEXT_HOP Attribute")]
-    InvalidNextHop,
-    /// Invalid Network Field: withdrawn routes or NLRI that aren't prefixes. Subcode 10.
-    #[error("Invalid Network Field")]
-    InvalidNetworkField,
-    /// Malformed AS_PATH. Subcode 11.
-    #[error("Malformed AS_PATH")]
-    MalformedAsPath,
 }
 
 /// Why a message could not be read.
@@ -89,22 +57,20 @@ impl HeaderFault {
     }
 }
 
-impl UpdateFault {
-    // The error subcode.
-    fn subcode(self) -> u8
-        ensures { result ≡ update_subcode self }
-    {
-        match self {
-            UpdateFault::MalformedAttributeList => 1,
-            UpdateFault::UnrecognizedWellKnown => 2,
-            UpdateFault::MissingWellKnown => 3,
-            UpdateFault::AttributeFlags => 4,
-            UpdateFault::AttributeLength => 5,
-            UpdateFault::InvalidOrigin => 6,
-            UpdateFault::InvalidNextHop => 8,
-            UpdateFault::InvalidNetworkField => 10,
-            UpdateFault::MalformedAsPath => 11,
-        }
+// The error subcode of a fault of an UPDATE.
+fn subcode_of(fault: UpdateFault) -> u8
+    ensures { result ≡ update_subcode fault }
+{
+    match fault {
+        UpdateFault::MalformedAttributeList => 1,
+        UpdateFault::UnrecognizedWellKnown => 2,
+        UpdateFault::MissingWellKnown => 3,
+        UpdateFault::AttributeFlags => 4,
+        UpdateFault::AttributeLength => 5,
+        UpdateFault::InvalidOrigin => 6,
+        UpdateFault::InvalidNextHop => 8,
+        UpdateFault::InvalidNetworkField => 10,
+        UpdateFault::MalformedAsPath => 11,
     }
 }
 
@@ -125,7 +91,7 @@ impl From<UpdateFault> for MessageFault {
     fn from(fault: UpdateFault) -> MessageFault {
         MessageFault::Bgp {
             code: UPDATE_ERROR,
-            subcode: fault.subcode(),
+            subcode: subcode_of(fault),
         }
     }
 }

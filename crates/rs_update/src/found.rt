@@ -3,29 +3,11 @@
 //! One pass finds them, once for each message. A section without fault has one of each type at most.
 
 ghost use Rattle.std.specs.Prelude.{◌≡◌, ◌<◌, ◌≤◌, length, None, replicate};
-ghost use Rattle.std.specs.Option.{option_map};
-ghost use Rattle.rs_update.specs.Found.{AreFound, Finds, stands, has_mandatory};
-ghost use Rattle.rs_update.specs.Gathered.{look};
-ghost use Rattle.rs_update.specs.Items.{item_of};
-ghost use Rattle.rs_update.specs.Section.{items_of, section_fault};
+ghost use Rattle.rs_update.specs.Found.{AreFound, stands, has_mandatory};
+ghost use Rattle.rs_types.specs.Section.{section_fault};
 
-use crate::item::{Item, item_from, split_item};
 use crate::section::TYPES;
-
-// The types of the attributes that are asked for by themselves.
-pub(crate) const ORIGIN: u8 = 1;
-
-pub(crate) const AS_PATH: u8 = 2;
-
-pub(crate) const NEXT_HOP: u8 = 3;
-
-pub(crate) const MULTI_EXIT_DISC: u8 = 4;
-
-pub(crate) const ATOMIC_AGGREGATE: u8 = 6;
-
-pub(crate) const AGGREGATOR: u8 = 7;
-
-pub(crate) const COMMUNITIES: u8 = 8;
+use rs_types::{AS_PATH, NEXT_HOP, ORIGIN, split_item};
 
 /// A place behind the end of each section.
 pub(crate) const NOWHERE: u16 = u16::MAX;
@@ -40,14 +22,6 @@ pub(crate) struct Found<'t> {
 }
 
 impl Found<'_> {
-    /// The attribute of a type.
-    pub(crate) fn get<'a>(&self, section: &'a [u8], kind: u8) -> Option<Item<'a>>
-        requires { Finds self.now section.now }
-        ensures { option_map item_of result ≡ look kind (items_of section.now) }
-    {
-        item_from(section, self.places[usize::from(kind)])
-    }
-
     /// Whether an attribute of a type stands.
     pub(crate) fn stands(&self, kind: u8) -> bool
         ensures { result ≡ stands self.now kind }

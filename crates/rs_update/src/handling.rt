@@ -6,75 +6,57 @@
 ghost use Rattle.std.specs.Prelude.{◌≡◌};
 ghost use Rattle.rs_update.specs.Handling.{handling_again, handling_of_fault, handling_of_own, is_kept, stronger};
 
-use crate::attribute_type::AttributeType;
-use crate::fault::UpdateFault;
+use rs_types::{AttributeType, Handling, UpdateFault};
 
-/// How what is found in a section of path attributes is handled (RFC 7606, section 2), the weakest first.
-#[derive(Clone, Copy, Debug, PartialEq, Eq)]
-pub(crate) enum Handling {
-    /// Nothing is at fault.
-    Keep,
-    /// The attribute is discarded, as though it had not been received.
-    AttributeDiscard,
-    /// All routes of the UPDATE are treated as withdrawn.
-    TreatAsWithdraw,
-    /// The session is closed by this fault.
-    SessionReset(UpdateFault),
-}
-
-impl Handling {
-    /// The stronger of two; of two resets the one that was found first.
-    pub(crate) fn stronger(self, later: Handling) -> Handling
-        ensures { result ≡ stronger self later }
-    {
-        match self {
-            Handling::Keep => later,
-            Handling::AttributeDiscard => match later {
-                Handling::Keep => self,
-                _ => later,
-            },
-            Handling::TreatAsWithdraw => match later {
-                Handling::SessionReset(_) => later,
-                _ => self,
-            },
-            Handling::SessionReset(_) => self,
-        }
-    }
-
-    /// Whether nothing is at fault.
-    pub(crate) fn is_keep(self) -> bool
-        ensures { result ≡ is_kept self }
-    {
-        matches!(self, Handling::Keep)
+/// The stronger of two; of two resets the one that was found first.
+pub(crate) fn stronger(one: Handling, later: Handling) -> Handling
+    ensures { result ≡ stronger one later }
+{
+    match one {
+        Handling::Keep => later,
+        Handling::AttributeDiscard => match later {
+            Handling::Keep => one,
+            _ => later,
+        },
+        Handling::TreatAsWithdraw => match later {
+            Handling::SessionReset(_) => later,
+            _ => one,
+        },
+        Handling::SessionReset(_) => one,
     }
 }
 
-impl AttributeType {
-    /// How an attribute of this type is handled where one of the type stood earlier (RFC 7606, section 3, g).
-    pub(crate) fn handling_again(self) -> Handling
-        ensures { result ≡ handling_again self }
-    {
-        self.row().again
-    }
+/// Whether nothing is at fault.
+pub(crate) fn is_keep(handling: Handling) -> bool
+    ensures { result ≡ is_kept handling }
+{
+    matches!(handling, Handling::Keep)
+}
 
-    // How the fault of an attribute of this type is handled (RFC 7606, sections 3 and 7).
-    fn handling_of_fault(self, fault: UpdateFault) -> Handling
-        ensures { result ≡ handling_of_fault self fault }
-    {
-        match fault {
-            UpdateFault::UnrecognizedWellKnown => Handling::SessionReset(fault),
-            UpdateFault::AttributeLength => self.row().at_length,
-            _ => Handling::TreatAsWithdraw,
-        }
-    }
+/// How an attribute of this type is handled where one of the type stood earlier (RFC 7606, section 3, g).
+pub(crate) fn handling_again(kind: AttributeType) -> Handling
+    ensures { result ≡ handling_again kind }
+{
+    kind.row().again
+}
 
-    /// The same of a fault that there may be.
-    pub(crate) fn handling_of(self, fault: Option<UpdateFault>) -> Handling
-        ensures { result ≡ handling_of_own self fault }
-    {
-        match fault {
-            None => Handling::Keep,
-            Some(fault) => self.handling_of_fault(fault),
-        }
+// How the fault of an attribute of this type is handled (RFC 7606, sections 3 and 7).
+fn handling_of_fault(kind: AttributeType, fault: UpdateFault) -> Handling
+    ensures { result ≡ handling_of_fault kind fault }
+{
+    match fault {
+        UpdateFault::UnrecognizedWellKnown => Handling::SessionReset(fault),
+        UpdateFault::AttributeLength => kind.row().at_length,
+        _ => Handling::TreatAsWithdraw,
+    }
+}
+
+/// The same of a fault that there may be.
+pub(crate) fn handling_of(kind: AttributeType, fault: Option<UpdateFault>) -> Handling
+    ensures { result ≡ handling_of_own kind fault }
+{
+    match fault {
+        None => Handling::Keep,
+        Some(fault) => handling_of_fault(kind, fault),
     }
 }

@@ -1,37 +1,14 @@
 //! What holds of the definitions that the contracts cite: each law is the contract of a function that does nothing.
 
-ghost use Rattle.std.specs.Prelude.{◌≡◌, None, Some, true};
-ghost use Rattle.rs_update.specs.Covering.{covers};
-ghost use Rattle.rs_update.specs.Gathered.{attributes_of};
-ghost use Rattle.rs_update.specs.IpPrefix.{IpPrefix};
+ghost use Rattle.std.specs.Prelude.{◌≡◌, None, Some};
+ghost use Rattle.rs_types.specs.Gathered.{attributes_of};
 ghost use Rattle.rs_update.specs.Laws.{FieldIsRead, SectionIsRead, SectionIsFaultless, SectionFaultIsFirst, PathIsRead};
 ghost use Rattle.rs_update.specs.Laws.{FaultIsFirst, NoFaultIsMessage, AttributesAreForRoutes, WrittenIsRead};
 ghost use Rattle.rs_update.specs.Laws.{Rfc4271IsAsBefore, StandardsAgree, StrongestIsFound};
-ghost use Rattle.rs_update.specs.OriginOrder.{origin_cmp};
-ghost use Rattle.rs_update.specs.PrefixOrder.{prefix_cmp};
-ghost use Rattle.rs_update.specs.Section.{items_of, section_fault};
-ghost use Rattle.rs_update.specs.Spelling.{written};
+ghost use Rattle.rs_types.specs.Section.{items_of, section_fault};
+ghost use Rattle.rs_types.specs.Spelling.{written};
 
-use crate::attributes::Attributes;
-use crate::prefix::{Prefix, bits_past_the_length_are_cleared};
-use crate::values::Origin;
-
-/// Prefixes are ordered by address, then by length.
-pub fn prefixes_are_ordered_by_address_then_length()
-    ensures { (one other : IpPrefix) → ⟦<Prefix as Ord>⟧.cmp one other ≡ prefix_cmp one other }
-{}
-
-/// Origins are ordered by their codes: IGP, then EGP, then INCOMPLETE (RFC 4271, section 9.1.2.2, b).
-pub fn origins_are_ordered_by_code()
-    ensures { (one other : Origin) → ⟦<Origin as Ord>⟧.cmp one other ≡ origin_cmp one other }
-{}
-
-/// A prefix covers itself.
-pub fn a_prefix_covers_itself(prefix: Prefix)
-    ensures { covers prefix prefix ≡ true }
-{
-    bits_past_the_length_are_cleared(prefix);
-}
+use rs_types::Attributes;
 
 /// A field of withdrawn routes or of NLRI lists at most one list of prefixes, and reading finds it exactly
 /// where there is one (RFC 4271, section 4.3).

@@ -4,12 +4,11 @@ ghost use Rattle.std.specs.Prelude.{IfOk};
 ghost use Rattle.rs_update.specs.Message.{message_of, Answers, HasAttributesForRoutes, IsUntreated};
 ghost use Rattle.rs_update.specs.Treating.{message_by};
 
-use crate::attributes::Attributes;
 use crate::errors::Errors;
 use crate::fault::MessageFault;
 use crate::header::{HEADER_LEN, MessageType, read_header};
-use crate::prefix::Prefix;
 use crate::update::read_update_by;
+use rs_types::{Attributes, Prefix};
 use std::alloc::Global;
 
 /// An UPDATE: the routes that it withdraws, and those that it announces with their common attributes.

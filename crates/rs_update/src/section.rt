@@ -5,16 +5,13 @@
 //! flags, the length and the value.
 
 ghost use Rattle.std.specs.Prelude.{◌≡◌, Some, None, if◌then◌else◌, slice_index_or, false, replicate};
-ghost use Rattle.rs_update.specs.declared.fault.UpdateFault.TheVariants.{MalformedAttributeList};
-ghost use Rattle.rs_update.specs.Fault.{first_fault};
+ghost use Rattle.rs_types.specs.declared.fault.UpdateFault.TheVariants.{MalformedAttributeList};
+ghost use Rattle.rs_types.specs.FirstFault.{first_fault};
 ghost use Rattle.rs_update.specs.Concerns.{AreTypesOf};
-ghost use Rattle.rs_update.specs.Items.{item_of};
-ghost use Rattle.rs_update.specs.Section.{section_fault as section_fault_of, own_fault_of, tests_of, items_of};
+ghost use Rattle.rs_types.specs.Items.{item_of};
+ghost use Rattle.rs_types.specs.Section.{section_fault as section_fault_of, own_fault_of, tests_of, items_of};
 
-use crate::attribute_type::AttributeType;
-use crate::fault::UpdateFault;
-use crate::flags::Flags;
-use crate::item::{Item, split_item};
+use rs_types::{AttributeType, Flags, Item, UpdateFault, split_item};
 
 // The numbers that a type can have.
 pub(crate) const TYPES: usize = 256;

@@ -3,18 +3,16 @@
 ghost use Rattle.std.specs.Prelude.{◌≡◌, ◌+◌, ◌≤◌, ◌<◌, ◌++◌, None, true, false, if◌then◌else◌, length, IfOk, OnOk};
 ghost use Rattle.std.specs.Prelude.{OnErr, IsOk, vec_len, vec_capacity, option_and_then};
 ghost use Rattle.std.specs.Option.{ForSome, option_map};
-ghost use Rattle.rs_update.specs.declared.attribute_type.WantedFlags.TheVariants.{Optional};
-ghost use Rattle.rs_update.specs.AttributeType.{is_extended};
+ghost use Rattle.rs_types.specs.declared.attribute_type.WantedFlags.TheVariants.{Optional};
+ghost use Rattle.rs_types.specs.AttributeType.{is_extended};
 ghost use Rattle.rs_update.specs.Found.{Finds, IsPlain, IsSpellable, kept_by, kept_of, spelled_kept, spelled_section};
-ghost use Rattle.rs_update.specs.Items.{item_of};
-ghost use Rattle.rs_update.specs.Section.{items_of, section_fault};
-ghost use Rattle.rs_update.specs.Spelling.{written, written_flags, spelled_item};
+ghost use Rattle.rs_types.specs.Items.{item_of};
+ghost use Rattle.rs_types.specs.Section.{items_of, section_fault};
+ghost use Rattle.rs_types.specs.Spelling.{written, written_flags, spelled_item};
 
-use crate::attribute_type::{AttributeType, WantedFlags};
-use crate::attributes::Attributes;
 use crate::found::Found;
-use crate::item::{Item, item_from};
 use byteorder::{BigEndian, ByteOrder};
+use rs_types::{AttributeType, Attributes, Item, WantedFlags, item_from};
 use std::alloc::{AllocError, Global};
 
 // The most octets of a value whose length takes one octet.

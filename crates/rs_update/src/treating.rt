@@ -2,16 +2,14 @@
 //! that are discarded (sections 3 and 7).
 
 ghost use Rattle.std.specs.Prelude.{◌≡◌, ◌≤◌, IfOk, length, slice_index_or, false, if◌then◌else◌, None};
-ghost use Rattle.rs_update.specs.AttributeType.{type_of};
+ghost use Rattle.rs_types.specs.AttributeType.{type_of};
 ghost use Rattle.rs_update.specs.Handling.{handling_again, handling_of_own, strongest_in, kept_of, kept_section};
-ghost use Rattle.rs_update.specs.Items.{item_of};
-ghost use Rattle.rs_update.specs.Section.{items_of, own_fault_of, section_fault};
+ghost use Rattle.rs_types.specs.Items.{item_of};
+ghost use Rattle.rs_types.specs.Section.{items_of, own_fault_of, section_fault};
 
-use crate::attribute_type::AttributeType;
-use crate::fault::UpdateFault;
-use crate::handling::Handling;
-use crate::item::{Item, split_item};
+use crate::handling::{handling_again, handling_of, is_keep, stronger};
 use crate::section::{TYPES, own_fault};
+use rs_types::{AttributeType, Handling, Item, UpdateFault, split_item};
 use std::alloc::{AllocError, Global};
 
 /// The strongest of what a section asks for. It reads each octet once and takes no memory.
@@ -22,14 +20,17 @@ pub(crate) fn section_handling(section: &[u8]) -> Handling
     let mut strongest = Handling::Keep;
     let mut rest = section;
     while let Some(split) = split_item(rest) {
-        strongest = strongest.stronger(item_handling(&seen, &split.0));
+        strongest = stronger(strongest, item_handling(&seen, &split.0));
         seen[usize::from(split.0.kind)] = true;
         rest = split.1;
     }
     if rest.is_empty() {
         return strongest;
     }
-    strongest.stronger(Handling::SessionReset(UpdateFault::MalformedAttributeList))
+    stronger(
+        strongest,
+        Handling::SessionReset(UpdateFault::MalformedAttributeList),
+    )
 }
 
 // What one attribute asks for, where `seen` tells which types stood earlier.
@@ -39,9 +40,9 @@ fn item_handling(seen: &[bool; TYPES], item: &Item) -> Handling
 {
     let kind = AttributeType::of(item.kind);
     if seen[usize::from(item.kind)] {
-        return kind.handling_again();
+        return handling_again(kind);
     }
-    kind.handling_of(own_fault(kind, item.flags, item.value))
+    handling_of(kind, own_fault(kind, item.flags, item.value))
 }
 
 /// The section without the attributes that are discarded, as it was received otherwise.
@@ -55,7 +56,7 @@ pub(crate) fn keep_attributes(alloc: Global, section: &[u8]) -> Result<Vec<u8>, 
     let mut seen = [false; TYPES];
     let mut rest = section;
     while let Some(split) = split_item(rest) {
-        if item_handling(&seen, &split.0).is_keep() {
+        if is_keep(item_handling(&seen, &split.0)) {
             kept.extend_from_slice(&rest[..rest.len() - split.1.len()])?;
         }
         seen[usize::from(split.0.kind)] = true;

@@ -5,26 +5,26 @@
 
 ghost use Rattle.std.specs.Prelude.{◌≡◌, ◌<◌, ◌≤◌, length, None, Some, IfOk, IfErr, OnOk, OnErr};
 ghost use Rattle.std.specs.Result.{is_err};
-ghost use Rattle.rs_update.specs.Fault.{first_fault};
+ghost use Rattle.rs_types.specs.FirstFault.{first_fault};
 ghost use Rattle.rs_update.specs.Handling.{kept_of, strongest_in};
-ghost use Rattle.rs_update.specs.Gathered.{attributes_of};
+ghost use Rattle.rs_types.specs.Gathered.{attributes_of};
 ghost use Rattle.rs_update.specs.Message as spec;
 ghost use Rattle.rs_update.specs.Treating.{standing_attributes as standing_attributes_of, treating_update_of};
 ghost use Rattle.rs_update.specs.Treating.{treating_message, update_by, attributes_in, reset_of};
 ghost use Rattle.rs_update.specs.Found.{Finds};
-ghost use Rattle.rs_update.specs.Section.{items_of, section_fault as section_fault_of};
+ghost use Rattle.rs_types.specs.Section.{items_of, section_fault as section_fault_of};
 
-use crate::attributes::Attributes;
 use crate::errors::Errors;
-use crate::fault::{MessageFault, UpdateFault};
+use crate::fault::MessageFault;
 use crate::found::{Found, NOWHERE, find_items};
 use crate::gather::{find_and_gather, gather};
-use crate::handling::Handling;
+use crate::handling::is_keep;
 use crate::message::{Message, Update};
-use crate::prefix::{count_prefixes, read_prefixes};
+use crate::prefix_list::{count_prefixes, read_prefixes};
 use crate::section::{TYPES, section_fault};
 use crate::treating::{keep_attributes, section_handling};
 use byteorder::{BigEndian, ByteOrder};
+use rs_types::{Attributes, Handling, UpdateFault};
 use std::alloc::{AllocError, Global};
 
 /// The fields of an UPDATE, as they stand in it.
@@ -168,7 +168,7 @@ fn kept_attributes(
     requires short { length section.now ≤ 4073 }
     ensures { IfOk result (λ attributes. attributes ≡ attributes_of (kept_of (items_of section.now))) }
 {
-    if handling.is_keep() {
+    if is_keep(handling) {
         return find_and_gather(alloc, section);
     }
     let kept = keep_attributes(alloc, section)?;

@@ -15,7 +15,7 @@ use Rattle.rs_choice.specs.declared.step.Step.TheVariants as steps
 use Rattle.rs_choice.specs.Clients.{is_sent_to, chosen_for, peer_or_own}
 use Rattle.rs_choice.specs.Comparison.{HasLowerMed, HasSameMed, IsAhead, IsAheadByMed, IsLevel, Outdoes, OutdoesByMed, Precedes}
 use Rattle.rs_choice.specs.Decision.{SentRoute, beats, remaining, choice, standing_of}
-use Rattle.rs_update.specs.Spelling.{origin_code}
+use Rattle.rs_types.specs.Spelling.{origin_code}
 use Rattle.rs_choice.specs.Eligibility.{is_eligible}
 use Rattle.rs_choice.specs.Laws.{RemovedIsNoMatter, BehindIsNoMatter, OthersAreNoMatter, OutdoneIsNoMatter}
 use Rattle.rs_choice.proofs.Members.{Mem, any_found, contains-mem, list_any-none, mem-append_right, mem-contains, mem_of-filter, mem_widen}

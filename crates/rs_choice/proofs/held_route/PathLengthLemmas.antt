@@ -4,12 +4,12 @@ use Rattle.std.proofs.Common.{Option, Some, None}
 use Rattle.std.specs.List.{cons_option, filter_map, flat_map, range_with_len}
 use Rattle.std.proofs.lemmas.List.FromFn.{get_or-range_with_len, length-range_with_len}
 use Rattle.std.proofs.lemmas.List.Sums.{sum_by-cons}
-use Rattle.rs_update.specs.AsPath.{hops_of, path_length_of}
-use Rattle.rs_update.specs.AttributeType.{type_of}
-use Rattle.rs_update.specs.PathAttributes.{PathAttributes, PathSegment, AsSet, AsSequence}
-use Rattle.rs_update.specs.PathSegments.{spelled_numbers, spelled_segment}
-use Rattle.rs_update.specs.Section.{Item, spelled_length}
-use Rattle.rs_update.specs.Spelling.{spelled_item, well_known, written, written_item, written_items}
+use Rattle.rs_types.specs.AsPath.{hops_of, path_length_of}
+use Rattle.rs_types.specs.AttributeType.{type_of}
+use Rattle.rs_types.specs.PathAttributes.{PathAttributes, PathSegment, AsSet, AsSequence}
+use Rattle.rs_types.specs.PathSegments.{spelled_numbers, spelled_segment}
+use Rattle.rs_types.specs.Section.{Item, spelled_length}
+use Rattle.rs_types.specs.Spelling.{spelled_item, well_known, written, written_item, written_items}
 
 -- a piece of what is spelled is no longer than all of it
 piece_fits : {X Y A : Type 0} (spell : Y → List A) (item : X → Option Y) (xs : List X) (i : ℕ) (d : X) (y : Y) → i < length xs

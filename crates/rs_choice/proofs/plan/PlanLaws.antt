@@ -12,7 +12,7 @@ use Rattle.rs_choice.specs.declared.fault.PlanFault.{PlanFault}
 use Rattle.rs_choice.specs.declared.fault.PlanFault.TheVariants.{RepeatedAddress}
 use Rattle.rs_choice.specs.Laws.{FaultIsFirst, PeersHaveOwnAddresses}
 use Rattle.rs_choice.specs.Plan.{Peer, Test, has_address, peer_tests, peers_tests, names_tests, whole_tests, plan_tests, plan_fault}
-use Rattle.rs_update.specs.Fault.{first_fault}
+use Rattle.rs_types.specs.FirstFault.{first_fault}
 use Rattle.rs_choice.proofs.Members.{Mem, contains-mem, list_any-none, mem-append_left, mem-append_right}
 use Rattle.rs_choice.proofs.decision.PlaceLemmas.{enumerate-at}
 

@@ -13,7 +13,7 @@ use Rattle.rs_choice.specs.declared.fault.PlanFault.TheVariants.{InvalidName, Re
 use Rattle.rs_choice.specs.Naturality.{list_any-map}
 use Rattle.rs_choice.specs.Checks.{has_name_among, has_address_among}
 use Rattle.rs_choice.specs.Plan.{Peer, Test, is_name, has_name, has_names, has_address, name_tests, peer_tests, peer_of}
-use Rattle.rs_update.specs.Fault.{first_fault}
+use Rattle.rs_types.specs.FirstFault.{first_fault}
 
 -- a fault in the first list is the first
 pub first_fault-Some : (first later : List Test) (fault : PlanFault) → first_fault first ≡ Some fault

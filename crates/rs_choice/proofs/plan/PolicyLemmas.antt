@@ -11,8 +11,8 @@ use Rattle.std.proofs.lemmas.Option.{slice_get-map, get_or_from_slice_get, slice
 use Rattle.std.proofs.lemmas.List.{length-map}
 use Rattle.std.proofs.lemmas.Bool.{and_left, and_right, cases_Bool, ltb-true, ne_eqb, or_parts}
 use Rattle.std.proofs.lemmas.Bool.Decides.{nat_tests}
-use Rattle.rs_update.specs.PathAttributes.{PathAttributes, CommunityList}
-use Rattle.rs_update.specs.Community.{has_community_in, has_community_of_in, has_value_of}
+use Rattle.rs_types.specs.PathAttributes.{PathAttributes, CommunityList}
+use Rattle.rs_types.specs.Community.{has_community_in, has_community_of_in, has_value_of}
 use Rattle.rs_choice.specs.declared.plan.PeerSpec.{PeerSpec}
 use Rattle.rs_choice.specs.Naturality.{list_any-map}
 use Rattle.rs_choice.specs.Checks.{refuses_spec}

@@ -10,10 +10,10 @@ use Rattle.std.specs.Prelude.{◌↔◌}
 use Rattle.std.specs.Option.{option_map}
 use Rattle.std.proofs.Math.Nat.{mul-div_cancel, mul-div-mul_right, mul-mod_left, one-le-pow, div-add-mod'}
 use Rattle.byteorder.specs.Endian.{big_number}
-use Rattle.rs_update.specs.IpPrefix.{IpPrefix}
-use Rattle.rs_update.specs.Prefix.{network_of, octets_for, Spells, IsField, prefix_at, prefixes_of}
-use Rattle.rs_update.specs.Parts.{AreOctets, IsSpelledBy, IsNoPart, parts_within, parts_of}
-use Rattle.rs_update.proofs.fields.PartsLemmas.{Shrinks, Reads, unless_some, parts_of-some, parts_of-none, parts_of-whole, whole-parts_of}
+use Rattle.rs_types.specs.IpPrefix.{IpPrefix}
+use Rattle.rs_types.specs.Prefix.{network_of, octets_for, Spells, IsField, prefix_at, prefixes_of}
+use Rattle.rs_types.specs.Parts.{AreOctets, IsSpelledBy, IsNoPart, parts_within, parts_of}
+use Rattle.rs_types.proofs.fields.PartsLemmas.{Shrinks, Reads, unless_some, parts_of-some, parts_of-none, parts_of-whole, whole-parts_of}
 
 -- ---- numbers
 

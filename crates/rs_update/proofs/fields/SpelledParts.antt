@@ -3,10 +3,10 @@ use Rattle.std.proofs.Common.{◌≡◌, ℕ, zero, suc, ◌<◌, ◌≤◌, Lis
 use Rattle.std.proofs.Common.{append_assoc, arith}
 use Rattle.std.specs.List.{flat_map, AllByRecursion}
 use Rattle.std.proofs.lemmas.List.{append-nil, length-append}
-use Rattle.rs_update.specs.Parts.{parts_within, parts_of}
-use Rattle.rs_update.specs.Section.{Item, FitsItsLength, item_at}
-use Rattle.rs_update.specs.Spelling.{spelled_item}
-use Rattle.rs_update.proofs.section.ItemLemmas.{item_at-spelled}
+use Rattle.rs_types.specs.Parts.{parts_within, parts_of}
+use Rattle.rs_types.specs.Section.{Item, FitsItsLength, item_at}
+use Rattle.rs_types.specs.Spelling.{spelled_item}
+use Rattle.rs_types.proofs.section.ItemLemmas.{item_at-spelled}
 
 -- a reader that reads each part that fits from its spelling, and no spelling is empty
 module _ {A : Type 0} (read : List ℕ → Option (A × List ℕ)) (spell : A → List ℕ) (Fits : A → Type 0)

@@ -2,8 +2,8 @@
 -- For `a_path_is_one_list_of_segments` and `a_section_is_one_list_of_attributes` of laws.rt.
 use Rattle.std.proofs.Common.{◌≡◌, ℕ, List, Option, sym, ap}
 use Rattle.std.specs.Prelude.{◌↔◌}
-use Rattle.rs_update.specs.Parts.{AreOctets, IsWholeFront, parts_of}
-use Rattle.rs_update.proofs.fields.PartsLemmas.{Shrinks, Reads, parts_of-whole, whole-parts_of}
+use Rattle.rs_types.specs.Parts.{AreOctets, IsWholeFront, parts_of}
+use Rattle.rs_types.proofs.fields.PartsLemmas.{Shrinks, Reads, parts_of-whole, whole-parts_of}
 
 pub splits_as_read : {A : Type 0} (read : List ℕ → Option (A × List ℕ)) (Spells : List ℕ → A → Type 0) → Shrinks read → Reads read Spells
     → (octets : List ℕ) → AreOctets octets

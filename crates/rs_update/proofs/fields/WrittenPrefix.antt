@@ -4,8 +4,8 @@ use Rattle.std.proofs.Common.{length-take-le}
 use Rattle.std.proofs.Math.Nat.{div-div-eq-div-mul}
 use Rattle.std.proofs.lemmas.Nat.{pow-add}
 use Rattle.byteorder.specs.Endian.{big_bytes, big_number}
-use Rattle.rs_update.specs.IpPrefix.{IpPrefix, IsPrefix}
-use Rattle.rs_update.specs.Prefix.{octets_for, spelled_prefix, Spells}
+use Rattle.rs_types.specs.IpPrefix.{IpPrefix, IsPrefix}
+use Rattle.rs_types.specs.Prefix.{octets_for, spelled_prefix, Spells}
 
 -- the first octets of an address are the address without the others
 first_octets : (count address : ℕ) → count ≤ 4 → address < 2 ^ 32

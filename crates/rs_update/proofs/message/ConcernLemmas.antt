@@ -7,29 +7,29 @@ use mathlib.Core.Bool.{or_assoc}
 use Rattle.rs_update.specs.declared.errors.Errors.{Errors}
 use Rattle.rs_update.specs.declared.errors.Errors.TheVariants.{Rfc4271, Rfc7606}
 use Rattle.rs_update.specs.declared.fault.HeaderFault.{HeaderFault}
-use Rattle.rs_update.specs.declared.fault.UpdateFault.{UpdateFault}
-use Rattle.rs_update.specs.declared.fault.UpdateFault.TheVariants.{InvalidNetworkField}
+use Rattle.rs_types.specs.declared.fault.UpdateFault.{UpdateFault}
+use Rattle.rs_types.specs.declared.fault.UpdateFault.TheVariants.{InvalidNetworkField}
 use Rattle.rs_update.specs.declared.header.MessageType.{MessageType}
 use Rattle.rs_update.specs.declared.header.MessageType.TheVariants as types
 use Rattle.rs_update.specs.Concerns.{AreTypesOf, field_concerns, has_mandatory, message_concerns, section_closes}
-use Rattle.rs_update.specs.Covering.{covers, lists_cover}
-use Rattle.rs_update.specs.Fault.{first_fault}
-use Rattle.rs_update.specs.Gathered.{attributes_of, look}
+use Rattle.rs_types.specs.Covering.{covers, lists_cover}
+use Rattle.rs_types.specs.FirstFault.{first_fault}
+use Rattle.rs_types.specs.Gathered.{attributes_of, look}
 use Rattle.rs_update.specs.Handling.{strongest_in}
 use Rattle.rs_update.specs.Header.{header_of}
-use Rattle.rs_update.specs.IpPrefix.{IpPrefix}
+use Rattle.rs_types.specs.IpPrefix.{IpPrefix}
 use Rattle.rs_update.specs.Message.{length_tests, announced_attributes, withdrawn_field, section_field, nlri_field, update_message}
 use Rattle.rs_update.specs.Message.{update_of}
-use Rattle.rs_update.specs.PathAttributes.{PathAttributes}
-use Rattle.rs_update.specs.Prefix.{prefix_at, prefixes_of}
-use Rattle.rs_update.specs.Section.{Item, items_of, section_fault}
+use Rattle.rs_types.specs.PathAttributes.{PathAttributes}
+use Rattle.rs_types.specs.Prefix.{prefix_at, prefixes_of}
+use Rattle.rs_types.specs.Section.{Item, items_of, section_fault}
 use Rattle.rs_update.specs.Treating.{reset_of, standing_attributes, treating_message, treating_update_of, update_by, typed_message_by}
 use Rattle.rs_update.specs.Treating.{message_by}
 use Rattle.rs_update.proofs.message.MessageLemmas.{steps, announced-missing}
 use Rattle.rs_update.proofs.fields.PrefixLemmas.{prefixes_more, prefixes_end}
 use Rattle.rs_update.proofs.treating.TreatingLemmas.{message_by-typed, treating_steps}
-use Rattle.rs_update.proofs.attributes.KindLemmas.{has_look}
-use Rattle.rs_update.proofs.attributes.WholeLemmas.{mandatory_given}
+use Rattle.rs_types.proofs.section.KindLemmas.{has_look}
+use Rattle.rs_update.proofs.gather.WholeLemmas.{mandatory_given}
 
 mandatory_types : (seen : List Bool) (items : List Item) → AreTypesOf seen items → has_mandatory seen ≡ is_some (attributes_of items)
 mandatory_types seen items are = mandatory_given items (each 1 (omega arith)) (each 2 (omega arith)) (each 3 (omega arith))

@@ -6,7 +6,7 @@ use Rattle.std.proofs.Math.Nat.{mul-le-mul_right, pow-succ'}
 use Rattle.std.proofs.lemmas.Bool.{cases_eq, cases_lt, eq-eqb, ne_eqb}
 use Rattle.byteorder.specs.Endian.{big_number}
 use Rattle.byteorder.specs.Numbers.{big_from-cons, big_from-lt}
-use Rattle.rs_update.specs.Parts.{AreOctets}
+use Rattle.rs_types.specs.Parts.{AreOctets}
 
 -- a first octet is all ones, and so are the later ones, exactly where the number is the greatest
 one_more : (first later power : ℕ) → first < 256 → later < power

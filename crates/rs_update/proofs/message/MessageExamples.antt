@@ -2,15 +2,15 @@
 use Rattle.std.proofs.Common.{◌≡◌, List, ℕ, [], ◌∷◌, ◌++◌, map, replicate, Result, Some, None, false, Ok, Err, refl}
 use Rattle.rs_update.specs.declared.fault.MessageFault.{MessageFault}
 use Rattle.rs_update.specs.declared.fault.MessageFault.TheVariants.{Bgp}
-use Rattle.rs_update.specs.declared.values.Origin.TheVariants.{Igp}
-use Rattle.rs_update.specs.PathAttributes.{PathAttributes, AsSequence}
+use Rattle.rs_types.specs.declared.values.Origin.TheVariants.{Igp}
+use Rattle.rs_types.specs.PathAttributes.{PathAttributes, AsSequence}
 use Rattle.rs_update.specs.Message.{MessageContent, IsUpdate, IsKeepAlive, update_of, message_of}
-use Rattle.rs_update.specs.Parts.{parts_within}
-use Rattle.rs_update.specs.Section.{item_at, first_item_fault}
-use Rattle.rs_update.specs.Gathered.{attributes_of, others_of}
-use Rattle.rs_update.specs.PathSegments.{segment_at}
-use Rattle.rs_update.specs.Numbers.{numbers_at}
-use Rattle.rs_update.specs.Prefix.{prefix_at}
+use Rattle.rs_types.specs.Parts.{parts_within}
+use Rattle.rs_types.specs.Section.{item_at, first_item_fault}
+use Rattle.rs_types.specs.Gathered.{attributes_of, others_of}
+use Rattle.rs_types.specs.PathSegments.{segment_at}
+use Rattle.rs_types.specs.Numbers.{numbers_at}
+use Rattle.rs_types.specs.Prefix.{prefix_at}
 use Rattle.rs_update.proofs.section.SectionExamples.{mandatory}
 
 abbrev marker : List ℕ

@@ -8,17 +8,18 @@ use Rattle.rs_update.specs.declared.fault.HeaderFault.{HeaderFault}
 use Rattle.rs_update.specs.declared.fault.HeaderFault.TheVariants.{NotSynchronized, BadLength, BadType}
 use Rattle.rs_update.specs.declared.fault.MessageFault.{MessageFault}
 use Rattle.rs_update.specs.declared.header.MessageType.{MessageType}
-use Rattle.rs_update.specs.declared.fault.UpdateFault.{UpdateFault}
-use Rattle.rs_update.specs.Fault.{first_fault, or_else, of_header, of_update}
-use Rattle.rs_update.specs.Gathered.{attributes_of}
+use Rattle.rs_types.specs.declared.fault.UpdateFault.{UpdateFault}
+use Rattle.rs_types.specs.FirstFault.{first_fault, or_else}
+use Rattle.rs_update.specs.Fault.{of_header, of_update}
+use Rattle.rs_types.specs.Gathered.{attributes_of}
 use Rattle.rs_update.specs.Header.{header_fault, is_marked, has_length, suits_type, type_of, type_field}
 use Rattle.rs_update.specs.Message.{MessageContent, UpdateContent, ◌>>=◌, passes, listed_prefixes, announced_attributes, section_field}
 use Rattle.rs_update.specs.Message.{nlri_field, contents_fault, update_fault, update_message, update_of, message_fault, message_of}
 use Rattle.rs_update.specs.Message.{typed_message}
-use Rattle.rs_update.specs.Prefix.{prefixes_of}
-use Rattle.rs_update.specs.Section.{items_of}
-use Rattle.rs_update.specs.IpPrefix.{IpPrefix}
-use Rattle.rs_update.specs.PathAttributes.{PathAttributes}
+use Rattle.rs_types.specs.Prefix.{prefixes_of}
+use Rattle.rs_types.specs.Section.{items_of}
+use Rattle.rs_types.specs.IpPrefix.{IpPrefix}
+use Rattle.rs_types.specs.PathAttributes.{PathAttributes}
 use Rattle.rs_update.proofs.fields.PrefixLemmas.{no_prefix, some_prefix}
 
 -- ---- the first fault

@@ -3,17 +3,17 @@ use Rattle.std.proofs.Common.{◌≡◌, ℕ, ◌<◌, false, List, ◌∷◌, [
 use Rattle.std.specs.Prelude.{is_err}
 use Rattle.std.specs.Option.{option_map}
 use Rattle.std.proofs.lemmas.Bool.{true≢false}
-use Rattle.rs_update.specs.declared.fault.UpdateFault.{UpdateFault}
-use Rattle.rs_update.specs.Fault.{first_fault}
+use Rattle.rs_types.specs.declared.fault.UpdateFault.{UpdateFault}
+use Rattle.rs_types.specs.FirstFault.{first_fault}
 use Rattle.rs_update.specs.Handling.{strongest_in}
-use Rattle.rs_update.specs.IpPrefix.{IpPrefix}
+use Rattle.rs_types.specs.IpPrefix.{IpPrefix}
 use Rattle.rs_update.specs.Message.{ListsPrefix, length_tests, listed_prefixes, announced_attributes, withdrawn_field, section_field}
 use Rattle.rs_update.specs.Message.{nlri_field, update_message, update_of}
-use Rattle.rs_update.specs.PathAttributes.{PathAttributes}
-use Rattle.rs_update.specs.Prefix.{prefixes_of}
-use Rattle.rs_update.specs.Section.{section_fault}
+use Rattle.rs_types.specs.PathAttributes.{PathAttributes}
+use Rattle.rs_types.specs.Prefix.{prefixes_of}
+use Rattle.rs_types.specs.Section.{section_fault}
 use Rattle.rs_update.specs.Treating.{reset_of, standing_attributes, treating_update_of, treating_message}
-use Rattle.rs_update.proofs.attributes.KindLemmas.{cases_Option}
+use Rattle.rs_types.proofs.section.KindLemmas.{cases_Option}
 use Rattle.rs_update.proofs.fields.PrefixLemmas.{some_prefix}
 use Rattle.rs_update.proofs.message.MessageLemmas.{steps}
 use Rattle.rs_update.proofs.treating.TreatingLemmas.{treating_steps}

@@ -4,12 +4,12 @@ use Rattle.std.proofs.Common.{◌≡◌, ◌≢◌, ℕ, List, [], ◌∷◌, �
 use Rattle.std.specs.Prelude.{◌↔◌}
 use Rattle.std.proofs.lemmas.Bool.Decides.{nat_tests}
 use Rattle.std.proofs.lemmas.List.{append-nil}
-use Rattle.rs_update.specs.declared.fault.UpdateFault.{UpdateFault}
-use Rattle.rs_update.specs.declared.fault.UpdateFault.TheVariants.{MalformedAttributeList}
-use Rattle.rs_update.specs.Fault.{or_else}
-use Rattle.rs_update.specs.Section.{Item, items_of, rest_of, fault_of_rest, fault_behind, first_item_fault, section_fault, AreFaultless}
-use Rattle.rs_update.specs.Section.{IsFirstAtFault}
-use Rattle.rs_update.proofs.section.SoundLemmas.{neither, section_without}
+use Rattle.rs_types.specs.declared.fault.UpdateFault.{UpdateFault}
+use Rattle.rs_types.specs.declared.fault.UpdateFault.TheVariants.{MalformedAttributeList}
+use Rattle.rs_types.specs.FirstFault.{or_else}
+use Rattle.rs_types.specs.Section.{Item, items_of, rest_of, fault_of_rest, fault_behind, first_item_fault, section_fault, AreFaultless}
+use Rattle.rs_types.specs.Section.{IsFirstAtFault}
+use Rattle.rs_types.proofs.section.SoundLemmas.{neither, section_without}
 
 -- the same of attributes that stand behind others
 abbrev AreFaultlessBehind : List Item → List Item → Type 0

@@ -1,16 +1,16 @@
 -- Sections of path attributes by hand, each with its first fault.
 use Rattle.std.proofs.Common.{◌≡◌, List, ℕ, [], ◌∷◌, ◌++◌, map, Option, Some, None, true, false, refl, lit<}
-use Rattle.rs_update.specs.declared.attribute_type.AttributeType.TheVariants.{Origin, MultiExitDisc, As4Path, Communities, Unrecognized}
-use Rattle.rs_update.specs.declared.attribute_type.WantedFlags.TheVariants.{WellKnown}
-use Rattle.rs_update.specs.declared.fault.UpdateFault.{UpdateFault}
-use Rattle.rs_update.specs.declared.fault.UpdateFault.TheVariants.{MalformedAttributeList, UnrecognizedWellKnown, AttributeFlags}
-use Rattle.rs_update.specs.declared.fault.UpdateFault.TheVariants.{AttributeLength, InvalidOrigin, InvalidNextHop, MalformedAsPath}
-use Rattle.rs_update.specs.AttributeType.{type_of, flags_of, suits}
-use Rattle.rs_update.specs.Numbers.{numbers_at}
-use Rattle.rs_update.specs.Parts.{parts_within}
-use Rattle.rs_update.specs.PathSegments.{segment_at}
-use Rattle.rs_update.specs.Section.{Item, SpellsItem, item_at, items_of, rest_of, suits_length, is_origin, is_next_hop, fault_behind}
-use Rattle.rs_update.specs.Section.{first_item_fault, section_fault, AreFaultless, IsFirstAtFault}
+use Rattle.rs_types.specs.declared.attribute_type.AttributeType.TheVariants.{Origin, MultiExitDisc, As4Path, Communities, Unrecognized}
+use Rattle.rs_types.specs.declared.attribute_type.WantedFlags.TheVariants.{WellKnown}
+use Rattle.rs_types.specs.declared.fault.UpdateFault.{UpdateFault}
+use Rattle.rs_types.specs.declared.fault.UpdateFault.TheVariants.{MalformedAttributeList, UnrecognizedWellKnown, AttributeFlags}
+use Rattle.rs_types.specs.declared.fault.UpdateFault.TheVariants.{AttributeLength, InvalidOrigin, InvalidNextHop, MalformedAsPath}
+use Rattle.rs_types.specs.AttributeType.{type_of, flags_of, suits}
+use Rattle.rs_types.specs.Numbers.{numbers_at}
+use Rattle.rs_types.specs.Parts.{parts_within}
+use Rattle.rs_types.specs.PathSegments.{segment_at}
+use Rattle.rs_types.specs.Section.{Item, SpellsItem, item_at, items_of, rest_of, suits_length, is_origin, is_next_hop, fault_behind}
+use Rattle.rs_types.specs.Section.{first_item_fault, section_fault, AreFaultless, IsFirstAtFault}
 use Rattle.rs_update.proofs.section.FirstFaultLemmas.{nothing_before}
 
 -- ---- the first fault of a section

@@ -7,15 +7,15 @@ use Rattle.std.specs.List.{list_any}
 use Rattle.std.proofs.lemmas.Bool.{cases_eq, eq-eqb, ne_eqb}
 use Rattle.std.proofs.lemmas.Grind.{common_steps}
 use Rattle.std.proofs.lemmas.List.{append-nil, length-replicate, get_or-replicate, length-set}
-use Rattle.rs_update.specs.declared.fault.UpdateFault.{UpdateFault}
-use Rattle.rs_update.specs.declared.fault.UpdateFault.TheVariants.{MalformedAttributeList}
+use Rattle.rs_types.specs.declared.fault.UpdateFault.{UpdateFault}
+use Rattle.rs_types.specs.declared.fault.UpdateFault.TheVariants.{MalformedAttributeList}
 use Rattle.rs_update.specs.Concerns.{AreTypesOf}
-use Rattle.rs_update.specs.Fault.{or_else}
-use Rattle.rs_update.specs.Parts.{parts_of}
-use Rattle.rs_update.specs.Section.{Item, item_at, items_of, rest_of, own_fault_of, has_type, fault_behind, first_item_fault, fault_of_rest}
-use Rattle.rs_update.specs.Section.{section_fault}
-use Rattle.rs_update.proofs.section.ItemLemmas.{item_shrinks, items_of-step, items_of-end}
-use Rattle.rs_update.proofs.fields.PartsLemmas.{parts_of-some, parts_of-none}
+use Rattle.rs_types.specs.FirstFault.{or_else}
+use Rattle.rs_types.specs.Parts.{parts_of}
+use Rattle.rs_types.specs.Section.{Item, item_at, items_of, rest_of, own_fault_of, has_type, fault_behind, first_item_fault, fault_of_rest}
+use Rattle.rs_types.specs.Section.{section_fault}
+use Rattle.rs_types.proofs.section.ItemLemmas.{item_shrinks, items_of-step, items_of-end}
+use Rattle.rs_types.proofs.fields.PartsLemmas.{parts_of-some, parts_of-none}
 
 -- the first fault of attributes that stand behind others, and of a rest
 abbrev pub fault_of_parts : List Item → List Item × List ℕ → Option UpdateFault

@@ -6,27 +6,28 @@ use Rattle.std.specs.List.{filter_map, range_with_len, flat_map, AllByRecursion}
 use Rattle.std.specs.Option.{option_map}
 use Rattle.std.proofs.lemmas.Bool.{cases_Bool}
 use Rattle.byteorder.specs.Endian.{big_number}
-use Rattle.rs_update.specs.declared.attribute_type.AttributeType.{AttributeType}
-use Rattle.rs_update.specs.declared.attribute_type.AttributeType.TheVariants as types
-use Rattle.rs_update.specs.declared.attribute_type.WantedFlags.{WantedFlags}
-use Rattle.rs_update.specs.declared.attribute_type.WantedFlags.TheVariants.{WellKnown, OptionalNonTransitive, OptionalTransitive, Optional}
-use Rattle.rs_update.specs.declared.attribute_type.WantedFlags.TheVariants.{Any}
-use Rattle.rs_update.specs.declared.values.Aggregator.{Aggregator}
-use Rattle.rs_update.specs.AttributeType.{type_of, row_of, is_unrecognized, is_partial}
+use Rattle.rs_types.specs.declared.attribute_type.AttributeType.{AttributeType}
+use Rattle.rs_types.specs.declared.attribute_type.AttributeType.TheVariants as types
+use Rattle.rs_types.specs.declared.attribute_type.WantedFlags.{WantedFlags}
+use Rattle.rs_types.specs.declared.attribute_type.WantedFlags.TheVariants.{WellKnown, OptionalNonTransitive, OptionalTransitive, Optional}
+use Rattle.rs_types.specs.declared.attribute_type.WantedFlags.TheVariants.{Any}
+use Rattle.rs_types.specs.declared.values.Aggregator.{Aggregator}
+use Rattle.rs_types.specs.AttributeType.{type_of, row_of, is_unrecognized, is_partial}
 use Rattle.rs_update.specs.Found.{kept_by, kept_as, kept_of, kept_in}
-use Rattle.rs_update.specs.Gathered.{look, aggregator_of, community_list_of, is_passed_on, passed_on_of, passed_on_in, others_of}
-use Rattle.rs_update.specs.Gathered.{attributes_from, attributes_of}
+use Rattle.rs_types.specs.Gathered.{look, aggregator_of, community_list_of, is_passed_on, passed_on_of, passed_on_in, others_of}
+use Rattle.rs_types.specs.Gathered.{attributes_from, attributes_of}
 use Rattle.rs_update.specs.Laws.{WrittenIsRead}
-use Rattle.rs_update.specs.Parts.{AreOctets, parts_of}
-use Rattle.rs_update.specs.PathAttributes.{PathAttributes, CommunityList, PassedOn}
-use Rattle.rs_update.specs.Section.{Item, FitsItsLength, item_at, items_of, rest_of, section_fault, first_item_fault}
-use Rattle.rs_update.specs.Shapes.{passed_on_from}
-use Rattle.rs_update.specs.Spelling.{well_known, optional_transitive, spelled_item, written}
+use Rattle.rs_types.specs.Parts.{AreOctets, parts_of}
+use Rattle.rs_types.specs.PathAttributes.{PathAttributes, CommunityList, PassedOn}
+use Rattle.rs_types.specs.Section.{Item, FitsItsLength, item_at, items_of, rest_of, section_fault, first_item_fault}
+use Rattle.rs_types.specs.Shapes.{passed_on_from}
+use Rattle.rs_types.specs.Spelling.{well_known, optional_transitive, spelled_item, written}
 use Rattle.rs_update.proofs.spelling.BoundLemmas.{written-shorter}
-use Rattle.rs_update.proofs.attributes.KindLemmas.{cases_Option, All-range, filter_map-same, find-made, range-any}
-use Rattle.rs_update.proofs.section.SoundLemmas.{AreSound, sound_section, look_sound}
+use Rattle.rs_types.proofs.section.KindLemmas.{cases_Option, All-range, filter_map-same, find-made, range-any}
+use Rattle.rs_types.proofs.section.SoundLemmas.{AreSound, sound_section, look_sound}
 use Rattle.rs_update.proofs.fields.SpelledParts.{items_of-spelled}
-use Rattle.rs_update.proofs.attributes.WholeLemmas.{All-filter_map, attributes_of-found, same_attributes, made_of, written-made}
+use Rattle.rs_types.proofs.section.LookLemmas.{made_of}
+use Rattle.rs_update.proofs.gather.WholeLemmas.{All-filter_map, attributes_of-found, same_attributes, written-made}
 use Rattle.rs_update.proofs.spelling.WrittenLemmas.{kept_written, written_partial, passed_on_transitive, ascending_without}
 
 -- ---- values as they are written

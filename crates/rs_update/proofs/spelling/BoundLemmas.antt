@@ -6,21 +6,21 @@ use Rattle.std.proofs.lemmas.Bool.{cases_Bool, cases_lt, lt-ltb, le-ltb}
 use Rattle.std.proofs.lemmas.Bool.Decides.{nat_tests}
 use Rattle.std.proofs.lemmas.List.{length-append}
 use Rattle.std.proofs.lemmas.Option.{same_Some}
-use Rattle.rs_update.specs.declared.attribute_type.AttributeType.{AttributeType}
-use Rattle.rs_update.specs.declared.attribute_type.WantedFlags.{WantedFlags}
-use Rattle.rs_update.specs.declared.attribute_type.WantedFlags.TheVariants.{WellKnown, OptionalNonTransitive, OptionalTransitive, Optional}
-use Rattle.rs_update.specs.declared.attribute_type.WantedFlags.TheVariants.{Any}
-use Rattle.rs_update.specs.AttributeType.{type_of, row_of, is_extended, is_transitive, is_partial}
+use Rattle.rs_types.specs.declared.attribute_type.AttributeType.{AttributeType}
+use Rattle.rs_types.specs.declared.attribute_type.WantedFlags.{WantedFlags}
+use Rattle.rs_types.specs.declared.attribute_type.WantedFlags.TheVariants.{WellKnown, OptionalNonTransitive, OptionalTransitive, Optional}
+use Rattle.rs_types.specs.declared.attribute_type.WantedFlags.TheVariants.{Any}
+use Rattle.rs_types.specs.AttributeType.{type_of, row_of, is_extended, is_transitive, is_partial}
 use Rattle.rs_update.specs.Found.{IsPlain, kept_by, kept_as, kept_of, kept_in, spelled_kept, spelled_section}
-use Rattle.rs_update.specs.Gathered.{look, attributes_of}
-use Rattle.rs_update.specs.Parts.{AreOctets}
-use Rattle.rs_update.specs.PathAttributes.{PathAttributes}
-use Rattle.rs_update.specs.Section.{Item, spelled_length, items_of, rest_of, section_fault}
-use Rattle.rs_update.specs.Spelling.{written_flags, spelled_item, written}
-use Rattle.rs_update.proofs.attributes.KindLemmas.{cases_Option, All-range}
-use Rattle.rs_update.proofs.section.ReceivedLemmas.{IsReceived, section-is_spelled}
-use Rattle.rs_update.proofs.section.SoundLemmas.{AreSound, sound_section, look_sound}
-use Rattle.rs_update.proofs.attributes.WholeLemmas.{written-made}
+use Rattle.rs_types.specs.Gathered.{look, attributes_of}
+use Rattle.rs_types.specs.Parts.{AreOctets}
+use Rattle.rs_types.specs.PathAttributes.{PathAttributes}
+use Rattle.rs_types.specs.Section.{Item, spelled_length, items_of, rest_of, section_fault}
+use Rattle.rs_types.specs.Spelling.{written_flags, spelled_item, written}
+use Rattle.rs_types.proofs.section.KindLemmas.{cases_Option, All-range}
+use Rattle.rs_types.proofs.section.ReceivedLemmas.{IsReceived, section-is_spelled}
+use Rattle.rs_types.proofs.section.SoundLemmas.{AreSound, sound_section, look_sound}
+use Rattle.rs_update.proofs.gather.WholeLemmas.{written-made}
 
 -- ---- one attribute
 

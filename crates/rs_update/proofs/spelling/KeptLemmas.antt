@@ -8,23 +8,23 @@ use Rattle.std.proofs.lemmas.Bool.{eqb-true}
 use Rattle.std.proofs.lemmas.Bool.Decides.{nat_tests}
 use Rattle.std.proofs.lemmas.List.{take-append-drop, take_all, length-drop, append-nil, nil_from_length}
 use Rattle.byteorder.specs.Endian.{big_number, big_bytes}
-use Rattle.rs_update.specs.declared.attribute_type.AttributeType.{AttributeType}
-use Rattle.rs_update.specs.declared.attribute_type.AttributeType.TheVariants as types
-use Rattle.rs_update.specs.AttributeType.{type_of, is_partial}
+use Rattle.rs_types.specs.declared.attribute_type.AttributeType.{AttributeType}
+use Rattle.rs_types.specs.declared.attribute_type.AttributeType.TheVariants as types
+use Rattle.rs_types.specs.AttributeType.{type_of, is_partial}
 use Rattle.rs_update.specs.Found.{kept_as, kept_in}
-use Rattle.rs_update.specs.Gathered.{look, origin_with, aggregator_of, community_list_of, passed_on_in, others_of, attributes_from}
-use Rattle.rs_update.specs.Parts.{AreOctets}
-use Rattle.rs_update.specs.PathAttributes.{PathAttributes, PassedOn}
-use Rattle.rs_update.specs.PathSegments.{segments_of, spelled_segment}
-use Rattle.rs_update.specs.Section.{Item, is_origin, is_path}
-use Rattle.rs_update.specs.Spelling.{well_known, optional_non_transitive, optional_transitive, aggregator_item, communities_item}
-use Rattle.rs_update.specs.Spelling.{origin_code, passed_on_item, written_item, written_items}
-use Rattle.rs_update.proofs.attributes.KindLemmas.{cases_Option, find-made, range-any, All-range, filter_map-same, passed_on_kind}
-use Rattle.rs_update.proofs.fields.OctetLemmas.{big_bytes-big_number}
-use Rattle.rs_update.proofs.fields.PartsLemmas.{AreOctets-drop}
-use Rattle.rs_update.proofs.as_path.SegmentLemmas.{spelled_numbers-all}
-use Rattle.rs_update.proofs.section.ReceivedLemmas.{value-is_spelled}
-use Rattle.rs_update.proofs.section.SoundLemmas.{AreSound, IsSound, look_sound, origin_value, path_value, communities_value, exact_value}
+use Rattle.rs_types.specs.Gathered.{look, origin_with, aggregator_of, community_list_of, passed_on_in, others_of, attributes_from}
+use Rattle.rs_types.specs.Parts.{AreOctets}
+use Rattle.rs_types.specs.PathAttributes.{PathAttributes, PassedOn}
+use Rattle.rs_types.specs.PathSegments.{segments_of, spelled_segment}
+use Rattle.rs_types.specs.Section.{Item, is_origin, is_path}
+use Rattle.rs_types.specs.Spelling.{well_known, optional_non_transitive, optional_transitive, aggregator_item, communities_item}
+use Rattle.rs_types.specs.Spelling.{origin_code, passed_on_item, written_item, written_items}
+use Rattle.rs_types.proofs.section.KindLemmas.{cases_Option, find-made, range-any, All-range, filter_map-same, passed_on_kind}
+use Rattle.rs_types.proofs.fields.OctetLemmas.{big_bytes-big_number}
+use Rattle.rs_types.proofs.fields.PartsLemmas.{AreOctets-drop}
+use Rattle.rs_types.proofs.fields.SegmentLemmas.{spelled_numbers-all}
+use Rattle.rs_types.proofs.section.ReceivedLemmas.{value-is_spelled}
+use Rattle.rs_types.proofs.section.SoundLemmas.{AreSound, IsSound, look_sound, origin_value, path_value, communities_value, exact_value}
 
 -- ---- the values
 

@@ -4,17 +4,17 @@ use Rattle.std.proofs.Common.{None, refl, sym, ap, subst, ◌∙◌, arith, inl,
 use Rattle.std.specs.List.{filter_map, range_with_len, AllByRecursion}
 use Rattle.std.proofs.lemmas.Bool.{cases_lt, lt-ltb, le-ltb}
 use Rattle.std.proofs.lemmas.Bool.Decides.{nat_tests}
-use Rattle.rs_update.specs.declared.attribute_type.AttributeType.{AttributeType}
-use Rattle.rs_update.specs.declared.attribute_type.WantedFlags.{WantedFlags}
-use Rattle.rs_update.specs.AttributeType.{type_of, flags_of, suits, is_unrecognized, is_optional, is_transitive, is_partial}
-use Rattle.rs_update.specs.Fault.{first_fault}
+use Rattle.rs_types.specs.declared.attribute_type.AttributeType.{AttributeType}
+use Rattle.rs_types.specs.declared.attribute_type.WantedFlags.{WantedFlags}
+use Rattle.rs_types.specs.AttributeType.{type_of, flags_of, suits, is_unrecognized, is_optional, is_transitive, is_partial}
+use Rattle.rs_types.specs.FirstFault.{first_fault}
 use Rattle.rs_update.specs.Found.{IsPlain, kept_by, kept_of, kept_in}
-use Rattle.rs_update.specs.Gathered.{look}
-use Rattle.rs_update.specs.Section.{Item, FitsItsLength, tests_of, suits_length, value_tests, own_fault_of, has_type, first_item_fault}
-use Rattle.rs_update.specs.Spelling.{written_flags}
+use Rattle.rs_types.specs.Gathered.{look}
+use Rattle.rs_types.specs.Section.{Item, FitsItsLength, tests_of, suits_length, value_tests, own_fault_of, has_type, first_item_fault}
+use Rattle.rs_types.specs.Spelling.{written_flags}
 use Rattle.rs_update.proofs.spelling.BoundLemmas.{kept_as-is}
-use Rattle.rs_update.proofs.attributes.KindLemmas.{cases_Option}
-use Rattle.rs_update.proofs.section.SoundLemmas.{AreSound, IsSound, look_sound, tests_passed, received_short}
+use Rattle.rs_types.proofs.section.KindLemmas.{cases_Option}
+use Rattle.rs_types.proofs.section.SoundLemmas.{AreSound, IsSound, look_sound, tests_passed, received_short}
 
 -- ---- flags as they are written
 

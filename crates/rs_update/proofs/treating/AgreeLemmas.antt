@@ -6,25 +6,26 @@ use Rattle.std.proofs.lemmas.List.{append-nil}
 use Rattle.rs_update.specs.declared.errors.Errors.TheVariants.{Rfc7606}
 use Rattle.rs_update.specs.declared.fault.HeaderFault.{HeaderFault}
 use Rattle.rs_update.specs.declared.fault.MessageFault.{MessageFault}
-use Rattle.rs_update.specs.declared.fault.UpdateFault.{UpdateFault}
-use Rattle.rs_update.specs.declared.handling.Handling.{Handling}
-use Rattle.rs_update.specs.declared.handling.Handling.TheVariants.{Keep, AttributeDiscard, TreatAsWithdraw, SessionReset}
+use Rattle.rs_types.specs.declared.fault.UpdateFault.{UpdateFault}
+use Rattle.rs_types.specs.declared.handling.Handling.{Handling}
+use Rattle.rs_types.specs.declared.handling.Handling.TheVariants.{Keep, AttributeDiscard, TreatAsWithdraw, SessionReset}
 use Rattle.rs_update.specs.declared.header.MessageType.{MessageType}
-use Rattle.rs_update.specs.Fault.{first_fault, of_header}
+use Rattle.rs_types.specs.FirstFault.{first_fault}
+use Rattle.rs_update.specs.Fault.{of_header}
 use Rattle.rs_update.specs.Handling.{stronger, handling_behind, strongest_behind, handling_of_rest, strongest_in, kept_of}
 use Rattle.rs_update.specs.Header.{header_of}
-use Rattle.rs_update.specs.IpPrefix.{IpPrefix}
+use Rattle.rs_types.specs.IpPrefix.{IpPrefix}
 use Rattle.rs_update.specs.Laws.{StandardsAgree, StrongestIsFound, AskForLess, IsFirstAsked, strength}
 use Rattle.rs_update.specs.Message.{MessageContent, UpdateContent, IsUpdate, length_tests, listed_prefixes, announced_attributes}
 use Rattle.rs_update.specs.Message.{withdrawn_field, section_field, nlri_field, update_of, typed_message, message_of}
-use Rattle.rs_update.specs.PathAttributes.{PathAttributes}
-use Rattle.rs_update.specs.Section.{Item, items_of, rest_of, fault_behind, first_item_fault, section_fault}
+use Rattle.rs_types.specs.PathAttributes.{PathAttributes}
+use Rattle.rs_types.specs.Section.{Item, items_of, rest_of, fault_behind, first_item_fault, section_fault}
 use Rattle.rs_update.specs.Treating.{reset_of, kept_attributes, standing_attributes, treating_update_of, typed_message_by, message_by}
 use Rattle.rs_update.proofs.message.MessageLemmas.{steps}
 use Rattle.rs_update.proofs.section.FirstFaultLemmas.{nothing_before}
 use Rattle.rs_update.proofs.treating.HandlingLemmas.{nothing_discarded}
 use Rattle.rs_update.proofs.treating.TreatingLemmas.{treating_steps}
-use Rattle.rs_update.proofs.section.SoundLemmas.{neither, section_without}
+use Rattle.rs_types.proofs.section.SoundLemmas.{neither, section_without}
 
 -- ---- where nothing is at fault
 

@@ -7,21 +7,21 @@ use Rattle.std.specs.List.{flat_map, AllByRecursion}
 use Rattle.std.proofs.lemmas.Bool.{cases_Bool}
 use Rattle.std.proofs.lemmas.Grind.{common_steps}
 use Rattle.std.proofs.lemmas.List.{append-nil, length-append, take_at}
-use Rattle.rs_update.specs.declared.fault.UpdateFault.{UpdateFault}
-use Rattle.rs_update.specs.declared.fault.UpdateFault.TheVariants.{MalformedAttributeList}
-use Rattle.rs_update.specs.declared.handling.Handling.{Handling}
-use Rattle.rs_update.specs.declared.handling.Handling.TheVariants.{Keep, SessionReset}
-use Rattle.rs_update.specs.AttributeType.{type_of}
-use Rattle.rs_update.specs.Fault.{or_else}
+use Rattle.rs_types.specs.declared.fault.UpdateFault.{UpdateFault}
+use Rattle.rs_types.specs.declared.fault.UpdateFault.TheVariants.{MalformedAttributeList}
+use Rattle.rs_types.specs.declared.handling.Handling.{Handling}
+use Rattle.rs_types.specs.declared.handling.Handling.TheVariants.{Keep, SessionReset}
+use Rattle.rs_types.specs.AttributeType.{type_of}
+use Rattle.rs_types.specs.FirstFault.{or_else}
 use Rattle.rs_update.specs.Handling.{stronger, handling_again, handling_of_own, handling_behind, strongest_behind, handling_of_rest}
 use Rattle.rs_update.specs.Handling.{strongest_in, is_kept, kept_behind, kept_of, kept_section}
-use Rattle.rs_update.specs.Parts.{AreOctets, parts_of}
-use Rattle.rs_update.specs.Section.{Item, FitsItsLength, item_at, items_of, rest_of, own_fault_of, has_type, fault_behind, first_item_fault}
-use Rattle.rs_update.specs.Section.{section_fault}
-use Rattle.rs_update.specs.Spelling.{spelled_item}
-use Rattle.rs_update.proofs.section.ItemLemmas.{item_shrinks, items_of-step, items_of-end}
-use Rattle.rs_update.proofs.fields.PartsLemmas.{parts_of-some, parts_of-none}
-use Rattle.rs_update.proofs.section.ReceivedLemmas.{IsReceived, item_at-reads, section-is_spelled}
+use Rattle.rs_types.specs.Parts.{AreOctets, parts_of}
+use Rattle.rs_types.specs.Section.{Item, FitsItsLength, item_at, items_of, rest_of, own_fault_of, has_type, fault_behind, first_item_fault}
+use Rattle.rs_types.specs.Section.{section_fault}
+use Rattle.rs_types.specs.Spelling.{spelled_item}
+use Rattle.rs_types.proofs.section.ItemLemmas.{item_shrinks, items_of-step, items_of-end}
+use Rattle.rs_types.proofs.fields.PartsLemmas.{parts_of-some, parts_of-none}
+use Rattle.rs_types.proofs.section.ReceivedLemmas.{IsReceived, item_at-reads, section-is_spelled}
 use Rattle.rs_update.proofs.section.SectionLemmas.{IsSeen, fault_of_parts, one_seen}
 use Rattle.rs_update.proofs.fields.SpelledParts.{items_of-spelled}
 

@@ -8,20 +8,21 @@ use Rattle.rs_update.specs.declared.errors.Errors.{Errors}
 use Rattle.rs_update.specs.declared.errors.Errors.TheVariants.{Rfc4271, Rfc7606}
 use Rattle.rs_update.specs.declared.fault.HeaderFault.{HeaderFault}
 use Rattle.rs_update.specs.declared.fault.MessageFault.{MessageFault}
-use Rattle.rs_update.specs.declared.fault.UpdateFault.{UpdateFault}
-use Rattle.rs_update.specs.declared.handling.Handling.{Handling}
+use Rattle.rs_types.specs.declared.fault.UpdateFault.{UpdateFault}
+use Rattle.rs_types.specs.declared.handling.Handling.{Handling}
 use Rattle.rs_update.specs.declared.header.MessageType.{MessageType}
 use Rattle.rs_update.specs.declared.message.Message.{Message}
 use Rattle.rs_update.specs.declared.message.Message.TheVariants as kinds
-use Rattle.rs_update.specs.Fault.{first_fault, of_header}
+use Rattle.rs_types.specs.FirstFault.{first_fault}
+use Rattle.rs_update.specs.Fault.{of_header}
 use Rattle.rs_update.specs.Handling.{strongest_in}
 use Rattle.rs_update.specs.Header.{header_of}
-use Rattle.rs_update.specs.IpPrefix.{IpPrefix}
+use Rattle.rs_types.specs.IpPrefix.{IpPrefix}
 use Rattle.rs_update.specs.Message.{MessageContent, UpdateContent, TreatedContent, IsUpdate, IsTreated, ◌>>=◌, passes, length_tests}
 use Rattle.rs_update.specs.Message.{listed_prefixes, withdrawn_field, section_field, nlri_field, update_content_of, update_message}
 use Rattle.rs_update.specs.Message.{update_of, typed_message, message_of, Answers, HasAttributesForRoutes, IsUntreated}
-use Rattle.rs_update.specs.PathAttributes.{PathAttributes}
-use Rattle.rs_update.specs.Prefix.{prefixes_of}
+use Rattle.rs_types.specs.PathAttributes.{PathAttributes}
+use Rattle.rs_types.specs.Prefix.{prefixes_of}
 use Rattle.rs_update.specs.Treating.{reset_of, kept_attributes, standing_attributes, content_with, treating_update_of, treating_message}
 use Rattle.rs_update.specs.Treating.{update_by, typed_message_by, message_by}
 use Rattle.rs_update.proofs.message.MessageLemmas.{attributes_for_routes, listed_is}

@@ -1,5 +1,5 @@
 use Rattle.std.proofs.Common.{◌≡◌}
-use Rattle.rs_update.specs.Fault.{first_fault}
+use Rattle.rs_types.specs.FirstFault.{first_fault}
 use Rattle.rs_choice.proofs.plan.PlanLemmas.{own_tests, tests_from}
 use Rattle.rs_choice.proofs.checks.first_peer_fault.Given as goal
 

@@ -1,5 +1,5 @@
 use Rattle.std.proofs.Common.{◌≡◌}
-use Rattle.rs_update.specs.Fault.{first_fault}
+use Rattle.rs_types.specs.FirstFault.{first_fault}
 use Rattle.rs_choice.proofs.plan.PlanLemmas.{refused_tests, tests_from}
 use Rattle.rs_choice.proofs.checks.first_unknown_name.Given as goal
 

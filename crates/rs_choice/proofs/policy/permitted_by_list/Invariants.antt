@@ -1,6 +1,6 @@
 use Rattle.std.proofs.Common.{◌≡◌, ◌||◌, length}
-use Rattle.rs_update.specs.Community.{has_value}
-use Rattle.rs_update.specs.Shapes.{numbers_in}
+use Rattle.rs_types.specs.Community.{has_value}
+use Rattle.rs_types.specs.Shapes.{numbers_in}
 use Rattle.rs_choice.proofs.policy.permitted_by_list.Given as goal
 
 -- no value so far refuses the route to the client, and of the two other kinds it is known whether one was seen

@@ -1,5 +1,5 @@
 use Rattle.std.proofs.Common.{◌∙◌, ◌≡◌, ◌<◌, ap, sym, not, None, length, rules}
-use Rattle.rs_update.proofs.attributes.KindLemmas.{none_there}
+use Rattle.rs_types.proofs.section.KindLemmas.{none_there}
 use Rattle.rs_update.proofs.message.ConcernLemmas.{lacking_closes}
 use Rattle.rs_update.proofs.concerns.is_at_fault.Goals as goal
 

@@ -1,10 +1,10 @@
 use Rattle.std.proofs.Common.{◌∙◌, List, sym, ap, arith}
 use Rattle.std.specs.Prelude.{is_some}
-use Rattle.rs_update.specs.Gathered.{look}
-use Rattle.rs_update.specs.Items.{split_of}
-use Rattle.rs_update.specs.Section.{Item}
-use Rattle.rs_update.proofs.attributes.FindLemmas.{finds_nothing, finds_one, found_all}
-use Rattle.rs_update.proofs.section.ItemLemmas.{item_at-takes}
+use Rattle.rs_types.specs.Gathered.{look}
+use Rattle.rs_types.specs.Items.{split_of}
+use Rattle.rs_types.specs.Section.{Item}
+use Rattle.rs_update.proofs.found.FindLemmas.{finds_nothing, finds_one, found_all}
+use Rattle.rs_types.proofs.section.ItemLemmas.{item_at-takes}
 use Rattle.rs_update.proofs.found.find_items.Goals as goal
 
 pub loop-front-init : goal.loop-front-init

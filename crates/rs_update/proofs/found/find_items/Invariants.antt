@@ -1,5 +1,5 @@
 use Rattle.std.proofs.Common.{length}
-use Rattle.rs_update.proofs.attributes.FindLemmas.{FindsSoFar}
+use Rattle.rs_update.proofs.found.FindLemmas.{FindsSoFar}
 use Rattle.rs_update.proofs.found.find_items.Given as goal
 
 abbrev pub invariant-loop-front : goal.invariant-loop-front

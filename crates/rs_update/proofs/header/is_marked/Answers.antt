@@ -1,5 +1,5 @@
 use Rattle.std.proofs.Common.{◌^◌, ◌-◌, ◌==◌, ◌∙◌, ℕ, ap, arith}
-use Rattle.rs_update.specs.Parts.{AreOctets}
+use Rattle.rs_types.specs.Parts.{AreOctets}
 use Rattle.rs_update.proofs.message.MarkerLemmas.{all_ones}
 use Rattle.rs_update.proofs.header.is_marked.Goals as goal
 

@@ -1,6 +1,6 @@
 use Rattle.std.proofs.Common.{◌<◌, ◌∙◌, [], refl, sym, rules}
-use Rattle.rs_update.specs.Items.{item_of, split_of}
-use Rattle.rs_update.proofs.section.ItemLemmas.{item_at-takes}
+use Rattle.rs_types.specs.Items.{item_of, split_of}
+use Rattle.rs_types.proofs.section.ItemLemmas.{item_at-takes}
 use Rattle.rs_update.proofs.section.SectionLemmas.{none_seen, goes_on, ends_at, ends_with, all_types}
 use Rattle.rs_update.proofs.section.find_fault.Goals as goal
 

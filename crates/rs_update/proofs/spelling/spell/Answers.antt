@@ -3,13 +3,13 @@ use Rattle.std.specs.Prelude.{option_and_then}
 use Rattle.std.specs.Option.{option_map}
 use Rattle.std.proofs.lemmas.List.{append-nil}
 use Rattle.rs_update.specs.Found.{kept_of, kept_in, spelled_kept}
-use Rattle.rs_update.specs.Gathered.{look}
-use Rattle.rs_update.specs.Items.{item_of}
-use Rattle.rs_update.specs.Parts.{AreOctets}
-use Rattle.rs_update.specs.Section.{Item, items_of}
-use Rattle.rs_update.proofs.attributes.FindLemmas.{spelled_from, spelled_from-step, spelled_from-end}
-use Rattle.rs_update.proofs.section.SoundLemmas.{sound_section}
-use Rattle.rs_update.proofs.attributes.WholeLemmas.{there, found_short}
+use Rattle.rs_types.specs.Gathered.{look}
+use Rattle.rs_types.specs.Items.{item_of}
+use Rattle.rs_types.specs.Parts.{AreOctets}
+use Rattle.rs_types.specs.Section.{Item, items_of}
+use Rattle.rs_update.proofs.found.FindLemmas.{spelled_from, spelled_from-step, spelled_from-end}
+use Rattle.rs_types.proofs.section.SoundLemmas.{sound_section}
+use Rattle.rs_types.proofs.section.LookLemmas.{there, found_short}
 use Rattle.rs_update.proofs.spelling.spell.Goals as goal
 
 pub push_kept-requires : goal.push_kept-requires

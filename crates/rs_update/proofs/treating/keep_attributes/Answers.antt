@@ -1,10 +1,10 @@
 use Rattle.std.proofs.Common.{◌<◌, ◌∙◌, ◌++◌, [], refl, sym, ap, rules, arith, List, ℕ}
 use Rattle.std.proofs.lemmas.List.{append-nil}
 use Rattle.rs_update.specs.Handling.{is_kept, kept_section}
-use Rattle.rs_update.specs.Items.{item_of, split_of}
-use Rattle.rs_update.specs.Parts.{AreOctets}
-use Rattle.rs_update.specs.Section.{items_of, section_fault}
-use Rattle.rs_update.proofs.section.ItemLemmas.{item_at-takes}
+use Rattle.rs_types.specs.Items.{item_of, split_of}
+use Rattle.rs_types.specs.Parts.{AreOctets}
+use Rattle.rs_types.specs.Section.{items_of, section_fault}
+use Rattle.rs_types.proofs.section.ItemLemmas.{item_at-takes}
 use Rattle.rs_update.proofs.section.SectionLemmas.{none_seen}
 use Rattle.rs_update.proofs.treating.HandlingLemmas.{keeps_on, keeps_end, taken_is_spelled, kept_items, kept_faultless, kept_bound}
 use Rattle.rs_update.proofs.treating.keep_attributes.Goals as goal

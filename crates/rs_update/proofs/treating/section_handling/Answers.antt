@@ -1,7 +1,7 @@
 use Rattle.std.proofs.Common.{◌<◌, ◌∙◌, [], refl, sym, rules}
-use Rattle.rs_update.specs.Items.{item_of, split_of}
+use Rattle.rs_types.specs.Items.{item_of, split_of}
 use Rattle.rs_update.specs.Handling.{strongest_in}
-use Rattle.rs_update.proofs.section.ItemLemmas.{item_at-takes}
+use Rattle.rs_types.proofs.section.ItemLemmas.{item_at-takes}
 use Rattle.rs_update.proofs.section.SectionLemmas.{none_seen}
 use Rattle.rs_update.proofs.treating.HandlingLemmas.{asks_on, asks_end, stronger-keep}
 use Rattle.rs_update.proofs.treating.section_handling.Goals as goal

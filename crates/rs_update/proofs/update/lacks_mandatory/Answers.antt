@@ -1,6 +1,6 @@
 use Rattle.std.proofs.Common.{◌∙◌, ap, not, rules}
 use Rattle.rs_update.proofs.message.MessageLemmas.{announced-missing}
-use Rattle.rs_update.proofs.attributes.WholeLemmas.{mandatory-found}
+use Rattle.rs_update.proofs.gather.WholeLemmas.{mandatory-found}
 use Rattle.rs_update.proofs.update.lacks_mandatory.Goals as goal
 
 pub returns-then-not-is_empty : goal.returns-then-not-is_empty

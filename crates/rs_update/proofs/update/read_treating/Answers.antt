@@ -4,7 +4,7 @@ use Rattle.std.proofs.lemmas.Grind.{common_steps}
 use Rattle.std.proofs.lemmas.Result.{err_from_is_err_and}
 use Rattle.rs_update.specs.Handling.{strongest_in}
 use Rattle.rs_update.specs.Message.{withdrawn_field, section_field, nlri_field}
-use Rattle.rs_update.specs.Prefix.{prefixes_of}
+use Rattle.rs_types.specs.Prefix.{prefixes_of}
 use Rattle.rs_update.specs.Treating.{reset_of}
 use Rattle.rs_update.proofs.message.RoomLemmas.{treating_update_lists}
 use Rattle.rs_update.proofs.update.read_treating.Goals as goal

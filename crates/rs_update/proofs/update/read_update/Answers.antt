@@ -4,8 +4,8 @@ use Rattle.std.specs.Option.{option_map}
 use Rattle.std.proofs.lemmas.Grind.{common_steps}
 use Rattle.std.proofs.lemmas.Result.{err_from_is_err_and}
 use Rattle.rs_update.specs.Message.{announced_attributes, withdrawn_field, section_field, nlri_field}
-use Rattle.rs_update.specs.Prefix.{prefixes_of}
-use Rattle.rs_update.specs.Section.{section_fault}
+use Rattle.rs_types.specs.Prefix.{prefixes_of}
+use Rattle.rs_types.specs.Section.{section_fault}
 use Rattle.rs_update.proofs.message.RoomLemmas.{update_lists}
 use Rattle.rs_update.proofs.update.read_update.Goals as goal
 

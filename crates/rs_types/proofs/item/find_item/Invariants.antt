@@ -1,0 +1,10 @@
+use Rattle.std.proofs.Common.{◌≡◌, length}
+use Rattle.rs_types.specs.Gathered.{look}
+use Rattle.rs_types.specs.Section.{items_of}
+use Rattle.rs_types.proofs.item.find_item.Given as goal
+
+abbrev pub invariant-loop-front : goal.invariant-loop-front
+invariant-loop-front l = look l.kind (items_of l.rest) ≡ look l.kind (items_of l.section)
+
+abbrev pub decreases-loop-front : goal.decreases-loop-front
+decreases-loop-front l = length l.rest

@@ -1,0 +1,16 @@
+-- The prefixes that cover a prefix: those that have its first bits (RFC 4271, section 9.1.4).
+use Rattle.std.specs.Prelude.{nat_lt, Bool, false, if◌then◌else◌, List}
+use Rattle.std.specs.List.{list_any}
+use Rattle.std.specs.Ordering.{eq_by_cmp}
+use Rattle.rs_types.specs.IpPrefix.{IpPrefix}
+use Rattle.rs_types.specs.Prefix.{network_of}
+use Rattle.rs_types.specs.PrefixOrder.{prefix_cmp}
+
+-- a prefix covers another, itself included: it is no longer, and the same as so many of the other's first bits
+abbrev pub covers : IpPrefix → IpPrefix → Bool
+covers wide prefix =
+    if nat_lt prefix.len wide.len then false else eq_by_cmp prefix_cmp wide (network_of prefix.address wide.len)
+
+-- some prefix of a list covers it
+abbrev pub lists_cover : IpPrefix → List IpPrefix → Bool
+lists_cover prefix prefixes = list_any (λ listed. covers listed prefix) prefixes

@@ -1,9 +1,0 @@
--- Each answer is one search, so that a wrong body is refused soon.
-use Rattle.std.proofs.Common.{rules}
-use Rattle.rs_update.proofs.as_path.SegmentView.hops.Goals as goal
-
-pub returns-in-Sequence : goal.returns-in-Sequence
-returns-in-Sequence c = search rules
-
-pub returns-in-Set : goal.returns-in-Set
-returns-in-Set c = search rules

@@ -1,0 +1,2 @@
+-- The attributes that are found in a section, by their types.
+pub mod FindLemmas
