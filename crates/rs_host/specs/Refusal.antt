@@ -5,8 +5,8 @@ use Rattle.rs_choice.specs.FaultNumber.{number_of_fault, peer_of_fault}
 use Rattle.rs_choice.specs.declared.fault.PlanFault.{PlanFault}
 use Rattle.rs_choice.specs.declared.fault.PlanFault.TheVariants as plan
 use Rattle.rs_host.specs.Line.{Text, named, one_line, out_of_memory}
-use Rattle.rs_host.specs.declared.options.WordsFault.{WordsFault}
-use Rattle.rs_host.specs.declared.options.WordsFault.TheVariants as words
+use Rattle.rs_options.specs.declared.options.WordsFault.{WordsFault}
+use Rattle.rs_options.specs.declared.options.WordsFault.TheVariants as words
 use Rattle.rs_setup.specs.declared.setup.SetupFault.{SetupFault}
 use Rattle.rs_setup.specs.declared.setup.SetupFault.TheVariants as setup
 

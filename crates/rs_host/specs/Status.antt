@@ -1,8 +1,8 @@
 -- The statuses with which both programs end (docs/MANUAL.md, "Statuses"; docs/LOOKING_GLASS.md, "Statuses and texts").
 use Rattle.std.specs.Prelude.{ℕ}
 use Rattle.rs_choice.specs.declared.fault.PlanFault.TheVariants as plan
-use Rattle.rs_host.specs.declared.options.WordsFault.{WordsFault}
-use Rattle.rs_host.specs.declared.options.WordsFault.TheVariants as words
+use Rattle.rs_options.specs.declared.options.WordsFault.{WordsFault}
+use Rattle.rs_options.specs.declared.options.WordsFault.TheVariants as words
 use Rattle.rs_setup.specs.declared.setup.SetupFault.{SetupFault}
 use Rattle.rs_setup.specs.declared.setup.SetupFault.TheVariants as setup
 

@@ -1,6 +1,6 @@
 //! The words of the command line.
 
-use crate::options::WordsFault;
+use rs_options::WordsFault;
 use std::env;
 use std::env::Env;
 use std::io::ErrorKind;

@@ -1,14 +1,12 @@
-//! What both programs need of the machine and of a command line: files, texts on one line, times, why a configuration
-//! is refused, what the command line of a run asks for, and how a program ends.
+//! What both programs need of the machine: files, texts on one line, times, why a configuration is refused, and how a
+//! program ends. What they need of a command line is that of `rs_options`, and passed on.
 //!
 //! Reading order: `fault` (why a file can't be read), `whole` (a file that is read whole), `recorded` (a recorded
 //! file, which is read in pieces). `file_identity` (which file a path names), `read_once` (what is seen before any is
 //! opened). `unready` (why what a program needs can't be read), `setup_file` (the configuration), `files` (opening the
 //! recorded files), `part_file` (files that are written whole or not at all). `escaped` (texts whose control characters
-//! are escaped), `times` (times of records as texts, RFC 6396, section 2). `arguments` (the words of the command line),
-//! `options` (what that of a run asks for), `standard` (the standards for faults by their names), `version` (what
-//! `--version` answers). `refusal` (why a command line or a configuration is refused), `line` and `status` (how a
-//! program ends).
+//! are escaped), `times` (times of records as texts, RFC 6396, section 2). `arguments` (the words of the command line).
+//! `refusal` (why a command line or a configuration is refused), `line` and `status` (how a program ends).
 #![tactic(auto)]
 
 mod arguments;
@@ -17,17 +15,14 @@ mod fault;
 mod file_identity;
 mod files;
 mod line;
-mod options;
 mod part_file;
 mod read_once;
 mod recorded;
 mod refusal;
 mod setup_file;
-mod standard;
 mod status;
 mod times;
 mod unready;
-mod version;
 mod whole;
 
 pub use arguments::read_arguments;
@@ -36,17 +31,15 @@ pub use fault::FileFault;
 pub use file_identity::{FileIdentity, found_at};
 pub use files::open_files;
 pub use line::{MEMORY_TEXT, OUTPUT_TEXT, end_with, program_line, unread_line};
-pub use options::{Options, WordsFault};
 pub use part_file::{part_path, takes_part_file};
 pub use read_once::first_unreadable;
 pub use recorded::{Bounded, PIECE_LEN, Recorded, in_pieces, open, open_file};
 pub use refusal::{setup_line, words_text};
+pub use rs_options::{Options, VERSION, WordsFault, read_time, standard_of};
 pub use setup_file::configuration;
-pub use standard::standard_of;
 pub use status::{
     DONE, FAILED, NOT_CLEAN, OUT_OF_MEMORY, REFUSED, UNSETTLED, setup_status, words_status,
 };
-pub use times::{Utc, civil_time, read_time};
+pub use times::{Utc, civil_time};
 pub use unready::Unready;
-pub use version::VERSION;
 pub use whole::{FILE_LIMIT, read_file};

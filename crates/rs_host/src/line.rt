@@ -4,8 +4,8 @@ ghost use Rattle.std.specs.Prelude.{◌≡◌, IfOk, string_bytes};
 ghost use Rattle.rs_host.specs.Line.{named, unread_line, unread_text};
 
 use crate::escaped::on_one_line;
-use crate::options::WordsFault;
 use crate::status::{DONE, FAILED, OUT_OF_MEMORY};
+use rs_options::WordsFault;
 use std::alloc::{AllocError, Global};
 use std::process::ExitCode;
 

@@ -5,8 +5,8 @@ ghost use Rattle.rs_host.specs.Refusal.{key_text, plan_text, setup_line, setup_t
 
 use crate::escaped::on_one_line;
 use crate::line::{MEMORY_TEXT, program_line};
-use crate::options::WordsFault;
 use rs_choice::PlanFault;
+use rs_options::WordsFault;
 use rs_setup::SetupFault;
 use std::alloc::{AllocError, Global};
 

@@ -3,8 +3,8 @@
 ghost use Rattle.std.specs.Prelude.{◌≡◌};
 ghost use Rattle.rs_host.specs.Status.{setup_status as the_setup_status, words_status as the_words_status};
 
-use crate::options::WordsFault;
 use rs_choice::PlanFault;
+use rs_options::WordsFault;
 use rs_setup::SetupFault;
 
 /// All is done, or help or the version was shown.

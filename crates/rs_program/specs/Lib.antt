@@ -1,5 +1,6 @@
 pub mod Amount
-pub mod CommandLine
 pub mod Paths
 pub mod Status
 pub mod Texts
+-- What the contracts name of the crate below:
+pub use Rattle.rs_options.specs.CommandLine

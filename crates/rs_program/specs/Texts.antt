@@ -8,7 +8,7 @@ use Rattle.rs_program.specs.declared.ended.Ended.{Ended}
 use Rattle.rs_program.specs.declared.ended.Ended.TheVariants.{Words, Setup, Unread, Memory, Run}
 use Rattle.rs_host.specs.Line.{Text, named as named_by, one_line, out_of_memory, unread_line}
 use Rattle.rs_host.specs.Refusal.{setup_line, words_text}
-use Rattle.rs_host.specs.declared.options.Options.{Options}
+use Rattle.rs_options.specs.declared.options.Options.{Options}
 use Rattle.rs_outlet.specs.declared.run_fault.RunFault.{RunFault}
 use Rattle.rs_outlet.specs.declared.run_fault.RunFault.TheVariants as run
 use Rattle.rs_setup.specs.declared.setup.Setup.{Setup as SetUp}

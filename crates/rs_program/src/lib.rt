@@ -1,11 +1,11 @@
-//! What the route server does beside the run itself: it reads the command line, opens files, keeps dumps in a
-//! folder, shows progress, and ends with a status.
+//! What the route server does beside the run itself: it opens files, keeps dumps in a folder, shows progress, and ends
+//! with a status. `rs_options` reads its command line.
 //!
-//! Reading order: `start` (what the program does before the run, and how it ends), `words` (the command line). `ended`
-//! (the ways to fail, and their statuses), `texts` (their lines), `paths` (the path of a dump). `amount` (how much was
-//! read, and the line that says it), `files` (how much there is), `progress` (that line on standard error). `counted`
-//! (a reader whose octets are counted), `cleared` (a writer that takes the line away first). `folder_outlet` (dumps),
-//! `overwritten` and `tried` (what is seen beforehand).
+//! Reading order: `start` (what the program does before the run, and how it ends). `ended` (the ways to fail, and their
+//! statuses), `texts` (their lines), `paths` (the path of a dump). `amount` (how much was read, and the line that says
+//! it), `files` (how much there is), `progress` (that line on standard error). `counted` (a reader whose octets are
+//! counted), `cleared` (a writer that takes the line away first). `folder_outlet` (dumps), `overwritten` and `tried`
+//! (what is seen beforehand).
 #![tactic(auto)]
 
 mod amount;
@@ -20,7 +20,6 @@ mod progress;
 mod start;
 mod texts;
 mod tried;
-mod words;
 
 pub use amount::Amount;
 pub use cleared::Cleared;
@@ -28,6 +27,6 @@ pub use counted::Counted;
 pub use ended::{Ended, run_status, status};
 pub use folder_outlet::FolderOutlet;
 pub use progress::Progress;
+pub use rs_options::read_words;
 pub use start::{command_line, end, progress_on, ready_files};
 pub use texts::line;
-pub use words::read_words;

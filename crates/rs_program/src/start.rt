@@ -9,10 +9,10 @@ use crate::files::octets_of;
 use crate::progress::Progress;
 use crate::texts::{PROGRAM, line};
 use crate::tried::first_unwritable;
-use crate::words::read_words;
 use rs_host::{
     Bounded, Options, WordsFault, each_on_one_line, end_with, open_files, read_arguments,
 };
+use rs_options::read_words;
 use rs_outlet::RunFault;
 use rs_setup::Setup;
 use std::env::Env;

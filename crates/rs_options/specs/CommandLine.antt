@@ -9,13 +9,13 @@ use Rattle.clap.specs.declared.builder.ArgAction.TheVariants.{Set, SetTrue}
 use Rattle.clap.specs.declared.builder.value_parser.ValueParser.TheVariants.{NonEmptyString, Signed, Unsigned}
 use Rattle.clap.specs.declared.error.kind.ErrorKind.{ErrorKind}
 use Rattle.clap.specs.declared.error.kind.ErrorKind.TheVariants.{DisplayHelp, DisplayVersion, OutOfMemory}
-use Rattle.rs_host.specs.Standard.{standard_name}
+use Rattle.rs_options.specs.Standard.{standard_name}
 use Rattle.rs_mrt.specs.declared.bounds.Bounds.{Bounds}
 use Rattle.rs_mrt.specs.declared.bounds.Tail.{Tail}
 use Rattle.rs_mrt.specs.declared.bounds.Tail.TheVariants.{Strict, Lenient}
-use Rattle.rs_host.specs.declared.options.Options.{Options}
-use Rattle.rs_host.specs.declared.options.WordsFault.{WordsFault}
-use Rattle.rs_host.specs.declared.options.WordsFault.TheVariants.{Help, Refused, Memory}
+use Rattle.rs_options.specs.declared.options.Options.{Options}
+use Rattle.rs_options.specs.declared.options.WordsFault.{WordsFault}
+use Rattle.rs_options.specs.declared.options.WordsFault.TheVariants.{Help, Refused, Memory}
 
 -- an option of one value that must be there
 abbrev pub required_option : Text → Rule

@@ -2,15 +2,18 @@
 
 ghost use Rattle.std.specs.Prelude.{◌≡◌, [], IfErr, IfOk, IfSome, OnOk, false, map, string_bytes};
 ghost use Rattle.clap.specs.Words.{app_of, found_of, kind_of, rows_of, rule_of};
-ghost use Rattle.rs_program.specs.CommandLine.{AreOptionsOf, HoldBounds, HoldOptions, IsTime, IsToldAs, SaysWhy};
-ghost use Rattle.rs_program.specs.CommandLine.{config_rule, errors_rule, faults_in, out_rule, program, ring_rule};
-ghost use Rattle.rs_program.specs.CommandLine.{shards_rule, strict_rule, tail_name, tail_rule, time_rule, until_rule};
-ghost use Rattle.rs_program.specs.CommandLine.{with_bounds, with_manner};
+ghost use Rattle.rs_options.specs.CommandLine.{AreOptionsOf, HoldBounds, HoldOptions, IsTime, IsToldAs, SaysWhy};
+ghost use Rattle.rs_options.specs.CommandLine.{config_rule, errors_rule, faults_in, out_rule, program, ring_rule};
+ghost use Rattle.rs_options.specs.CommandLine.{shards_rule, strict_rule, tail_name, tail_rule, time_rule, until_rule};
+ghost use Rattle.rs_options.specs.CommandLine.{with_bounds, with_manner};
 
+use crate::options::{Options, WordsFault};
+use crate::standard::standard_of;
+use crate::times::read_time;
+use crate::version::VERSION;
 use clap::builder::ValueParser;
 use clap::error::ErrorKind;
 use clap::{Arg, ArgAction, ArgMatches, Command, Error, value_parser};
-use rs_host::{Options, VERSION, WordsFault, read_time, standard_of};
 use rs_mrt::{Bounds, Tail};
 use std::alloc::{AllocError, Global};
 

@@ -1,7 +1,7 @@
 //! What the command line asks for.
 
 ghost use Rattle.std.specs.Prelude.{◌≡◌};
-ghost use Rattle.rs_host.specs.declared.options.WordsFault.TheVariants.{Memory};
+ghost use Rattle.rs_options.specs.declared.options.WordsFault.TheVariants.{Memory};
 
 use rs_mrt::Bounds;
 use rs_update::Errors;

@@ -3,8 +3,8 @@ use Rattle.std.proofs.Common.{rules, ◌∙◌, sym, codes}
 use Rattle.std.specs.Str.Parse.{ExplainsUnsignedError, HasUnsignedDigitsIfOk, ParsesUnsigned}
 use Rattle.clap.specs.Words.{found_of}
 use Rattle.clap.proofs.WalkLemmas.{first_value-rows, one_text-rows}
-use Rattle.rs_program.proofs.WordLemmas.{number_read}
-use Rattle.rs_program.proofs.words.options_of.Goals as goal
+use Rattle.rs_options.proofs.WordLemmas.{number_read}
+use Rattle.rs_options.proofs.words.options_of.Goals as goal
 
 pub returns-clause-options : goal.returns-clause-options
 returns-clause-options c =

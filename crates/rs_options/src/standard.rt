@@ -1,7 +1,7 @@
 //! The standards by which faults in messages are handled, by their names on a command line (our choice).
 
 ghost use Rattle.std.specs.Prelude.{◌≡◌, ◌≢◌, IfSome, None};
-ghost use Rattle.rs_host.specs.Standard.{standard_name};
+ghost use Rattle.rs_options.specs.Standard.{standard_name};
 ghost use Rattle.rs_update.specs.declared.errors.Errors.TheVariants.{Rfc4271, Rfc7606};
 
 use rs_update::Errors;

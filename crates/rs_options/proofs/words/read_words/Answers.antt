@@ -3,9 +3,9 @@ use Rattle.std.proofs.Common.{rules, ap, ap₂, refl, subst, sym, true, [], map,
 use Rattle.std.proofs.lemmas.Result.{IfErr-weaker, IfOk-weaker}
 use Rattle.clap.specs.Words.{HasKind, app_of, fault_of, found_of, is_simple, is_simple_and_free, matches_of, rows_of}
 use Rattle.clap.proofs.OnLiterals.{clap_on_literals}
-use Rattle.rs_program.specs.CommandLine.{HoldOptions, SaysWhy, faults_in, program}
-use Rattle.rs_program.proofs.WordLemmas.{at_success, told_as}
-use Rattle.rs_program.proofs.words.read_words.Goals as goal
+use Rattle.rs_options.specs.CommandLine.{HoldOptions, SaysWhy, faults_in, program}
+use Rattle.rs_options.proofs.WordLemmas.{at_success, told_as}
+use Rattle.rs_options.proofs.words.read_words.Goals as goal
 
 is_simple_program : is_simple program ≡ true
 unfolding clap_on_literals

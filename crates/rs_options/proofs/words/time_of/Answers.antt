@@ -4,9 +4,9 @@ use Rattle.std.specs.Str.Parse.{ExplainsUnsignedError, HasUnsignedDigitsIfOk, Pa
 use Rattle.std.specs.Prelude.{option_map}
 use Rattle.clap.specs.Words.{found_of, rows_of, first_of, one_of}
 use Rattle.clap.proofs.WalkLemmas.{first_value-rows, one_text-rows}
-use Rattle.rs_program.specs.CommandLine.{IsTimeOr, number_of}
-use Rattle.rs_program.proofs.WordLemmas.{number_read}
-use Rattle.rs_program.proofs.words.time_of.Goals as goal
+use Rattle.rs_options.specs.CommandLine.{IsTimeOr, number_of}
+use Rattle.rs_options.proofs.WordLemmas.{number_read}
+use Rattle.rs_options.proofs.words.time_of.Goals as goal
 
 pub returns-in_default-clause-time : goal.returns-in_default-clause-time
 returns-in_default-clause-time c =

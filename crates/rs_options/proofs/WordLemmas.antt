@@ -7,9 +7,9 @@ use Rattle.clap.specs.Words.{HasKind, IsAmong, Kinds, Text, kind_of}
 use Rattle.clap.specs.declared.error.Error.{Error}
 use Rattle.clap.specs.declared.error.kind.ErrorKind.{ErrorKind}
 use Rattle.clap.specs.declared.error.kind.ErrorKind.TheVariants.{DisplayHelp, DisplayVersion, OutOfMemory}
-use Rattle.rs_host.specs.declared.options.WordsFault.{WordsFault}
-use Rattle.rs_host.specs.declared.options.WordsFault.TheVariants.{Help, Refused, Memory}
-use Rattle.rs_program.specs.CommandLine.{IsToldAs, SaysWhy, number_of}
+use Rattle.rs_options.specs.declared.options.WordsFault.{WordsFault}
+use Rattle.rs_options.specs.declared.options.WordsFault.TheVariants.{Help, Refused, Memory}
+use Rattle.rs_options.specs.CommandLine.{IsToldAs, SaysWhy, number_of}
 
 -- a number of so many bits that was read of a text is the number that the text stands for
 pub number_read : (bits : ℕ) (E : Type 0) (Reads : Text → Result ℕ E → Type 0)

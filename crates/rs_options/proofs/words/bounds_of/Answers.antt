@@ -2,8 +2,8 @@
 use Rattle.std.proofs.Common.{rules, ◌≡◌, ◌∙◌, None, Some, refl, sym, subst, codes}
 use Rattle.clap.specs.Words.{found_of, rows_of, first_of}
 use Rattle.clap.proofs.WalkLemmas.{first_value-rows}
-use Rattle.rs_program.specs.CommandLine.{IsTimeGiven}
-use Rattle.rs_program.proofs.words.bounds_of.Goals as goal
+use Rattle.rs_options.specs.CommandLine.{IsTimeGiven}
+use Rattle.rs_options.proofs.words.bounds_of.Goals as goal
 
 pub returns-in_default-get_str-clause-bounds : goal.returns-in_default-get_str-clause-bounds
 returns-in_default-get_str-clause-bounds c =

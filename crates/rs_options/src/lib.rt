@@ -1,0 +1,18 @@
+//! What the command line of the route server asks for, and what both programs read of a command line.
+//!
+//! Reading order: `options` (what the words of a run ask for), `words` (how they are read). `standard` (the standards
+//! for faults by their names), `times` (times of records as they are written, RFC 6396, section 2), `version` (what
+//! `--version` answers).
+#![tactic(auto)]
+
+mod options;
+mod standard;
+mod times;
+mod version;
+mod words;
+
+pub use options::{Options, WordsFault};
+pub use standard::standard_of;
+pub use times::read_time;
+pub use version::VERSION;
+pub use words::read_words;
