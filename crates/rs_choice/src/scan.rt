@@ -67,10 +67,13 @@ impl Exchange {
         requires { All (λ candidate. candidate.peer < length self.now.peers) candidates.now }
         ensures { IsTrue result ↔ HasLeastMed self.now candidates.now one.now }
     {
-        candidates.iter().all(|candidate| {
+        for candidate in candidates {
             let other = self.standing(candidate);
-            !(other.is_level_with(one) && Step::Med.beats(&other, one))
-        })
+            if other.is_level_with(one) && Step::Med.beats(&other, one) {
+                return false;
+            }
+        }
+        true
     }
 }
 

@@ -45,7 +45,7 @@ module _ (plan : Plan) (candidates : List Candidate) where
   st = standing_of_candidate plan
 
   -- what holds of the first candidates and of one more
-  one_more : (i : ℕ) (candidate : Candidate) → slice_get candidates i ≡ Some candidate → (P : ℕ → Standing → Type 0) →
+  pub one_more : (i : ℕ) (candidate : Candidate) → slice_get candidates i ≡ Some candidate → (P : ℕ → Standing → Type 0) →
       ((k : ℕ) → k < i → (other : Candidate) → slice_get candidates k ≡ Some other → P k (st other)) → P i (st candidate) →
       (k : ℕ) → k < i + 1 → (other : Candidate) → slice_get candidates k ≡ Some other → P k (st other)
   one_more i candidate at P before here =

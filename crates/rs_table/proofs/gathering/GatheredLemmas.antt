@@ -1,7 +1,7 @@
 -- What lists leave, and what an entry and a loss make of it: for gathering.rt and settling.rt.
 use Rattle.std.proofs.Common.{◌≡◌, ◌≢◌, ℕ, zero, suc, ◌+◌, ◌<◌, ◌≤◌, Bool, true, false, cond, ◌&&◌, ◌==◌, List, [], ◌∷◌, All, length, map}
-use Rattle.std.proofs.Common.{set, get_or, reverse, Option, Some, None, refl, sym, ap, subst, ◌∙◌, arith, inl, inr}
-use Rattle.std.specs.Prelude.{slice_get}
+use Rattle.std.proofs.Common.{set, get_or, reverse, Option, Some, None, Result, Ok, Err, refl, sym, ap, subst, ◌∙◌, arith, inl, inr}
+use Rattle.std.specs.Prelude.{slice_get, OnOk, OnErr}
 use Rattle.std.specs.FinMap as fin
 use Rattle.std.specs.List.{list_any}
 use Rattle.std.specs.Option.{option_map_or}
@@ -194,6 +194,19 @@ module _ (losses : List ℕ) (peer : ℕ) (known : peer < length losses) (later 
       ]
 
 -- ---- an entry is a change of its peer
+
+-- the counts behind a loss, or where it can't be counted
+pub lost-many : {T E : Type 0} (losses : List ℕ) (peer : ℕ) (later : List ℕ) (r : Result T E)
+    → OnOk r (later ≡ set losses peer (get_or losses peer 0 + 1)) → OnErr r (later ≡ losses) → length later ≡ length losses
+lost-many losses peer later (Ok x) ok err =
+    ap (λ (ns : List ℕ). length ns) ok ∙ length-set losses peer (get_or losses peer 0 + 1)
+lost-many losses peer later (Err e) ok err = ap (λ (ns : List ℕ). length ns) err
+
+pub lost-all : {T E : Type 0} (losses : List ℕ) (peer : ℕ) → peer < length losses → (later : List ℕ) (r : Result T E)
+    → OnOk r (later ≡ set losses peer (get_or losses peer 0 + 1)) → OnErr r (later ≡ losses)
+    → (logs : List Log) → AreLogs losses logs → AreLogs later logs
+lost-all losses peer known later (Ok x) ok err logs are = lost-logs losses peer known later ok logs are
+lost-all losses peer known later (Err e) ok err logs are = subst (λ ns. AreLogs ns logs) (sym err) are
 
 current-now : (losses : List ℕ) (entry : Logged) → entry.peer < length losses → entry.losses ≡ get_or losses entry.peer 0
     → is_current losses entry ≡ true

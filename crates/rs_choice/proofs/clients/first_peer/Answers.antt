@@ -8,6 +8,10 @@ use Rattle.rs_choice.specs.Entrants.{chosen_of}
 use Rattle.rs_choice.proofs.clients.ChosenLemmas.{chosen_at, within_at}
 use Rattle.rs_choice.proofs.clients.first_peer.Goals as goal
 
+pub bounds-held-place : goal.bounds-held-place
+bounds-held-place c =
+    within_at c.args.held.now c.args.places.now c.requires.places c.in-Some.first.place c.place.result c.place.ensures.value
+
 pub returns-in-Some : goal.returns-in-Some
 returns-in-Some c =
     let held = c.args.held.now in

@@ -3,7 +3,7 @@ use Rattle.std.specs.List.{Contains}
 use Rattle.std.specs.Prelude.{slice_get}
 use Rattle.std.proofs.lemmas.List.{length_push}
 use Rattle.std.proofs.lemmas.List.Elements.{All-push, Contains-append_left, Contains-append_right}
-use Rattle.std.proofs.lemmas.Option.{slice_get_within}
+use Rattle.std.proofs.lemmas.Option.{get_or_from_slice_get, slice_get_within}
 use Rattle.rs_choice.specs.declared.neighbour_groups.Group.{Group}
 use Rattle.rs_choice.specs.Sharing.{Weighs}
 use Rattle.rs_choice.proofs.Members.{contains_at}
@@ -65,3 +65,19 @@ returns c =
       all = λ i group at. c.loop-number.invariant.all i (let within = slice_get_within c.args.groups.now i group at in
           omega (arith, within, end)) group at;
     }
+
+pub place-requires : goal.place-requires
+place-requires c =
+    let groups = c.args.groups.now in
+    let n = c.loop-number.number in
+    let one = c.group-group.result in
+    let within = slice_get_within groups n one c.group-group.ensures in
+    let is = get_or_from_slice_get groups n one one c.group-group.ensures in
+    omega (arith, c.requires n one within, ap (λ (group : Group). group.place) is, c.from.ensures)
+
+pub push-requires-clause-room : goal.push-requires-clause-room
+push-requires-clause-room c =
+    omega (arith, c.loop-number.invariant.few, c.loop-number-test.true, c.len-number-end.ensures.bound)
+
+pub push-requires-clause-small : goal.push-requires-clause-small
+push-requires-clause-small c = c.place.ensures.bound

@@ -58,6 +58,23 @@ add-requires-clause-known c =
     (subst (All (IsAnnounced losses)) c.in-Some-next.ensures c.loop-entry.invariant.announced) in
     omega (arith, known-current losses c.in-Some-next.entry announced.0, c.requires)
 
+pub add-requires-clause-making : goal.add-requires-clause-making
+add-requires-clause-making c = c.loop-entry.invariant.making
+
+pub add-requires-clause-announced : goal.add-requires-clause-announced
+add-requires-clause-announced c =
+    let losses = c.args.losses.now in
+    let announced : IsAnnounced losses c.in-Some-next.entry =
+    All-head (IsAnnounced losses) c.in-Some-next.entry c.next.new.self.rest.items
+    (subst (All (IsAnnounced losses)) c.in-Some-next.ensures c.loop-entry.invariant.announced) in
+    announced.1
+
+pub close-requires : goal.close-requires
+close-requires c = c.loop-entry.invariant.making
+
+pub loop-entry-smaller : goal.loop-entry-smaller
+loop-entry-smaller c = omega (arith, ap length c.in-Some-next.ensures)
+
 pub loop-entry-preserved : goal.loop-entry-preserved
 loop-entry-preserved c =
     let losses = c.args.losses.now in
@@ -82,6 +99,9 @@ loop-entry-preserved c =
           ∙ ap (λ (list : List Logged). left_over losses list peer q was) (sym steps)
           ∙ c.loop-entry.invariant.routes peer q;
     }
+
+pub returns-clause-cells : goal.returns-clause-cells
+returns-clause-cells c = c.in_ok-close.ensures.cells
 
 pub returns-clause-routes : goal.returns-clause-routes
 returns-clause-routes c = λ peer q.

@@ -6,10 +6,20 @@ use Rattle.std.proofs.lemmas.List.Elements.{All-push}
 use Rattle.std.proofs.lemmas.Option.{slice_get_read}
 use Rattle.rs_choice.specs.Clients.{is_sent_to}
 use Rattle.rs_choice.specs.Decision.{SentRoute}
-use Rattle.rs_choice.specs.Held.{sent_of_held}
+use Rattle.rs_choice.specs.Held.{sent_of_held, IsJudged}
 use Rattle.rs_choice.specs.Sharing.{sents_at}
 use Rattle.rs_choice.proofs.clients.ChosenLemmas.{sents_more, within_at}
 use Rattle.rs_choice.proofs.exchange.Exchange.are_permitted.Goals as goal
+
+pub bounds-held-place : goal.bounds-held-place
+bounds-held-place c =
+    within_at c.args.held.now c.args.places.now c.requires.places c.loop-number.number c.place.result c.place.ensures.value
+
+pub permits_held-requires-clause-judged : goal.permits_held-requires-clause-judged
+permits_held-requires-clause-judged c =
+    let held = c.args.held.now in
+    let within = within_at held c.args.places.now c.requires.places c.loop-number.number c.place.result c.place.ensures.value in
+    subst (IsJudged c.args.self.now) (sym c.index-held-place.is) (c.requires.judged c.place.result c.index-held-place.result within)
 
 pub loop-number-preserved : goal.loop-number-preserved
 loop-number-preserved c =

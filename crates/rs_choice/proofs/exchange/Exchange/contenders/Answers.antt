@@ -16,6 +16,19 @@ use Rattle.rs_choice.proofs.Members.{mem-append_right}
 use Rattle.rs_choice.proofs.exchange.Exchange.contenders.Goals as goal
 use Rattle.rs_choice.proofs.exchange.Exchange.contenders.Goals.{in-Some, in_default}
 
+pub bounds-held-place : goal.bounds-held-place
+bounds-held-place c =
+    within_at c.args.held.now c.args.places.now c.requires.candidates.within c.loop-number.number c.place-place.result
+    c.place-place.ensures.value
+
+pub contends-requires-clause-judged : goal.contends-requires-clause-judged
+contends-requires-clause-judged c =
+    let held = c.args.held.now in
+    let within = within_at held c.args.places.now c.requires.candidates.within c.loop-number.number c.place-place.result
+    c.place-place.ensures.value in
+    subst (IsJudged c.args.self.now) (sym c.index-held-place.is)
+    (c.requires.judged c.place-place.result c.index-held-place.result within)
+
 pub contends-requires-clause-eligible : goal.contends-requires-clause-eligible
 contends-requires-clause-eligible c =
     let plan = c.args.self.now in

@@ -7,7 +7,7 @@ use Rattle.rs_table.specs.declared.tables.Tables.TheInside.{Inside}
 use Rattle.rs_table.specs.Cells.{Entries, AreKeptCells, ChangeTo}
 use Rattle.rs_table.specs.Counts.{AreCounts, route_count}
 use Rattle.rs_table.specs.Content.{TablesContent, rib_of}
-use Rattle.rs_table.specs.TablesView.{tables_view, AreTables, TakeChanges}
+use Rattle.rs_table.specs.TablesView.{ribs_from, tables_view, AreTables, TakeChanges}
 use Rattle.rs_table.specs.Left.{Routes, after, BecomeBy, IsNewAnnouncement}
 use Rattle.rs_table.specs.Listing.{IsFirstAnnouncement}
 use Rattle.rs_table.proofs.LeftLemmas.{left_more}
@@ -201,3 +201,42 @@ invariant_of-self-then-closes c =
 
 pub returns-in_err-count-clause-others : goal.returns-in_err-count-clause-others
 returns-in_err-count-clause-others g c = search rules
+
+pub change_and_count-requires-clause-known : goal.change_and_count-requires-clause-known
+change_and_count-requires-clause-known c =
+    omega (arith, c.requires.known, ap (λ plan. length plan.peers) c.deref.ensures, ap (λ tables. length tables.plan.peers) c.self.view_is)
+
+pub index_mut-requires-then-closes : goal.index_mut-requires-then-closes
+index_mut-requires-then-closes c =
+    omega (arith, c.requires.known, c.self.invariant.peers, ap (λ tables. length tables.plan.peers) c.self.view_is)
+
+pub returns-then-closes-clause-plan : goal.returns-then-closes-clause-plan
+returns-then-closes-clause-plan c = ap (λ tables. tables.plan) c.self.view_is
+
+pub returns-else-closes-clause-plan : goal.returns-else-closes-clause-plan
+returns-else-closes-clause-plan c = ap (λ tables. tables.plan) c.self.view_is
+
+pub returns-in_err-count-clause-plan : goal.returns-in_err-count-clause-plan
+returns-in_err-count-clause-plan c = ap (λ tables. tables.plan) c.self.view_is
+
+pub returns-else-closes-clause-count : goal.returns-else-closes-clause-count
+returns-else-closes-clause-count c =
+    let inside = c.self.inside in
+    length-ribs c.change_and_count.new.cells.entries 0 inside.closed.items
+    ∙ sym (length-ribs inside.cells.entries 0 inside.closed.items)
+    ∙ ap (λ tables. length tables.ribs) c.self.view_is
+
+pub returns-in_err-count-clause-count : goal.returns-in_err-count-clause-count
+returns-in_err-count-clause-count c =
+    let inside = c.self.inside in
+    length-ribs c.change_and_count.new.cells.entries 0 inside.closed.items
+    ∙ sym (length-ribs inside.cells.entries 0 inside.closed.items)
+    ∙ ap (λ tables. length tables.ribs) c.self.view_is
+
+pub returns-in_err-count-clause-err : goal.returns-in_err-count-clause-err
+returns-in_err-count-clause-err c =
+    let inside = c.self.inside in
+    let view : Entries → TablesContent =
+    λ entries. record { plan = inside.plan.value; ribs = ribs_from entries 0 inside.closed.items } in
+    let same : view c.change_and_count.new.cells.entries ≡ c.args.self.now = ap view c.in_err-count.ensures.err ∙ c.self.view_is in
+    search rules
