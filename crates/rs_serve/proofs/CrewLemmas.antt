@@ -4,8 +4,8 @@ use Rattle.std.specs.Prelude.{slice_get}
 use Rattle.std.proofs.lemmas.Option.{slice_get_within}
 use borrow.Author.Count.{below_more}
 use Rattle.rs_table.specs.Content.{TablesContent}
-use Rattle.rs_worker.proofs.PlaceLemmas.{get-front, get-seam}
-use Rattle.rs_serve.specs.declared.routed.Routed.{Routed}
+use Rattle.rs_patience.proofs.PlaceLemmas.{get-front, get-seam}
+use Rattle.rs_router.specs.declared.routed.Routed.{Routed}
 use Rattle.rs_serve.specs.Crew.{AllHold, Charge}
 use Rattle.rs_serve.specs.Held.{HoldReceived}
 

@@ -1,6 +1,4 @@
 mod ShardPartLemmas
-mod PlaceLemmas
-pub mod RoutingLemmas
 mod CloseLemmas
 mod CrewLemmas
 mod MergingLemmas

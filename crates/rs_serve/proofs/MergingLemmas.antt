@@ -19,7 +19,7 @@ use Rattle.rs_table.specs.Content.{RibContent, TablesContent, rib_of, rib_left, 
 use Rattle.rs_table.specs.Left.{left}
 use Rattle.rs_table.specs.Listing.{is_held}
 use Rattle.rs_table.specs.Merge.{AreParts, IsMerged}
-use Rattle.rs_serve.specs.ShardParts.{first_octet, shard_of}
+use Rattle.rs_router.specs.ShardParts.{first_octet, shard_of}
 use Rattle.rs_serve.specs.PartLaws.{PartsByShards}
 use Rattle.rs_serve.specs.Laws.{AreShardsOf}
 use Rattle.rs_table.proofs.MergeLemmas.{none-held}

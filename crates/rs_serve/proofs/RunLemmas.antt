@@ -10,9 +10,9 @@ use Rattle.rs_session.specs.Change.{Change, change_of, is_close}
 use Rattle.rs_session.specs.declared.word.Word.{Word}
 use Rattle.rs_table.specs.Content.{TablesContent, rib_left}
 use Rattle.rs_table.specs.Left.{HasNoClose}
-use Rattle.rs_serve.specs.ShardParts.{IsShardCount, shard_part, gets}
-use Rattle.rs_serve.specs.Routing.{EndsClosed, is_closed}
-use Rattle.rs_serve.specs.declared.routed.Routed.{Routed}
+use Rattle.rs_router.specs.ShardParts.{IsShardCount, shard_part, gets}
+use Rattle.rs_router.specs.Routing.{EndsClosed, is_closed}
+use Rattle.rs_router.specs.declared.routed.Routed.{Routed}
 use Rattle.rs_serve.specs.Crew.{Charge}
 use Rattle.rs_serve.specs.Held.{HoldReceived, through_close}
 use Rattle.rs_serve.specs.Laws.{AreShardsOf, IsOfPlan, IsRun, IsShardOf}

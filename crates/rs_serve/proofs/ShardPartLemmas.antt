@@ -13,7 +13,7 @@ use Rattle.rs_session.specs.Change.{Change, ChangeBody, Announced, Withdrawn, is
 use Rattle.rs_table.proofs.PrefixLemmas.{same_prefix-true}
 use Rattle.rs_table.specs.Laws.{LeftByLastChanges, LeftByPart}
 use Rattle.rs_table.specs.Left.{Leaves, RouteLeft, announcement, body_loses, body_prefix, is_loss, is_on, left, same_prefix}
-use Rattle.rs_serve.specs.ShardParts.{shard_part, gets, gets_on, shard_of}
+use Rattle.rs_router.specs.ShardParts.{shard_part, gets, gets_body, shard_of}
 use Rattle.rs_serve.specs.PartLaws.{PartsByShards}
 
 -- ---- what a shard gets
@@ -24,13 +24,18 @@ gets_own : (shards : ℕ) (prefix : IpPrefix) (change : Change) → is_on prefix
 gets_own shards prefix change on = by_body change.body on
   where
     by_body : (body : ChangeBody) → is_on prefix (record { time = change.time; body = body }) ≡ true
-        → gets_on shards (shard_of prefix shards) (body_prefix body) ≡ true
+        → gets_body shards (shard_of prefix shards) body ≡ true
     by_body (Announced p attributes) here = eq-eqb _ _ (ap (λ (q : IpPrefix). shard_of q shards) (sym (same_prefix-true prefix p here)))
     by_body (Withdrawn p) here = eq-eqb _ _ (ap (λ (q : IpPrefix). shard_of q shards) (sym (same_prefix-true prefix p here)))
     by_body body here = refl
 
 gets_none : (shards shard : ℕ) (change : Change) → body_prefix change.body ≡ None → gets shards shard change ≡ true
-gets_none shards shard change none = ap (gets_on shards shard) none
+gets_none shards shard change none = by_body change.body none
+  where
+    by_body : (body : ChangeBody) → body_prefix body ≡ None → gets_body shards shard body ≡ true
+    by_body (Announced p attributes) e = absurd cc
+    by_body (Withdrawn p) e = absurd cc
+    by_body body e = refl
 
 -- a test that no change on a prefix passes finds a change that every shard gets
 gets_unplaced : (test : ChangeBody → Bool) → ((p : IpPrefix) (attributes : PathAttributes) → test (Announced p attributes) ≡ false)
@@ -38,7 +43,7 @@ gets_unplaced : (test : ChangeBody → Bool) → ((p : IpPrefix) (attributes : P
     → (shards shard : ℕ) (change : Change) → test change.body ≡ true → gets shards shard change ≡ true
 gets_unplaced test announced withdrawn shards shard change passes = by_body change.body passes
   where
-    by_body : (body : ChangeBody) → test body ≡ true → gets_on shards shard (body_prefix body) ≡ true
+    by_body : (body : ChangeBody) → test body ≡ true → gets_body shards shard body ≡ true
     by_body (Announced p attributes) e = absurd (cc (e, announced p attributes))
     by_body (Withdrawn p) e = absurd (cc (e, withdrawn p))
     by_body body e = refl

@@ -8,9 +8,9 @@ use Rattle.rs_session.specs.Change.{change_of, is_close}
 use Rattle.rs_session.specs.declared.word.Word.{Word}
 use Rattle.rs_table.specs.Content.{RibContent, TablesContent, rib_of, rib_left, nothing_held}
 use Rattle.rs_table.specs.Left.{BecomeBy}
-use Rattle.rs_serve.specs.RoutedItems.{of_peer}
-use Rattle.rs_serve.specs.declared.routed.Routed.TheVariants as routed
-use Rattle.rs_serve.proofs.RoutingLemmas.{of_peer-last, of_peer-other, of_peer-own}
+use Rattle.rs_router.specs.RoutedItems.{of_peer}
+use Rattle.rs_router.specs.declared.routed.Routed.TheVariants as routed
+use Rattle.rs_router.proofs.RoutingLemmas.{of_peer-last, of_peer-other, of_peer-own}
 use Rattle.rs_serve.specs.Held.{HoldReceived, Takes, through_close}
 use Rattle.rs_table.proofs.RibLemmas.{rib_left-nothing, rib_left-more}
 use Rattle.rs_serve.proofs.CloseLemmas.{through-closed, through-more, through-none, any-through}

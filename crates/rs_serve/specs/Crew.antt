@@ -1,8 +1,8 @@
 -- All shards.
 use Rattle.std.specs.Prelude.{◌≡◌, ℕ, List, [], Some, IfSome, length, slice_get}
 use Rattle.rs_ring.specs.Ends.{Ring}
-use Rattle.rs_serve.specs.Routing.{EndsLast}
-use Rattle.rs_serve.specs.declared.routed.Routed.{Routed}
+use Rattle.rs_router.specs.Routing.{EndsLast}
+use Rattle.rs_router.specs.declared.routed.Routed.{Routed}
 use Rattle.rs_table.specs.Content.{TablesContent, nothing_held, rib_of}
 use Rattle.rs_serve.specs.Held.{HoldReceived}
 use Rattle.rs_serve.specs.declared.shard_crew.ShardJob.{ShardJob}

@@ -2,8 +2,8 @@
 use Rattle.std.specs.Prelude.{◌≡◌, ◌<◌, ◌++◌, ◌∷◌, [], ℕ, List, length, if◌then◌else◌}
 use Rattle.rs_session.specs.Change.{Change, is_close}
 use Rattle.rs_table.specs.Content.{TablesContent, rib_of, rib_left}
-use Rattle.rs_serve.specs.RoutedItems.{of_peer}
-use Rattle.rs_serve.specs.declared.routed.Routed.{Routed}
+use Rattle.rs_router.specs.RoutedItems.{of_peer}
+use Rattle.rs_router.specs.declared.routed.Routed.{Routed}
 
 -- of a peer's changes those up to its close, and with it
 abbrev pub through_close : List Change → List Change

@@ -5,9 +5,9 @@ use Rattle.rs_session.specs.Change.{change_of}
 use Rattle.rs_session.specs.declared.word.Word.{Word}
 use Rattle.rs_table.specs.Content.{TablesContent, rib_of, rib_left}
 use Rattle.rs_table.specs.Merge.{AreParts, IsMerged}
-use Rattle.rs_serve.specs.ShardParts.{IsShardCount, shard_part}
-use Rattle.rs_serve.specs.Routing.{AreClosed, AreShardParts}
-use Rattle.rs_serve.specs.declared.routed.Routed.{Routed}
+use Rattle.rs_router.specs.ShardParts.{IsShardCount, shard_part}
+use Rattle.rs_router.specs.Routing.{AreClosed, AreShardParts}
+use Rattle.rs_router.specs.declared.routed.Routed.{Routed}
 use Rattle.rs_serve.specs.Crew.{AllHold, Charge}
 
 -- tables of a plan, of as many peers

@@ -1,10 +1,5 @@
--- The changes of all peers on their way to the shards:
-pub mod ShardParts  -- the changes that are a shard's
-pub mod RoutedItems  -- what a shard is sent
-pub mod Routing  -- what was received and sent
-pub mod Delivery  -- one item more
-pub mod PartLaws  -- what a part leaves
 -- What shards hold:
+pub mod PartLaws  -- what a part of the changes leaves
 pub mod Held  -- one shard
 pub mod Crew  -- all of them
 pub mod Laws  -- what their tables come to
@@ -17,6 +12,10 @@ pub mod Run  -- what it leaves
 pub mod Served  -- what its tables and sessions are
 pub mod ServeAnswer  -- what a run answers, by its result
 -- What the contracts name of the crates below:
+pub use Rattle.rs_router.specs.ShardParts
+pub use Rattle.rs_router.specs.RoutedItems
+pub use Rattle.rs_router.specs.Routing
+pub use Rattle.rs_router.specs.Delivery
 pub use Rattle.rs_table.specs.Content
 pub use Rattle.rs_table.specs.Left
 pub use Rattle.rs_table.specs.Table

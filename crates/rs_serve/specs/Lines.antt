@@ -4,8 +4,8 @@ use Rattle.rs_choice.specs.Plan.{Peer, Plan}
 use Rattle.rs_mrt.specs.Reader.{ReadEnd}
 use Rattle.rs_mrt.specs.RecordReading.{RecordReading, unread, room_left}
 use Rattle.rs_ring.specs.Ends.{Receiving, Sending}
-use Rattle.rs_serve.specs.ShardParts.{IsShardCount}
-use Rattle.rs_serve.specs.declared.routed.Routed.{Routed}
+use Rattle.rs_router.specs.ShardParts.{IsShardCount}
+use Rattle.rs_router.specs.declared.routed.Routed.{Routed}
 use Rattle.rs_session.specs.Laws.{GivesFileOrFails}
 use Rattle.rs_session.specs.declared.word.Word.{Word}
 use Rattle.rs_serve.specs.Crew.{IsReady}

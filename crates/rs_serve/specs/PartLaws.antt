@@ -5,7 +5,7 @@ use Rattle.std.specs.List.{list_any}
 use Rattle.rs_update.specs.IpPrefix.{IpPrefix}
 use Rattle.rs_session.specs.Change.{Change, is_close}
 use Rattle.rs_table.specs.Left.{left, is_loss}
-use Rattle.rs_serve.specs.ShardParts.{IsShardCount, shard_part, shard_of}
+use Rattle.rs_router.specs.ShardParts.{IsShardCount, shard_part, shard_of}
 
 -- what a list leaves is, over the shards, what its parts leave, each on the prefixes of its shard; each part
 -- has a loss and a close where the list has one

@@ -1,21 +1,18 @@
 //! Runs the recorded sessions of all peers of an exchange on threads: one for each peer, and one for each shard of
 //! the tables, with rings between them.
 //!
-//! A shard is one of 1 to 16 parts of all prefixes. The router takes the changes of all peers out of their rings, and
-//! hands each one to the shard that holds the routes of its prefix. The loss and the close of a session are changes on
-//! no prefix. Such a change bears on all routes of its peer, so every shard gets it.
+//! A shard is one of 1 to 16 parts of all prefixes. The router of `rs_router` takes the changes of all peers out of
+//! their rings, and hands each one to the shard that holds the routes of its prefix.
 //!
-//! Reading order, the router: `prefix_shard` (which shard a prefix is in), `routed` (what a shard is sent), `part_laws`
-//! (what the part of a list leaves). Then `router` (all peers, until each one's session closed), `delivery` (one
-//! change). The shards: `taking` (what one item makes of the tables), `shard` (all items), `shard_crew` (all shards),
-//! `laws` (what their tables come to). Before a run: `identity` (who a peer is), `capacity` (of rings), `lines` and
-//! `rings` (what each thread takes). Then its threads: `crew` (their start and join). Then its end: `outcome` (how a
-//! run ended), `ended` and `served` (what it leaves). Last `serving` (a whole run) and `fault` (why a run is refused).
+//! Reading order, the shards: `part_laws` (what the part of a list leaves), `taking` (what one item makes of the
+//! tables), `shard` (all items), `shard_crew` (all shards), `laws` (what their tables come to). Before a run:
+//! `identity` (who a peer is), `capacity` (of rings), `lines` and `rings` (what each thread takes). Then its threads:
+//! `crew` (their start and join). Then its end: `outcome` (how a run ended), `ended` and `served` (what it leaves).
+//! Last `serving` (a whole run) and `fault` (why a run is refused).
 #![tactic(auto)]
 
 mod capacity;
 mod crew;
-mod delivery;
 mod ended;
 mod fault;
 mod identity;
@@ -23,10 +20,7 @@ mod laws;
 mod lines;
 mod outcome;
 mod part_laws;
-mod prefix_shard;
 mod rings;
-mod routed;
-mod router;
 mod served;
 mod serving;
 mod shard;
@@ -40,9 +34,7 @@ pub use identity::peer_id;
 pub use laws::{run_shards_are_whole, shards_merge};
 pub use outcome::verdict;
 pub use part_laws::parts_by_shards;
-pub use prefix_shard::{MAX_SHARDS, shard_of};
-pub use routed::Routed;
-pub use router::route;
+pub use rs_router::{MAX_SHARDS, Routed, route, shard_of};
 pub use rs_worker::{Gate, Open};
 pub use served::Served;
 pub use serving::serve_by;

@@ -2,13 +2,13 @@
 
 ghost use Rattle.std.specs.Prelude.{◌≡◌, ◌<◌, true, IfOk, OnOk, length};
 ghost use Rattle.rs_ring.specs.Items.{is_capacity};
-ghost use Rattle.rs_serve.specs.ShardParts.{IsShardCount};
+ghost use Rattle.rs_router.specs.ShardParts.{IsShardCount};
 ghost use Rattle.rs_serve.specs.Lines.{AreRings, HasRingMore};
 
-use crate::routed::Routed;
 use crate::shard_crew::ShardJob;
 use rs_choice::Exchange;
 use rs_ring::{Sender, ring};
+use rs_router::Routed;
 use rs_table::Tables;
 use std::alloc::{AllocError, Global};
 use std::sync::Arc;

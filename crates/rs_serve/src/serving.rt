@@ -5,7 +5,7 @@ ghost use Rattle.std.specs.Prelude.{◌≡◌, ◌<◌, ◌||◌, not, All, IfEr
 ghost use Rattle.rs_session.specs.Change.{is_read};
 ghost use Rattle.rs_worker.specs.Worked as spec;
 ghost use Rattle.rs_serve.specs.Run.{CanMerge, IsAnswer, IsRefusal, IsWell, end_of};
-ghost use Rattle.rs_serve.specs.ShardParts.{IsShardCount};
+ghost use Rattle.rs_router.specs.ShardParts.{IsShardCount};
 ghost use Rattle.rs_serve.specs.ServeAnswer.{ServeAnswer};
 ghost use Rattle.rs_serve.specs.Served.{is_shard_count};
 
@@ -15,10 +15,10 @@ use crate::ended::PeerEnd;
 use crate::fault::FloorRefused;
 use crate::laws::{run_shards_are_whole, shards_merge};
 use crate::outcome::verdict;
-use crate::prefix_shard::MAX_SHARDS;
 use crate::served::Served;
 use rs_choice::Exchange;
 use rs_mrt::Read;
+use rs_router::MAX_SHARDS;
 use rs_session::{Reason, a_failed_read_closes_last, a_session_closes_once};
 use rs_table::Tables;
 use rs_update::Errors;

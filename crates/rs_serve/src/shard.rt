@@ -2,14 +2,14 @@
 
 ghost use Rattle.std.specs.Prelude.{◌≡◌, ◌++◌, ◌∷◌, [], ℕ, false, IfSome};
 ghost use Rattle.rs_ring.specs.Items.{has_close};
-ghost use Rattle.rs_serve.specs.RoutedItems.{is_last};
-ghost use Rattle.rs_serve.specs.Routing.{EndsLast};
+ghost use Rattle.rs_router.specs.RoutedItems.{is_last};
+ghost use Rattle.rs_router.specs.Routing.{EndsLast};
 ghost use Rattle.rs_table.specs.Content.{nothing_held, rib_of};
 ghost use Rattle.rs_serve.specs.Held.{HoldReceived};
 
-use crate::routed::Routed;
 use crate::taking::{after_item, begun, settled};
 use rs_ring::{Numbered, Receiver};
+use rs_router::Routed;
 use rs_table::Tables;
 use rs_worker::{Gate, Patience};
 use std::sync::Wait;

@@ -2,14 +2,14 @@
 
 ghost use Rattle.std.specs.Prelude.{◌≡◌, ◌≤◌, ◌<◌, [], ℕ, All, IfSome, IsTrue, map, vec_len, vec_capacity};
 ghost use mathlib.Core.List.{IsPrefix};
-ghost use Rattle.rs_serve.specs.Delivery.{sent_lists, SameSenders};
+ghost use Rattle.rs_router.specs.Delivery.{sent_lists, SameSenders};
 ghost use Rattle.rs_table.specs.Content.{nothing_held, rib_of};
 ghost use Rattle.rs_serve.specs.Crew.{charge_of, charged, HasEnded, IsReady, AllHold};
 ghost use Rattle.rs_serve.specs.Held.{HoldReceived};
 
-use crate::routed::Routed;
 use crate::shard::{ShardEnd, shard_worker};
 use rs_ring::{Receiver, Sender};
+use rs_router::Routed;
 use rs_table::Tables;
 use rs_worker::Gate;
 use std::snapshot::Snapshot;

@@ -2,10 +2,10 @@
 
 ghost use Rattle.std.specs.Prelude.{◌≡◌, ℕ, List, ◌++◌, ◌∷◌, [], OnOk, IfSome};
 ghost use Rattle.rs_table.specs.Content.{TablesContent, nothing_held, rib_of};
-ghost use Rattle.rs_serve.specs.declared.routed.Routed.{Routed};
+ghost use Rattle.rs_router.specs.declared.routed.Routed.{Routed};
 ghost use Rattle.rs_serve.specs.Held.{HoldReceived, Takes};
 
-use crate::routed::Routed;
+use rs_router::Routed;
 use rs_table::{FEW_ENTRIES, Gathering, Tables};
 use std::alloc::AllocError;
 

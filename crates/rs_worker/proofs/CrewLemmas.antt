@@ -9,7 +9,7 @@ use Rattle.rs_session.specs.Stage.{Comes}
 use Rattle.rs_session.specs.declared.word.Word.{Word}
 use Rattle.rs_worker.specs.Crew.{Charge, given_by, HasJoined, AllJoined}
 use Rattle.rs_worker.specs.declared.crew.Joined.{Joined}
-use Rattle.rs_worker.proofs.PlaceLemmas.{get-front, get-seam, get-set_other, get-set_same}
+use Rattle.rs_patience.proofs.PlaceLemmas.{get-front, get-seam, get-set_other, get-set_same}
 
 -- one worker more was joined
 pub joined-next : {S : Type 0} (comes : Comes S) (shows : S → Option MrtRecord) (charges : List (Charge S)) (from : List (Receiving Word))

@@ -2,4 +2,3 @@ pub mod TakeLemmas
 mod SentLemmas
 mod FileLemmas
 mod CrewLemmas
-pub mod PlaceLemmas

@@ -6,8 +6,8 @@ ghost use Rattle.rs_worker.specs.Steps.{Takes, reason_of};
 ghost use Rattle.rs_worker.specs.Worked.{HasSent, closes_any};
 
 use crate::gate::Gate;
-use crate::waiting::{Patience, send_when_room};
 use rs_mrt::Source;
+use rs_patience::{Patience, send_when_room};
 use rs_ring::{SendRefused, Sender};
 use rs_session::{Body, Reason, Session, Word, a_session_closes_once};
 use std::sync::Wait;

@@ -14,7 +14,7 @@ use Rattle.rs_session.specs.declared.word.Word.{Word}
 use Rattle.rs_floor.specs.Lane.{NoneClosesBefore, sent_changes}
 use Rattle.rs_floor.specs.Schedule.{after_send}
 use Rattle.rs_floor.specs.declared.counts.Counts.{Counts}
-use Rattle.rs_worker.proofs.PlaceLemmas.{get-seam}
+use Rattle.rs_patience.proofs.PlaceLemmas.{get-seam}
 
 -- ---- which changes close
 

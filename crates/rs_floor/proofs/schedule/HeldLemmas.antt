@@ -10,7 +10,7 @@ use Rattle.rs_table.specs.Left.{BecomeBy}
 use Rattle.rs_table.proofs.RibLemmas.{rib_left-more}
 use Rattle.rs_floor.specs.Lane.{LaneContent, received_of}
 use Rattle.rs_floor.specs.Schedule.{after_receive}
-use Rattle.rs_worker.proofs.PlaceLemmas.{get-set_same, get-set_other, take-more}
+use Rattle.rs_patience.proofs.PlaceLemmas.{get-set_same, get-set_other, take-more}
 use Rattle.rs_floor.specs.Steps.{HoldReceived}
 
 -- what holds anyway holds where the answer is Ok

@@ -7,7 +7,7 @@ use borrow.Author.Count.{below_more}
 use Rattle.rs_choice.specs.Plan.{Peer}
 use Rattle.rs_serve.specs.Identity.{id_of}
 use Rattle.rs_floor.specs.Lane.{LaneContent, fresh_lane}
-use Rattle.rs_worker.proofs.PlaceLemmas.{get-front, get-seam}
+use Rattle.rs_patience.proofs.PlaceLemmas.{get-front, get-seam}
 
 -- one lane more
 pub one-more : (peers : List Peer) (files : List (Bor (List ℕ))) (capacity : ℕ) (lanes : List LaneContent) (lane : LaneContent) (at : ℕ)

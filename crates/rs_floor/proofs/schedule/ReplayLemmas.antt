@@ -19,7 +19,7 @@ use Rattle.rs_floor.specs.Steps.{HoldReceived, IsEnd}
 use Rattle.rs_floor.specs.declared.counts.Counts.{Counts}
 use Rattle.rs_floor.specs.declared.turn.Turn.{Turn}
 use Rattle.rs_table.proofs.RibLemmas.{rib_left-nothing}
-use Rattle.rs_worker.proofs.PlaceLemmas.{map-get, some-at}
+use Rattle.rs_patience.proofs.PlaceLemmas.{map-get, some-at}
 use Rattle.rs_serve.proofs.ListLemmas.{same-places, zip-counted}
 
 -- the peer and the file whose changes stand at a place

@@ -22,7 +22,7 @@ use Rattle.rs_serve.specs.Served.{ServedContent, IsEndOf, IsServed, IsServedBy, 
 use Rattle.rs_serve.specs.declared.ended.PeerEnd.{PeerEnd}
 use Rattle.rs_serve.specs.declared.fault.FloorRefused.{FloorRefused}
 use Rattle.rs_serve.specs.declared.fault.FloorRefused.TheVariants.{Memory, Unsettled, Capacity, Read, Shards}
-use Rattle.rs_worker.proofs.PlaceLemmas.{all-at, get-map, map-get, some-at}
+use Rattle.rs_patience.proofs.PlaceLemmas.{all-at, get-map, map-get, some-at}
 use Rattle.rs_floor.proofs.serving.FileLemmas.{front-says}
 use Rattle.rs_serve.proofs.ListLemmas.{same-places, zip-at, zip-counted}
 

@@ -10,7 +10,7 @@ use Rattle.rs_choice.specs.Plan.{Peer, Plan}
 use Rattle.rs_mrt.specs.Reader.{ReadEnd}
 use Rattle.rs_mrt.specs.RecordReading.{RecordReading, MayCome, unread}
 use Rattle.rs_ring.specs.Ends.{Receiving}
-use Rattle.rs_serve.specs.Routing.{received_lists}
+use Rattle.rs_router.specs.Routing.{received_lists}
 use Rattle.rs_session.specs.Change.{Change, change_of, is_read}
 use Rattle.rs_session.specs.FileChanges.{changes_in_by}
 use Rattle.rs_session.specs.Given.{IsGiven, AreGiven, SaysGiven, MayFailAt}
@@ -31,7 +31,7 @@ use Rattle.rs_serve.specs.Lines.{AreLines}
 use Rattle.rs_serve.specs.Run.{HasRun, IsAnswer, IsFirstRead, IsWell, end_of}
 use Rattle.rs_serve.specs.Served.{ServedContent, IsEndOf, IsServedBy, changes_by_peer}
 use Rattle.rs_serve.specs.declared.ended.PeerEnd.{PeerEnd}
-use Rattle.rs_worker.proofs.PlaceLemmas.{all-at, get-map, same-counted, same-made, some-at}
+use Rattle.rs_patience.proofs.PlaceLemmas.{all-at, get-map, same-counted, same-made, some-at}
 use Rattle.rs_serve.proofs.ListLemmas.{same-places, zip-at, zip-counted}
 use Rattle.rs_serve.proofs.serving.ServedLemmas.{JoinedOver, choose, says-file, end-of-file, may-fail}
 

@@ -8,7 +8,7 @@ use Rattle.rs_choice.specs.Plan.{Peer, Plan}
 use Rattle.rs_mrt.specs.Reader.{ReadEnd}
 use Rattle.rs_mrt.specs.RecordReading.{RecordReading, unread}
 use Rattle.rs_ring.specs.Ends.{Receiving, Sending}
-use Rattle.rs_serve.specs.declared.routed.Routed.{Routed}
+use Rattle.rs_router.specs.declared.routed.Routed.{Routed}
 use Rattle.rs_session.specs.Laws.{GivesFileOrFails}
 use Rattle.rs_session.specs.declared.word.Word.{Word}
 use Rattle.rs_serve.specs.Crew.{IsReady}
@@ -17,7 +17,7 @@ use Rattle.rs_serve.specs.declared.shard_crew.ShardJob.{ShardJob}
 use Rattle.rs_worker.specs.declared.crew.Job.{Job}
 use Rattle.rs_serve.specs.Identity.{id_of}
 use Rattle.rs_serve.specs.Lines.{IsReadyJob, IsLine, IsRing, CanWork, AreLines}
-use Rattle.rs_worker.proofs.PlaceLemmas.{drop-front, drop-later, take-more}
+use Rattle.rs_patience.proofs.PlaceLemmas.{drop-front, drop-later, take-more}
 
 -- two lists made alike stay so with one member more
 map-more : {X Y Z : Type 0} (f : X → Z) (g : Y → Z) (xs : List X) (ys : List Y) (x : X) (y : Y) → map f xs ≡ map g ys → f x ≡ g y

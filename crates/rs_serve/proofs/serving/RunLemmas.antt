@@ -10,8 +10,8 @@ use Rattle.rs_choice.specs.Plan.{Plan}
 use Rattle.rs_mrt.specs.Reader.{ReadEnd}
 use Rattle.rs_mrt.specs.RecordReading.{RecordReading, MayCome}
 use Rattle.rs_ring.specs.Ends.{Receiving, Sending}
-use Rattle.rs_serve.specs.Routing.{AreClosed, AreShardParts, received_lists}
-use Rattle.rs_serve.specs.declared.routed.Routed.{Routed}
+use Rattle.rs_router.specs.Routing.{AreClosed, AreShardParts, received_lists}
+use Rattle.rs_router.specs.declared.routed.Routed.{Routed}
 use Rattle.rs_session.specs.declared.word.Word.{Word}
 use Rattle.rs_serve.specs.Crew as shards
 use Rattle.rs_serve.specs.Crew.{AllHold}
@@ -31,7 +31,7 @@ use Rattle.rs_serve.specs.ServeAnswer.{ServeAnswer, WithinLimits}
 use Rattle.rs_serve.specs.Served.{ServedContent, IsServedBy}
 use Rattle.rs_serve.specs.declared.fault.FloorRefused.{FloorRefused}
 use Rattle.rs_serve.specs.declared.fault.FloorRefused.TheVariants.{Memory, Capacity, Read, Shards, Unsettled}
-use Rattle.rs_worker.proofs.PlaceLemmas.{all-at, same-counted}
+use Rattle.rs_patience.proofs.PlaceLemmas.{all-at, same-counted}
 use Rattle.rs_serve.proofs.serving.AllServedLemmas.{all-served, fails-first, within-peers}
 
 -- a beginning that is as long is the whole

@@ -9,7 +9,7 @@ use Rattle.rs_floor.specs.Lane.{LaneContent, lane_after}
 use Rattle.rs_floor.specs.declared.turn.Turn.TheVariants.{Receive}
 use Rattle.rs_floor.proofs.schedule.StepLemmas.{receive-own, receive-other}
 use Rattle.rs_floor.proofs.schedule.HeldLemmas.{held-after, ok-anyway, ok-both}
-use Rattle.rs_worker.proofs.PlaceLemmas.{one-turned}
+use Rattle.rs_patience.proofs.PlaceLemmas.{one-turned}
 use Rattle.rs_floor.proofs.steps.receive.Goals as goal
 
 pub apply-requires-clause-open : goal.apply-requires-clause-open

@@ -2,13 +2,13 @@
 use Rattle.std.proofs.Common.{◌≡◌, ◌∙◌, sym, ap, subst, List, length, map, arith}
 use Rattle.std.proofs.lemmas.List.{length-map, take_at}
 use Rattle.rs_ring.specs.Ends.{Receiving, Sending}
-use Rattle.rs_serve.specs.Delivery.{sent_lists}
-use Rattle.rs_serve.specs.declared.routed.Routed.{Routed}
+use Rattle.rs_router.specs.Delivery.{sent_lists}
+use Rattle.rs_router.specs.declared.routed.Routed.{Routed}
 use Rattle.rs_session.specs.declared.word.Word.{Word}
 use Rattle.rs_serve.specs.Crew as of_shards
 use Rattle.rs_serve.specs.Crew.{AllHold}
 use Rattle.rs_worker.specs.Crew.{charged}
-use Rattle.rs_worker.proofs.PlaceLemmas.{same-counted}
+use Rattle.rs_patience.proofs.PlaceLemmas.{same-counted}
 use Rattle.rs_serve.proofs.serving.RunLemmas.{has-run}
 use Rattle.rs_serve.proofs.crew.join_all.Goals as goal
 

@@ -1,13 +1,13 @@
 -- All threads were started, or those that were are drained.
 use Rattle.std.proofs.Common.{◌≡◌, refl, length, arith, rules}
 use Rattle.rs_ring.specs.Ends.{Receiving, Sending}
-use Rattle.rs_serve.specs.declared.routed.Routed.{Routed}
+use Rattle.rs_router.specs.declared.routed.Routed.{Routed}
 use Rattle.rs_session.specs.declared.word.Word.{Word}
 use Rattle.rs_serve.specs.Crew as of_shards
 use Rattle.rs_serve.specs.declared.shard_crew.ShardJob.{ShardJob}
 use Rattle.rs_worker.specs.Crew.{charge_of, charged}
 use Rattle.rs_serve.proofs.serving.RunLemmas.{all-charged, prefix-shorter, rings-of}
-use Rattle.rs_worker.proofs.PlaceLemmas.{same-counted}
+use Rattle.rs_patience.proofs.PlaceLemmas.{same-counted}
 use Rattle.rs_serve.proofs.crew.run_in.Goals as goal
 
 pub give_up-requires-clause-workers : goal.give_up-requires-clause-workers

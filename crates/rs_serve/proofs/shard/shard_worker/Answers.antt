@@ -2,10 +2,10 @@
 use Rattle.std.proofs.Common.{◌≡◌, ◌∙◌, ◌++◌, ◌∷◌, [], sym, subst, refl, true, false, List, rules}
 use Rattle.std.specs.Prelude.{IfSome}
 use Rattle.rs_ring.specs.Items.{has_close}
-use Rattle.rs_serve.specs.RoutedItems.{is_last}
-use Rattle.rs_serve.specs.Routing.{EndsLast}
-use Rattle.rs_serve.specs.declared.routed.Routed.{Routed}
-use Rattle.rs_serve.specs.declared.routed.Routed.TheVariants as routed
+use Rattle.rs_router.specs.RoutedItems.{is_last}
+use Rattle.rs_router.specs.Routing.{EndsLast}
+use Rattle.rs_router.specs.declared.routed.Routed.{Routed}
+use Rattle.rs_router.specs.declared.routed.Routed.TheVariants as routed
 use Rattle.rs_table.proofs.RibLemmas.{any-one_more}
 use Rattle.rs_serve.specs.Held.{HoldReceived}
 use Rattle.rs_serve.proofs.shard.shard_worker.Goals as goal

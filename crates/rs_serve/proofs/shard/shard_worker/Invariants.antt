@@ -1,8 +1,8 @@
 use Rattle.std.proofs.Common.{◌≡◌, true}
 use Rattle.std.specs.Prelude.{IfSome}
 use Rattle.rs_ring.specs.Items.{has_close}
-use Rattle.rs_serve.specs.RoutedItems.{is_last}
-use Rattle.rs_serve.specs.Routing.{EndsLast}
+use Rattle.rs_router.specs.RoutedItems.{is_last}
+use Rattle.rs_router.specs.Routing.{EndsLast}
 use Rattle.rs_serve.specs.Held.{HoldReceived}
 use Rattle.rs_serve.proofs.shard.shard_worker.Given as goal
 

@@ -4,12 +4,12 @@ use Rattle.std.specs.Prelude.{slice_get}
 use Rattle.std.specs.Vec.Iter.{into_iter_items}
 use Rattle.std.proofs.lemmas.List.{length-map}
 use Rattle.rs_ring.specs.Ends.{Sending}
-use Rattle.rs_serve.specs.Delivery.{sent_lists}
-use Rattle.rs_serve.specs.declared.routed.Routed.{Routed}
+use Rattle.rs_router.specs.Delivery.{sent_lists}
+use Rattle.rs_router.specs.declared.routed.Routed.{Routed}
 use Rattle.rs_serve.specs.Crew.{Charge, charged}
 use Rattle.rs_serve.specs.Held.{HoldReceived}
 use Rattle.rs_serve.proofs.CrewLemmas.{HoldSoFar, all-hold, hold-more}
-use Rattle.rs_worker.proofs.PlaceLemmas.{drop-front, drop-later, get-map, map-set_same, next-made}
+use Rattle.rs_patience.proofs.PlaceLemmas.{drop-front, drop-later, get-map, map-set_same, next-made}
 use Rattle.rs_serve.proofs.shard_crew.join_shards.Goals.{in-Some-join_shard, in-None-join_shard}
 use Rattle.rs_serve.proofs.shard_crew.join_shards.Goals as goal
 

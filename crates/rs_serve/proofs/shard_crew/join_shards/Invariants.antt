@@ -1,6 +1,6 @@
 use Rattle.std.proofs.Common.{◌≡◌, ◌+◌, ◌≤◌, true, map, drop, length, vec_len, vec_capacity}
 use Rattle.std.specs.Vec.Iter.{into_iter_items, into_iter_len}
-use Rattle.rs_serve.specs.Delivery.{sent_lists}
+use Rattle.rs_router.specs.Delivery.{sent_lists}
 use Rattle.rs_serve.specs.Crew.{charged}
 use Rattle.rs_serve.proofs.CrewLemmas.{HoldSoFar}
 use Rattle.rs_serve.proofs.shard_crew.join_shards.Given as goal

@@ -3,7 +3,7 @@ use Rattle.std.proofs.Common.{map, rules}
 use Rattle.std.proofs.lemmas.List.Elements.{All-tail}
 use Rattle.std.specs.Vec.Iter.{into_iter_items}
 use Rattle.rs_serve.specs.Crew.{charge_of, charged, IsReady}
-use Rattle.rs_worker.proofs.PlaceLemmas.{next-moves}
+use Rattle.rs_patience.proofs.PlaceLemmas.{next-moves}
 use Rattle.rs_serve.proofs.shard_crew.start_shards.Goals as goal
 
 pub loop-job-preserved : goal.loop-job-preserved

@@ -2,7 +2,7 @@
 use Rattle.std.proofs.Common.{◌∙◌, sym, subst, arith}
 use Rattle.std.specs.Prelude.{OnOk}
 use Rattle.std.proofs.lemmas.Result.{on_ok_weaker}
-use Rattle.rs_serve.specs.declared.routed.Routed.{Routed}
+use Rattle.rs_router.specs.declared.routed.Routed.{Routed}
 use Rattle.rs_serve.specs.Held.{Takes}
 use Rattle.rs_serve.proofs.TakingLemmas.{took-last, took-unknown, took-closed, took-change, ok-both}
 use Rattle.rs_serve.proofs.taking.take.Goals.{then-peer-count-via-then-peer-count, then-peer-count-via-else-peer-count+then-is_closed}

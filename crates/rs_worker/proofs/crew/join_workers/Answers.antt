@@ -5,7 +5,7 @@ use Rattle.rs_ring.specs.Ends.{Receiving}
 use Rattle.rs_session.specs.declared.word.Word.{Word}
 use Rattle.rs_worker.specs.Crew.{charged}
 use Rattle.rs_worker.proofs.CrewLemmas.{joined-next}
-use Rattle.rs_worker.proofs.PlaceLemmas.{drop-front, drop-later, get-map, map-set_same, next-made}
+use Rattle.rs_patience.proofs.PlaceLemmas.{drop-front, drop-later, get-map, map-set_same, next-made}
 use Rattle.rs_worker.proofs.crew.join_workers.Goals as goal
 
 pub loop-handle-init : goal.loop-handle-init

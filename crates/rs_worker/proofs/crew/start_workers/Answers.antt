@@ -1,10 +1,9 @@
 -- The handles are those of the first jobs.
-use Rattle.std.proofs.Common.{suc, arith, ◌≡◌, ◌∙◌, ap, List, ◌∷◌, map, rules}
-use Rattle.std.proofs.lemmas.Grind.{common_steps}
+use Rattle.std.proofs.Common.{suc, arith, ◌≡◌, ◌∙◌, ap, List, ◌∷◌, length, map, rules}
 use Rattle.std.specs.Vec.Iter.{into_iter_items}
 use Rattle.rs_worker.specs.Crew.{charge_of, charged}
 use Rattle.rs_worker.specs.declared.crew.Job.{Job}
-use Rattle.rs_worker.proofs.PlaceLemmas.{next-moves}
+use Rattle.rs_patience.proofs.PlaceLemmas.{next-moves}
 use Rattle.rs_worker.proofs.crew.start_workers.Goals as goal
 
 pub returns-in_default-clause-tied : goal.returns-in_default-clause-tied
@@ -26,9 +25,9 @@ loop-job-preserved g c =
           (map (charge_of c.args.errors) (into_iter_items c.into_iter-job-iterator.result))
           c.in-Some-start_worker.ensures steps c.loop-job.invariant.tied);
       ready = λ k d within. ready (suc k) d (omega (arith, within));
-      counted = search rules;
-      left = search rules;
-      room = search rules;
+      counted = omega (arith, c.in-Some.ensures.steps.1);
+      left = omega (arith, c.in-Some.ensures.steps.1, ap length steps);
+      room = omega arith;
     }
 
 pub loop-job-init : goal.loop-job-init
@@ -47,7 +46,12 @@ pub returns-clause-all : goal.returns-clause-all
 returns-clause-all g c = search rules
 
 pub returns-clause-tied : goal.returns-clause-tied
-returns-clause-tied g c = grind (arith, common_steps)
+returns-clause-tied g c =
+    let jobs : into_iter_items c.into_iter-job-iterator.result ≡ c.args.jobs.items = c.into_iter-job-iterator.ensures.into_iter_gives.0 in (
+      map (charge_of c.args.errors) (into_iter_items c.loop-job.job-iterator),
+      c.loop-job.invariant.tied
+          ∙ ap (λ (jobs : List (Job g.row.S.Denot)). map (charge_of c.args.errors) jobs) jobs,
+    )
 
 pub returns-in_default-clause-all : goal.returns-in_default-clause-all
 returns-in_default-clause-all g c = search rules

@@ -2,7 +2,7 @@
 use Rattle.std.proofs.Common.{◌≡◌, ◌∙◌, sym, ap, length, arith}
 use Rattle.rs_choice.specs.Plan.{Plan}
 use Rattle.rs_serve.specs.Identity.{id_of}
-use Rattle.rs_worker.proofs.PlaceLemmas.{same-counted}
+use Rattle.rs_patience.proofs.PlaceLemmas.{same-counted}
 use Rattle.rs_serve.proofs.crew.Crew.new.Goals as goal
 
 pub invariant_of-result : goal.invariant_of-result

@@ -1,0 +1,2 @@
+mod PlaceLemmas
+pub mod RoutingLemmas
