@@ -13,7 +13,7 @@ use Rattle.std.proofs.lemmas.List.Sums.{sum_by-cons}
 use Rattle.rs_ring.specs.Ends.{Receiving, Sending}
 use Rattle.rs_update.specs.IpPrefix.{IpPrefix}
 use Rattle.rs_session.specs.Change.{Change, body_of, change_of, is_close}
-use Rattle.rs_session.specs.declared.word.Word.{Word}
+use Rattle.rs_change.specs.declared.word.Word.{Word}
 use Rattle.rs_table.proofs.RibLemmas.{any-one_more}
 use Rattle.rs_table.specs.Left.{body_prefix}
 use Rattle.rs_serve.specs.ShardParts.{shard_part, gets, gets_on, shard_of}
