@@ -17,8 +17,8 @@ use Rattle.rs_session.specs.FileChanges.{changes_by, changes_of, closing, ends, 
 use Rattle.rs_session.specs.Laws.{GivesFileOrFails}
 use Rattle.rs_session.specs.Stage.{Comes, fresh, passed_in_the_end}
 use Rattle.rs_session.specs.declared.peer.PeerId.{PeerId}
-use Rattle.rs_session.specs.declared.word.Reason.{Reason}
-use Rattle.rs_session.specs.declared.word.Reason.TheVariants as reasons
+use Rattle.rs_change.specs.declared.word.Reason.{Reason}
+use Rattle.rs_change.specs.declared.word.Reason.TheVariants as reasons
 use Rattle.rs_glass.specs.FileSaid.{SaidChange, all_said_by, closing_at_end, said_in, said_last, said_of}
 use Rattle.rs_glass.specs.Happened.{IsSaidWhole}
 use Rattle.rs_glass.specs.Recorded.{AreChangesOf, ClosesUnread, close_after, close_in, is_failed_read}

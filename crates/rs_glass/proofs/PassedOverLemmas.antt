@@ -12,8 +12,8 @@ use Rattle.rs_mrt.specs.Record.{MrtRecord}
 use Rattle.rs_session.specs.Change.{Change, ChangeBody, Announced, Withdrawn, Closed, body_closes, change_of, is_close}
 use Rattle.rs_session.specs.Concerning.{SaysBehind, body_concerns, concerns}
 use Rattle.rs_session.specs.Stage.{Comes, Stage, May, Closes}
-use Rattle.rs_session.specs.declared.word.Reason.{Reason}
-use Rattle.rs_session.specs.declared.word.Word.{Word}
+use Rattle.rs_change.specs.declared.word.Reason.{Reason}
+use Rattle.rs_change.specs.declared.word.Word.{Word}
 use Rattle.rs_table.proofs.RibLemmas.{any-one_more}
 use Rattle.rs_table.specs.Left.{Routes, left, same_prefix}
 use Rattle.rs_explain.specs.LastSaid.{IsSaidLast, EndRoute, KeepRoute, announces, body_announces, body_ends_by}

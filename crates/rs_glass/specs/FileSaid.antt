@@ -8,7 +8,7 @@ use Rattle.rs_session.specs.Change.{Change}
 use Rattle.rs_session.specs.Effect.{effect_of}
 use Rattle.rs_session.specs.FileChanges.{changes_by, close_at, ends, open_records, reason_at_end}
 use Rattle.rs_session.specs.declared.peer.PeerId.{PeerId}
-use Rattle.rs_session.specs.declared.word.Reason.{Reason}
+use Rattle.rs_change.specs.declared.word.Reason.{Reason}
 use Rattle.rs_update.specs.declared.errors.Errors.{Errors}
 use Rattle.rs_glass.specs.Losses.{loss_behind}
 use Rattle.rs_glass.specs.Microseconds.{microseconds_in}

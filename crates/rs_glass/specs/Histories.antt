@@ -6,7 +6,7 @@ use Rattle.std.specs.Option.{option_and_then, option_to_list}
 use Rattle.rs_update.specs.IpPrefix.{IpPrefix}
 use Rattle.rs_update.specs.PathAttributes.{PathAttributes}
 use Rattle.rs_session.specs.Change.{Change, ChangeBody, Announced, Withdrawn, Lost, Closed, body_of, change_of}
-use Rattle.rs_session.specs.declared.word.Reason.{Reason}
+use Rattle.rs_change.specs.declared.word.Reason.{Reason}
 use Rattle.rs_choice.specs.Plan.{Plan}
 use Rattle.rs_table.specs.Content.{TablesContent, rib_left, rib_of}
 use Rattle.rs_table.specs.Left.{BecomeBy}

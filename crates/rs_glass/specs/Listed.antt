@@ -10,7 +10,7 @@ use Rattle.rs_session.specs.Effect.{RecordEffect, PassesOver, Gives, Ends, effec
 use Rattle.rs_session.specs.FileChanges.{ends}
 use Rattle.rs_session.specs.Stage.{Comes}
 use Rattle.rs_session.specs.declared.peer.PeerId.{PeerId}
-use Rattle.rs_session.specs.declared.word.Reason.{Reason}
+use Rattle.rs_change.specs.declared.word.Reason.{Reason}
 use Rattle.rs_glass.specs.FileSaid.{SaidChange, counts_at, moment_of, said_in, said_of}
 use Rattle.rs_glass.specs.Happened.{contents_of, happened_in}
 use Rattle.rs_glass.specs.Moments.{later_of}

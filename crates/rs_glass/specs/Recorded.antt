@@ -9,8 +9,8 @@ use Rattle.rs_mrt.specs.Reader.{ReadEnd}
 use Rattle.rs_session.specs.Change.{Change, ChangeBody, Announced, Withdrawn, Lost, Closed, is_read, is_close}
 use Rattle.rs_session.specs.Given.{IsRead}
 use Rattle.rs_session.specs.declared.peer.PeerId.{PeerId}
-use Rattle.rs_session.specs.declared.word.Reason.{Reason}
-use Rattle.rs_session.specs.declared.word.Reason.TheVariants as reasons
+use Rattle.rs_change.specs.declared.word.Reason.{Reason}
+use Rattle.rs_change.specs.declared.word.Reason.TheVariants as reasons
 use Rattle.rs_choice.specs.Plan.{Peer, Plan}
 use Rattle.rs_table.specs.Content.{TablesContent, rib_of}
 use Rattle.rs_table.specs.Left.{Leaves, RouteLeft, Routes}

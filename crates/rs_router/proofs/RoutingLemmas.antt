@@ -13,7 +13,7 @@ use Rattle.std.proofs.lemmas.List.Sums.{sum_by-cons}
 use Rattle.rs_ring.specs.Ends.{Receiving, Sending}
 use Rattle.rs_update.specs.IpPrefix.{IpPrefix}
 use Rattle.rs_session.specs.Change.{Change, change_of, is_close}
-use Rattle.rs_session.specs.declared.word.Word.{Word}
+use Rattle.rs_change.specs.declared.word.Word.{Word}
 use Rattle.rs_router.specs.ShardParts.{shard_part, gets, shard_of}
 use Rattle.rs_router.specs.Delivery.{CanSend, Delivered, SameSenders, sent_lists, with_word}
 use Rattle.rs_router.specs.RoutedItems.{change_from, is_known, is_last, of_peer}

@@ -4,8 +4,8 @@ use Rattle.std.specs.Option.{option_map}
 use Rattle.rs_ring.specs.Ends.{Sending}
 use Rattle.rs_ring.specs.Items.{has_close}
 use Rattle.rs_session.specs.Change.{change_of}
-use Rattle.rs_session.specs.declared.word.Body.TheVariants.{Down, Close}
-use Rattle.rs_session.specs.declared.word.Word.{Word}
+use Rattle.rs_change.specs.declared.word.Body.TheVariants.{Down, Close}
+use Rattle.rs_change.specs.declared.word.Word.{Word}
 use Rattle.rs_router.specs.ShardParts.{gets}
 use Rattle.rs_router.specs.RoutedItems.{is_last}
 use Rattle.rs_router.specs.declared.delivery.Shared.{Shared}

@@ -13,7 +13,7 @@ use Rattle.rs_session.specs.Change.{Change, ChangeBody, Announced, Withdrawn, Lo
 use Rattle.rs_session.specs.FileChanges.{changes_in_by, passed_in_by, close_at}
 use Rattle.rs_session.specs.Laws.{ClosesOnce, has_close}
 use Rattle.rs_session.specs.declared.peer.PeerId.{PeerId}
-use Rattle.rs_session.specs.declared.word.Reason.{Reason}
+use Rattle.rs_change.specs.declared.word.Reason.{Reason}
 use Rattle.rs_update.specs.declared.errors.Errors.{Errors}
 use Rattle.rs_run.specs.Recorded.{OverFiles, tables_of_files}
 use Rattle.rs_run.specs.SessionEnd.{end_in, ends_of_files, reason_in, reason_or}

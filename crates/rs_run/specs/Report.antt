@@ -5,8 +5,8 @@ use Rattle.std.specs.List.{zip, flat_map}
 use Rattle.rs_choice.specs.Plan.{Peer, Plan}
 use Rattle.rs_serve.specs.declared.ended.PeerEnd.{PeerEnd}
 use Rattle.rs_keep.specs.TableLines.{table_lines}
-use Rattle.rs_session.specs.declared.word.Reason.{Reason}
-use Rattle.rs_session.specs.declared.word.Reason.TheVariants.{EndOfFile, Bgp, Mrt, Memory, Read}
+use Rattle.rs_change.specs.declared.word.Reason.{Reason}
+use Rattle.rs_change.specs.declared.word.Reason.TheVariants.{EndOfFile, Bgp, Mrt, Memory, Read}
 use Rattle.rs_table.specs.Content.{TablesContent}
 use Rattle.rs_update.specs.declared.errors.Errors.{Errors}
 use Rattle.rs_run.specs.Recorded.{tables_of_files}

@@ -7,8 +7,8 @@ use Rattle.rs_serve.specs.declared.ended.PeerEnd.{PeerEnd}
 use Rattle.rs_session.specs.Change.{Change, ChangeBody, Announced, Withdrawn, Lost, Closed}
 use Rattle.rs_session.specs.FileChanges.{changes_in_by, passed_in_by}
 use Rattle.rs_session.specs.declared.peer.PeerId.{PeerId}
-use Rattle.rs_session.specs.declared.word.Reason.{Reason}
-use Rattle.rs_session.specs.declared.word.Reason.TheVariants.{EndOfFile}
+use Rattle.rs_change.specs.declared.word.Reason.{Reason}
+use Rattle.rs_change.specs.declared.word.Reason.TheVariants.{EndOfFile}
 use Rattle.rs_update.specs.declared.errors.Errors.{Errors}
 
 -- the reason of a close, or else that of what follows it

@@ -7,7 +7,7 @@ use Rattle.std.proofs.lemmas.List.Elements.{filter-append}
 use Rattle.std.proofs.lemmas.Option.{slice_get_cases, slice_get_within}
 use Rattle.rs_choice.specs.Plan.{Plan}
 use Rattle.rs_session.specs.Change.{Change, change_of, is_close}
-use Rattle.rs_session.specs.declared.word.Word.{Word}
+use Rattle.rs_change.specs.declared.word.Word.{Word}
 use Rattle.rs_table.specs.Content.{TablesContent, rib_left}
 use Rattle.rs_table.specs.Left.{HasNoClose}
 use Rattle.rs_router.specs.ShardParts.{IsShardCount, shard_part, gets}

@@ -2,7 +2,7 @@
 use Rattle.std.specs.Prelude.{◌≡◌, ℕ, List, Some, AllPairs, length, map, slice_get}
 use Rattle.rs_choice.specs.Plan.{Plan}
 use Rattle.rs_session.specs.Change.{change_of}
-use Rattle.rs_session.specs.declared.word.Word.{Word}
+use Rattle.rs_change.specs.declared.word.Word.{Word}
 use Rattle.rs_table.specs.Content.{TablesContent, rib_of, rib_left}
 use Rattle.rs_table.specs.Merge.{AreParts, IsMerged}
 use Rattle.rs_router.specs.ShardParts.{IsShardCount, shard_part}

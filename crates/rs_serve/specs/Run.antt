@@ -6,7 +6,7 @@ use Rattle.rs_ring.specs.Ends.{Receiving}
 use Rattle.rs_router.specs.Routing.{AreClosed, AreShardParts, received_lists}
 use Rattle.rs_router.specs.declared.routed.Routed.{Routed}
 use Rattle.rs_session.specs.Change.{is_read}
-use Rattle.rs_session.specs.declared.word.Word.{Word}
+use Rattle.rs_change.specs.declared.word.Word.{Word}
 use Rattle.rs_serve.specs.Crew as shards
 use Rattle.rs_serve.specs.Crew.{AllHold}
 use Rattle.rs_table.specs.Content.{TablesContent}

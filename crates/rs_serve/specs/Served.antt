@@ -6,9 +6,9 @@ use Rattle.rs_choice.specs.Plan.{Peer, Plan}
 use Rattle.rs_session.specs.Change.{Change}
 use Rattle.rs_session.specs.FileChanges.{changes_in_by, passed_in_by, close_at}
 use Rattle.rs_session.specs.Given.{OverGivenFiles}
-use Rattle.rs_session.specs.contracts.word.Reason as reason
+use Rattle.rs_change.specs.contracts.word.Reason as reason
 use Rattle.rs_session.specs.declared.peer.PeerId.{PeerId}
-use Rattle.rs_session.specs.declared.word.Reason.{Reason}
+use Rattle.rs_change.specs.declared.word.Reason.{Reason}
 use Rattle.rs_table.specs.Codes.{tables_code}
 use Rattle.rs_table.specs.Content.{TablesContent, rib_left}
 use Rattle.rs_update.specs.declared.errors.Errors.{Errors}

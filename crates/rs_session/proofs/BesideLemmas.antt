@@ -10,7 +10,7 @@ use Rattle.rs_update.specs.IpPrefix.{IpPrefix}
 use Rattle.rs_update.specs.Message.{MessageContent, IsUpdate, IsTreated}
 use Rattle.rs_update.specs.PathAttributes.{PathAttributes}
 use Rattle.rs_update.specs.declared.fault.MessageFault.{MessageFault}
-use Rattle.rs_session.specs.Change.{Change}
+use Rattle.rs_change.specs.Change.{Change}
 use Rattle.rs_session.specs.Concerning.{IsBeside, MayPass, concerns, is_later, is_past}
 use Rattle.rs_session.specs.Effect.{effect_of_message}
 use Rattle.rs_session.specs.declared.beside.Only.{Only}

@@ -29,7 +29,7 @@ use Rattle.rs_update.specs.declared.header.MessageType.TheVariants as types
 use Rattle.rs_session.specs.Effect.{RecordEffect, PassesOver, Gives, Ends, effect_of, effect_of_entry, effect_of_message, effect_of_state}
 use Rattle.rs_session.specs.Effect.{loss}
 use Rattle.rs_session.specs.Laws.{has_close, is_recorded}
-use Rattle.rs_session.specs.Change.{Change, is_close}
+use Rattle.rs_change.specs.Change.{Change, is_close}
 use Rattle.rs_session.specs.Peer.{is_of}
 use Rattle.std.specs.Prelude.{nat_lt}
 use Rattle.rs_mrt.specs.Endian.{big_number}

@@ -5,13 +5,13 @@ use Rattle.std.specs.List.{flat_map}
 use Rattle.std.proofs.lemmas.List.Sums.{take_while-cons, sum_by-cons}
 use Rattle.rs_mrt.specs.Record.{MrtRecord}
 use Rattle.rs_mrt.specs.declared.fault.SourceFault.{SourceFault}
-use Rattle.rs_session.specs.Change.{Change}
+use Rattle.rs_change.specs.Change.{Change}
 use Rattle.rs_session.specs.Effect.{PassesOver, Gives, Ends, effect_of}
 use Rattle.rs_session.specs.FileChanges.{changes_of, passed_of, close_at, reason_at_end, open_records, ends, passes_over, changes_by}
 use Rattle.rs_session.specs.FileChanges.{closing}
 use Rattle.rs_update.specs.declared.errors.Errors.{Errors}
 use Rattle.rs_session.specs.declared.peer.PeerId.{PeerId}
-use Rattle.rs_session.specs.declared.word.Reason.{Reason}
+use Rattle.rs_change.specs.declared.word.Reason.{Reason}
 
 -- no records
 pub changes_of-nil : (errors : Errors) (peer : PeerId) (end : Option SourceFault)

@@ -12,13 +12,13 @@ use Rattle.rs_mrt.specs.Record.{MrtRecord, records_of, rest_of}
 use Rattle.rs_mrt.specs.RecordReading.{fault_behind, read_limit}
 use Rattle.rs_mrt.specs.declared.fault.SourceFault.{SourceFault}
 use Rattle.rs_mrt.specs.declared.fault.SourceFault.TheVariants as faults
-use Rattle.rs_session.specs.Change.{Change, is_close}
+use Rattle.rs_change.specs.Change.{Change, is_close}
 use Rattle.rs_session.specs.Effect.{RecordEffect, PassesOver, Gives, Ends, effect_of}
 use Rattle.rs_session.specs.FileChanges.{changes_of, passed_of, close_at, ends}
 use Rattle.rs_session.specs.Given.{has_end, IsRead}
 use Rattle.rs_session.specs.Laws.{FrontSuffices, GivesFileOrFails, ClosesByRead, FailedReadCloses}
 use Rattle.rs_session.specs.declared.peer.PeerId.{PeerId}
-use Rattle.rs_session.specs.declared.word.Reason.TheVariants as reasons
+use Rattle.rs_change.specs.declared.word.Reason.TheVariants as reasons
 use Rattle.rs_update.specs.declared.errors.Errors.{Errors}
 use Rattle.rs_session.proofs.EffectLemmas.{IsFine, fine-effect}
 use Rattle.rs_session.proofs.FileChangesLemmas.{changes_of-nil, changes_of-passes, passed_of-passes, changes_of-gives, passed_of-gives}

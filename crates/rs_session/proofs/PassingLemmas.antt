@@ -3,13 +3,13 @@ use Rattle.std.proofs.Common.{◌≡◌, true, false, List, [], ◌∷◌, ◌++
 use Rattle.std.proofs.Common.{arith, append_assoc}
 use Rattle.std.specs.declared.alloc.AllocError.{AllocError}
 use Rattle.rs_mrt.specs.Record.{MrtRecord}
-use Rattle.rs_session.specs.Change.{Change, change_of}
+use Rattle.rs_change.specs.Change.{Change, change_of}
 use Rattle.rs_session.specs.Concerning.{IsBeside, KeepsBehindAll, MayPass, PassesShown, SaysBehind, SaysOf, StepsBehind, StepsOf}
 use Rattle.rs_session.specs.Effect.{RecordEffect, Gives, effect_of}
 use Rattle.rs_session.specs.Stage.{Comes, Stage, May, KeepsBehind, Says}
 use Rattle.rs_session.specs.Steps.{Fetches, GivesWaiting}
 use Rattle.rs_session.specs.declared.beside.Only.{Only}
-use Rattle.rs_session.specs.declared.word.Word.{Word}
+use Rattle.rs_change.specs.declared.word.Word.{Word}
 use Rattle.rs_session.proofs.BesideLemmas.{over-more}
 use Rattle.rs_session.proofs.FileChangesLemmas.{changes_of-gives, passed_of-gives}
 use Rattle.rs_session.proofs.StageLemmas.{keeps_by_reading, may_read-held, over-closed}

@@ -6,7 +6,7 @@ use Rattle.std.specs.declared.alloc.AllocError.{AllocError}
 use Rattle.rs_mrt.specs.Record.{MrtRecord, reading_of, records_of, end_of, octets_of}
 use Rattle.rs_mrt.specs.Source.{Advances, IsLeft, SomethingComes, source_end}
 use Rattle.rs_mrt.specs.declared.fault.SourceFault.{SourceFault}
-use Rattle.rs_session.specs.Change.{Change, change_of}
+use Rattle.rs_change.specs.Change.{Change, change_of}
 use Rattle.rs_session.specs.Concerning.{StepsBehind}
 use Rattle.rs_session.specs.Effect.{RecordEffect, PassesOver, Gives, Ends, effect_of}
 use Rattle.rs_session.specs.FileChanges.{changes_in_by, passed_in_by, changes_of, close_at}
@@ -16,8 +16,8 @@ use Rattle.rs_session.specs.Laws.{SomethingMayCome}
 use Rattle.rs_update.specs.declared.errors.Errors.{Errors}
 use Rattle.rs_session.specs.declared.peer.PeerId.{PeerId}
 use Rattle.rs_session.specs.Steps.{closed_by, GivesWaiting, Fetches, Applies, ReadsShown}
-use Rattle.rs_session.specs.declared.word.Reason.{Reason}
-use Rattle.rs_session.specs.declared.word.Word.{Word}
+use Rattle.rs_change.specs.declared.word.Reason.{Reason}
+use Rattle.rs_change.specs.declared.word.Word.{Word}
 use Rattle.rs_session.proofs.EffectLemmas.{IsFine, fine-effect}
 use Rattle.rs_session.proofs.LawLemmas.{changes_of-some}
 use Rattle.rs_session.proofs.FileChangesLemmas.{changes_of-nil, passed_of-nil, changes_of-passes, passed_of-passes, changes_of-gives}

@@ -10,12 +10,12 @@ use Rattle.rs_update.specs.Treating.{message_by}
 use Rattle.rs_update.specs.declared.errors.Errors.{Errors}
 use Rattle.rs_update.specs.declared.fault.MessageFault.{MessageFault}
 use Rattle.rs_update.specs.declared.fault.MessageFault.TheVariants as message_fault
-use Rattle.rs_session.specs.Change.{Change, Lost}
+use Rattle.rs_change.specs.Change.{Change, Lost}
 use Rattle.rs_session.specs.Peer.{is_of}
 use Rattle.rs_session.specs.UpdateChanges.{changes_of_update, changes_of_treated}
 use Rattle.rs_session.specs.declared.peer.PeerId.{PeerId}
-use Rattle.rs_session.specs.declared.word.Reason.{Reason}
-use Rattle.rs_session.specs.declared.word.Reason.TheVariants as reasons
+use Rattle.rs_change.specs.declared.word.Reason.{Reason}
+use Rattle.rs_change.specs.declared.word.Reason.TheVariants as reasons
 
 -- what a record does to the session of one peer: it is passed over, as another peer's; or it gives changes, perhaps
 -- none; or it ends the session

@@ -1,6 +1,6 @@
 -- The effect of a record, wherever its changes lie.
 use Rattle.std.specs.Prelude.{◌≡◌, false}
-use Rattle.rs_session.specs.Change.{is_read}
+use Rattle.rs_change.specs.Change.{is_read}
 use Rattle.rs_session.specs.Effect.{RecordEffect, PassesOver, Gives, Ends}
 use Rattle.rs_session.specs.declared.effect.Effect.{Effect}
 use Rattle.rs_session.specs.declared.effect.Effect.TheVariants as effects

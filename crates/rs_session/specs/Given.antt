@@ -7,7 +7,7 @@ use Rattle.rs_mrt.specs.Reader.{ReadEnd, FileEnds, ReadFails}
 use Rattle.rs_mrt.specs.Record.{records_of}
 use Rattle.rs_mrt.specs.RecordReading.{read_limit}
 use Rattle.rs_mrt.specs.declared.fault.SourceFault.TheVariants as faults
-use Rattle.rs_session.specs.Change.{Change}
+use Rattle.rs_change.specs.Change.{Change}
 use Rattle.rs_session.specs.Effect.{effect_of}
 use Rattle.rs_session.specs.FileChanges.{ends, changes_of, passed_of, changes_in_by, passed_in_by}
 use Rattle.rs_session.specs.declared.peer.PeerId.{PeerId}

@@ -7,15 +7,15 @@ use Rattle.rs_mrt.specs.Record.{MrtRecord, records_of}
 use Rattle.rs_mrt.specs.RecordReading.{MayCome, unread}
 use Rattle.rs_mrt.specs.declared.fault.SourceFault.{SourceFault}
 use Rattle.rs_mrt.specs.declared.fault.SourceFault.TheVariants as faults
-use Rattle.rs_session.specs.Change.{Change, is_close}
+use Rattle.rs_change.specs.Change.{Change, is_close}
 use Rattle.rs_session.specs.Effect.{effect_of}
 use Rattle.rs_session.specs.FileChanges.{changes_of, close_at, changes_in_by}
 use Rattle.rs_session.specs.Given.{IsRead, has_end}
 use Rattle.rs_session.specs.Stage.{Comes, Stage, May, fresh}
 use Rattle.rs_update.specs.declared.errors.Errors.{Errors}
 use Rattle.rs_session.specs.declared.peer.PeerId.{PeerId}
-use Rattle.rs_session.specs.declared.word.Reason.{Reason}
-use Rattle.rs_session.specs.declared.word.Reason.TheVariants as reasons
+use Rattle.rs_change.specs.declared.word.Reason.{Reason}
+use Rattle.rs_change.specs.declared.word.Reason.TheVariants as reasons
 
 abbrev pub has_close : List Change → Bool
 has_close changes = list_any is_close changes

@@ -1,6 +1,5 @@
 -- What recorded files say:
 pub mod Peer  -- a peer as records name it
-pub mod Change  -- changes of routes
 pub mod UpdateChanges  -- what one UPDATE says
 pub mod Effect  -- what one record says
 pub mod FileChanges  -- what all records of a file say
@@ -14,6 +13,7 @@ pub mod Counts  -- records counted
 pub mod EffectView  -- the effect of a record by its fields
 pub mod PendingView  -- changes not yet given, by their fields
 -- What the contracts name of the crates below:
+pub use Rattle.rs_change.specs.Change
 pub use Rattle.rs_mrt.specs.Entry
 pub use Rattle.rs_mrt.specs.Fault
 pub use Rattle.rs_mrt.specs.Reader

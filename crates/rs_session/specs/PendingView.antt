@@ -3,7 +3,7 @@ use Rattle.std.specs.Prelude.{List, [], ◌∷◌, ◌++◌, map, if◌then◌el
 use Rattle.std.specs.Option.{option_map}
 use Rattle.std.specs.Vec.Iter.{into_iter_items}
 use Rattle.rs_session.specs.declared.pending.Pending.TheInside.{Inside}
-use Rattle.rs_session.specs.Change.{Change, Lost}
+use Rattle.rs_change.specs.Change.{Change, Lost}
 use Rattle.rs_session.specs.UpdateChanges.{withdraws, announcements}
 
 abbrev pub pending_changes : Inside → List Change

@@ -5,7 +5,7 @@ use Rattle.rs_update.specs.IpPrefix.{IpPrefix}
 use Rattle.rs_update.specs.Message.{UpdateContent, TreatedContent}
 use Rattle.rs_update.specs.PathAttributes.{PathAttributes}
 use Rattle.rs_update.specs.Prefix.{is_multicast}
-use Rattle.rs_session.specs.Change.{Change, Announced, Withdrawn}
+use Rattle.rs_change.specs.Change.{Change, Announced, Withdrawn}
 
 -- whether two prefixes are the same
 abbrev pub is_prefix : IpPrefix → IpPrefix → Bool

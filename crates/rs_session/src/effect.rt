@@ -13,7 +13,7 @@ ghost use Rattle.rs_session.specs.EffectView.{effect_value, IsRecorded};
 
 use crate::peer::PeerId;
 use crate::pending::Pending;
-use crate::word::Reason;
+use rs_change::Reason;
 use rs_mrt::{Entry, Record, entry};
 use rs_update::{Errors, Message, MessageFault, read_message_by};
 use std::alloc::{AllocError, Global};

@@ -1,7 +1,7 @@
 //! What one recorded session says: the route changes of one peer, in order (RFC 4271; RFC 6396).
 //!
 //! Reading order:
-//! - One change: `word` (a change), `closing` (which one closes a ring), `peer` (whose it is).
+//! - Whose a change is: `peer`. The change itself is of the crate `rs_change`.
 //! - One record: `withdrawn` and `pending` (its changes), `effect` (what it says), `beside` (whether it may be passed
 //!   over where one prefix is asked for).
 //! - One session: `session` (one change after another), `passing` (only those on one prefix).
@@ -9,7 +9,6 @@
 #![tactic(auto)]
 
 mod beside;
-mod closing;
 mod effect;
 mod laws;
 mod passing;
@@ -17,7 +16,6 @@ mod peer;
 mod pending;
 mod session;
 mod withdrawn;
-mod word;
 
 pub use effect::{Effect, read_record};
 pub use laws::{
@@ -27,5 +25,5 @@ pub use laws::{
 };
 pub use peer::PeerId;
 pub use pending::Pending;
+pub use rs_change::{Body, Reason, Word};
 pub use session::Session;
-pub use word::{Body, Reason, Word};

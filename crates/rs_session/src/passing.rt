@@ -10,7 +10,7 @@ ghost use Rattle.rs_session.specs.Stage.{Closes, Fewer, GoesOn, answer_behind, m
 
 use crate::beside::Only;
 use crate::session::Session;
-use crate::word::Word;
+use rs_change::Word;
 use rs_mrt::Source;
 use rs_update::Prefix;
 use std::alloc::AllocError;

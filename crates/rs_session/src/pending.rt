@@ -6,11 +6,11 @@
 ghost use Rattle.std.specs.Prelude.{◌≡◌, false, [], ◌∷◌, IfOk, IfSome, OnErr};
 ghost use Rattle.std.specs.Option.{option_map};
 ghost use Rattle.rs_update.specs.Message.{update_content_of};
-ghost use Rattle.rs_session.specs.Change.{GivesFirst, Lost, change_of, is_close};
+ghost use Rattle.rs_change.specs.Change.{GivesFirst, Lost, change_of, is_close};
 ghost use Rattle.rs_session.specs.UpdateChanges.{changes_of_update, changes_of_treated};
 
 use crate::withdrawn::{keep_unicast, keep_withdrawn_only};
-use crate::word::{Body, Word};
+use rs_change::{Body, Word};
 use rs_update::{Attributes, Prefix, Update};
 use std::alloc::{AllocError, Global};
 use std::marker::Model;
@@ -30,7 +30,7 @@ pub struct Pending {
 
 impl Model for Pending {
     ghost use Rattle.std.specs.Prelude.{List};
-    ghost use Rattle.rs_session.specs.Change.{Change};
+    ghost use Rattle.rs_change.specs.Change.{Change};
 
     ghost Value = { List Change };
 

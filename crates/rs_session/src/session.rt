@@ -15,7 +15,7 @@ ghost use Rattle.rs_session.specs.FileChanges.{changes_in, passed_in};
 ghost use Rattle.rs_session.specs.Laws.{SomethingMayCome};
 ghost use Rattle.rs_session.specs.Stage.{fresh, May, Says, SaysJust, Closes, Fewer, GoesOn, answer_behind};
 ghost use Rattle.rs_session.specs.Stage.{most_changes};
-ghost use Rattle.rs_session.specs.Change.{Change, closing_word};
+ghost use Rattle.rs_change.specs.Change.{Change, closing_word};
 ghost use Rattle.rs_session.specs.Steps.{Fetches, GivesWaiting, ReadsShown, answer_of_fetch, closed_by};
 ghost use Rattle.rs_session.specs.Counts.{held_count};
 
@@ -23,7 +23,7 @@ use crate::beside::{Only, is_beside};
 use crate::effect::{Effect, read_record};
 use crate::peer::PeerId;
 use crate::pending::Pending;
-use crate::word::{Body, Reason, Word};
+use rs_change::{Body, Reason, Word};
 use rs_mrt::{Record, Records, Source, SourceFault};
 use rs_update::Errors;
 use std::alloc::{AllocError, Global};

@@ -4,7 +4,7 @@ use Rattle.std.proofs.Common.{◌≡◌, ◌∙◌, sym, ap, refl, Bool, true, f
 use Rattle.std.specs.List.{list_any}
 use Rattle.std.specs.FinMap.{empty}
 use Rattle.std.proofs.lemmas.List.Folds.{list_any-append}
-use Rattle.rs_session.specs.Change.{Change, is_close}
+use Rattle.rs_change.specs.Change.{Change, is_close}
 use Rattle.rs_table.specs.Content.{RibContent, nothing_held, rib_left}
 use Rattle.rs_table.specs.Left.{Routes, BecomeBy, HasNoClose, left}
 

@@ -2,8 +2,8 @@
 use Rattle.std.specs.Prelude.{ℕ, Bool, List, Option, refl}
 use Rattle.std.specs.Coded.{Coded, code_by, coded×, coded_ℕ, coded_bool, coded_list, coded_option}
 use Rattle.std.specs.FinMap as map
-use Rattle.rs_update.specs.IpPrefix.{IpPrefix}
-use Rattle.rs_update.specs.PathAttributes.{PathAttributes}
+use Rattle.rs_types.specs.IpPrefix.{IpPrefix}
+use Rattle.rs_types.specs.PathAttributes.{PathAttributes}
 use Rattle.rs_types.specs.contracts.attributes.Attributes as attributes
 use Rattle.rs_choice.specs.contracts.exchange.Exchange as exchange
 use Rattle.rs_choice.specs.Plan.{Plan}

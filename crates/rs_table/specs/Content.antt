@@ -3,7 +3,7 @@ use Rattle.std.specs.Prelude.{ℕ, Bool, false, List, slice_index_or}
 use Rattle.std.specs.FinMap.{empty}
 use Rattle.std.specs.List.{list_any}
 use Rattle.rs_choice.specs.Plan.{Plan}
-use Rattle.rs_session.specs.Change.{Change, is_close}
+use Rattle.rs_change.specs.Change.{Change, is_close}
 use Rattle.rs_table.specs.Left.{Routes, left}
 
 -- of one peer: the routes that it has left, its Adj-RIB-In (RFC 4271, section 3.2), and whether its session closed

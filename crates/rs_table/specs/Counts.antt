@@ -1,7 +1,7 @@
 -- How many routes each peer has left.
 use Rattle.std.specs.Prelude.{◌≡◌, ◌<◌, ℕ, Bool, true, false, List, length, slice_index_or}
 use Rattle.std.specs.FinMap.{len}
-use Rattle.rs_session.specs.Change.{Change, ChangeBody, Announced, Withdrawn, Lost, Closed}
+use Rattle.rs_change.specs.Change.{Change, ChangeBody, Announced, Withdrawn, Lost, Closed}
 use Rattle.rs_table.specs.Cells.{Entries, routes_from}
 
 -- how many routes a peer has in some cells: the number of prefixes on which it has one

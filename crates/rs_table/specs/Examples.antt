@@ -3,10 +3,10 @@ use Rattle.std.specs.Prelude.{◌≡◌, ℕ, false, List, [], ◌∷◌, Option
 use Rattle.std.specs.FinMap.{get}
 use Rattle.std.specs.Option.{option_map}
 use Rattle.rs_types.specs.declared.values.Origin.TheVariants.{Igp}
-use Rattle.rs_update.specs.IpPrefix.{IpPrefix}
-use Rattle.rs_update.specs.PathAttributes.{PathAttributes, AsSequence, CommunityList}
-use Rattle.rs_session.specs.declared.word.Reason.TheVariants.{EndOfFile, Bgp}
-use Rattle.rs_session.specs.Change.{Change, Announced, Withdrawn, Lost, Closed}
+use Rattle.rs_types.specs.IpPrefix.{IpPrefix}
+use Rattle.rs_types.specs.PathAttributes.{PathAttributes, AsSequence, CommunityList}
+use Rattle.rs_change.specs.declared.word.Reason.TheVariants.{EndOfFile, Bgp}
+use Rattle.rs_change.specs.Change.{Change, Announced, Withdrawn, Lost, Closed}
 use Rattle.rs_choice.specs.Plan.{Peer, Plan}
 use Rattle.rs_table.specs.declared.why.Why.TheVariants.{Own, Absent, Ineligible, Refused, Best, Lost}
 use Rattle.rs_table.specs.Content.{RibContent, TablesContent}

@@ -2,8 +2,8 @@
 use Rattle.std.specs.Prelude.{◌≡◌, ◌↔◌, ◌++◌, ◌∷◌, [], ℕ, Bool, true, false, List, filter, Some, None}
 use Rattle.std.specs.FinMap.{get}
 use Rattle.std.specs.List.{list_any}
-use Rattle.rs_update.specs.IpPrefix.{IpPrefix}
-use Rattle.rs_session.specs.Change.{Change}
+use Rattle.rs_types.specs.IpPrefix.{IpPrefix}
+use Rattle.rs_change.specs.Change.{Change}
 use Rattle.rs_table.specs.Left.{RouteLeft, Leaves, HasNoClose, body_prefix, is_on, left, after}
 use Rattle.rs_table.specs.Logged.{Logged}
 use Rattle.rs_table.specs.Content.{TablesContent}

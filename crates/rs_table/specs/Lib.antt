@@ -23,10 +23,10 @@ pub mod TablesView  -- the tables by their fields
 pub mod RouteView  -- routes and rows by their fields
 pub mod Codes  -- codes of values
 -- What the contracts name of the crates below:
-pub use Rattle.rs_update.specs.IpPrefix
-pub use Rattle.rs_update.specs.PathAttributes
-pub use Rattle.rs_session.specs.Change
-pub use Rattle.rs_update.specs.PrefixOrder
+pub use Rattle.rs_types.specs.IpPrefix
+pub use Rattle.rs_types.specs.PathAttributes
+pub use Rattle.rs_change.specs.Change
+pub use Rattle.rs_types.specs.PrefixOrder
 pub use Rattle.rs_choice.specs.Clients
 pub use Rattle.rs_choice.specs.Decision
 pub use Rattle.rs_choice.specs.Eligibility

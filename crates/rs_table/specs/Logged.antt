@@ -1,7 +1,7 @@
 -- A change in a list (our choice).
 use Rattle.std.specs.Prelude.{ℕ, Option}
-use Rattle.rs_update.specs.IpPrefix.{IpPrefix}
-use Rattle.rs_update.specs.PathAttributes.{PathAttributes}
+use Rattle.rs_types.specs.IpPrefix.{IpPrefix}
+use Rattle.rs_types.specs.PathAttributes.{PathAttributes}
 
 -- its prefix, when it came, in seconds, how many sessions its peer had lost by then, the peer, and the attributes of an
 -- announcement: a withdrawal has none

@@ -1,6 +1,6 @@
 -- A change in a list by its fields.
 use Rattle.std.specs.Prelude.{◌≡◌, ◌≤◌, Some, None}
-use Rattle.rs_update.specs.Prefix.{network_of}
+use Rattle.rs_types.specs.Prefix.{network_of}
 use Rattle.rs_table.specs.declared.logged.LoggedChange.TheInside.{Inside}
 use Rattle.rs_table.specs.declared.logged.Packed.{Packed}
 use Rattle.rs_table.specs.declared.logged.Packed.TheVariants.{Announced, Withdrawn}

@@ -1,8 +1,8 @@
 -- The cells of a compacted list under way (our choice).
 use Rattle.std.specs.Prelude.{◌≡◌, ◌≢◌, ℕ, Bool, true, if◌then◌else◌, List, [], map}
 use Rattle.std.specs.declared.cmp.Ordering.TheVariants.{Less}
-use Rattle.rs_update.specs.IpPrefix.{IpPrefix}
-use Rattle.rs_update.specs.PrefixOrder.{prefix_cmp}
+use Rattle.rs_types.specs.IpPrefix.{IpPrefix}
+use Rattle.rs_types.specs.PrefixOrder.{prefix_cmp}
 use Rattle.rs_choice.specs.Decision.{SentRoute}
 use Rattle.rs_choice.specs.Held.{sent_of_held}
 use Rattle.rs_choice.specs.Plan.{Plan}

@@ -1,7 +1,7 @@
 -- Tables that hold different prefixes for one exchange, and are made one.
 use Rattle.std.specs.Prelude.{◌≡◌, ◌≢◌, ℕ, true, false, List, All, Some, slice_get}
 use Rattle.std.specs.FinMap.{get}
-use Rattle.rs_update.specs.IpPrefix.{IpPrefix}
+use Rattle.rs_types.specs.IpPrefix.{IpPrefix}
 use Rattle.rs_table.specs.Content.{TablesContent, rib_of}
 use Rattle.rs_table.specs.Listing.{is_held}
 

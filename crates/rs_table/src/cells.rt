@@ -2,18 +2,18 @@
 
 ghost use Rattle.std.specs.Prelude.{◌≡◌, ◌<◌, if◌then◌else◌, true, None, IfOk, OnOk, OnErr, length};
 ghost use Rattle.std.specs.BTreeMap.{IsOrdered};
-ghost use Rattle.rs_session.specs.Change.{change_of};
-ghost use Rattle.rs_update.specs.IpPrefix.{IpPrefix};
-ghost use Rattle.rs_update.specs.PrefixOrder.{prefix_cmp};
+ghost use Rattle.rs_change.specs.Change.{change_of};
+ghost use Rattle.rs_types.specs.IpPrefix.{IpPrefix};
+ghost use Rattle.rs_types.specs.PrefixOrder.{prefix_cmp};
 ghost use Rattle.rs_choice.specs.Held.{sent_of_held, IsJudged};
 ghost use Rattle.rs_table.specs.ByPeer.{with_route, without_route};
 ghost use Rattle.rs_table.specs.Cells.{cell_at, routes_at, AreJoined, AreKeptCells, ChangeTo, IsFirstOn};
 ghost use Rattle.rs_table.specs.Left.{same_prefix};
 
 use crate::cell::Cell;
+use rs_change::{Body, Reason, Word};
 use rs_choice::{Exchange, HeldRoute};
-use rs_session::{Body, Reason, Word};
-use rs_update::Prefix;
+use rs_types::Prefix;
 use std::alloc::{AllocError, Global};
 use std::collections::BTreeMap;
 

@@ -2,7 +2,7 @@
 
 use crate::cell::Cell;
 use crate::route::Row;
-use rs_update::Prefix;
+use rs_types::Prefix;
 use std::collections::btree_map::Iter;
 use std::marker::Model;
 

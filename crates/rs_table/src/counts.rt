@@ -3,7 +3,7 @@
 
 ghost use Rattle.std.specs.Prelude.{◌≡◌, ◌<◌, ◌⊎◌, true, IfOk, IsFalse, OnOk, OnErr, length};
 ghost use Rattle.std.specs.FinMap.{contains_key, len};
-ghost use Rattle.rs_session.specs.Change.{change_of};
+ghost use Rattle.rs_change.specs.Change.{change_of};
 ghost use Rattle.rs_table.specs.Cells.{routes_from, AreKeptCells, ChangeTo, IsFirstOn};
 ghost use Rattle.rs_table.specs.Counts.{announces, route_count, AreCounts};
 ghost use Rattle.rs_table.specs.Left.{after};
@@ -11,9 +11,9 @@ ghost use Rattle.rs_table.specs.TablesView.{AllClosed};
 
 use crate::cell::Cell;
 use crate::cells::change;
+use rs_change::{Body, Reason, Word};
 use rs_choice::Exchange;
-use rs_session::{Body, Reason, Word};
-use rs_update::Prefix;
+use rs_types::Prefix;
 use std::alloc::{AllocError, Global};
 use std::collections::BTreeMap;
 

@@ -2,12 +2,12 @@
 
 ghost use Rattle.std.specs.Prelude.{◌≡◌, ◌/◌, ◌^◌, ◌<◌, ℕ, All, OnOk, if◌then◌else◌};
 ghost use Rattle.std.specs.List.Sorted.{IsStrictlySortedBy};
-ghost use Rattle.rs_update.specs.IpPrefix.{IpPrefix};
+ghost use Rattle.rs_types.specs.IpPrefix.{IpPrefix};
 ghost use Rattle.rs_table.specs.Gathered.{IsEntryOf, counts, entry_route, first_octet, left_in};
 ghost use Rattle.rs_table.specs.Gathered.{logged_cmp, IsAnnounced};
 
 use crate::logged::LoggedChange;
-use rs_update::Prefix;
+use rs_types::Prefix;
 use std::alloc::{AllocError, Global};
 
 // The first octet of a prefix.

@@ -4,7 +4,7 @@ ghost use Rattle.std.specs.Prelude.{◌≡◌};
 ghost use Rattle.std.specs.Option.{is_some, option_map};
 ghost use Rattle.rs_table.specs.Gathered.{is_current};
 
-use rs_update::{Attributes, Prefix, a_prefix_covers_itself};
+use rs_types::{Attributes, Prefix, a_prefix_covers_itself};
 use std::marker::Model;
 use std::mem::size_of;
 use std::sync::Arc;

@@ -7,7 +7,7 @@ ghost use Rattle.rs_table.specs.RouteView.{sent_route_of};
 
 use crate::cell::Cell;
 use crate::route::Route;
-use rs_update::Prefix;
+use rs_types::Prefix;
 
 /// A prefix with the routes that peers have left on it, and what each client gets of them. What it answers is at
 /// hand: no map is searched.

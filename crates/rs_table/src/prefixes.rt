@@ -7,7 +7,7 @@ ghost use Rattle.rs_table.specs.Table.{prefixes_held, route_from};
 use crate::cell::Cell;
 use crate::prefix_routes::PrefixRoutes;
 use crate::tables::Tables;
-use rs_update::Prefix;
+use rs_types::Prefix;
 use std::collections::btree_map::Iter;
 use std::marker::Model;
 

@@ -1,6 +1,6 @@
 //! Routes as a table shows them.
 
-use rs_update::{Attributes, Prefix};
+use rs_types::{Attributes, Prefix};
 
 /// A route of a peer.
 #[derive(Clone, Copy)]

@@ -4,8 +4,8 @@
 ghost use Rattle.std.specs.Prelude.{◌≡◌, ◌<◌, ◌≢◌, ℕ, [], true, IfOk, OnOk, if◌then◌else◌, length};
 ghost use Rattle.std.specs.Option.{is_some};
 ghost use Rattle.std.specs.declared.cmp.Ordering.TheVariants.{Less};
-ghost use Rattle.rs_update.specs.IpPrefix.{IpPrefix};
-ghost use Rattle.rs_update.specs.PrefixOrder.{prefix_cmp};
+ghost use Rattle.rs_types.specs.IpPrefix.{IpPrefix};
+ghost use Rattle.rs_types.specs.PrefixOrder.{prefix_cmp};
 ghost use Rattle.rs_table.specs.ByPeer.{route_at};
 ghost use Rattle.rs_table.specs.Cells.{routes_at, AreKeptCells};
 ghost use Rattle.rs_table.specs.Gathered.{AreLogs, entry_route, is_of, left_at, left_in};
@@ -18,7 +18,7 @@ use crate::log::{Log, compact};
 use crate::logged::LoggedChange;
 use crate::read_ahead::ReadAhead;
 use rs_choice::{Exchange, HeldRoute};
-use rs_update::Prefix;
+use rs_types::Prefix;
 use std::alloc::{AllocError, Global};
 use std::collections::BTreeMap;
 

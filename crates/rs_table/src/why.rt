@@ -4,7 +4,7 @@ ghost use Rattle.std.specs.Prelude.{◌≡◌, ◌<◌, length};
 ghost use Rattle.rs_table.specs.Table.{best_of, is_from, why_of};
 
 use crate::tables::Tables;
-use rs_update::Prefix;
+use rs_types::Prefix;
 
 /// The first case that holds of a client, a peer and a prefix.
 #[derive(Clone, Copy, Debug, PartialEq, Eq)]

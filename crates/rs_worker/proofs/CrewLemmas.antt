@@ -6,7 +6,7 @@ use borrow.Author.Count.{below_more}
 use Rattle.rs_mrt.specs.Record.{MrtRecord}
 use Rattle.rs_ring.specs.Ends.{Receiving}
 use Rattle.rs_session.specs.Stage.{Comes}
-use Rattle.rs_session.specs.declared.word.Word.{Word}
+use Rattle.rs_change.specs.declared.word.Word.{Word}
 use Rattle.rs_worker.specs.Crew.{Charge, given_by, HasJoined, AllJoined}
 use Rattle.rs_worker.specs.declared.crew.Joined.{Joined}
 use Rattle.rs_patience.proofs.PlaceLemmas.{get-front, get-seam, get-set_other, get-set_same}

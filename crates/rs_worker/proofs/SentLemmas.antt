@@ -4,10 +4,10 @@ use Rattle.std.proofs.lemmas.List.{map-append}
 use Rattle.rs_mrt.specs.Record.{MrtRecord}
 use Rattle.rs_session.specs.Change.{Change, change_of, closing_word}
 use Rattle.rs_session.specs.Stage.{Comes, Stage, May}
-use Rattle.rs_session.specs.declared.word.Body.{Body}
-use Rattle.rs_session.specs.declared.word.Body.TheVariants.{Close}
-use Rattle.rs_session.specs.declared.word.Reason.{Reason}
-use Rattle.rs_session.specs.declared.word.Word.{Word}
+use Rattle.rs_change.specs.declared.word.Body.{Body}
+use Rattle.rs_change.specs.declared.word.Body.TheVariants.{Close}
+use Rattle.rs_change.specs.declared.word.Reason.{Reason}
+use Rattle.rs_change.specs.declared.word.Word.{Word}
 use Rattle.rs_worker.specs.Steps.{reason_of, Ends}
 use Rattle.rs_worker.specs.Worked.{HasSent, closes_any}
 

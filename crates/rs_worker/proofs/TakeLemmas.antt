@@ -10,11 +10,11 @@ use Rattle.rs_session.specs.Change.{Change, Closed, change_of, closing_word}
 use Rattle.rs_session.specs.FileChanges.{changes_of, close_at}
 use Rattle.rs_session.specs.Laws.{ClosesOnce, SomethingMayCome, may_close}
 use Rattle.rs_session.specs.Stage.{Comes, Stage, May, Says, Closes, Fewer, most_changes}
-use Rattle.rs_session.specs.declared.word.Body.{Body}
-use Rattle.rs_session.specs.declared.word.Body.TheVariants.{Close}
-use Rattle.rs_session.specs.declared.word.Reason.{Reason}
-use Rattle.rs_session.specs.declared.word.Reason.TheVariants as reasons
-use Rattle.rs_session.specs.declared.word.Word.{Word}
+use Rattle.rs_change.specs.declared.word.Body.{Body}
+use Rattle.rs_change.specs.declared.word.Body.TheVariants.{Close}
+use Rattle.rs_change.specs.declared.word.Reason.{Reason}
+use Rattle.rs_change.specs.declared.word.Reason.TheVariants as reasons
+use Rattle.rs_change.specs.declared.word.Word.{Word}
 use Rattle.rs_worker.specs.Steps.{reason_of, Ends, Takes}
 use Rattle.rs_worker.specs.Worked.{is_memory}
 

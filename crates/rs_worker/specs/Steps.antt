@@ -3,11 +3,11 @@ use Rattle.std.specs.Prelude.{◌≡◌, ℕ, ◌+◌, ◌≤◌, true, false, L
 use Rattle.rs_mrt.specs.Record.{MrtRecord}
 use Rattle.rs_session.specs.Change.{Change, change_of, closing_word}
 use Rattle.rs_session.specs.Stage.{Comes, Stage, May, KeepsBehind, most_changes}
-use Rattle.rs_session.specs.declared.word.Body.{Body}
-use Rattle.rs_session.specs.declared.word.Body.TheVariants.{Announce, Withdraw, Down, Close}
-use Rattle.rs_session.specs.declared.word.Reason.{Reason}
-use Rattle.rs_session.specs.declared.word.Reason.TheVariants as reasons
-use Rattle.rs_session.specs.declared.word.Word.{Word}
+use Rattle.rs_change.specs.declared.word.Body.{Body}
+use Rattle.rs_change.specs.declared.word.Body.TheVariants.{Announce, Withdraw, Down, Close}
+use Rattle.rs_change.specs.declared.word.Reason.{Reason}
+use Rattle.rs_change.specs.declared.word.Reason.TheVariants as reasons
+use Rattle.rs_change.specs.declared.word.Word.{Word}
 use Rattle.rs_worker.specs.Worked.{is_memory}
 
 -- why a session ends with a change, where it does

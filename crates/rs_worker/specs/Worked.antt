@@ -4,9 +4,9 @@ use Rattle.rs_ring.specs.Ends.{Ring, Sent}
 use Rattle.rs_ring.specs.Items.{has_close}
 use Rattle.rs_session.specs.Change.{Change, change_of, closing_word, is_close}
 use Rattle.rs_session.specs.FileChanges.{close_at}
-use Rattle.rs_session.specs.declared.word.Reason.{Reason}
-use Rattle.rs_session.specs.declared.word.Reason.TheVariants as reasons
-use Rattle.rs_session.specs.declared.word.Word.{Word}
+use Rattle.rs_change.specs.declared.word.Reason.{Reason}
+use Rattle.rs_change.specs.declared.word.Reason.TheVariants as reasons
+use Rattle.rs_change.specs.declared.word.Word.{Word}
 use Rattle.rs_worker.specs.declared.work.WorkerEnd.{WorkerEnd}
 
 -- a session may give just these changes, the close being the last one, and pass over so many records

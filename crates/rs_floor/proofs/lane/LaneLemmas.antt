@@ -10,7 +10,7 @@ use Rattle.rs_mrt.specs.declared.fault.SourceFault.{SourceFault}
 use Rattle.rs_session.specs.Change.{Change, change_of, is_close}
 use Rattle.rs_session.specs.FileChanges.{close_at}
 use Rattle.rs_session.specs.Laws as laws
-use Rattle.rs_session.specs.declared.word.Word.{Word}
+use Rattle.rs_change.specs.declared.word.Word.{Word}
 use Rattle.rs_floor.specs.Lane.{NoneClosesBefore, sent_changes}
 use Rattle.rs_floor.specs.Schedule.{after_send}
 use Rattle.rs_floor.specs.declared.counts.Counts.{Counts}

@@ -6,7 +6,7 @@ use Rattle.rs_ring.specs.Ends.{Receiving, Sending}
 use Rattle.rs_session.specs.Change.{Change, change_of}
 use Rattle.rs_session.specs.FileChanges.{changes_in}
 use Rattle.rs_session.specs.declared.peer.PeerId.{PeerId}
-use Rattle.rs_session.specs.declared.word.Word.{Word}
+use Rattle.rs_change.specs.declared.word.Word.{Word}
 use Rattle.rs_floor.specs.Lane.{LaneContent, NoneClosesBefore, fresh_lane, sent_changes, to_come}
 use Rattle.rs_floor.specs.LaneView.{IsLane, lane_view}
 use Rattle.rs_floor.specs.Schedule.{after_send}

@@ -5,7 +5,7 @@ use Rattle.rs_mrt.specs.Source.{IsLeft, source_end}
 use Rattle.rs_mrt.specs.declared.fault.SourceFault.{SourceFault}
 use Rattle.rs_session.specs.Change.{Change, change_of}
 use Rattle.rs_session.specs.Stage.{Stage, May, Keeps, Says, SaysJust, to_read, changes_left, passed_in_the_end}
-use Rattle.rs_session.specs.declared.word.Word.{Word}
+use Rattle.rs_change.specs.declared.word.Word.{Word}
 use Rattle.rs_floor.specs.Lane.{to_come}
 
 -- what a file as a source may give, and shows

@@ -10,7 +10,7 @@ use Rattle.rs_mrt.specs.RecordReading.{RecordReading, unread}
 use Rattle.rs_ring.specs.Ends.{Receiving, Sending}
 use Rattle.rs_router.specs.declared.routed.Routed.{Routed}
 use Rattle.rs_session.specs.Laws.{GivesFileOrFails}
-use Rattle.rs_session.specs.declared.word.Word.{Word}
+use Rattle.rs_change.specs.declared.word.Word.{Word}
 use Rattle.rs_serve.specs.Crew.{IsReady}
 use Rattle.rs_serve.specs.Laws.{IsOfPlan}
 use Rattle.rs_serve.specs.declared.shard_crew.ShardJob.{ShardJob}

@@ -15,9 +15,9 @@ use Rattle.rs_session.specs.Given.{MayFail, SaysGiven, SaysFailed}
 use Rattle.rs_session.specs.Laws.{ClosesOnce, GivesFileOrFails, FailedReadCloses, ClosesByRead, may_close}
 use Rattle.rs_session.specs.Stage.{May, fresh}
 use Rattle.rs_session.specs.declared.peer.PeerId.{PeerId}
-use Rattle.rs_session.specs.declared.word.Reason.{Reason}
-use Rattle.rs_session.specs.declared.word.Reason.TheVariants as reasons
-use Rattle.rs_session.specs.declared.word.Word.{Word}
+use Rattle.rs_change.specs.declared.word.Reason.{Reason}
+use Rattle.rs_change.specs.declared.word.Reason.TheVariants as reasons
+use Rattle.rs_change.specs.declared.word.Word.{Word}
 use Rattle.rs_update.specs.declared.errors.Errors.{Errors}
 use Rattle.rs_worker.specs.Crew.{HasJoined}
 use Rattle.rs_worker.specs.Worked.{is_memory}

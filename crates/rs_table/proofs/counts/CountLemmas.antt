@@ -12,9 +12,9 @@ use Rattle.std.proofs.lemmas.Bool.Decides.{eqb_tells}
 use Rattle.std.proofs.lemmas.List.{get_or-set_other, get_or_push}
 use Rattle.std.proofs.Math.ListN.{get_or-append}
 use Rattle.std.proofs.lemmas.List.Sums.{count_by-le-length, sum_by-cons}
-use Rattle.rs_update.specs.IpPrefix.{IpPrefix}
-use Rattle.rs_update.specs.PrefixOrder.{prefix_cmp}
-use Rattle.rs_session.specs.Change.{Change, ChangeBody, Announced, Withdrawn, Lost, Closed}
+use Rattle.rs_types.specs.IpPrefix.{IpPrefix}
+use Rattle.rs_types.specs.PrefixOrder.{prefix_cmp}
+use Rattle.rs_change.specs.Change.{Change, ChangeBody, Announced, Withdrawn, Lost, Closed}
 use Rattle.rs_choice.specs.Decision.{SentRoute}
 use Rattle.rs_table.specs.ByPeer.{route_at, without_route}
 use Rattle.rs_table.specs.Cell.{CellContent, routes_in}

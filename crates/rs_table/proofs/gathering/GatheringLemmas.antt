@@ -5,8 +5,8 @@ use Rattle.std.specs.FinMap as fin
 use Rattle.std.proofs.lemmas.Bool.{cases_lt, eq-eqb}
 use Rattle.std.proofs.lemmas.Bool.Decides.{eqb_tells}
 use Rattle.std.proofs.lemmas.List.{get_or_past}
-use Rattle.rs_update.specs.IpPrefix.{IpPrefix}
-use Rattle.rs_session.specs.Change.{Change}
+use Rattle.rs_types.specs.IpPrefix.{IpPrefix}
+use Rattle.rs_change.specs.Change.{Change}
 use Rattle.rs_choice.specs.Plan.{Plan}
 use Rattle.rs_table.specs.Logged.{Logged}
 use Rattle.rs_table.specs.declared.log.Log.{Log}

@@ -6,7 +6,7 @@ use Rattle.std.specs.List.{cons_option, enumerate_from, filter_map, AllByRecursi
 use Rattle.std.specs.Option.{option_map}
 use Rattle.std.specs.FinMap.{get}
 use Rattle.std.proofs.lemmas.List.Elements.{All-cons}
-use Rattle.rs_update.specs.IpPrefix.{IpPrefix}
+use Rattle.rs_types.specs.IpPrefix.{IpPrefix}
 use Rattle.rs_choice.specs.Clients.{is_sent_to}
 use Rattle.rs_choice.specs.Decision.{standing_of, SentRoute}
 use Rattle.rs_choice.specs.Naturality.{choice-All}

@@ -6,7 +6,7 @@ use Rattle.std.specs.Option.{option_map_or, option_or}
 use Rattle.std.proofs.lemmas.Bool.{cases_Bool, and_right}
 use Rattle.std.proofs.lemmas.List.{reverse-append}
 use Rattle.std.proofs.lemmas.List.Elements.{All-head, All-tail}
-use Rattle.rs_update.specs.IpPrefix.{IpPrefix}
+use Rattle.rs_types.specs.IpPrefix.{IpPrefix}
 use Rattle.rs_table.specs.Logged.{Logged}
 use Rattle.rs_table.specs.Left.{RouteLeft, same_prefix}
 use Rattle.rs_table.specs.Gathered.{counts, entry_route, first_octet, is_current, left_over}

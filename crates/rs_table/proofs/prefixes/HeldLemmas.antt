@@ -11,8 +11,8 @@ use Rattle.std.proofs.lemmas.Bool.{cases_Bool, or_left, or_right}
 use Rattle.std.proofs.lemmas.List.{length-map}
 use Rattle.rs_choice.specs.Held.{sent_of_held}
 use Rattle.std.proofs.lemmas.Bool.Decides.{eqb_tells}
-use Rattle.rs_update.specs.IpPrefix.{IpPrefix}
-use Rattle.rs_update.specs.PrefixOrder.{prefix_cmp}
+use Rattle.rs_types.specs.IpPrefix.{IpPrefix}
+use Rattle.rs_types.specs.PrefixOrder.{prefix_cmp}
 use Rattle.rs_choice.specs.Decision.{SentRoute}
 use Rattle.rs_choice.specs.Plan.{Plan}
 use Rattle.rs_table.specs.Left.{same_prefix, RouteLeft}

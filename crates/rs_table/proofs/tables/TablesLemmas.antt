@@ -7,8 +7,8 @@ use Rattle.std.specs.Option.{option_map, option_map_or, is_some}
 use Rattle.std.proofs.lemmas.Bool.{cases_Bool, cases_lt, eq-eqb}
 use Rattle.std.proofs.lemmas.Bool.Decides.{eqb_tells}
 use Rattle.std.proofs.lemmas.List.{get_or_past}
-use Rattle.rs_update.specs.IpPrefix.{IpPrefix}
-use Rattle.rs_session.specs.Change.{Change, ChangeBody, Announced, Withdrawn, Lost, Closed}
+use Rattle.rs_types.specs.IpPrefix.{IpPrefix}
+use Rattle.rs_change.specs.Change.{Change, ChangeBody, Announced, Withdrawn, Lost, Closed}
 use Rattle.rs_choice.specs.Plan.{Plan}
 use Rattle.rs_table.specs.Left.{RouteLeft, after, same_prefix, bears_on, drops_routes, reason_drops, body_route, body_drops, body_loses}
 use Rattle.rs_table.specs.Left.{body_prefix, IsNewBody}

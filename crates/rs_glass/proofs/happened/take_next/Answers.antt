@@ -5,8 +5,8 @@ use Rattle.rs_mrt.specs.Fault.{number_of}
 use Rattle.rs_mrt.specs.Record.{MrtRecord, record_of}
 use Rattle.rs_mrt.specs.Source.{Advances}
 use Rattle.rs_mrt.specs.declared.fault.SourceFault.TheVariants as faults
-use Rattle.rs_session.specs.declared.word.Reason.{Reason}
-use Rattle.rs_session.specs.declared.word.Reason.TheVariants.{Mrt}
+use Rattle.rs_change.specs.declared.word.Reason.{Reason}
+use Rattle.rs_change.specs.declared.word.Reason.TheVariants.{Mrt}
 use Rattle.rs_glass.specs.FileSaid.{closing_at_end}
 use Rattle.rs_glass.specs.Listed.{Lists}
 use Rattle.rs_glass.proofs.ListingLemmas.{takes-end, takes-record}

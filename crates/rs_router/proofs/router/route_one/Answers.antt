@@ -4,7 +4,7 @@ use Rattle.std.specs.Prelude.{slice_get, slice_set}
 use Rattle.std.proofs.lemmas.List.{length-map, map-set}
 use Rattle.std.proofs.lemmas.Option.{slice_get-get_or}
 use Rattle.rs_ring.specs.Ends.{Receiving}
-use Rattle.rs_session.specs.declared.word.Word.{Word}
+use Rattle.rs_change.specs.declared.word.Word.{Word}
 use Rattle.rs_router.specs.Delivery.{sent_lists}
 use Rattle.rs_router.specs.Routing.{IsRouted, received_lists}
 use Rattle.rs_patience.proofs.PlaceLemmas.{get-map, map-set_same}

@@ -4,7 +4,7 @@ use Rattle.std.proofs.lemmas.List.{length-map, take_at}
 use Rattle.rs_ring.specs.Ends.{Receiving, Sending}
 use Rattle.rs_router.specs.Delivery.{sent_lists}
 use Rattle.rs_router.specs.declared.routed.Routed.{Routed}
-use Rattle.rs_session.specs.declared.word.Word.{Word}
+use Rattle.rs_change.specs.declared.word.Word.{Word}
 use Rattle.rs_serve.specs.Crew as of_shards
 use Rattle.rs_serve.specs.Crew.{AllHold}
 use Rattle.rs_worker.specs.Crew.{charged}

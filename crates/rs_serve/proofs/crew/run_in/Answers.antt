@@ -2,7 +2,7 @@
 use Rattle.std.proofs.Common.{◌≡◌, refl, length, arith, rules}
 use Rattle.rs_ring.specs.Ends.{Receiving, Sending}
 use Rattle.rs_router.specs.declared.routed.Routed.{Routed}
-use Rattle.rs_session.specs.declared.word.Word.{Word}
+use Rattle.rs_change.specs.declared.word.Word.{Word}
 use Rattle.rs_serve.specs.Crew as of_shards
 use Rattle.rs_serve.specs.declared.shard_crew.ShardJob.{ShardJob}
 use Rattle.rs_worker.specs.Crew.{charge_of, charged}

@@ -1,8 +1,8 @@
 use Rattle.std.proofs.Common.{◌≡◌, true, Some, None, ◌∙◌, ap, sym, subst}
 use Rattle.std.specs.BTreeMap.{BTreeMap, Updates, insert_entry, is_at}
 use Rattle.std.specs.Option.{is_some, option_copied_mut}
-use Rattle.rs_update.specs.IpPrefix.{IpPrefix}
-use Rattle.rs_update.specs.PrefixOrder.{prefix_cmp}
+use Rattle.rs_types.specs.IpPrefix.{IpPrefix}
+use Rattle.rs_types.specs.PrefixOrder.{prefix_cmp}
 use Rattle.rs_table.specs.ByPeer.{with_route}
 use Rattle.rs_table.specs.Cell.{CellContent, IsKeptCell}
 use Rattle.rs_choice.specs.Held.{sent_of_held}

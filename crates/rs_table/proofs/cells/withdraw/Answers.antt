@@ -2,7 +2,7 @@ use Rattle.std.proofs.Common.{◌≡◌, true, Some, None, refl, ◌∙◌, ap, 
 use Rattle.std.specs.BTreeMap.{is_at}
 use Rattle.std.specs.Map.{remove_entry}
 use Rattle.std.specs.Option.{is_some}
-use Rattle.rs_update.specs.PrefixOrder.{prefix_cmp}
+use Rattle.rs_types.specs.PrefixOrder.{prefix_cmp}
 use Rattle.rs_table.specs.ByPeer.{without_route}
 use Rattle.rs_table.specs.Cell.{IsKeptCell}
 use Rattle.rs_table.specs.Cells.{AreKeptCells, cell_at, routes_of}

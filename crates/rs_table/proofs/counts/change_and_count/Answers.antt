@@ -1,6 +1,6 @@
 use Rattle.std.proofs.Common.{◌≡◌, ◌∙◌, false, sym, ap, arith, rules}
 use Rattle.std.specs.FinMap as fin
-use Rattle.rs_session.specs.Change.{change_of}
+use Rattle.rs_change.specs.Change.{change_of}
 use Rattle.rs_table.specs.Counts.{announces, route_count}
 use Rattle.rs_table.proofs.counts.CountLemmas.{nothing-changes}
 use Rattle.rs_table.proofs.tables.TablesLemmas.{routes-own}

@@ -1,10 +1,10 @@
 use Rattle.std.proofs.Common.{◌≡◌, ◌∙◌, ◌≤◌, ◌+◌, ◌-◌, ℕ, Bool, true, false, cond, length, ap, sym, arith, rules}
 use Rattle.std.specs.FinMap as fin
-use Rattle.rs_session.specs.Change.{body_of}
-use Rattle.rs_session.specs.declared.word.Body.{Body}
+use Rattle.rs_change.specs.Change.{body_of}
+use Rattle.rs_change.specs.declared.word.Body.{Body}
 use Rattle.rs_table.specs.Cells.{routes_from}
 use Rattle.rs_table.specs.Counts.{route_count}
-use Rattle.rs_update.specs.PrefixOrder.{prefix_cmp}
+use Rattle.rs_types.specs.PrefixOrder.{prefix_cmp}
 use Rattle.rs_table.specs.Left.{RouteLeft, Routes, after_body, reason_drops}
 use Rattle.rs_table.proofs.counts.CountLemmas.{count-most, insert-counted, remove-counted, some-counted}
 use Rattle.rs_table.proofs.counts.count_after.Goals as goal

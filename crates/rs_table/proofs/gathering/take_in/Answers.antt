@@ -1,10 +1,10 @@
 -- A loss, and a close for a fault, ends all of a peer's routes.
 use Rattle.std.proofs.Common.{◌≡◌, ◌∙◌, refl, sym, ap, set, get_or, length, length-set, cond, true, false, rules, List, ℕ, Option, Some, None}
 use Rattle.std.proofs.lemmas.Result.{on_ok_weaker}
-use Rattle.rs_update.specs.IpPrefix.{IpPrefix}
-use Rattle.rs_session.specs.Change.{change_of}
-use Rattle.rs_session.specs.declared.word.Reason.{Reason}
-use Rattle.rs_session.specs.declared.word.Reason.TheVariants as reasons
+use Rattle.rs_types.specs.IpPrefix.{IpPrefix}
+use Rattle.rs_change.specs.Change.{change_of}
+use Rattle.rs_change.specs.declared.word.Reason.{Reason}
+use Rattle.rs_change.specs.declared.word.Reason.TheVariants as reasons
 use Rattle.rs_table.specs.Left.{RouteLeft, reason_drops, same_prefix}
 use Rattle.rs_table.specs.Gathered.{left_after, entry_route, IsAdded}
 use Rattle.rs_table.specs.Logged.{Logged}

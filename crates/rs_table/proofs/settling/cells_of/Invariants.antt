@@ -1,6 +1,6 @@
 use Rattle.std.proofs.Common.{◌≡◌, ℕ, All, length}
 use Rattle.std.specs.List.Sorted.{IsStrictlySortedBy}
-use Rattle.rs_update.specs.IpPrefix.{IpPrefix}
+use Rattle.rs_types.specs.IpPrefix.{IpPrefix}
 use Rattle.rs_table.specs.ByPeer.{route_at}
 use Rattle.rs_table.specs.Gathered.{left_in, left_over, logged_cmp, IsAnnounced}
 use Rattle.rs_table.specs.Making.{routes_so_far, IsMaking, IsNext}

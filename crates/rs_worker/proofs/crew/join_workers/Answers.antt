@@ -2,7 +2,7 @@
 use Rattle.std.proofs.Common.{◌≡◌, ◌∙◌, sym, refl, arith, length, length-append, [], ◌∷◌, rules}
 use Rattle.std.specs.Vec.Iter.{into_iter_items}
 use Rattle.rs_ring.specs.Ends.{Receiving}
-use Rattle.rs_session.specs.declared.word.Word.{Word}
+use Rattle.rs_change.specs.declared.word.Word.{Word}
 use Rattle.rs_worker.specs.Crew.{charged}
 use Rattle.rs_worker.proofs.CrewLemmas.{joined-next}
 use Rattle.rs_patience.proofs.PlaceLemmas.{drop-front, drop-later, get-map, map-set_same, next-made}

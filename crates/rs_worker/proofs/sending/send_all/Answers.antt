@@ -1,6 +1,6 @@
 -- The close is sent behind the changes of the session.
 use Rattle.std.proofs.Common.{◌≡◌, ◌∙◌, sym, Some}
-use Rattle.rs_session.specs.declared.word.Word.{Word}
+use Rattle.rs_change.specs.declared.word.Word.{Word}
 use Rattle.rs_worker.specs.Steps.{reason_of}
 use Rattle.rs_worker.proofs.SentLemmas.{sent-closes}
 use Rattle.rs_worker.proofs.sending.send_all.Goals as goal

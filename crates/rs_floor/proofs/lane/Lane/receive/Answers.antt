@@ -3,7 +3,7 @@ use Rattle.std.proofs.Common.{◌≡◌, ◌∙◌, ◌+◌, sym, ap, subst, ari
 use Rattle.std.specs.Prelude.{slice_get}
 use Rattle.rs_ring.specs.Ends.{Sending, Receiving}
 use Rattle.rs_session.specs.Change.{change_of}
-use Rattle.rs_session.specs.declared.word.Word.{Word}
+use Rattle.rs_change.specs.declared.word.Word.{Word}
 use Rattle.rs_floor.specs.Lane.{LaneContent, to_come}
 use Rattle.rs_floor.specs.declared.lane.Lane.TheInside.{Inside}
 use Rattle.rs_floor.proofs.lane.LaneLemmas.{recorded-waiting}

@@ -5,7 +5,7 @@ use Rattle.rs_mrt.specs.Record.{Reading}
 use Rattle.rs_ring.specs.Ends.{Sending, Receiving}
 use Rattle.rs_session.specs.Change.{change_of}
 use Rattle.rs_session.specs.Stage.{Stage}
-use Rattle.rs_session.specs.declared.word.Word.{Word}
+use Rattle.rs_change.specs.declared.word.Word.{Word}
 use Rattle.rs_floor.specs.Lane.{LaneContent, to_come}
 use Rattle.rs_floor.specs.LaneView.{lane_view}
 use Rattle.rs_floor.specs.declared.lane.Lane.TheInside.{Inside}

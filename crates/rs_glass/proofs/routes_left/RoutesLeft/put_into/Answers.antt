@@ -5,7 +5,7 @@ use Rattle.std.proofs.lemmas.List.{map-append, map-id}
 use Rattle.std.proofs.lemmas.Iterator.Adapters.{YieldsList-from_vec}
 use Rattle.std.proofs.lemmas.Iterator.Consumers.{YieldsList-turn, YieldsList-end}
 use Rattle.rs_session.specs.Change.{change_of, is_close}
-use Rattle.rs_session.specs.declared.word.Word.{Word}
+use Rattle.rs_change.specs.declared.word.Word.{Word}
 use Rattle.rs_table.specs.Content.{RibContent}
 use Rattle.rs_table.specs.Left.{HasNoClose, left}
 use Rattle.rs_table.proofs.RibLemmas.{any-one_more, left-nothing}

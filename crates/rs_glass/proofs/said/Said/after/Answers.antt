@@ -1,7 +1,7 @@
 -- One change more, for what is said last and for the close.
 use Rattle.std.proofs.Common.{◌∙◌, ap, sym}
 use Rattle.rs_session.specs.Change.{change_of}
-use Rattle.rs_session.specs.declared.word.Reason.{Reason}
+use Rattle.rs_change.specs.declared.word.Reason.{Reason}
 use Rattle.std.specs.Prelude.{Option}
 use Rattle.rs_glass.specs.Recorded.{close_after}
 use Rattle.rs_glass.proofs.SaidLemmas.{close_in-more}

@@ -2,7 +2,7 @@
 use Rattle.std.proofs.Common.{Some, None, refl, ap, arith, rules}
 use Rattle.rs_session.proofs.StageLemmas.{may_read-fetched, may_read-none, held_le}
 use Rattle.rs_mrt.specs.declared.fault.SourceFault.TheVariants as faults
-use Rattle.rs_session.specs.declared.word.Reason.TheVariants.{Mrt}
+use Rattle.rs_change.specs.declared.word.Reason.TheVariants.{Mrt}
 use Rattle.rs_session.proofs.session.Session.fetch.Goals as goal
 
 pub returns-in-Ok-true-clause-says : goal.returns-in-Ok-true-clause-says

@@ -1,7 +1,7 @@
 -- A change makes of its peer's routes what it makes of a list's, and those of other peers stay.
 use Rattle.std.proofs.Common.{◌<◌, ◌∙◌, true, false, length, length-set, get_or-set_same, set, arith, refl, sym, ap, subst}
 use Rattle.std.proofs.lemmas.List.{get_or-set_other}
-use Rattle.rs_session.specs.Change.{change_of}
+use Rattle.rs_change.specs.Change.{change_of}
 use Rattle.rs_table.specs.Content.{rib_of}
 use Rattle.rs_table.specs.Gathered.{AreLogs, GathersTo, routes_gathered}
 use Rattle.rs_table.proofs.cells.CellsLemmas.{by-length}

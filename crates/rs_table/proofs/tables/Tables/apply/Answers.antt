@@ -2,7 +2,7 @@ use Rattle.std.proofs.Common.{◌≡◌, ◌<◌, ℕ, true, false, get_or, inl,
 use Rattle.std.proofs.Common.{ap, subst, ◌∙◌}
 use Rattle.std.proofs.lemmas.Grind.{get_or_default_zero}
 use Rattle.std.proofs.lemmas.List.{get_or-set_other}
-use Rattle.rs_session.specs.Change.{Change, change_of}
+use Rattle.rs_change.specs.Change.{Change, change_of}
 use Rattle.rs_table.specs.declared.tables.Tables.TheInside.{Inside}
 use Rattle.rs_table.specs.Cells.{Entries, AreKeptCells, ChangeTo}
 use Rattle.rs_table.specs.Counts.{AreCounts, route_count}

@@ -3,8 +3,8 @@ use Rattle.std.proofs.Common.{◌≡◌, All, List, Option, Some, None, refl, ma
 use Rattle.std.specs.BTreeMap.{is_at}
 use Rattle.std.specs.Option.{is_some}
 use Rattle.std.proofs.lemmas.Map.Made.{is_some-lookup}
-use Rattle.rs_update.specs.IpPrefix.{IpPrefix}
-use Rattle.rs_update.specs.PrefixOrder.{prefix_cmp}
+use Rattle.rs_types.specs.IpPrefix.{IpPrefix}
+use Rattle.rs_types.specs.PrefixOrder.{prefix_cmp}
 use Rattle.rs_table.specs.Cell.{CellContent}
 use Rattle.rs_table.specs.Cells.{Entries, cell_at}
 use Rattle.rs_table.specs.Listing.{is_held}

@@ -3,8 +3,8 @@ use Rattle.std.proofs.Common.{◌≡◌, ◌<◌, ℕ, All, List, length, map, s
 use Rattle.std.specs.BTreeMap.{is_at}
 use Rattle.std.specs.List.{filter_map}
 use Rattle.std.proofs.lemmas.Map.Made.{is_some-lookup}
-use Rattle.rs_update.specs.IpPrefix.{IpPrefix}
-use Rattle.rs_update.specs.PrefixOrder.{prefix_cmp}
+use Rattle.rs_types.specs.IpPrefix.{IpPrefix}
+use Rattle.rs_types.specs.PrefixOrder.{prefix_cmp}
 use Rattle.rs_table.specs.Cells.{Entries}
 use Rattle.rs_table.specs.ClientRowsView.{stored_rows}
 use Rattle.rs_table.specs.Table.{TableRow, IsTable, best_of}

@@ -1,6 +1,6 @@
 use Rattle.std.proofs.Common.{◌∙◌, true, subst, sym, inr, rules, length, get_or, arith, ◌≡◌, ◌<◌, ℕ}
 use Rattle.std.specs.FinMap as fin
-use Rattle.rs_update.specs.PrefixOrder.{prefix_cmp}
+use Rattle.rs_types.specs.PrefixOrder.{prefix_cmp}
 use Rattle.rs_table.specs.Left.{RouteLeft}
 use Rattle.rs_table.specs.Cells.{Entries, AreCells, AreKeptCells}
 use Rattle.rs_table.specs.Counts.{AreCounts}

@@ -1,6 +1,6 @@
 //! The changes of one peer's routes (RFC 4271, sections 3.1 and 4.3), and why its session ended.
 
-use rs_update::{Attributes, Prefix};
+use rs_types::{Attributes, Prefix};
 use std::sync::Arc;
 
 /// One change of a peer's routes, as a recorded session says it.

@@ -1,6 +1,6 @@
 -- Each answer is one search, so that a wrong body is refused soon.
 use Rattle.std.proofs.Common.{rules}
-use Rattle.rs_session.proofs.closing.WordClosing.is_close.Goals as goal
+use Rattle.rs_change.proofs.closing.WordClosing.is_close.Goals as goal
 
 pub returns-in-Close : goal.returns-in-Close
 returns-in-Close c = search rules

@@ -1,6 +1,6 @@
 //! A change as an item of a ring: the close of a session closes its ring.
 
-ghost use Rattle.rs_session.specs.Change.{change_of, is_close};
+ghost use Rattle.rs_change.specs.Change.{change_of, is_close};
 
 use crate::word::{Body, Word};
 use rs_ring::Closing;
