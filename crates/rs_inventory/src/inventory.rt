@@ -1,12 +1,13 @@
 //! What a recorded file holds (RFC 6396).
 
-ghost use Rattle.std.specs.Prelude.{◌≡◌, OnOk, Some, None, slice_index};
+ghost use Rattle.std.specs.Prelude.{◌≡◌, [], IfOk, OnOk, Some, None, slice_index};
 ghost use Rattle.rs_inventory.specs.Inventory.{HoldsNothing, TakesFinding, TakesNote, WithCounts, earlier_of, later_of};
 ghost use Rattle.rs_inventory.specs.Inventory.{sum_of};
 ghost use Rattle.rs_inventory.specs.Kind.{place_of};
+ghost use Rattle.rs_inventory.specs.Peer.{TellsMore, peer_content};
 
 use crate::compression::Compression;
-use crate::finding::{Finding, Note};
+use crate::finding::{Finding, News, Note};
 use crate::kind::{KINDS, Kind};
 use crate::peer::{Peer, PeerRecords};
 use rs_mrt::MrtFault;
@@ -188,10 +189,18 @@ fn take_news(
     if let Some(records) = peers.get_mut(&note.peer) {
         return records.take(time, note.news);
     }
-    let mut records = PeerRecords::none(alloc);
-    records.take(time, note.news)?;
+    let records = first_records(alloc, time, note.news)?;
     peers.insert(note.peer, records)?;
     Ok(())
+}
+
+// What is known of a peer by its first record.
+fn first_records(alloc: Global, time: u32, news: News) -> Result<PeerRecords, AllocError>
+    ensures { IfOk result (λ records. TellsMore (peer_content []) time news records) }
+{
+    let mut records = PeerRecords::none(alloc);
+    records.take(time, news)?;
+    Ok(records)
 }
 
 // The earlier of two times, where there are two.
