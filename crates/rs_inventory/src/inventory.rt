@@ -2,7 +2,7 @@
 
 ghost use Rattle.std.specs.Prelude.{◌≡◌, [], IfOk, OnOk, Some, None, slice_index};
 ghost use Rattle.rs_inventory.specs.Inventory.{HoldsNothing, TakesFinding, TakesNote, WithCounts, earlier_of, later_of};
-ghost use Rattle.rs_inventory.specs.Inventory.{sum_of};
+ghost use Rattle.rs_inventory.specs.Inventory.{first_of, sum_of};
 ghost use Rattle.rs_inventory.specs.Kind.{place_of};
 ghost use Rattle.rs_inventory.specs.Peer.{TellsMore, peer_content};
 
@@ -106,9 +106,7 @@ impl Inventory {
         self.first = Some(earlier(self.first, finding.time));
         self.last = Some(later(self.last, finding.time));
         self.octets = sum(self.octets, finding.octets);
-        if self.recorder.is_none() {
-            self.recorder = finding.recorder;
-        }
+        self.recorder = first_known(self.recorder, finding.recorder);
     }
 
     /// How the file is compressed; none where it isn't. Of a compressed file no record is read.
@@ -220,6 +218,16 @@ fn later(last: Option<u32>, time: u32) -> u32
     match last {
         Some(last) => last.max(time),
         None => time,
+    }
+}
+
+// The recorder that was found first, where one was.
+fn first_known(before: Option<Peer>, found: Option<Peer>) -> Option<Peer>
+    ensures { result ≡ first_of before found }
+{
+    match before {
+        Some(_) => before,
+        None => found,
     }
 }
 
