@@ -1,11 +1,11 @@
 -- What was sent when the close is.
-use Rattle.std.proofs.Common.{◌≡◌, ◌∙◌, sym, ap, refl, arith, ℕ, ◌+◌, ◌≤◌, ◌^◌, Bool, false, ◌||◌, List, [], ◌∷◌, ◌++◌, length, map}
+use Rattle.std.proofs.Common.{◌≡◌, ◌∙◌, ap, refl, arith, ℕ, ◌+◌, ◌≤◌, Bool, false, ◌||◌, List, [], ◌∷◌, ◌++◌, length, map}
 use Rattle.std.proofs.Common.{Option, None, Some, append_assoc, length-append}
 use Rattle.std.proofs.lemmas.List.{map-append}
 use Rattle.std.proofs.lemmas.List.Folds.{list_any-append}
 use Rattle.rs_mrt.specs.Record.{MrtRecord}
 use Rattle.rs_session.specs.Change.{Change, change_of, closing_word, is_close}
-use Rattle.rs_session.specs.Stage.{Comes, Stage, May, most_changes}
+use Rattle.rs_session.specs.Stage.{Comes, Stage, May}
 use Rattle.rs_session.specs.declared.word.Body.{Body}
 use Rattle.rs_session.specs.declared.word.Body.TheVariants.{Close}
 use Rattle.rs_session.specs.declared.word.Reason.{Reason}
