@@ -1,12 +1,13 @@
 //! What a recorded file holds (RFC 6396).
 
-ghost use Rattle.std.specs.Prelude.{◌≡◌, OnOk, Some, None, slice_index};
+ghost use Rattle.std.specs.Prelude.{◌≡◌, [], IfOk, OnOk, Some, None, slice_index};
 ghost use Rattle.rs_inventory.specs.Inventory.{HoldsNothing, TakesFinding, TakesNote, WithCounts, earlier_of, later_of};
-ghost use Rattle.rs_inventory.specs.Inventory.{sum_of};
+ghost use Rattle.rs_inventory.specs.Inventory.{first_of, sum_of};
 ghost use Rattle.rs_inventory.specs.Kind.{place_of};
+ghost use Rattle.rs_inventory.specs.Peer.{TellsMore, peer_content};
 
 use crate::compression::Compression;
-use crate::finding::{Finding, Note};
+use crate::finding::{Finding, News, Note};
 use crate::kind::{KINDS, Kind};
 use crate::peer::{Peer, PeerRecords};
 use rs_mrt::MrtFault;
@@ -105,9 +106,7 @@ impl Inventory {
         self.first = Some(earlier(self.first, finding.time));
         self.last = Some(later(self.last, finding.time));
         self.octets = sum(self.octets, finding.octets);
-        if self.recorder.is_none() {
-            self.recorder = finding.recorder;
-        }
+        self.recorder = first_known(self.recorder, finding.recorder);
     }
 
     /// How the file is compressed; none where it isn't. Of a compressed file no record is read.
@@ -188,10 +187,18 @@ fn take_news(
     if let Some(records) = peers.get_mut(&note.peer) {
         return records.take(time, note.news);
     }
-    let mut records = PeerRecords::none(alloc);
-    records.take(time, note.news)?;
+    let records = first_records(alloc, time, note.news)?;
     peers.insert(note.peer, records)?;
     Ok(())
+}
+
+// What is known of a peer by its first record.
+fn first_records(alloc: Global, time: u32, news: News) -> Result<PeerRecords, AllocError>
+    ensures { IfOk result (λ records. TellsMore (peer_content []) time news records) }
+{
+    let mut records = PeerRecords::none(alloc);
+    records.take(time, news)?;
+    Ok(records)
 }
 
 // The earlier of two times, where there are two.
@@ -211,6 +218,16 @@ fn later(last: Option<u32>, time: u32) -> u32
     match last {
         Some(last) => last.max(time),
         None => time,
+    }
+}
+
+// The recorder that was found first, where one was.
+fn first_known(before: Option<Peer>, found: Option<Peer>) -> Option<Peer>
+    ensures { result ≡ first_of before found }
+{
+    match before {
+        Some(_) => before,
+        None => found,
     }
 }
 

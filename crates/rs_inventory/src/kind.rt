@@ -119,21 +119,7 @@ impl Kind {
         ensures value { result ≡ place_of self }
         ensures bound { result < KINDS }
     {
-        match self {
-            Kind::Update => 0,
-            Kind::Open => 1,
-            Kind::Notification => 2,
-            Kind::KeepAlive => 3,
-            Kind::RouteRefresh => 4,
-            Kind::Faulty => 5,
-            Kind::StateChange => 6,
-            Kind::TwoOctet => 7,
-            Kind::AddPath => 8,
-            Kind::Ipv6 => 9,
-            Kind::TableDumpV2 => 10,
-            Kind::CutShort => 11,
-            Kind::Other => 12,
-        }
+        self as usize
     }
 
     /// The kind of a record that a route server doesn't read: by its Type, Subtype and Address Family.

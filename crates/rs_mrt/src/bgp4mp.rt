@@ -5,9 +5,10 @@
 //! Family is tested only up to that field. Microseconds, Local AS, Interface Index, Local IP Address and octets
 //! after the New State have no effect.
 
-ghost use Rattle.std.specs.Prelude.{◌≡◌};
+ghost use Rattle.std.specs.Prelude.{◌≡◌, ◌&&◌, ◌==◌, not};
 ghost use Rattle.rs_mrt.specs.Record.{record_of};
 ghost use Rattle.rs_mrt.specs.Entry.{answer_of, entry_of, fields_entry, message_entry, state_entry};
+ghost use Rattle.rs_mrt.specs.Entry.{subtype_message_as4, subtype_state_change_as4};
 
 use crate::fault::MrtFault;
 use crate::meaning::Entry;
@@ -76,7 +77,7 @@ pub fn entry<'a>(recorded: &Record<'a>) -> Result<Entry<'a>, MrtFault>
 fn read_fields(subtype: u16, fields: &[u8]) -> Result<Entry<'_>, MrtFault>
     ensures { answer_of result ≡ fields_entry subtype fields.now }
 {
-    if subtype != MESSAGE_AS4 && subtype != STATE_CHANGE_AS4 {
+    if is_other(subtype) {
         return Ok(Entry::Other);
     }
     if fields.len() < FAMILY_END {
@@ -90,6 +91,13 @@ fn read_fields(subtype: u16, fields: &[u8]) -> Result<Entry<'_>, MrtFault>
     } else {
         read_state_fields(fields)
     }
+}
+
+// Whether a Subtype is neither of the two that are read.
+fn is_other(subtype: u16) -> bool
+    ensures { result ≡ (not (subtype == subtype_message_as4) && not (subtype == subtype_state_change_as4)) }
+{
+    subtype != MESSAGE_AS4 && subtype != STATE_CHANGE_AS4
 }
 
 fn read_message_fields(fields: &[u8]) -> Result<Entry<'_>, MrtFault>

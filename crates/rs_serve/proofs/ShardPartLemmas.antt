@@ -12,7 +12,7 @@ use Rattle.rs_update.specs.PathAttributes.{PathAttributes}
 use Rattle.rs_session.specs.Change.{Change, ChangeBody, Announced, Withdrawn, is_close, body_closes}
 use Rattle.rs_table.proofs.PrefixLemmas.{same_prefix-true}
 use Rattle.rs_table.specs.Laws.{LeftByLastChanges, LeftByPart}
-use Rattle.rs_table.specs.Left.{Leaves, RouteLeft, announcement, body_loses, body_prefix, is_loss, is_on, left, same_prefix}
+use Rattle.rs_table.specs.Left.{Leaves, RouteLeft, announcement, body_loses, body_prefix, is_loss, is_on, left}
 use Rattle.rs_router.specs.ShardParts.{shard_part, gets, gets_body, shard_of}
 use Rattle.rs_serve.specs.PartLaws.{PartsByShards}
 

@@ -54,10 +54,10 @@ impl Rings {
         ensures { OnOk result (HasRingMore plan.now.value
             self.old.jobs.items self.old.to.items self.new.jobs.items self.new.to.items) }
     {
+        let tables = Tables::new(alloc, plan.clone()?)?;
         let Ok((sender, from)) = ring(alloc, capacity) else {
             return Err(AllocError);
         };
-        let tables = Tables::new(alloc, plan.clone()?)?;
         self.jobs.push(ShardJob { tables, from })?;
         self.to.push(sender)?;
         Ok(())

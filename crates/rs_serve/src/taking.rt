@@ -34,7 +34,10 @@ pub(crate) fn settled(gathered: Option<Gathering>) -> Option<Tables>
     ensures { (before : TablesContent) → (items : List Routed) → IfSome gathered (HoldReceived before items)
         → IfSome result (HoldReceived before items) }
 {
-    gathered?.settle().ok()
+    match gathered?.settle() {
+        Ok(tables) => Some(tables),
+        Err(_) => None,
+    }
 }
 
 // Takes an item: a change of a peer that isn't there, or whose session closed, is dropped. Refused where memory is.

@@ -156,3 +156,18 @@ module _ {R : Type 0} (gives : R → List ℕ → ReadEnd → Type 0) (failures 
         bounds = second.bounds ∙ first.bounds;
         counts = subst (λ (n : ℕ). Counts n (calls_failed failures new) r) first.counts second.counts;
       }
+
+  -- a read failed; which error says it makes no difference
+  pub Collects-failed : (old mid new : Bounded R) (failed other : Failed) → Collects gives failures old mid (Ok true)
+      → Collects gives failures mid new (Err failed) → Collects gives failures old new (Err other)
+  Collects-failed old mid new failed other first second =
+      let both = Collects-then old mid new (Err failed) first second in
+      record {
+        piece = both.piece;
+        between = both.between;
+        behind = both.behind;
+        ready = both.ready;
+        ended = both.ended;
+        bounds = both.bounds;
+        counts = both.counts;
+      }

@@ -4,7 +4,7 @@ use Rattle.std.proofs.Common.{false, refl, sym, ap, subst, ◌∙◌, append_ass
 use Rattle.std.specs.Prelude.{nat_lt, if◌then◌else◌}
 use Rattle.std.proofs.lemmas.Bool.{lt-ltb, le-ltb}
 use Rattle.std.proofs.lemmas.Bool.Decides.{nat_tests}
-use Rattle.std.proofs.lemmas.List.{take_all, take-append-le, length-take-le}
+use Rattle.std.proofs.lemmas.List.{append-nil, take_all, take-append-le, length-take-le}
 use Rattle.std.proofs.Math.Seq.{take-append-add}
 use Rattle.rs_mrt.specs.declared.stream.Failed.{Failed}
 use Rattle.rs_mrt.specs.Reader.{ReadEnd, FileEnds, ReadFails, ReadGives, SomethingIsGiven}
@@ -128,6 +128,15 @@ module _ {R : Type 0} (gives : R → List ℕ → ReadEnd → Type 0) (failures 
 
   -- ---- a window
 
+  -- nothing came yet
+  pub Fills-nothing : (inflow : Inflow R) (held : List ℕ) → inflow.came ≤ read_limit → Fills gives failures inflow inflow held held (Ok true)
+  Fills-nothing inflow held within =
+      record {
+        piece = [];
+        filled = sym (append-nil held);
+        drawn = record { behind = λ later end may. may; came = omega arith; within = within; counts = refl };
+      }
+
   pub Fills-then : (old mid new : Inflow R) (before between after : List ℕ) (r : Result Bool Failed)
       → Fills gives failures old mid before between (Ok true)
       → Fills gives failures mid new between after r → Fills gives failures old new before after r
@@ -136,6 +145,23 @@ module _ {R : Type 0} (gives : R → List ℕ → ReadEnd → Type 0) (failures 
         piece = first.piece ++ second.piece;
         filled = second.filled ∙ ap (λ (z : List ℕ). z ++ second.piece) first.filled ∙ append_assoc before first.piece second.piece;
         drawn = Draws-then old mid new first.piece second.piece r first.drawn second.drawn;
+      }
+
+  -- a read failed; which error says it makes no difference
+  pub Fills-failed : (old mid new : Inflow R) (before between after : List ℕ) (failed other : Failed)
+      → Fills gives failures old mid before between (Ok true)
+      → Fills gives failures mid new between after (Err failed) → Fills gives failures old new before after (Err other)
+  Fills-failed old mid new before between after failed other first second =
+      let fills = Fills-then old mid new before between after (Err failed) first second in
+      record {
+        piece = fills.piece;
+        filled = fills.filled;
+        drawn = record {
+          behind = fills.drawn.behind;
+          came = fills.drawn.came;
+          within = fills.drawn.within;
+          counts = fills.drawn.counts;
+        };
       }
 
   -- ---- octets that are passed over

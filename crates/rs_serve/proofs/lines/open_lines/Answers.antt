@@ -1,9 +1,11 @@
 -- One line more, and all of them.
-use Rattle.std.proofs.Common.{◌≡◌, ◌∙◌, sym, ap, ℕ, [], ◌∷◌, length, length-append, Some, arith, rules}
+use Rattle.std.proofs.Common.{◌≡◌, ◌∙◌, ◌<◌, ◌-◌, ◌^◌, sym, ap, ℕ, List, [], ◌∷◌, length, Some, arith, rules}
 use Rattle.std.specs.Prelude.{slice_get}
 use Rattle.std.specs.Vec.Iter.{into_iter_items}
 use Rattle.std.proofs.lemmas.List.{nil_from_length}
+use Rattle.std.proofs.lemmas.Option.{slice_get_within}
 use Rattle.rs_choice.specs.Plan.{peer_of}
+use Rattle.rs_patience.proofs.PlaceLemmas.{all-at, drop-front}
 use Rattle.rs_serve.proofs.serving.OpenLemmas.{opening-all, opening-next, opening-none}
 use Rattle.rs_serve.proofs.lines.open_lines.Goals as goal
 
@@ -40,3 +42,30 @@ loop-reader-init g c = record {
       c.new.result.items c.new-2.result.items c.new.ensures.items c.new-2.ensures.items;
   left = search rules;
 }
+
+pub peer-peer-requires : goal.peer-peer-requires
+peer-peer-requires g c =
+    let all : List g.row.R.Denot = into_iter_items c.into_iter-reader-iterator.result in
+    let readers : all ≡ c.args.readers.items = c.into_iter-reader-iterator.ensures.into_iter_gives.0 in
+    let left = sym c.loop-reader.invariant.opening.left ∙ c.in-Some.ensures.steps.0 in
+    let here = drop-front all (length c.loop-reader.lines.jobs.items) c.in-Some.reader (into_iter_items c.next.new.self) left in
+    omega (
+      arith,
+      slice_get_within all (length c.loop-reader.lines.jobs.items) c.in-Some.reader here,
+      ap length readers,
+      c.requires.as_many,
+      c.len.ensures,
+      c.loop-reader.lines.jobs.ok.0,
+    )
+
+pub open-requires-clause-failures : goal.open-requires-clause-failures
+open-requires-clause-failures g c =
+    let all : List g.row.R.Denot = into_iter_items c.into_iter-reader-iterator.result in
+    let readers : all ≡ c.args.readers.items = c.into_iter-reader-iterator.ensures.into_iter_gives.0 in
+    let left = sym c.loop-reader.invariant.opening.left ∙ c.in-Some.ensures.steps.0 in
+    let here = drop-front all (length c.loop-reader.lines.jobs.items) c.in-Some.reader (into_iter_items c.next.new.self) left in
+    all-at (λ reader. g.R.Read.failures reader < 2 ^ 64 - 1) c.args.readers.items c.requires.failures
+    (length c.loop-reader.lines.jobs.items) c.in-Some.reader (rw readers at here)
+
+pub open-requires-clause-capacity : goal.open-requires-clause-capacity
+open-requires-clause-capacity g c = c.requires.capacity
