@@ -54,8 +54,8 @@ pub fn change(alloc: Global, exchange: &Exchange, text: &str) -> Option<(usize, 
     Some((peer_of(exchange, name)?, word(alloc, rest)?))
 }
 
-/// Takes the next change of a peer, and answers whether memory sufficed; None where there is no such peer or its session
-/// closed.
+/// Takes the next change of a peer, and answers whether memory sufficed; None where there is no such peer or its
+/// session closed.
 pub fn take(tables: &mut Tables, peer: usize, word: Word) -> Option<bool> {
     if peer >= tables.count() || tables.is_closed(peer) {
         return None;
