@@ -7,3 +7,13 @@ mod runs;
 mod runs_ahead;
 mod setups;
 mod texts;
+
+use std::test::Fail;
+
+// A text is what is wanted. A failure in place of an assertion, which takes long to prove.
+fn check(found: &str, wanted: &str, case: &str) -> Result<(), Fail> {
+    if found == wanted {
+        return Ok(());
+    }
+    Err(Fail::new(format_args!("{case}: {found}")))
+}

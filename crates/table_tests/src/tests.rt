@@ -27,9 +27,8 @@ mod slow_reading;
 mod tables;
 mod writers;
 
-use changes::after;
 use std::alloc::Global;
-use std::process::Abort;
+use std::test::Fail;
 use std::thread::Threads;
 
 // The peers by their numbers.
@@ -45,57 +44,53 @@ const FOUR_PEERS: &str =
     "64500 192.0.2.0/24; a,64501,192.0.2.11,192.0.2.11; b,64502,192.0.2.12,192.0.2.12; \
     c,64503,192.0.2.13,192.0.2.13; d,64504,192.0.2.14,192.0.2.14";
 
-// What was found is what was wanted. It stands alone, since an assertion takes long to prove.
-fn check(rt: &impl Abort, found: &Option<String>, wanted: &str, row: &str) {
-    assert_eq!(rt; found.as_deref(), Some(wanted), "{row}");
+// What was found is what was wanted. A failure in place of an assertion, which takes long to prove.
+fn check(found: Option<String>, wanted: &str, (row, changes): (&str, &str)) -> Result<(), Fail> {
+    if found.as_deref() == Some(wanted) {
+        return Ok(());
+    }
+    Err(Fail::new(format_args!("{row} after {changes}: {found:?}")))
 }
 
-// A row of three columns has its answer in an exchange.
-fn check_case(rt: &impl Abort, alloc: Global, plan: &str, (asked, rest): (&str, &str), row: &str) {
-    let (given, wanted) = rest.split_once('|').unwrap_or(("", "three columns"));
-    let (given, wanted) = (given.trim(), wanted.trim());
-    let found = match asked {
+// What is found where a row asks this, whose last column is wanted.
+fn answer(
+    alloc: Global,
+    (plan, changes): (&str, &str),
+    asked: &str,
+    wanted: &str,
+) -> Option<String> {
+    let Some((head, given)) = asked.split_once('|') else {
+        return tables::answer(alloc, plan, changes, asked);
+    };
+    let (given, (kind, _)) = (given.trim(), head.split_once(':')?);
+    match kind {
         "fault" => plans::fault_of(alloc, given),
         "merged" => parts::merged(alloc, plan, given),
         "told" => reasons::told(alloc, plan, given, wanted),
         "said" => last_said::last_said(alloc, given),
-        _ => held::answer(rt, alloc, plan, asked, given),
-    };
-    check(rt, &found, wanted, row);
-}
-
-// A row has its answer after some changes, read once more where memory is refused.
-fn check_after<T: Abort + Threads + Sync>(
-    rt: &T,
-    alloc: Global,
-    (plan, changes): (&str, &str),
-    row: &str,
-) {
-    let tables = after(alloc, plan, changes)
-        .or_else(|| after(alloc, plan, changes))
-        .expect(rt, "tables");
-    match row.strip_prefix("dump ") {
-        Some(row) => dumps::check_dump(rt, alloc, &tables, row),
-        None => tables::check_answer(rt, alloc, &tables, row, changes),
+        _ => held::answer(alloc, plan, kind, given),
     }
 }
 
 // A row has its answer.
-fn check_row<T: Abort + Threads + Sync>(
+fn check_row<T: Threads + Sync>(
     rt: &T,
     alloc: Global,
-    (plan, changes): (&str, &str),
+    above: (&str, &str),
     row: &str,
-) {
-    let (head, rest) = row.split_once('|').unwrap_or((row, ""));
-    match head.split_once(':') {
-        Some((asked, _)) => check_case(rt, alloc, plan, (asked, rest), row),
-        None => check_after(rt, alloc, (plan, changes), row),
+) -> Result<(), Fail> {
+    let Some((asked, wanted)) = row.rsplit_once('|') else {
+        return Err(Fail::new(format_args!("{row}: no answer is wanted")));
+    };
+    if let Some(asked) = asked.strip_prefix("dump ") {
+        return dumps::check_dump(rt, alloc, above, (asked, wanted));
     }
+    let wanted = wanted.trim();
+    check(answer(alloc, above, asked, wanted), wanted, (row, above.1))
 }
 
 // Each row of a text has its answer.
-fn check_rows<T: Abort + Threads + Sync>(rt: &T, alloc: Global, rows: &str) {
+fn check_rows<T: Threads + Sync>(rt: &T, alloc: Global, rows: &str) -> Result<(), Fail> {
     let (mut plan, mut changes) = ("", "");
     for line in rows.lines() {
         if let Some(text) = line.strip_prefix("exchange ") {
@@ -104,7 +99,8 @@ fn check_rows<T: Abort + Threads + Sync>(rt: &T, alloc: Global, rows: &str) {
         } else if let Some(text) = line.strip_prefix("after ") {
             changes = text;
         } else if !line.is_empty() && !line.starts_with('#') {
-            check_row(rt, alloc, (plan, changes), line);
+            check_row(rt, alloc, (plan, changes), line)?;
         }
     }
+    Ok(())
 }

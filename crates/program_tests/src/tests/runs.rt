@@ -1,11 +1,11 @@
 //! Runs over a collector's file: whole, in pieces, and with each call of a reader, of the outlet, of a dump's
 //! writer and of the report's refused in turn.
 
-ghost use Rattle.std.specs.Prelude.{◌≡◌, ◌<◌, ◌≤◌, length};
+ghost use Rattle.std.specs.Prelude.{◌≡◌, ◌<◌, ◌≤◌, IfOk, length};
 
 use rs_host::Options;
 use rs_mrt::{Bounds, IoWriter, Limits, MemoryReader, MemoryWriter, ReadLimits, Write};
-use rs_outlet::{Kept, MemoryOutlet, Outlet, OutletLimits, RunFault};
+use rs_outlet::{Kept, MemoryOutlet, OutletLimits, RunFault};
 use rs_program::{Cleared, Progress};
 use rs_run::run;
 use rs_setup::{Setup, read_setup};
@@ -13,7 +13,6 @@ use rs_update::Errors;
 use spelled_in_hex::octets;
 use std::alloc::Global;
 use std::io::Stderr;
-use std::process::Abort;
 use std::sync::Wait;
 use std::test::Fail;
 use std::thread::Threads;
@@ -111,6 +110,45 @@ impl Manner {
     }
 }
 
+// What each run reads: what that exchange sets up, and that file.
+#[derive(Drop)]
+struct Input {
+    setup: Setup,
+    file: Vec<u8>,
+}
+
+// Reads it.
+fn read_input(alloc: Global) -> Result<Input, Fail>
+    ensures { IfOk result (λ input. length input.setup.plan.value.peers ≡ CLIENTS) }
+{
+    let setup = read_setup(alloc, EXCHANGE.as_bytes())?;
+    if setup.plan.count() != CLIENTS {
+        return Err(Fail::new("another number of peers"));
+    }
+    let file = octets(alloc, &[COLLECTED])?;
+    Ok(Input { setup, file })
+}
+
+/// The options of a run with rings of this room, and so many shards.
+pub fn options(alloc: Global, ring: usize, shards: usize) -> Result<Options, Fail>
+    ensures ring { IfOk result (λ options. (1 ≤ options.ring) × (options.ring ≤ 65536)) }
+    ensures shards { IfOk result (λ options. (1 ≤ options.shards) × (options.shards ≤ 16)) }
+{
+    if ring < 1 || ring > 65_536 || shards < 1 || shards > 16 {
+        return Err(Fail::new("no such rings or shards"));
+    }
+    Ok(Options {
+        config: String::new(alloc),
+        out: String::new(alloc),
+        time: 0,
+        ring,
+        shards,
+        errors: Errors::Rfc4271,
+        bounds: Bounds::none(),
+        strict: false,
+    })
+}
+
 // What a run answered, what it kept, and what its report has taken.
 #[derive(Drop)]
 struct Ran {
@@ -119,104 +157,60 @@ struct Ran {
     report: Vec<u8>,
 }
 
-// Runs over a file of the first peer, which is one of four, and answers as the run does, and what is reported.
-fn run_over<T: AllocGlobal + Abort + Threads + Wait + Sync, O: Outlet>(
+// Runs over that file in a manner, and answers as the run does, and what is kept.
+fn run_to<T: AllocGlobal + Threads + Wait + Sync, W: Write>(
     rt: &T,
-    setup: &Setup,
-    options: &Options,
-    file: &[u8],
+    input: &Input,
     manner: &Manner,
-    outlet: &mut O,
-) -> Result<(Result<(), RunFault>, Vec<u8>), Fail>
-    requires peers { length setup.now.plan.value.peers ≡ CLIENTS }
-    requires ring { (1 ≤ options.now.ring) × (options.now.ring ≤ 65536) }
-    requires shards { (1 ≤ options.now.shards) × (options.now.shards ≤ 16) }
-    requires failures { O.failures outlet.old < u64.MAX }
-{
-    let mut report = MemoryWriter::new(rt.alloc(), manner.report);
-    let answer = run_to(rt, setup, options, file, manner, outlet, &mut report)?;
-    Ok((answer, report.into_octets()))
-}
-
-// The same, where the report goes to any writer.
-fn run_to<T: AllocGlobal + Abort + Threads + Wait + Sync, O: Outlet, W: Write>(
-    rt: &T,
-    setup: &Setup,
-    options: &Options,
-    file: &[u8],
-    manner: &Manner,
-    outlet: &mut O,
     report: &mut W,
-) -> Result<Result<(), RunFault>, Fail>
-    requires peers { length setup.now.plan.value.peers ≡ CLIENTS }
-    requires ring { (1 ≤ options.now.ring) × (options.now.ring ≤ 65536) }
-    requires shards { (1 ≤ options.now.shards) × (options.now.shards ≤ 16) }
-    requires outlet_failures { O.failures outlet.old < u64.MAX }
-    requires report_failures { W.failures report.old < u64.MAX }
+) -> Result<(Result<(), RunFault>, MemoryOutlet), Fail>
+    requires peers { length input.now.setup.plan.value.peers ≡ CLIENTS }
+    requires failures { W.failures report.old < u64.MAX }
 {
     let alloc = rt.alloc();
+    let options = options(alloc, manner.ring, manner.shards)?;
     let [first, second, third, fourth] = manner.files;
     let readers = [
-        MemoryReader::new(file, first),
+        MemoryReader::new(&input.file, first),
         MemoryReader::new(&[], second),
         MemoryReader::new(&[], third),
         MemoryReader::new(&[], fourth),
     ];
     let readers = Vec::from_array(alloc, readers)?;
-    Ok(run(rt, alloc, setup, readers, options, outlet, report))
-}
-
-// The options of a run in a manner.
-fn options_in(alloc: Global, manner: &Manner) -> Options
-    ensures ring { result.ring ≡ manner.now.ring }
-    ensures shards { result.shards ≡ manner.now.shards }
-{
-    Options {
-        config: String::new(alloc),
-        out: String::new(alloc),
-        time: 0,
-        ring: manner.ring,
-        shards: manner.shards,
-        errors: Errors::Rfc4271,
-        bounds: Bounds::none(),
-        strict: false,
-    }
+    let mut outlet = MemoryOutlet::new(alloc, manner.outlet);
+    let setup = &input.setup;
+    let answer = run(rt, alloc, setup, readers, &options, &mut outlet, report);
+    Ok((answer, outlet))
 }
 
 // Runs over that file in a manner.
-fn run_in(
-    rt: &(impl AllocGlobal + Abort + Threads + Wait + Sync),
-    manner: &Manner,
-) -> Result<Ran, Fail> {
-    let alloc = rt.alloc();
-    assert!(rt; 1 <= manner.ring && manner.ring <= 65_536);
-    assert!(rt; 1 <= manner.shards && manner.shards <= 16);
-    let setup = read_setup(alloc, EXCHANGE.as_bytes())?;
-    assert!(rt; setup.plan.count() == CLIENTS);
-    let options = options_in(alloc, manner);
-    let file = octets(alloc, &[COLLECTED])?;
-    let mut outlet = MemoryOutlet::new(alloc, manner.outlet);
-    let (answer, report) = run_over(rt, &setup, &options, &file, manner, &mut outlet)?;
+fn run_in<T: AllocGlobal + Threads + Wait + Sync>(rt: &T, manner: &Manner) -> Result<Ran, Fail> {
+    let input = read_input(rt.alloc())?;
+    let mut report = MemoryWriter::new(rt.alloc(), manner.report);
+    let (answer, outlet) = run_to(rt, &input, manner, &mut report)?;
     Ok(Ran {
         answer,
         outlet,
-        report,
+        report: report.into_octets(),
     })
 }
 
-// Asserts that a dump is kept under this name, with the octets that are spelled so.
-fn check_dump(
-    rt: &(impl AllocGlobal + Abort),
-    dump: &Kept,
-    name: &str,
-    expected: &str,
-) -> Result<(), Fail> {
-    let expected = octets(rt.alloc(), &[expected])?;
-    assert_eq!(rt;
-        (dump.name.as_str(), dump.octets.as_slice()),
-        (name, expected.as_slice())
-    );
-    Ok(())
+// Whether a dump is kept under this name, with the octets that are spelled so.
+fn is_dump(alloc: Global, dump: &Kept, name: &str, expected: &str) -> bool {
+    match octets(alloc, &[expected]) {
+        Ok(expected) => dump.name.as_str() == name && dump.octets == expected,
+        Err(_) => false,
+    }
+}
+
+// Whether the first dumps are kept.
+fn are_kept(alloc: Global, kept: &[Kept]) -> bool {
+    for (dump, (name, expected)) in kept.iter().zip(&DUMPS) {
+        if !is_dump(alloc, dump, name, expected) {
+            return false;
+        }
+    }
+    true
 }
 
 // What a run answers, how many dumps it keeps, and how many octets of the report it writes.
@@ -225,31 +219,22 @@ type Outcome = (Result<(), RunFault>, usize, usize);
 // What a run comes to that goes well.
 const WHOLE: Outcome = (Ok(()), CLIENTS, 204);
 
-// Asserts that the first dumps are kept.
-fn check_kept(rt: &(impl AllocGlobal + Abort), kept: &[Kept]) -> Result<(), Fail> {
-    for (dump, (name, expected)) in kept.iter().zip(&DUMPS) {
-        check_dump(rt, dump, name, expected)?;
-    }
-    Ok(())
-}
-
-// Asserts what a run in a manner comes to: the first dumps are kept, so many of them, and a beginning of the report is
-// written. Messages name it by these numbers.
-fn check_run(
-    rt: &(impl AllocGlobal + Abort + Threads + Wait + Sync),
+// A run in a manner comes to what is wanted: the first dumps are kept, so many of them, and a beginning of the report
+// is written. Messages name it by these numbers.
+fn check_run<T: AllocGlobal + Threads + Wait + Sync>(
+    rt: &T,
     manner: Manner,
     wanted: Outcome,
     numbers: (usize, usize),
 ) -> Result<(), Fail> {
     let ran = run_in(rt, &manner)?;
     let (kept, report) = (ran.outlet.kept(), ran.report.as_slice());
-    assert_eq!(rt;
-        (ran.answer, kept.len(), report.len()),
-        wanted,
-        "{numbers:?}"
-    );
-    assert!(rt; REPORT.as_bytes().starts_with(report));
-    check_kept(rt, kept)
+    let found = (ran.answer, kept.len(), report.len());
+    let is_beginning = REPORT.as_bytes().starts_with(report);
+    if found == wanted && is_beginning && are_kept(rt.alloc(), kept) {
+        return Ok(());
+    }
+    Err(Fail::new(format_args!("{numbers:?}: {found:?}")))
 }
 
 #[test]
@@ -270,27 +255,11 @@ fn a_run_is_the_same_whatever_its_rings_and_shards(rt: HostRuntime) -> Result<()
 // The writers of the program stand between the run and what takes its report, here memory.
 #[test]
 fn a_report_passes_the_writers_of_the_program(rt: HostRuntime) -> Result<(), Fail> {
-    let alloc = rt.alloc();
-    let manner = Manner::plain();
-    assert!(rt; 1 <= manner.ring && manner.ring <= 65_536);
-    assert!(rt; 1 <= manner.shards && manner.shards <= 16);
-    let setup = read_setup(alloc, EXCHANGE.as_bytes())?;
-    assert!(rt; setup.plan.count() == CLIENTS);
-    let options = options_in(alloc, &manner);
-    let file = octets(alloc, &[COLLECTED])?;
-    let mut outlet = MemoryOutlet::new(alloc, OutletLimits::none());
+    let input = read_input(rt.alloc())?;
     let progress: Progress<Stderr> = Progress::new(None, None);
-    let mut out = Vec::new(alloc);
+    let mut out = Vec::new(rt.alloc());
     let mut report = IoWriter::new(Cleared::new(&mut out, &progress));
-    let answer = run_to(
-        &rt,
-        &setup,
-        &options,
-        &file,
-        &manner,
-        &mut outlet,
-        &mut report,
-    )?;
+    let (answer, _) = run_to(&rt, &input, &Manner::plain(), &mut report)?;
     assert_eq!(rt; (answer, out.as_slice()), (Ok(()), REPORT.as_bytes()));
     Ok(())
 }

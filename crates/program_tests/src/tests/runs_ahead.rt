@@ -1,18 +1,17 @@
 //! Runs over tables so large that dumps are written beside each other, with an outlet that gives writers ahead of their
 //! turn: dump by dump, the same as with one that gives none.
 
-ghost use Rattle.std.specs.Prelude.{◌≡◌, ◌<◌, ◌≤◌, length};
+ghost use Rattle.std.specs.Prelude.{◌≡◌, ◌<◌, IfOk, length};
 
+use super::check;
 use super::outlet_ahead::{Faults, OutletAhead};
-use rs_host::Options;
-use rs_mrt::{Bounds, Limits, MemoryReader, MemoryWriter, ReadLimits};
+use super::runs::options;
+use rs_mrt::{Limits, MemoryReader, MemoryWriter, ReadLimits};
 use rs_outlet::{Kept, MemoryOutlet, Outlet, OutletLimits, RunFault};
 use rs_run::run;
 use rs_setup::{Setup, read_setup};
-use rs_update::Errors;
 use spelled_in_hex::octets;
 use std::alloc::{AllocError, Global};
-use std::process::Abort;
 use std::sync::Wait;
 use std::test::Fail;
 use std::thread::Threads;
@@ -21,7 +20,9 @@ use std::thread::Threads;
 const CLIENTS: usize = 17;
 
 // The configuration of these, whose names are the letters from `a` on.
-fn setup(alloc: Global) -> Result<Setup, Fail> {
+fn setup(alloc: Global) -> Result<Setup, Fail>
+    ensures { IfOk result (λ setup. length setup.plan.value.peers ≡ CLIENTS) }
+{
     let mut text = String::from_str(alloc, "server = { as = 64500, address = \"192.0.2.1\" }\n")?;
     for number in 0..CLIENTS {
         let letter = char::from(b'a' + number as u8);
@@ -31,7 +32,12 @@ fn setup(alloc: Global) -> Result<Setup, Fail> {
         )?;
         text.push_str(peer.as_str())?;
     }
-    Ok(read_setup(alloc, text.as_bytes())?)
+    let setup = read_setup(alloc, text.as_bytes())?;
+    if setup.plan.count() == CLIENTS {
+        Ok(setup)
+    } else {
+        Err(Fail::new("another number of peers"))
+    }
 }
 
 // A record with an UPDATE of a, and one of c, but for the last three octets, which are those of its prefix.
@@ -57,20 +63,18 @@ fn file(alloc: Global, record: &str, first: u8, count: u16) -> Result<Vec<u8>, F
 const OF_C_ALONE: u16 = 24;
 
 // Runs over a file of a and one of c, and answers as the run does, and what is reported.
-fn run_over<T: AllocGlobal + Abort + Threads + Wait + Sync, O: Outlet>(
+fn run_over<T: AllocGlobal + Threads + Wait + Sync, O: Outlet>(
     rt: &T,
     setup: &Setup,
-    options: &Options,
     of_a: &[u8],
     of_c: &[u8],
     outlet: &mut O,
 ) -> Result<(Result<(), RunFault>, Vec<u8>), Fail>
     requires peers { length setup.now.plan.value.peers ≡ CLIENTS }
-    requires ring { (1 ≤ options.now.ring) × (options.now.ring ≤ 65536) }
-    requires shards { (1 ≤ options.now.shards) × (options.now.shards ≤ 16) }
     requires failures { O.failures outlet.old < u64.MAX }
 {
     let alloc = rt.alloc();
+    let options = options(alloc, 64, 2)?;
     let none = ReadLimits::none();
     let readers = [
         MemoryReader::new(of_a, none),
@@ -93,12 +97,12 @@ fn run_over<T: AllocGlobal + Abort + Threads + Wait + Sync, O: Outlet>(
     ];
     let readers = Vec::from_array(alloc, readers)?;
     let mut report = MemoryWriter::new(alloc, Limits::none());
-    let answer = run(rt, alloc, setup, readers, options, outlet, &mut report);
+    let answer = run(rt, alloc, setup, readers, &options, outlet, &mut report);
     Ok((answer, report.into_octets()))
 }
 
 // Runs over files in which a has routes on so many prefixes.
-fn run_with<T: AllocGlobal + Abort + Threads + Wait + Sync, O: Outlet>(
+fn run_with<T: AllocGlobal + Threads + Wait + Sync, O: Outlet>(
     rt: &T,
     count: u16,
     outlet: &mut O,
@@ -107,20 +111,9 @@ fn run_with<T: AllocGlobal + Abort + Threads + Wait + Sync, O: Outlet>(
 {
     let alloc = rt.alloc();
     let setup = setup(alloc)?;
-    assert!(rt; setup.plan.count() == CLIENTS);
-    let options = Options {
-        config: String::new(alloc),
-        out: String::new(alloc),
-        time: 0,
-        ring: 64,
-        shards: 2,
-        errors: Errors::Rfc4271,
-        bounds: Bounds::none(),
-        strict: false,
-    };
     let of_a = file(alloc, OF_A, 20, count)?;
     let of_c = file(alloc, OF_C, 21, OF_C_ALONE)?;
-    run_over(rt, &setup, &options, &of_a, &of_c, outlet)
+    run_over(rt, &setup, &of_a, &of_c, outlet)
 }
 
 // Where the outlet fails, and what comes of the run: its answer; whether its report is whole; the letters of the dumps
@@ -167,13 +160,12 @@ struct Whole {
 }
 
 // Runs over files in which a has routes on so many prefixes, with that outlet.
-fn run_in_turn(
-    rt: &(impl AllocGlobal + Abort + Threads + Wait + Sync),
-    count: u16,
-) -> Result<Whole, Fail> {
+fn run_in_turn(rt: &(impl AllocGlobal + Threads + Wait + Sync), count: u16) -> Result<Whole, Fail> {
     let mut outlet = MemoryOutlet::new(rt.alloc(), OutletLimits::none());
     let (answer, report) = run_with(rt, count, &mut outlet)?;
-    assert_eq!(rt; (answer, outlet.kept().len()), (Ok(()), CLIENTS));
+    if (answer, outlet.kept().len()) != (Ok(()), CLIENTS) {
+        return Err(Fail::new(format_args!("with none ahead: {answer:?}")));
+    }
     Ok(Whole { outlet, report })
 }
 
@@ -187,7 +179,7 @@ struct Ran {
 
 // Runs over files in which a has routes on so many prefixes, with an outlet that fails so.
 fn run_ahead(
-    rt: &(impl AllocGlobal + Abort + Threads + Wait + Sync),
+    rt: &(impl AllocGlobal + Threads + Wait + Sync),
     count: u16,
     faults: Faults,
 ) -> Result<Ran, Fail> {
@@ -249,31 +241,34 @@ fn octets_of<'a>(dumps: &'a [Kept], name: &str) -> &'a [u8] {
     &[]
 }
 
-// Asserts that these are those dumps, each whole.
-fn check_dumps(rt: &impl Abort, given: &[Kept], dumps: &[Kept]) {
+// Whether these are those dumps, each whole.
+fn are_whole(given: &[Kept], dumps: &[Kept]) -> bool {
     for one in given {
-        let is_whole = one.octets.as_slice() == octets_of(dumps, &one.name);
-        assert!(rt; is_whole, "{}", one.name);
+        if one.octets.as_slice() != octets_of(dumps, &one.name) {
+            return false;
+        }
+    }
+    true
+}
+
+// Whether a dump that was lost is written whole, or a beginning of it where its writer fails.
+fn is_lost(lost: &Kept, dumps: &[Kept], failing: &str) -> bool {
+    let whole = octets_of(dumps, &lost.name);
+    if failing.contains(lost.name.trim_end_matches(".mrt")) {
+        lost.octets.as_slice() == &whole[..1000.min(whole.len())]
+    } else {
+        lost.octets.as_slice() == whole
     }
 }
 
-// Asserts that dumps that were lost are written whole, or a beginning of them where their writers fail.
-fn check_lost(rt: &impl Abort, lost: &[Kept], dumps: &[Kept], failing: &str) {
+// Whether dumps that were lost are such.
+fn are_lost(lost: &[Kept], dumps: &[Kept], failing: &str) -> bool {
     for one in lost {
-        let whole = octets_of(dumps, &one.name);
-        let octets = if failing.contains(one.name.trim_end_matches(".mrt")) {
-            &whole[..1000.min(whole.len())]
-        } else {
-            whole
-        };
-        assert!(rt; one.octets.as_slice() == octets, "{}", one.name);
+        if !is_lost(one, dumps, failing) {
+            return false;
+        }
     }
-}
-
-// Asserts that what was kept or lost is of those dumps.
-fn check_octets(rt: &impl Abort, outlet: &OutletAhead, dumps: &[Kept], failing: &str) {
-    check_dumps(rt, &outlet.kept, dumps);
-    check_lost(rt, &outlet.lost, dumps, failing);
+    true
 }
 
 // The outlet that fails as these words say.
@@ -288,9 +283,9 @@ fn faults_of(words: &'static str) -> Faults {
     faults
 }
 
-// Asserts what comes of the run of a row, unless it is a remark.
+// What comes of the run of a row is what it says, unless it is a remark.
 fn check_row(
-    rt: &(impl AllocGlobal + Abort + Threads + Wait + Sync),
+    rt: &(impl AllocGlobal + Threads + Wait + Sync),
     count: u16,
     whole: &Whole,
     row: &'static str,
@@ -300,15 +295,17 @@ fn check_row(
     };
     let faults = faults_of(words);
     let ran = run_ahead(rt, count, faults)?;
-    let told = told(rt.alloc(), &ran, &whole.report)?;
-    assert_eq!(rt; told.as_str(), wanted, "{words}");
-    check_octets(rt, &ran.outlet, whole.outlet.kept(), faults.failing);
-    Ok(())
+    check(&told(rt.alloc(), &ran, &whole.report)?, wanted, words)?;
+    let (outlet, dumps) = (&ran.outlet, whole.outlet.kept());
+    if are_whole(&outlet.kept, dumps) && are_lost(&outlet.lost, dumps, faults.failing) {
+        return Ok(());
+    }
+    Err(Fail::new(format_args!("{words}: other octets")))
 }
 
-// Asserts what comes of each run over files in which a has routes on so many prefixes.
+// So it is with each row, over files in which a has routes on so many prefixes.
 fn check_rows(
-    rt: &(impl AllocGlobal + Abort + Threads + Wait + Sync),
+    rt: &(impl AllocGlobal + Threads + Wait + Sync),
     count: u16,
     rows: &'static str,
 ) -> Result<(), Fail> {

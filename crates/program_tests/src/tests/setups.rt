@@ -1,10 +1,10 @@
 //! Configurations and what they set up. Each text was written by hand.
 
+use super::check;
 use rs_choice::PeerSpec;
 use rs_setup::{Setup, read_setup};
 use std::alloc::{AllocError, Global};
 use std::net::Ipv4Addr;
-use std::process::Abort;
 use std::test::Fail;
 
 // Every key, each with a value of its own. The tables stand in another order than faults are looked for.
@@ -120,19 +120,18 @@ fn push_all(text: &mut String, setup: &Setup) -> Result<(), AllocError> {
     Ok(())
 }
 
-// Asserts what a configuration sets up: a line of the server, and one of each peer.
-fn check_set_up(rt: &(impl AllocGlobal + Abort), text: &str, wanted: &str) -> Result<(), Fail> {
-    let setup = read_setup(rt.alloc(), text.as_bytes())?;
-    let mut found = String::new(rt.alloc());
+// A configuration sets this up: a line of the server, and one of each peer.
+fn check_set_up(alloc: Global, text: &str, wanted: &str) -> Result<(), Fail> {
+    let setup = read_setup(alloc, text.as_bytes())?;
+    let mut found = String::new(alloc);
     push_all(&mut found, &setup)?;
-    assert_eq!(rt; found.as_str(), wanted);
-    Ok(())
+    check(&found, wanted, "a configuration")
 }
 
 #[test]
 fn every_key_is_read_or_has_a_default(rt: HostRuntime) -> Result<(), Fail> {
-    check_set_up(&rt, EVERY_KEY, EVERY_KEY_SET_UP)?;
-    check_set_up(&rt, REQUIRED_KEYS, REQUIRED_KEYS_SET_UP)
+    check_set_up(rt.alloc(), EVERY_KEY, EVERY_KEY_SET_UP)?;
+    check_set_up(rt.alloc(), REQUIRED_KEYS, REQUIRED_KEYS_SET_UP)
 }
 
 // What is set up of the server where a subnet is written so.
@@ -143,24 +142,12 @@ fn server_with(alloc: Global, subnet: &str) -> Result<String, Fail> {
     Ok(found)
 }
 
-// Asserts which prefix a subnet is.
-fn check_subnet(rt: &(impl AllocGlobal + Abort), subnet: &str, wanted: &str) -> Result<(), Fail> {
-    let found = server_with(rt.alloc(), subnet)?;
-    assert_eq!(rt; found.as_str(), wanted, "{subnet}");
-    Ok(())
-}
-
-// Asserts which prefix each subnet is.
-fn check_subnets(rt: &(impl AllocGlobal + Abort)) -> Result<(), Fail> {
-    for (subnet, wanted) in &SUBNETS {
-        check_subnet(rt, subnet, wanted)?;
-    }
-    Ok(())
-}
-
 #[test]
 fn the_host_bits_of_a_subnet_are_cleared(rt: HostRuntime) -> Result<(), Fail> {
-    check_subnets(&rt)
+    for (subnet, wanted) in &SUBNETS {
+        check(&server_with(rt.alloc(), subnet)?, wanted, subnet)?;
+    }
+    Ok(())
 }
 
 // Appends a peer of a number to a configuration, and to what it sets up.
@@ -189,5 +176,5 @@ fn crowd(alloc: Global) -> Result<(String, String), AllocError> {
 #[test]
 fn as_many_peers_as_an_exchange_may_have_are_read(rt: HostRuntime) -> Result<(), Fail> {
     let (text, wanted) = crowd(rt.alloc())?;
-    check_set_up(&rt, &text, &wanted)
+    check_set_up(rt.alloc(), &text, &wanted)
 }

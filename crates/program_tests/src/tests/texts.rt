@@ -1,38 +1,27 @@
 //! What faults say of themselves to a caller of their crates.
 
+use super::check;
 use rs_choice::PlanFault;
 use rs_host::WordsFault;
 use rs_outlet::RunFault;
 use rs_program::Ended;
 use rs_setup::SetupFault;
-use std::alloc::{AllocError, Global};
+use std::alloc::Global;
 use std::fmt::Display;
-use std::process::Abort;
 use std::test::Fail;
 
-// A text of a caller's in a fault.
-fn key(alloc: Global) -> Result<String, AllocError> {
-    String::from_str(alloc, "server.as")
+// A text of a caller's in a fault; where memory is refused it is empty, and the test fails.
+fn key(alloc: Global) -> String {
+    String::from_str(alloc, "server.as").unwrap_or(String::new(alloc))
 }
 
-// Appends what faults say of themselves, a line each.
-fn push_lines<F: Display>(text: &mut String, faults: &[F]) -> Result<(), AllocError> {
+// Faults say this of themselves, a line each.
+fn check_texts<F: Display>(alloc: Global, faults: &[F], wanted: &str) -> Result<(), Fail> {
+    let mut text = String::new(alloc);
     for fault in faults {
         writeln!(text, "{fault}")?;
     }
-    Ok(())
-}
-
-// Asserts what faults say of themselves.
-fn check_texts<F: Display>(
-    rt: &(impl AllocGlobal + Abort),
-    faults: &[F],
-    wanted: &str,
-) -> Result<(), Fail> {
-    let mut text = String::new(rt.alloc());
-    push_lines(&mut text, faults)?;
-    assert_eq!(rt; text.as_str(), wanted);
-    Ok(())
+    check(&text, wanted, "texts")
 }
 
 #[test]
@@ -40,14 +29,14 @@ fn a_refused_configuration_says_why(rt: HostRuntime) -> Result<(), Fail> {
     let alloc = rt.alloc();
     let faults = [
         SetupFault::NotToml,
-        SetupFault::Unknown(key(alloc)?),
-        SetupFault::Missing(key(alloc)?),
-        SetupFault::NotValid(key(alloc)?),
+        SetupFault::Unknown(key(alloc)),
+        SetupFault::Missing(key(alloc)),
+        SetupFault::NotValid(key(alloc)),
         SetupFault::Plan(PlanFault::NoPeer),
         SetupFault::Memory,
     ];
     check_texts(
-        &rt,
+        alloc,
         &faults,
         "the text is neither UTF-8 nor TOML
 no configuration has the key server.as
@@ -62,7 +51,7 @@ memory was refused while the configuration was read
 #[test]
 fn a_run_that_stopped_says_where(rt: HostRuntime) -> Result<(), Fail> {
     check_texts(
-        &rt,
+        rt.alloc(),
         &[
             RunFault::Memory,
             RunFault::Unsettled(1),
@@ -83,12 +72,12 @@ the recorded file of peer 3 cannot be read
 fn a_refused_command_line_says_why(rt: HostRuntime) -> Result<(), Fail> {
     let alloc = rt.alloc();
     let faults = [
-        WordsFault::Help(key(alloc)?),
-        WordsFault::Refused(key(alloc)?),
+        WordsFault::Help(key(alloc)),
+        WordsFault::Refused(key(alloc)),
         WordsFault::Memory,
     ];
     check_texts(
-        &rt,
+        alloc,
         &faults,
         "server.as
 server.as
@@ -101,14 +90,14 @@ memory was refused while the command line was read
 fn what_stops_the_program_says_so(rt: HostRuntime) -> Result<(), Fail> {
     let alloc = rt.alloc();
     let faults = [
-        Ended::Words(WordsFault::Refused(key(alloc)?)),
+        Ended::Words(WordsFault::Refused(key(alloc))),
         Ended::Setup(SetupFault::NotToml),
-        Ended::Unread(key(alloc)?),
+        Ended::Unread(key(alloc)),
         Ended::Memory,
         Ended::Run(RunFault::Report),
     ];
     check_texts(
-        &rt,
+        alloc,
         &faults,
         "server.as
 the text is neither UTF-8 nor TOML

@@ -7,7 +7,7 @@ use super::exchanges::{attributes, exchange, number, peer_of, prefix};
 use rs_choice::Exchange;
 use rs_session::{Body, Reason, Word};
 use rs_table::Tables;
-use std::alloc::{AllocError, Global};
+use std::alloc::Global;
 
 // Why a session closes.
 fn reason(text: &str) -> Option<Reason> {
@@ -30,7 +30,8 @@ fn body(alloc: Global, text: &str) -> Option<Body> {
         return Some(Body::Withdraw(prefix(withdrawn)?));
     }
     if let Some((announced, words)) = text.split_once(' ') {
-        return Some(Body::Announce(prefix(announced)?, attributes(alloc, words)?));
+        let announced = prefix(announced)?;
+        return Some(Body::Announce(announced, attributes(alloc, words)?));
     }
     if text == "lost" {
         return Some(Body::Down);
@@ -53,21 +54,27 @@ pub fn change(alloc: Global, exchange: &Exchange, text: &str) -> Option<(usize, 
     Some((peer_of(exchange, name)?, word(alloc, rest)?))
 }
 
-/// Takes the next change of a peer, which may be refused; None where there is no such peer or its session closed.
-pub fn take(tables: &mut Tables, peer: usize, word: Word) -> Option<Result<(), AllocError>> {
+/// Takes the next change of a peer, and answers whether memory sufficed; None where there is no such peer or its
+/// session closed.
+pub fn take(tables: &mut Tables, peer: usize, word: Word) -> Option<bool> {
     if peer >= tables.count() || tables.is_closed(peer) {
         return None;
     }
-    Some(tables.apply(peer, word))
+    Some(tables.apply(peer, word).is_ok())
+}
+
+/// Takes the change that a text says.
+pub fn take_text(alloc: Global, tables: &mut Tables, text: &str) -> Option<bool> {
+    let (peer, word) = change(alloc, tables.plan(), text)?;
+    take(tables, peer, word)
 }
 
 /// The tables of an exchange after some changes.
 pub fn after(alloc: Global, plan: &str, changes: &str) -> Option<Tables> {
     let mut tables = Tables::new(alloc, exchange(alloc, plan)?).ok()?;
     for text in changes.split(';') {
-        if !text.trim().is_empty() {
-            let (peer, word) = change(alloc, tables.plan(), text)?;
-            take(&mut tables, peer, word)?.ok()?;
+        if !text.trim().is_empty() && !take_text(alloc, &mut tables, text)? {
+            return None;
         }
     }
     Some(tables)

@@ -1,7 +1,7 @@
 //! Which route each client gets of several, and why; and what is left of a peer whose session closed or was lost.
 
 use super::check_rows;
-use std::test::*;
+use std::test::Fail;
 
 // `bests` has a letter for each client: the name of the peer whose route it gets on 203.0.113.0/24, or -.
 const DECISIONS: &str = "
@@ -84,8 +84,8 @@ bests | baa
 ";
 
 #[test]
-fn each_client_gets_what_the_rules_leave_it(rt: HostRuntime) {
-    check_rows(&rt, rt.alloc(), DECISIONS);
+fn each_client_gets_what_the_rules_leave_it(rt: HostRuntime) -> Result<(), Fail> {
+    check_rows(&rt, rt.alloc(), DECISIONS)
 }
 
 // What each client gets of several routes: `bests` has a letter for each, as in DECISIONS.
@@ -162,8 +162,8 @@ bests | dadc
 ";
 
 #[test]
-fn each_client_gets_its_own_best(rt: HostRuntime) {
-    check_rows(&rt, rt.alloc(), WORKED);
+fn each_client_gets_its_own_best(rt: HostRuntime) -> Result<(), Fail> {
+    check_rows(&rt, rt.alloc(), WORKED)
 }
 
 const SESSIONS: &str = "
@@ -206,6 +206,6 @@ table b | 203.0.113.0/24 a 103
 ";
 
 #[test]
-fn what_a_session_leaves_depends_on_how_it_ends(rt: HostRuntime) {
-    check_rows(&rt, rt.alloc(), SESSIONS);
+fn what_a_session_leaves_depends_on_how_it_ends(rt: HostRuntime) -> Result<(), Fail> {
+    check_rows(&rt, rt.alloc(), SESSIONS)
 }

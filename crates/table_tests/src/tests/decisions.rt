@@ -6,8 +6,7 @@ ghost use Rattle.std.specs.List.{All};
 use super::check_rows;
 use rs_choice::{Candidate, Exchange, HeldRoute, MAX_PEERS};
 use std::alloc::Global;
-use std::process::Abort;
-use std::test::*;
+use std::test::Fail;
 
 // Whether all candidates are of peers of the exchange.
 fn are_known(exchange: &Exchange, candidates: &[Candidate]) -> bool
@@ -17,13 +16,17 @@ fn are_known(exchange: &Exchange, candidates: &[Candidate]) -> bool
     candidates.iter().all(|candidate| candidate.peer < count)
 }
 
-// The place of the choice, by both bodies.
-fn choice(rt: &impl Abort, exchange: &Exchange, candidates: &[Candidate]) -> Option<usize> {
-    assert!(rt; are_known(exchange, candidates));
-    assert!(rt; candidates.len() <= MAX_PEERS);
+// The place of the choice, where both bodies make the same.
+fn choice(exchange: &Exchange, candidates: &[Candidate]) -> Option<Option<usize>> {
+    if !are_known(exchange, candidates) || candidates.len() > MAX_PEERS {
+        return None;
+    }
     let place = exchange.choose(candidates);
-    assert_eq!(rt; exchange.choose_by_groups(candidates), place);
-    place
+    if exchange.choose_by_groups(candidates) == place {
+        Some(place)
+    } else {
+        None
+    }
 }
 
 // A route as a candidate.
@@ -35,14 +38,9 @@ fn candidate(held: &HeldRoute) -> Candidate<'_> {
 }
 
 /// The place of the choice among routes.
-pub fn chosen(
-    rt: &impl Abort,
-    alloc: Global,
-    exchange: &Exchange,
-    held: &[HeldRoute],
-) -> Option<String> {
+pub fn chosen(alloc: Global, exchange: &Exchange, held: &[HeldRoute]) -> Option<String> {
     let candidates: Vec<Candidate> = held.iter().map(candidate).collect(alloc).ok()?;
-    let place = choice(rt, exchange, &candidates);
+    let place = choice(exchange, &candidates)?;
     format!(in alloc; "{place:?}").ok()
 }
 
@@ -91,6 +89,6 @@ chosen: b is preferred | a igp 64501 hop-a; b igp 64501-65010-65011-65012 hop-a 
 ";
 
 #[test]
-fn both_bodies_choose_what_the_steps_leave(rt: HostRuntime) {
-    check_rows(&rt, rt.alloc(), CHOICES);
+fn both_bodies_choose_what_the_steps_leave(rt: HostRuntime) -> Result<(), Fail> {
+    check_rows(&rt, rt.alloc(), CHOICES)
 }

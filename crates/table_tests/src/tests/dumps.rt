@@ -3,15 +3,15 @@
 
 ghost use Rattle.std.specs.Prelude.{None};
 
+use super::changes::after;
 use super::check_rows;
-use super::exchanges::peer_of;
+use super::exchanges::{number, peer_of};
 use rs_dump::{DumpFault, TableDump, Writing, write_dump, write_side_by_side};
 use rs_mrt::{Failed, Write};
 use rs_table::Tables;
 use spelled_in_hex::octets;
 use std::alloc::Global;
-use std::process::Abort;
-use std::test::*;
+use std::test::Fail;
 use std::thread::Threads;
 
 // A writer that takes no memory: the first octets, and how many were written.
@@ -30,9 +30,9 @@ impl Fixed {
         }
     }
 
-    // These octets were written, and no others.
-    fn check(&self, rt: &impl Abort, wanted: &[u8], row: &str) {
-        assert_eq!(rt; self.octets.get(..self.len), Some(wanted), "{row}");
+    // Whether these octets were written, and no others.
+    fn has_taken(&self, wanted: &[u8]) -> bool {
+        self.octets.get(..self.len) == Some(wanted)
     }
 }
 
@@ -52,84 +52,106 @@ impl Write for Fixed {
     }
 }
 
-// Writes the dump of the list of a client's rows. Refused memory, nothing is written, and it comes when asked again.
-fn list_dump(
-    rt: &impl Abort,
-    alloc: Global,
-    tables: &Tables,
-    (client, time): (usize, u32),
-    out: &mut Fixed,
-) -> Result<u32, DumpFault> {
-    assert!(rt; client < tables.count());
-    let rows = tables
-        .rows(client)
-        .or_else(|_| tables.rows(client))
-        .expect(rt, "rows");
-    let answer = write_dump(alloc, out, tables.plan(), client, &rows, time);
-    if answer != Err(DumpFault::Memory) {
-        return answer;
+// Writes the dump of the list of a client's rows, and answers how many these are, where it has these octets. Refused
+// memory, nothing is written, and it comes when asked again.
+fn list_dump(alloc: Global, asked: &Asked) -> Option<u32> {
+    let (tables, client, time) = (&asked.tables, asked.client, asked.time);
+    if client >= tables.count() {
+        return None;
     }
-    out.check(rt, &[], "refused");
-    write_dump(alloc, out, tables.plan(), client, &rows, time)
+    let rows = tables.rows(client).or_else(|_| tables.rows(client)).ok()?;
+    let mut out = Fixed::new();
+    let mut answer = write_dump(alloc, &mut out, tables.plan(), client, &rows, time);
+    if answer == Err(DumpFault::Memory) && out.has_taken(&[]) {
+        answer = write_dump(alloc, &mut out, tables.plan(), client, &rows, time);
+    }
+    if out.has_taken(&asked.wanted) {
+        answer.ok()
+    } else {
+        None
+    }
 }
 
 // The dump of a client's table before anything of it is written, begun once more where memory is refused.
-fn begun<'a>(
-    rt: &impl Abort,
-    alloc: Global,
-    tables: &'a Tables,
-    (client, time): (usize, u32),
-) -> TableDump<'a> {
-    assert!(rt; client < tables.count());
+fn begun(alloc: Global, asked: &Asked) -> Option<TableDump<'_>> {
+    let (tables, client, time) = (&asked.tables, asked.client, asked.time);
+    if client >= tables.count() {
+        return None;
+    }
     match TableDump::begin(alloc, tables, client, time) {
-        Ok(dump) => dump,
-        Err(fault) => {
-            assert_eq!(rt; fault, DumpFault::Memory);
-            TableDump::begin(alloc, tables, client, time).expect(rt, "a dump")
-        }
+        Err(DumpFault::Memory) => TableDump::begin(alloc, tables, client, time).ok(),
+        begun => begun.ok(),
     }
 }
 
-// Writes the dump of a client's table.
-fn table_dump<'a, T: Abort + Threads + Sync>(
-    rt: &T,
-    dump: TableDump<'a>,
-) -> [Writing<'a, Fixed>; 1] {
+// Writes the dump of a client's table, and answers how many rows it has, where it has these octets.
+fn table_dump<T: Threads + Sync>(rt: &T, dump: TableDump, wanted: &[u8]) -> Option<u32> {
     let mut writings = [Writing {
         dump,
         out: Fixed::new(),
         failed: false,
     }];
     write_side_by_side(rt, &mut writings);
-    writings
-}
-
-// The client and the time of a dump, and its octets.
-fn columns(alloc: Global, tables: &Tables, row: &str) -> Option<((usize, u32), Vec<u8>)> {
-    let (asked, wanted) = row.split_once('|')?;
-    let (name, time) = asked.trim().split_once(' ')?;
-    let client = peer_of(tables.plan(), name)?;
-    let time = time.parse::<u32>().ok()?;
-    Some(((client, time), octets(alloc, &[wanted]).ok()?))
-}
-
-/// Both dumps that a row asks for have its octets, and count as many rows as there are.
-pub fn check_dump<T: Abort + Threads + Sync>(rt: &T, alloc: Global, tables: &Tables, row: &str) {
-    let (asked, wanted) = columns(alloc, tables, row)
-        .or_else(|| columns(alloc, tables, row))
-        .expect(rt, row);
-    let mut out = Fixed::new();
-    let listed = list_dump(rt, alloc, tables, asked, &mut out);
-    out.check(rt, &wanted, row);
-    let writings = table_dump(rt, begun(rt, alloc, tables, asked));
     let [writing] = &writings;
-    writing.out.check(rt, &wanted, row);
-    let spelled = (writing.dump.spelled(), writing.failed);
-    assert_eq!(rt;
-        (listed, spelled),
-        (Ok(spelled.0), (spelled.0, false)),
-        "{row}"
-    );
+    if writing.out.has_taken(wanted) && !writing.failed {
+        Some(writing.dump.spelled())
+    } else {
+        None
+    }
+}
+
+// What a row asks for: the dump of a client's table at a time, and its octets.
+#[derive(Drop)]
+struct Asked {
+    tables: Tables,
+    client: usize,
+    time: u32,
+    wanted: Vec<u8>,
+}
+
+// What is asked for after some changes.
+fn read(
+    alloc: Global,
+    (plan, changes): (&str, &str),
+    (asked, wanted): (&str, &str),
+) -> Option<Asked> {
+    let (name, time) = asked.trim().split_once(' ')?;
+    let time = number(time)?;
+    let tables = after(alloc, plan, changes)?;
+    let client = peer_of(tables.plan(), name)?;
+    let wanted = octets(alloc, &[wanted]).ok()?;
+    Some(Asked {
+        tables,
+        client,
+        time,
+        wanted,
+    })
+}
+
+// Whether both dumps that are asked for have the octets, and count as many rows.
+fn is_dumped<T: Threads + Sync>(rt: &T, alloc: Global, asked: &Asked) -> Option<bool> {
+    let listed = list_dump(alloc, asked)?;
+    let dump = begun(alloc, asked)?;
+    Some(table_dump(rt, dump, &asked.wanted) == Some(listed))
+}
+
+/// A row has its dumps after some changes. It is read once more where memory is refused.
+pub fn check_dump<T: Threads + Sync>(
+    rt: &T,
+    alloc: Global,
+    above: (&str, &str),
+    row: (&str, &str),
+) -> Result<(), Fail> {
+    let asked = match read(alloc, above, row) {
+        Some(asked) => Some(asked),
+        None => read(alloc, above, row),
+    };
+    if let Some(asked) = &asked {
+        if is_dumped(rt, alloc, asked) == Some(true) {
+            return Ok(());
+        }
+    }
+    Err(Fail::new(format_args!("dump {row:?} after {above:?}")))
 }
 
 // Each dump has the client's name, its time, and a record for the peers and for each row. A record is its Timestamp,
@@ -168,8 +190,8 @@ dump c 0 | 00000000 000D 0001 00000030 C0000201 0001 63 0003 02 C000020B C000020
 ";
 
 #[test]
-fn tables_are_dumped_as_the_standard_says(rt: HostRuntime) {
-    check_rows(&rt, rt.alloc(), DUMPS);
+fn tables_are_dumped_as_the_standard_says(rt: HostRuntime) -> Result<(), Fail> {
+    check_rows(&rt, rt.alloc(), DUMPS)
 }
 
 // The dumps of all clients of two exchanges. In the first, a's route isn't for b, and hides c's from nobody; in the
@@ -211,6 +233,6 @@ dump d 0 | 00000000 000D 0001 0000003D C0000201 0001 64 0004 02 C000020B C000020
 ";
 
 #[test]
-fn a_refused_dump_writes_nothing_and_comes_when_asked_again(rt: HostRuntime) {
-    check_rows(&rt, rt.alloc(), DUMPS_OF_ALL);
+fn a_refused_dump_writes_nothing_and_comes_when_asked_again(rt: HostRuntime) -> Result<(), Fail> {
+    check_rows(&rt, rt.alloc(), DUMPS_OF_ALL)
 }

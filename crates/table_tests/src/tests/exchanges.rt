@@ -142,19 +142,20 @@ fn names(alloc: Global, text: &str) -> Option<Vec<String>> {
 // A peer by its columns.
 fn peer(alloc: Global, text: &str) -> Option<PeerSpec> {
     let mut columns = text.trim().split(',');
-    let name = columns.next()?;
-    let asn = number(columns.next()?)?;
-    let at = address(columns.next()?)?;
-    let id = address(columns.next()?)?;
+    let name = columns.next().unwrap_or("");
+    let asn = number(columns.next().unwrap_or(""))?;
+    let at = address(columns.next().unwrap_or(""))?;
+    let id = address(columns.next().unwrap_or(""))?;
     let preference = number(columns.next().unwrap_or("100"))?;
-    let refused = columns.next().unwrap_or("");
+    let refuse_from = names(alloc, columns.next().unwrap_or(""))?;
+    let name = String::from_str(alloc, name).ok()?;
     Some(PeerSpec {
-        name: String::from_str(alloc, name).ok()?,
+        name,
         asn,
         address: at,
         id,
         preference,
-        refuse_from: names(alloc, refused)?,
+        refuse_from,
     })
 }
 

@@ -6,7 +6,6 @@ use super::exchanges::{attributes, exchange, peer_of};
 use super::{decisions, plans, routes};
 use rs_choice::{Exchange, HeldRoute};
 use std::alloc::Global;
-use std::process::Abort;
 
 // The time at which each route came.
 const TIME: u32 = 100;
@@ -30,17 +29,11 @@ fn hold_all(alloc: Global, exchange: &Exchange, text: &str) -> Option<Vec<HeldRo
 }
 
 /// What comes of routes in an exchange.
-pub fn answer(
-    rt: &impl Abort,
-    alloc: Global,
-    plan: &str,
-    asked: &str,
-    routes: &str,
-) -> Option<String> {
+pub fn answer(alloc: Global, plan: &str, asked: &str, routes: &str) -> Option<String> {
     let exchange = exchange(alloc, plan)?;
     let held = hold_all(alloc, &exchange, routes)?;
     match asked {
-        "chosen" => decisions::chosen(rt, alloc, &exchange, &held),
+        "chosen" => decisions::chosen(alloc, &exchange, &held),
         "held" => routes::shown(alloc, &exchange, held.first()?),
         "eligible" => routes::shown_eligible(alloc, &exchange, held.first()?),
         "exported" => routes::shown_clients(alloc, &exchange, held.first()?),

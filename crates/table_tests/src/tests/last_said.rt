@@ -5,7 +5,7 @@ use super::check_rows;
 use super::exchanges::prefix;
 use rs_explain::LastSaid;
 use std::alloc::Global;
-use std::test::*;
+use std::test::Fail;
 
 /// What changes say last of 203.0.113.0/24.
 pub fn last_said(alloc: Global, changes: &str) -> Option<String> {
@@ -43,6 +43,6 @@ said: back without the prefix | 100 203.0.113.0/24 plain; 101 lost; 102 192.0.2.
 ";
 
 #[test]
-fn what_is_said_last_is_named_with_its_time(rt: HostRuntime) {
-    check_rows(&rt, rt.alloc(), SAID);
+fn what_is_said_last_is_named_with_its_time(rt: HostRuntime) -> Result<(), Fail> {
+    check_rows(&rt, rt.alloc(), SAID)
 }

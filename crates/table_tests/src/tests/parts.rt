@@ -14,7 +14,7 @@ use rs_session::{Body, Word};
 use rs_table::Tables;
 use std::alloc::Global;
 use std::sync::Arc;
-use std::test::*;
+use std::test::Fail;
 
 // Whether a change belongs to the part of a length: it is on a prefix of that length, or the loss of a session.
 fn belongs(len: u8, word: &Word) -> bool
@@ -92,6 +92,6 @@ merged: a withdrawal and a loss | a 100 10.0.0.0/8 plain; b 101 10.0.0.0/8 plain
 ";
 
 #[test]
-fn parts_are_made_one(rt: HostRuntime) {
-    check_rows(&rt, rt.alloc(), MERGED);
+fn parts_are_made_one(rt: HostRuntime) -> Result<(), Fail> {
+    check_rows(&rt, rt.alloc(), MERGED)
 }

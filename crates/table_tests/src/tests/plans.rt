@@ -4,7 +4,7 @@ use super::exchanges::{judged, plan};
 use super::{FOUR_PEERS, check, check_rows};
 use rs_choice::{Exchange, PlanFault};
 use std::alloc::Global;
-use std::test::*;
+use std::test::Fail;
 
 /// How many peers an exchange has, the server's AS and subnet, and the name and address of the third peer.
 pub fn shown(alloc: Global, exchange: &Exchange) -> Option<String> {
@@ -57,8 +57,8 @@ fault: one identifier twice, and the name of a later peer | 64500 192.0.2.0/24; 
 ";
 
 #[test]
-fn a_plan_has_the_fault_that_comes_first(rt: HostRuntime) {
-    check_rows(&rt, rt.alloc(), PLANS);
+fn a_plan_has_the_fault_that_comes_first(rt: HostRuntime) -> Result<(), Fail> {
+    check_rows(&rt, rt.alloc(), PLANS)
 }
 
 // The fault of the plan of a server and so many peers, all alike.
@@ -71,19 +71,19 @@ fn fault_of_many(alloc: Global, server: &str, count: u32) -> Option<String> {
 }
 
 #[test]
-fn a_plan_has_at_most_256_peers(rt: HostRuntime) {
+fn a_plan_has_at_most_256_peers(rt: HostRuntime) -> Result<(), Fail> {
     for (server, count, wanted) in [
         ("0", 257, "Some(TooManyPeers)"),
         ("0", 256, "Some(ZeroAs(None))"),
         ("64500 192.0.2.0/24", 256, "Some(RepeatedName(1))"),
     ] {
         check(
-            &rt,
-            &fault_of_many(rt.alloc(), server, count),
+            fault_of_many(rt.alloc(), server, count),
             wanted,
-            wanted,
-        );
+            (server, ""),
+        )?;
     }
+    Ok(())
 }
 
 // Faults, each with its number, the number of its peer or None, and its text.
@@ -122,20 +122,20 @@ fn text_of(alloc: Global, fault: PlanFault) -> Option<String> {
 }
 
 #[test]
-fn faults_are_numbered(rt: HostRuntime) {
+fn faults_are_numbered(rt: HostRuntime) -> Result<(), Fail> {
     for (fault, wanted) in FAULTS {
-        check(&rt, &text_of(rt.alloc(), *fault), wanted, wanted);
+        check(text_of(rt.alloc(), *fault), wanted, (wanted, ""))?;
     }
+    Ok(())
 }
 
 #[test]
-fn refused_memory_is_no_fault_of_a_plan(rt: HostRuntime) {
+fn refused_memory_is_no_fault_of_a_plan(rt: HostRuntime) -> Result<(), Fail> {
     let Some((server, peers)) = plan(rt.alloc(), FOUR_PEERS) else {
-        return;
+        return Ok(());
     };
-    let fault = Exchange::new(rt.alloc(), server, peers).err();
-    assert!(rt;
-        matches!(fault, None | Some(PlanFault::Memory)),
-        "{fault:?}"
-    );
+    match Exchange::new(rt.alloc(), server, peers) {
+        Ok(_) | Err(PlanFault::Memory) => Ok(()),
+        Err(fault) => Err(Fail::new(fault)),
+    }
 }

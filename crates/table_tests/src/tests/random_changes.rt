@@ -1,14 +1,13 @@
 //! Random changes: after each one every client gets what the rules, read slowly, say.
 
-use super::changes::{after, change, take};
+use super::changes::{after, change, take_text};
 use super::exchanges::{exchange, prefix};
 use super::random::Random;
 use super::slow_reading::History;
 use super::tables::shown;
 use rs_table::{Gathering, Tables};
 use std::alloc::Global;
-use std::process::Abort;
-use std::test::*;
+use std::test::Fail;
 
 // Three peers of AS 64501, so that MED decides between them, and one that refuses all routes of another, of an AS whose
 // number has the low eight bits of 64501.
@@ -62,8 +61,11 @@ fn take_both(alloc: Global, tables: &mut Tables, history: &mut History, text: &s
         return Some(());
     }
     history.add(peer, word)?;
-    let (peer, word) = change(alloc, tables.plan(), text)?;
-    take(tables, peer, word)?.ok()
+    if take_text(alloc, tables, text)? {
+        Some(())
+    } else {
+        None
+    }
 }
 
 // Whether a client gets what the slow reading says: its rows, and its best route on each prefix.
@@ -83,24 +85,24 @@ fn agree(alloc: Global, tables: &Tables, history: &History, client: usize) -> Op
     Some(shown(alloc, tables, client)? == rows)
 }
 
-// After a change every client gets what the slow reading says.
-fn check_clients(rt: &impl Abort, alloc: Global, tables: &Tables, history: &History, change: &str) {
-    for client in 0..6 {
-        let agree = agree(alloc, tables, history, client);
-        assert_eq!(rt; agree, Some(true), "{change}, client {client}");
-    }
+// The first client that gets something else than the slow reading says.
+fn wronged(alloc: Global, tables: &Tables, history: &History) -> Option<usize> {
+    (0..6).find(|client| agree(alloc, tables, history, *client) != Some(true))
 }
 
-// Takes a hundred changes of six peers.
-fn check_round(rt: &impl Abort, alloc: Global, random: &mut Random) -> Option<()> {
+// Takes a hundred changes of six peers. Answers the first that leaves a client something else than the slow reading
+// says, and that client.
+fn wrong_change(alloc: Global, random: &mut Random) -> Option<Result<(), (u32, usize)>> {
     let mut tables = after(alloc, SIX_PEERS, "")?;
     let mut history = History::new(alloc, exchange(alloc, SIX_PEERS)?);
     for time in 0..100 {
         let change = some_change(alloc, random, time)?;
         take_both(alloc, &mut tables, &mut history, &change)?;
-        check_clients(rt, alloc, &tables, &history, &change);
+        if let Some(client) = wronged(alloc, &tables, &history) {
+            return Some(Err((time, client)));
+        }
     }
-    Some(())
+    Some(Ok(()))
 }
 
 // Gathers a change, where the peer is open, and adds it to the list of all changes.
@@ -119,20 +121,22 @@ fn gather_both(
     history.add(peer, word)
 }
 
-// Gathers a hundred changes of six peers in lists of which those with so many entries are compacted.
-fn check_gathered(rt: &impl Abort, alloc: Global, random: &mut Random, few: usize) -> Option<()> {
-    let Ok(tables) = Tables::new(alloc, exchange(alloc, SIX_PEERS)?) else {
-        return None;
-    };
-    let mut gathering = Gathering::new(tables, few).ok()?;
+// No changes yet, gathered in lists of which those with so many entries are compacted.
+fn nothing_gathered(alloc: Global, few: usize) -> Option<Gathering> {
+    let tables = Tables::new(alloc, exchange(alloc, SIX_PEERS)?).ok()?;
+    Gathering::new(tables, few).ok()
+}
+
+// Gathers a hundred changes of six peers. Answers the first client that gets something else than the slow reading says.
+fn wrongly_gathered(alloc: Global, random: &mut Random, few: usize) -> Option<Result<(), usize>> {
+    let mut gathering = nothing_gathered(alloc, few)?;
     let mut history = History::new(alloc, exchange(alloc, SIX_PEERS)?);
     for time in 0..100 {
         let change = some_change(alloc, random, time)?;
         gather_both(alloc, &mut gathering, &mut history, &change)?;
     }
     let tables = gathering.settle().ok()?;
-    check_clients(rt, alloc, &tables, &history, "settled");
-    Some(())
+    Some(wronged(alloc, &tables, &history).map_or(Ok(()), Err))
 }
 
 #[test]
@@ -140,8 +144,8 @@ fn gathered_changes_leave_what_the_rules_say(rt: HostRuntime) {
     let mut random = Random { state: 2 };
     for round in 0..GATHERED_EXCHANGES {
         let few = 2 + round % 63;
-        let checked = check_gathered(&rt, rt.alloc(), &mut random, few);
-        assert!(rt; checked.is_some(), "exchange {round}, lists of {few}");
+        let checked = wrongly_gathered(rt.alloc(), &mut random, few);
+        assert_eq!(rt; checked, Some(Ok(())), "exchange {round}, lists of {few}");
     }
 }
 
@@ -149,7 +153,7 @@ fn gathered_changes_leave_what_the_rules_say(rt: HostRuntime) {
 fn random_changes_leave_what_the_rules_say(rt: HostRuntime) {
     let mut random = Random { state: 1 };
     for round in 0..6 {
-        let checked = check_round(&rt, rt.alloc(), &mut random);
-        assert!(rt; checked.is_some(), "round {round}");
+        let checked = wrong_change(rt.alloc(), &mut random);
+        assert_eq!(rt; checked, Some(Ok(())), "round {round}");
     }
 }

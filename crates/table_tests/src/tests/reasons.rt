@@ -8,7 +8,7 @@ use rs_explain::{Explanation, explain};
 use rs_table::{Tables, Why};
 use std::alloc::Global;
 use std::fmt::Write;
-use std::test::*;
+use std::test::Fail;
 
 // The answer that is explained.
 fn answer(explanation: &Explanation) -> Why {
@@ -133,6 +133,6 @@ told: a higher address | a igp 64501 hop-a; c igp 64501 hop-a; d igp 64501 hop-a
 ";
 
 #[test]
-fn what_fails_refuses_or_removes_is_named(rt: HostRuntime) {
-    check_rows(&rt, rt.alloc(), REASONS);
+fn what_fails_refuses_or_removes_is_named(rt: HostRuntime) -> Result<(), Fail> {
+    check_rows(&rt, rt.alloc(), REASONS)
 }

@@ -2,7 +2,7 @@
 //! same change again is taken; of gathered changes no tables come, or the right ones. One allocation is refused in a
 //! run at most, so what is asked a second time comes.
 
-use super::changes::{after, change, take};
+use super::changes::{after, change, take_text};
 use super::exchanges::exchange;
 use super::tables::{name, table};
 use super::{FOUR_PEERS, check};
@@ -10,9 +10,8 @@ use rs_choice::Exchange;
 use rs_table::{Gathering, Tables};
 use std::alloc::Global;
 use std::fmt::Write;
-use std::process::Abort;
 use std::sync::Arc;
-use std::test::*;
+use std::test::Fail;
 
 // Changes, and behind each the table of each client. Memory may be refused for a change behind a +, which announces a
 // prefix on which no peer has a route.
@@ -51,57 +50,43 @@ pub fn all_tables(alloc: Global, tables: &Tables) -> Option<String> {
     Some(text)
 }
 
-// Takes a change, and whether it was refused.
-fn is_refused(alloc: Global, tables: &mut Tables, text: &str) -> Option<bool> {
-    let (peer, word) = change(alloc, tables.plan(), text)?;
-    Some(take(tables, peer, word)?.is_err())
-}
-
-// Takes a change, and once more where it is refused: then nothing had changed.
-fn take_once_more(
-    rt: &impl Abort,
-    alloc: Global,
-    tables: &mut Tables,
-    (text, may_be_refused): (&str, bool),
-) -> Option<()> {
+// Takes a change, and once more where it is refused. Answers whether it came: where it was refused, it might be, and
+// nothing had changed. None where memory is refused for something else.
+fn comes(alloc: Global, tables: &mut Tables, text: &str, may_be_refused: bool) -> Option<bool> {
     let before = all_tables(alloc, tables)?;
-    if is_refused(alloc, tables, text)? {
-        assert!(rt; may_be_refused, "{text}");
-        assert_eq!(rt; all_tables(alloc, tables), Some(before), "{text}");
-        assert_eq!(rt; is_refused(alloc, tables, text), Some(false), "{text}");
+    if take_text(alloc, tables, text)? {
+        return Some(true);
     }
-    Some(())
+    let is_unchanged = all_tables(alloc, tables) == Some(before);
+    let comes = take_text(alloc, tables, text) == Some(true);
+    Some(may_be_refused && is_unchanged && comes)
 }
 
-// Takes the change of a row; then each client has what the row says. None where memory is refused for something else.
-fn check_change(rt: &impl Abort, alloc: Global, tables: &mut Tables, row: &str) -> Option<()> {
+// Takes the change of a row, and answers whether it came and each client has what the row says.
+fn is_so(alloc: Global, tables: &mut Tables, row: &str) -> Option<bool> {
     let (text, wanted) = row.split_once('|')?;
-    let change = match text.strip_prefix("+ ") {
-        Some(text) => (text, true),
-        None => (text, false),
+    let came = match text.strip_prefix("+ ") {
+        Some(text) => comes(alloc, tables, text, true)?,
+        None => comes(alloc, tables, text, false)?,
     };
-    take_once_more(rt, alloc, tables, change)?;
-    let given = all_tables(alloc, tables)?;
-    assert_eq!(rt; given.as_str(), wanted.trim(), "{text}");
-    Some(())
+    Some(came && all_tables(alloc, tables)?.as_str() == wanted.trim())
 }
 
-// Takes all changes.
-fn check_changes(rt: &impl Abort, alloc: Global) -> Option<()> {
+// Takes all changes up to the first whose row is not so, which is the answer; an empty row where all are so.
+fn wrong_row(alloc: Global) -> Option<&'static str> {
     let mut tables = after(alloc, FOUR_PEERS, "")?;
     for row in CHANGES.lines() {
-        if !row.is_empty() {
-            check_change(rt, alloc, &mut tables, row)?;
+        if !row.is_empty() && !is_so(alloc, &mut tables, row)? {
+            return Some(row);
         }
     }
-    Some(())
+    Some("")
 }
 
 #[test]
 fn a_refused_change_changes_nothing_and_comes_when_taken_again(rt: HostRuntime) {
-    let alloc = rt.alloc();
-    let checked = check_changes(&rt, alloc).or_else(|| check_changes(&rt, alloc));
-    assert!(rt; checked.is_some());
+    let wrong = wrong_row(rt.alloc()).or_else(|| wrong_row(rt.alloc()));
+    assert_eq!(rt; wrong, Some(""));
 }
 
 // Changes most of which are on prefixes of one first octet. At the end b's session was lost after its first route, and
@@ -129,9 +114,7 @@ fn gather(alloc: Global, plan: &Exchange, gathering: &mut Gathering, text: &str)
 
 // Gathers those changes, in lists that are compacted once they have so many entries. None where memory is refused.
 fn gathered(alloc: Global, plan: &Arc<Exchange>, few: usize) -> Option<Gathering> {
-    let Ok(tables) = Tables::new(alloc, plan.clone().ok()?) else {
-        return None;
-    };
+    let tables = Tables::new(alloc, plan.clone().ok()?).ok()?;
     let mut gathering = Gathering::new(tables, few).ok()?;
     for text in GATHERED.split(';') {
         gather(alloc, plan, &mut gathering, text)?;
@@ -148,9 +131,12 @@ fn settled(alloc: Global, few: usize) -> Option<String> {
 
 // Lists of two are compacted three times while they grow, those of 64 when they are settled.
 #[test]
-fn gathered_changes_are_refused_memory_or_leave_the_right_tables(rt: HostRuntime) {
+fn gathered_changes_are_refused_memory_or_leave_the_right_tables(
+    rt: HostRuntime,
+) -> Result<(), Fail> {
     for few in [2, 64] {
         let found = settled(rt.alloc(), few).or_else(|| settled(rt.alloc(), few));
-        check(&rt, &found, SETTLED, "gathered");
+        check(found, SETTLED, ("gathered", GATHERED))?;
     }
+    Ok(())
 }

@@ -3,7 +3,7 @@
 use super::check_rows;
 use rs_choice::{Candidate, Exchange, HeldRoute};
 use std::alloc::Global;
-use std::test::*;
+use std::test::Fail;
 
 /// A route's sender and time, its candidacy, whether it is eligible and whether it is for all, and its path length,
 /// neighbour AS and MED.
@@ -97,8 +97,8 @@ held: of c | c igp 64503-65010 hop-a | 2 100 PlainOpenIgp true true 2 64503 0
 ";
 
 #[test]
-fn what_decisions_ask_of_a_route_is_held_with_it(rt: HostRuntime) {
-    check_rows(&rt, rt.alloc(), HELD);
+fn what_decisions_ask_of_a_route_is_held_with_it(rt: HostRuntime) -> Result<(), Fail> {
+    check_rows(&rt, rt.alloc(), HELD)
 }
 
 // A route, and whether it is eligible.
@@ -131,8 +131,8 @@ eligible: the server's and its own | b igp 64501 hop-server | false
 ";
 
 #[test]
-fn routes_are_eligible_by_path_and_next_hop(rt: HostRuntime) {
-    check_rows(&rt, rt.alloc(), ELIGIBLE);
+fn routes_are_eligible_by_path_and_next_hop(rt: HostRuntime) -> Result<(), Fail> {
+    check_rows(&rt, rt.alloc(), ELIGIBLE)
 }
 
 // A route, and of each client whether it may get it: not its sender.
@@ -164,6 +164,6 @@ exported: c refuses nothing of b | b igp 64501 hop-a 64500:64502 | [true, false,
 ";
 
 #[test]
-fn communities_and_names_refuse_and_permit(rt: HostRuntime) {
-    check_rows(&rt, rt.alloc(), EXPORTED);
+fn communities_and_names_refuse_and_permit(rt: HostRuntime) -> Result<(), Fail> {
+    check_rows(&rt, rt.alloc(), EXPORTED)
 }

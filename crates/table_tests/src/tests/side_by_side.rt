@@ -3,13 +3,13 @@
 ghost use Rattle.std.specs.Prelude.{◌≡◌, IsFalse};
 
 use super::changes::after;
-use super::writers::{add_routes, answer_of, list_dump};
+use super::writers::{Dumped, add_routes, answer_of, list_dump};
 use rs_dump::{DumpFault, TableDump, Writing, write_side_by_side};
 use rs_mrt::{Limits, MemoryWriter};
 use rs_table::Tables;
 use std::alloc::Global;
 use std::process::Abort;
-use std::test::*;
+use std::test::Fail;
 use std::thread::Threads;
 
 // How many clients there are: a thread is full of dumps, and there are some for another one.
@@ -45,7 +45,7 @@ fn large_tables(alloc: Global) -> Option<Tables> {
 }
 
 // The dumps of the lists of all clients' rows, and how many these are.
-fn listed_dumps(alloc: Global, tables: &Tables) -> Option<Vec<(Result<u32, DumpFault>, Vec<u8>)>> {
+fn listed_dumps(alloc: Global, tables: &Tables) -> Option<Vec<Dumped>> {
     let mut all = Vec::new(alloc);
     for client in 0..CLIENTS {
         all.push(list_dump(alloc, tables, client, Limits::none())?)
@@ -97,13 +97,12 @@ fn written<'a, T: Abort + Threads + Sync>(
     writings
 }
 
-// The dump of a client is out whole, and of the one that failed a beginning of it.
-fn check_written(
-    rt: &impl Abort,
+// Whether the dump of a client is out whole, and of the one that failed a beginning of it.
+fn is_written(
     writing: &Writing<MemoryWriter>,
     (client, failing): (usize, usize),
-    (answer, whole): &(Result<u32, DumpFault>, Vec<u8>),
-) {
+    (answer, whole): &Dumped,
+) -> bool {
     let taken = writing.out.octets();
     let rows = ROWS.get(client).copied().ok_or(DumpFault::Write);
     let wanted = if client == failing {
@@ -111,28 +110,37 @@ fn check_written(
     } else {
         rows
     };
-    assert_eq!(rt;
-        (answer_of(writing), *answer),
-        (wanted, rows),
-        "client {client} beside {failing}"
-    );
     let is_whole = taken.len() == whole.len();
-    assert!(rt;
-        whole.starts_with(taken) && !taken.is_empty() && is_whole == wanted.is_ok(),
-        "client {client} beside {failing}"
-    );
+    (answer_of(writing), *answer) == (wanted, rows)
+        && whole.starts_with(taken)
+        && !taken.is_empty()
+        && is_whole == wanted.is_ok()
 }
 
-// The last time none fails.
-#[test]
-fn a_dump_that_fails_leaves_those_beside_it_whole(rt: HostRuntime) {
-    let alloc = rt.alloc();
-    let tables = large_tables(alloc).expect(&rt, "tables");
-    let listed = listed_dumps(alloc, &tables).expect(&rt, "dumps");
-    for failing in 0..CLIENTS + 1 {
-        let writings = written(&rt, alloc, &tables, failing);
-        for (client, (writing, listed)) in writings.iter().zip(&listed).enumerate() {
-            check_written(&rt, writing, (client, failing), listed);
+// The dumps of all clients where one fails; the last time none does.
+fn check_beside<T: Abort + Threads + Sync>(
+    rt: &T,
+    alloc: Global,
+    tables: &Tables,
+    listed: &[Dumped],
+    failing: usize,
+) -> Result<(), Fail> {
+    let writings = written(rt, alloc, tables, failing);
+    for (client, (writing, listed)) in writings.iter().zip(listed).enumerate() {
+        if !is_written(writing, (client, failing), listed) {
+            return Err(Fail::new(format_args!("client {client} beside {failing}")));
         }
     }
+    Ok(())
+}
+
+#[test]
+fn a_dump_that_fails_leaves_those_beside_it_whole(rt: HostRuntime) -> Result<(), Fail> {
+    let alloc = rt.alloc();
+    let tables = large_tables(alloc).ok_or("tables")?;
+    let listed = listed_dumps(alloc, &tables).ok_or("dumps")?;
+    for failing in 0..CLIENTS + 1 {
+        check_beside(&rt, alloc, &tables, &listed, failing)?;
+    }
+    Ok(())
 }

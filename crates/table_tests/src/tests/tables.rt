@@ -1,6 +1,7 @@
 //! Which route each client gets of several, and why; which rows its table has; and what is left of a peer whose session
 //! closed or was lost.
 
+use super::changes::after;
 use super::check_rows;
 use super::exchanges::{peer_of, prefix};
 use rs_table::Tables;
@@ -8,8 +9,7 @@ use rs_update::Prefix;
 use std::alloc::Global;
 use std::fmt::Write;
 use std::net::Ipv4Addr;
-use std::process::Abort;
-use std::test::*;
+use std::test::Fail;
 
 /// A row as the tests compare it: the prefix, the peer that sent the route, and when.
 pub type Shown = (Prefix, usize, u32);
@@ -112,7 +112,7 @@ fn hint(alloc: Global, tables: &Tables, client: usize) -> Option<String> {
 }
 
 // The answer to a question; `nobody` is a client that isn't there.
-fn answer(alloc: Global, tables: &Tables, question: &str) -> Option<String> {
+fn answer_of(alloc: Global, tables: &Tables, question: &str) -> Option<String> {
     let mut words = question.split_whitespace();
     let asked = words.next()?;
     let name = words.next().unwrap_or("");
@@ -128,15 +128,10 @@ fn answer(alloc: Global, tables: &Tables, question: &str) -> Option<String> {
     }
 }
 
-/// The question of a row has its answer.
-pub fn check_answer(rt: &impl Abort, alloc: Global, tables: &Tables, row: &str, changes: &str) {
-    let (question, wanted) = row.split_once('|').unwrap_or((row, "an answer"));
-    let found = answer(alloc, tables, question);
-    assert_eq!(rt;
-        found.as_deref(),
-        Some(wanted.trim()),
-        "{row} after {changes}"
-    );
+/// The answer to a question after some changes.
+pub fn answer(alloc: Global, plan: &str, changes: &str, question: &str) -> Option<String> {
+    let tables = after(alloc, plan, changes)?;
+    answer_of(alloc, &tables, question)
 }
 
 const TABLES: &str = "
@@ -178,6 +173,6 @@ table d | 10.0.0.0/8 a 100, 10.0.0.0/16 c 100, 10.0.0.0/24 b 100
 ";
 
 #[test]
-fn rows_ascend_one_after_another_as_in_the_list(rt: HostRuntime) {
-    check_rows(&rt, rt.alloc(), TABLES);
+fn rows_ascend_one_after_another_as_in_the_list(rt: HostRuntime) -> Result<(), Fail> {
+    check_rows(&rt, rt.alloc(), TABLES)
 }
