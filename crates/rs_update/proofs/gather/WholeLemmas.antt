@@ -1,6 +1,6 @@
 -- Attributes out of what is found in a section without fault: for gather.rt, `lacks_mandatory` of update.rt, and the lemmas of the
 -- written form and of messages.
-use Rattle.std.proofs.Common.{◌≡◌, ℕ, ◌&&◌, Bool, false, List, [], ◌∷◌, Option, Some, None}
+use Rattle.std.proofs.Common.{◌≡◌, ℕ, ◌&&◌, Bool, List, [], ◌∷◌, Option, Some}
 use Rattle.std.proofs.Common.{refl, sym, ap, ◌∙◌, arith, inl, inr}
 use Rattle.std.specs.Prelude.{is_some}
 use Rattle.std.specs.List.{filter_map, flat_map, AllByRecursion}
@@ -13,7 +13,7 @@ use Rattle.rs_types.specs.PathAttributes.{PathAttributes, PathSegment, Community
 use Rattle.rs_types.specs.Section.{Item, items_of}
 use Rattle.rs_types.specs.Spelling.{written, written_items, spelled_item}
 use Rattle.rs_update.proofs.spelling.KeptLemmas.{written_items-kept}
-use Rattle.rs_types.proofs.section.KindLemmas.{cases_Option, none_there}
+use Rattle.rs_types.proofs.section.KindLemmas.{cases_Option}
 use Rattle.rs_types.proofs.section.LookLemmas.{of_three, made_of}
 use Rattle.rs_types.proofs.section.SoundLemmas.{AreSound}
 

@@ -1,4 +1,4 @@
-use Rattle.std.proofs.Common.{◌≡◌, ◌∙◌, sym, ap, arith, Some}
+use Rattle.std.proofs.Common.{◌∙◌, sym, ap, arith, Some}
 use Rattle.rs_types.specs.Gathered.{attributes_of}
 use Rattle.rs_types.specs.Parts.{AreOctets}
 use Rattle.rs_types.specs.PathAttributes.{PathAttributes}
