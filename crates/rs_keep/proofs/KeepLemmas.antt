@@ -1,7 +1,7 @@
 -- Client by client: what is kept, and what the report says of it. `rs_run` cites `stop-memory` and `Grows-none`.
 use Rattle.std.proofs.Common.{◌≡◌, ℕ, zero, suc, refl, ◌+◌, ◌≤◌, List, [], ◌∷◌, ◌++◌, Option, Some, None, length, take, sym, ap, subst, ◌∙◌}
 use Rattle.std.proofs.Common.{append_assoc, arith, Result, Ok, Err}
-use Rattle.std.specs.Prelude.{slice_get, ◌<◌, IfErr}
+use Rattle.std.specs.Prelude.{slice_get, ◌<◌, IfErr, OnErr}
 use Rattle.std.specs.Result.{IsErrAnd}
 use Rattle.std.specs.List.{flat_map, enumerate_from}
 use Rattle.std.specs.Option.{option_map}
@@ -19,6 +19,16 @@ use Rattle.rs_keep.specs.Kept.{dump_name, kept_dump_of, dumps_of, GrowsByBeginni
 use Rattle.rs_keep.specs.TableLines.{row_count_of, row_counts, table_line, table_line_of, table_lines}
 use Rattle.rs_keep.specs.Written.{TellsTaken}
 use Rattle.rs_keep.proofs.ListingLemmas.{flat_map-one_more, lines-one_more, slice_get-enumerated, take-one_more}
+
+-- what holds of one error holds of a result that is it
+pub IfErr-same : {T E : Type 0} (P : E → Type 0) (fault : E) (result : Result T E) → IsErrAnd result (λ found. found ≡ fault) → P fault
+    → IfErr result P
+IfErr-same P fault (Ok value) same held = tt
+IfErr-same P fault (Err found) same held = subst P (sym same) held
+
+pub OnErr-always : {T E A : Type 0} (result : Result T E) → A → OnErr result A
+OnErr-always (Ok value) held = tt
+OnErr-always (Err fault) held = held
 
 -- a told list grows twice
 Grows-then : (old mid new : Option (List KeptDump)) (first second : List KeptDump) → Grows old mid first → Grows mid new second
@@ -94,6 +104,12 @@ told-all tables client base text past so_far =
 pub Grows-none : (kept : Option (List KeptDump)) → Grows kept kept []
 Grows-none None = tt
 Grows-none (Some kept) = sym (append-nil kept)
+
+-- all were, which is a beginning too
+pub GrowsByBeginning-all : (old new : Option (List KeptDump)) (dumps : List KeptDump) → Grows old new dumps → GrowsByBeginning old new dumps
+GrowsByBeginning-all old new dumps grown =
+    let within : length dumps ≤ length dumps = omega arith in
+    (length dumps, subst (λ some. Grows old new some) (sym (take_all (length dumps) dumps within)) grown)
 
 -- memory was refused once a beginning of the dumps was kept
 pub stop-memory : (tables : TablesContent) (time : ℕ) (old new : Option (List KeptDump)) (before after : ℕ) {T : Type 0}

@@ -8,13 +8,13 @@ use Rattle.std.proofs.Math.ListN.{get_or-map}
 use Rattle.std.proofs.lemmas.List.{length-map}
 use Rattle.std.proofs.lemmas.Option.{get_or_from_slice_get, slice_get-map}
 use Rattle.rs_choice.specs.Plan.{Peer, Plan}
-use Rattle.rs_dump.specs.SideBySide.{IsWritten}
+use Rattle.rs_dump.specs.SideBySide.{CanBegin, IsWritten}
 use Rattle.rs_dump.specs.declared.side_by_side.Writing.{Writing}
 use Rattle.rs_outlet.specs.Outlet.{KeptDump, Grows, TellsNothingTaken}
 use Rattle.rs_table.specs.Content.{TablesContent}
 use Rattle.rs_keep.specs.declared.dumps.DumpFile.{DumpFile}
 use Rattle.rs_keep.specs.Kept.{dump_name}
-use Rattle.rs_keep.specs.Written.{file_name, AreDumpFiles, AreWritten, IsBegun, IsWrittenOf, TellsTaken}
+use Rattle.rs_keep.specs.Written.{file_name, AreBegun, AreDumpFiles, AreWritten, IsBegun, IsWrittenOf, TellsTaken}
 
 -- a client's file has its name
 pub file-at : (plan : Plan) (files : List DumpFile) (client : ℕ) (file : DumpFile) (peer : Peer) → AreDumpFiles plan files
@@ -52,6 +52,29 @@ told-before (Some kept) None dumps taken octets grown told = absurd grown
 told-before (Some kept) (Some more) dumps taken octets grown told = told
 
 module _ {W : Type 0} (taken : W → Option (List ℕ)) (failures : W → ℕ) (tables : TablesContent) (time : ℕ) where
+  -- a dump is begun alone
+  one-alone : (kept : Option (List KeptDump)) (client : ℕ) (writing : Writing W) → IsBegun taken failures kept tables time client writing
+      → AreBegun taken failures kept tables time client (writing ∷ [])
+  one-alone kept client writing begun = λ k d below.
+      let first : k ≡ 0 = omega (arith, below) in
+      let P : ℕ → Type 0 = λ place. IsBegun taken failures kept tables time (client + place) (slice_index_or (writing ∷ []) place d) in
+      let Q : ℕ → Type 0 = λ number. IsBegun taken failures kept tables time number writing in
+      let number : client ≡ client + 0 = omega arith in
+      subst P (sym first) (subst Q number begun)
+
+  pub one-begun : (kept : Option (List KeptDump)) (client : ℕ) (writing : Writing W) (some : List (Writing W)) → some ≡ writing ∷ []
+      → IsBegun taken failures kept tables time client writing → AreBegun taken failures kept tables time client some
+  one-begun kept client writing some is begun =
+      let P : List (Writing W) → Type 0 = λ all. AreBegun taken failures kept tables time client all in
+      subst P (sym is) (one-alone kept client writing begun)
+
+  -- dumps that are begun can be written
+  pub can-begin : (kept : Option (List KeptDump)) (client : ℕ) (some : List (Writing W)) → AreBegun taken failures kept tables time client some
+      → (k : ℕ) (d : Writing W) → k < length some → CanBegin failures (slice_index_or some k d)
+  can-begin kept client some begun k d below =
+      let one = begun k d below in
+      (one.not_failed, omega (arith, one.no_failure))
+
   -- a dump that was begun is written
   pub written-of : (label : W → Option (List ℕ)) (kept : Option (List KeptDump)) (client : ℕ) (old new : Writing W)
       → IsBegun taken failures kept tables time client old → IsWritten taken failures label old new

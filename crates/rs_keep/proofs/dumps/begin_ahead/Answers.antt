@@ -1,5 +1,6 @@
 -- A writer is out for the client's file.
-use Rattle.std.proofs.Common.{◌≡◌, ◌∙◌, ◌<◌, ap, arith, get_or, length, rules, sym}
+use Rattle.std.proofs.Common.{◌≡◌, ◌∙◌, ◌<◌, ap, arith, get_or, length, refl, rules, sym}
+use Rattle.rs_dump.specs.TableDump.{ToWrite}
 use Rattle.rs_keep.specs.Written.{file_name}
 use Rattle.rs_keep.proofs.StartedLemmas.{goes-from}
 use Rattle.rs_keep.proofs.WrittenLemmas.{files-count}
@@ -17,3 +18,17 @@ returns-clause-started g c =
     goes-from g.O.Out.Write.label files client file c.as_str.result.now (O.started c.args.outlet.now) (O.started c.start_ahead.new.self)
     _ below is (c.as_str.ensures.value ∙ ap file_name (sym is))
     c.in_ok-out.ensures.started c.in_ok-out.ensures.named
+
+pub returns-clause-begun : goal.returns-clause-begun
+returns-clause-begun g c =
+    record {
+      not_failed = refl;
+      octets = ap (λ (dump : ToWrite). dump.octets) c.in-Ok.ensures.begun;
+      rows = omega (
+        arith,
+        ap (λ (dump : ToWrite). dump.spelled) c.in-Ok.ensures.begun,
+        ap (λ (dump : ToWrite). dump.rows) c.in-Ok.ensures.begun,
+      );
+      no_failure = c.in_ok-out.ensures.fresh;
+      nothing_taken = c.in_ok-out.ensures.nothing_taken;
+    }

@@ -1,11 +1,16 @@
-use Rattle.std.proofs.Common.{◌≡◌, ◌∙◌, ◌<◌, ◌+◌, List, [], ◌∷◌, ◌++◌, Option, ap, rules, arith, drop, length, slice_index_or, subst, sym}
+use Rattle.std.proofs.Common.{◌≡◌, ◌∙◌, ◌<◌, ◌+◌, List, [], ◌∷◌, ◌++◌, Option, ap, rules, arith, drop, length, refl, ℕ, slice_index_or, subst, sym}
 use Rattle.std.proofs.lemmas.List.{take_at}
+use Rattle.rs_dump.specs.SideBySide.{CanBegin}
 use Rattle.rs_dump.specs.declared.side_by_side.Writing.{Writing}
 use Rattle.rs_outlet.specs.Outlet.{KeptDump}
+use Rattle.rs_outlet.specs.declared.run_fault.RunFault.TheVariants.{Memory}
+use Rattle.rs_table.specs.Table.{table_of}
+use Rattle.rs_keep.specs.Kept.{IsFaultAt}
 use Rattle.rs_keep.specs.StartedDumps.{AreOutFrom}
 use Rattle.rs_keep.specs.Written.{AreBegun, AreWritten}
 use Rattle.rs_keep.proofs.StartedLemmas.{stay-from}
-use Rattle.rs_keep.proofs.WrittenLemmas.{written-of}
+use Rattle.rs_keep.proofs.KeepLemmas.{IfErr-same, OnErr-always}
+use Rattle.rs_keep.proofs.WrittenLemmas.{can-begin, one-begun, written-of}
 use Rattle.rs_keep.proofs.dumps.write_some.Goals as goal
 
 pub returns-clause-written : goal.returns-clause-written
@@ -57,3 +62,60 @@ returns-clause-started g c =
     subst P (sym (take_at new (drop (length new) behind) c.begin_behind.new.some.len (omega (arith, count))))
     (stay-from label files client old now begun new c.write_side_by_side.ensures.count
     (λ k d below. (c.write_side_by_side.ensures.written k d below).label_stays) all)
+
+pub returns-in_err-some-clause-fault : goal.returns-in_err-some-clause-fault
+returns-in_err-some-clause-fault g c =
+    let failures = g.O.Outlet.failures c.args.outlet.now in
+    let rows = length (table_of c.args.dumping.now.tables.now c.args.client) in
+    IfErr-same (IsFaultAt c.args.client rows failures failures) Memory c.from_residual.result c.from_residual.ensures.1 refl
+
+pub returns-in_err-first-clause-refused : goal.returns-in_err-first-clause-refused
+returns-in_err-first-clause-refused g c = OnErr-always c.from_residual-in_err-first.result c.in_err-first.ensures.refused
+
+pub returns-in_err-first-clause-fault : goal.returns-in_err-first-clause-fault
+returns-in_err-first-clause-fault g c =
+    let O = g.O.Outlet in
+    let rows = length (table_of c.args.dumping.now.tables.now c.args.client) in
+    IfErr-same (IsFaultAt c.args.client rows (O.failures c.args.outlet.now) (O.failures c.begin.new.outlet)) c.in_err-first.field-0.0
+    c.from_residual-in_err-first.result c.from_residual-in_err-first.ensures.1 c.in_err-first.ensures.fault
+
+pub begin_behind-requires-clause-begun : goal.begin_behind-requires-clause-begun
+begin_behind-requires-clause-begun g c =
+    λ _ _.
+    let Out = g.O.Out.Write in
+    let O = g.O.Outlet in
+    let tables = c.args.dumping.now.tables.now in
+    let time = c.args.dumping.now.time in
+    let none : c.in_ok-some.some.items ≡ [] = search rules in
+    let first = c.in-Ok.ensures.items ∙ ap (λ (none : List (Writing g.row.O-Out.Denot)). none ++ c.in_ok-first.first ∷ []) none in
+    let P : Option (List KeptDump) → Type 0 =
+    λ kept. AreBegun Out.taken Out.failures kept tables time c.args.client c.push.new.self.items in
+    subst P (sym c.begin.ensures.kept)
+    (one-begun Out.taken Out.failures tables time (O.kept c.args.outlet.now) c.args.client c.in_ok-first.first c.push.new.self.items
+    first c.in_ok-first.ensures.begun)
+
+pub write_side_by_side-requires-after_bounds : goal.write_side_by_side-requires-after_bounds
+write_side_by_side-requires-after_bounds g c =
+    λ _ _.
+    let Out = g.O.Out.Write in
+    let some = c.begin_behind.new.some.items in
+    let P : List (Writing g.row.O-Out.Denot) → Type 0 =
+    λ all. (k : ℕ) (d : Writing g.row.O-Out.Denot) → k < length all → CanBegin Out.failures (slice_index_or all k d) in
+    subst P (sym c.deref_mut.ensures.value)
+    (can-begin Out.taken Out.failures c.args.dumping.now.tables.now c.args.dumping.now.time (g.O.Outlet.kept c.begin.new.outlet)
+    c.args.client some c.begin_behind.ensures.begun)
+
+pub returns-clause-some : goal.returns-clause-some
+returns-clause-some g c =
+    let new = c.write_side_by_side.new.writings in
+    let behind = c.begin_behind.new.some.items in
+    let count : length new ≡ length behind = c.write_side_by_side.ensures.count ∙ ap length c.deref_mut.ensures.value in
+    let P : List (Writing g.row.O-Out.Denot) → Type 0 = λ some. 0 < length some in
+    subst P (sym (take_at new (drop (length new) behind) c.begin_behind.new.some.len (omega (arith, count))))
+    (omega (arith, count, c.begin_behind.ensures.some.0))
+
+pub returns-clause-kept : goal.returns-clause-kept
+returns-clause-kept g c = c.begin_behind.ensures.kept ∙ c.begin.ensures.kept
+
+pub returns-clause-no_failure : goal.returns-clause-no_failure
+returns-clause-no_failure g c = c.begin_behind.ensures.no_failure ∙ c.in_ok-first.ensures.no_failure

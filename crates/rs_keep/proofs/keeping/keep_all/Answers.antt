@@ -1,5 +1,5 @@
 -- One client more: its dump is kept, and the rows of its table are counted. After the last one all is kept.
-use Rattle.std.proofs.Common.{◌≡◌, ℕ, ◌+◌, ◌<◌, ◌≤◌, List, ◌++◌, ◌∷◌, [], Option, get_or, length, length-append, take, refl, sym, ap, subst}
+use Rattle.std.proofs.Common.{◌≡◌, ℕ, ◌+◌, ◌<◌, ◌≤◌, List, ◌++◌, ◌∷◌, [], Option, inl, get_or, length, length-append, take, refl, sym, ap, subst}
 use Rattle.std.proofs.Common.{◌∙◌, arith, rules}
 use Rattle.std.specs.Vec.Iter.{into_iter_items}
 use Rattle.rs_choice.specs.Plan.{Plan}
@@ -11,7 +11,8 @@ use Rattle.rs_keep.specs.Kept.{dumps_of, IsFaultAt}
 use Rattle.rs_keep.specs.StartedDumps.{names_from}
 use Rattle.rs_keep.specs.TableLines.{row_counts}
 use Rattle.rs_keep.specs.Written.{file_name}
-use Rattle.rs_keep.proofs.KeepLemmas.{counts-all, kept-one_more, kept-all, peer-at, row_count-at, Grows-none, stop-client, stop-memory}
+use Rattle.rs_keep.proofs.KeepLemmas.{counts-all, kept-one_more, kept-all, peer-at, row_count-at, Grows-none}
+use Rattle.rs_keep.proofs.KeepLemmas.{stop-client, stop-memory}
 use Rattle.rs_keep.proofs.ListingLemmas.{take-one_more}
 use Rattle.rs_keep.proofs.NamesLemmas.{same-names}
 use Rattle.rs_keep.proofs.StartedLemmas.{from-first, none-from, none-out, out-back, out-first}
@@ -238,3 +239,31 @@ loop-client-preserved g c =
       started = out-back Out.label (O.started c.args.outlet.now) (O.started c.refill.new.outlet) (O.started c.keep.new.outlet)
           writing others name (names_from files (client + 1) (length others)) out c.keep.ensures.back;
     }
+
+pub keep-requires-clause-failures : goal.keep-requires-clause-failures
+keep-requires-clause-failures g c =
+    λ _ _. omega (arith, c.requires.failures, c.in_ok-refill.ensures.no_failure, c.loop-client.invariant.failures)
+
+pub returns-in_default-keep-clause-fault : goal.returns-in_default-keep-clause-fault
+returns-in_default-keep-clause-fault g c =
+    let O = g.O.Outlet in
+    let client = c.loop-client.client in
+    let tables = c.args.dumping.now.tables.now in
+    let known : client < length tables.plan.peers =
+    omega (arith, c.count-client-end.ensures.value, ap (λ (of : Plan). length of.peers) c.plan-plan.ensures) in
+    let same = c.lose_all.ensures.kept ∙ c.in_default-keep.ensures.refused refl ∙ c.refill.ensures.kept in
+    let P : Option (List KeptDump) → Type 0 =
+    λ kept. Grows (O.kept c.args.outlet.now) kept (take client (dumps_of tables c.args.dumping.now.time)) in (
+      known,
+      subst P (sym same) c.loop-client.invariant.kept,
+      inl (omega (
+        arith,
+        c.in_default-keep.ensures.failure refl,
+        c.lose_all.ensures.no_fewer,
+        c.in_ok-refill.ensures.no_failure,
+        c.loop-client.invariant.failures,
+      )),
+    )
+
+pub returns-clause-no_failure : goal.returns-clause-no_failure
+returns-clause-no_failure g c = c.loop-client.invariant.failures
