@@ -1,5 +1,5 @@
 -- A loss, and a close for a fault, ends all of a peer's routes.
-use Rattle.std.proofs.Common.{◌≡◌, ◌∙◌, refl, sym, ap, set, get_or, length, length-set, cond, true, false, rules, List, ℕ, Option, Some, None}
+use Rattle.std.proofs.Common.{◌≡◌, refl, sym, get_or, cond, true, false, rules, Option, Some, None}
 use Rattle.std.proofs.lemmas.Result.{on_ok_weaker}
 use Rattle.rs_types.specs.IpPrefix.{IpPrefix}
 use Rattle.rs_change.specs.Change.{change_of}

@@ -34,7 +34,8 @@ loop-candidate-preserved c =
 
 pub returns : goal.returns
 returns c = (
-  λ _ k candidate at. c.loop-candidate.invariant k
-  (let within = slice_get_within c.args.candidates.now k candidate at in omega (arith, within, c.loop-candidate-test.false)) candidate at,
+  λ _ k candidate at.
+      let within = slice_get_within c.args.candidates.now k candidate at in
+      c.loop-candidate.invariant k (omega (arith, within, c.loop-candidate-test.false)) candidate at,
   λ _. refl,
 )

@@ -2,7 +2,7 @@
 use Rattle.std.proofs.Common.{◌∙◌, sym, inl, inr, subst}
 use Rattle.std.specs.Prelude.{◌↔◌, IsTrue}
 use Rattle.std.proofs.lemmas.Bool.{iff_false, false≢true}
-use Rattle.rs_choice.specs.Comparison.{IsAhead, IsLevel, OutdoesByMed, Outdoes}
+use Rattle.rs_choice.specs.Comparison.{IsAhead, IsLevel, OutdoesByMed}
 use Rattle.rs_choice.specs.Held.{held_standing}
 use Rattle.rs_choice.proofs.exchange.Exchange.is_outdone_by.Goals as goal
 
@@ -20,8 +20,8 @@ returns-then-is_level_with c =
     (iff_false c.is_ahead_of.ensures c.if-is_ahead_of.false) in
     let level : IsLevel best standing =
     subst (IsLevel best) c.standing_without_med-front.ensures (c.is_level_with.ensures.0 c.if-is_level_with.true) in
-    let by_med = subst (λ one. IsTrue c.outdoes_by_med.result ↔ OutdoesByMed best one) c.held_standing.ensures c.outdoes_by_med.ensures in
-    (
+    let by_med =
+    subst (λ one. IsTrue c.outdoes_by_med.result ↔ OutdoesByMed best one) c.held_standing.ensures c.outdoes_by_med.ensures in (
       λ yes. inr (level, by_med.0 yes),
       λ outdoes. elim outdoes [ inl ahead ↦ absurd (not_ahead ahead) | inr both ↦ by_med.1 both.1 ],
     )
@@ -35,8 +35,7 @@ returns-else-is_level_with c =
     (iff_false c.is_ahead_of.ensures c.if-is_ahead_of.false) in
     let not_level : IsLevel best standing → ⊥ =
     subst (λ front. IsLevel best front → ⊥) c.standing_without_med-front.ensures
-    (iff_false c.is_level_with.ensures c.if-is_level_with.false) in
-    (
+    (iff_false c.is_level_with.ensures c.if-is_level_with.false) in (
       λ yes. absurd (false≢true (sym c.if-is_level_with.false ∙ yes)),
       λ outdoes. elim outdoes [ inl ahead ↦ absurd (not_ahead ahead) | inr both ↦ absurd (not_level both.0) ],
     )

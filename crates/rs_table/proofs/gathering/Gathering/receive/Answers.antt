@@ -101,8 +101,14 @@ pub take_in-requires-clause-known : goal.take_in-requires-clause-known
 take_in-requires-clause-known c =
     let peers = ap (λ tables. length tables.plan.peers) c.self.view_is in (
       omega (arith, c.requires.known, c.self.invariant.losses, peers, ap length c.deref_mut-2.ensures.value),
-      omega (arith, c.requires.known, c.count-count.ensures.value, c.count-count.ensures.bound, peers,
-      ap (λ plan. length plan.peers) c.deref.ensures),
+      omega (
+        arith,
+        c.requires.known,
+        c.count-count.ensures.value,
+        c.count-count.ensures.bound,
+        peers,
+        ap (λ plan. length plan.peers) c.deref.ensures,
+      ),
     )
 
 pub take_in-requires-clause-logs : goal.take_in-requires-clause-logs
