@@ -11,8 +11,8 @@ use Rattle.std.proofs.lemmas.List.Elements.{filter-append, filter_map-append}
 use Rattle.std.proofs.lemmas.List.Folds.{list_all-append, list_any-append}
 use Rattle.std.proofs.lemmas.List.Sums.{sum_by-cons}
 use Rattle.rs_ring.specs.Ends.{Receiving, Sending}
-use Rattle.rs_update.specs.IpPrefix.{IpPrefix}
-use Rattle.rs_session.specs.Change.{Change, change_of, is_close}
+use Rattle.rs_types.specs.IpPrefix.{IpPrefix}
+use Rattle.rs_change.specs.Change.{Change, change_of, is_close}
 use Rattle.rs_change.specs.declared.word.Word.{Word}
 use Rattle.rs_router.specs.ShardParts.{shard_part, gets, shard_of}
 use Rattle.rs_router.specs.Delivery.{CanSend, Delivered, SameSenders, sent_lists, with_word}

@@ -3,7 +3,7 @@ use Rattle.std.specs.Prelude.{◌≡◌, ◌<◌, ◌^◌, ◌++◌, ◌∷◌, 
 use Rattle.std.specs.Option.{option_map}
 use Rattle.rs_ring.specs.Ends.{Sending}
 use Rattle.rs_ring.specs.Items.{has_close}
-use Rattle.rs_session.specs.Change.{change_of}
+use Rattle.rs_change.specs.Change.{change_of}
 use Rattle.rs_change.specs.declared.word.Body.TheVariants.{Down, Close}
 use Rattle.rs_change.specs.declared.word.Word.{Word}
 use Rattle.rs_router.specs.ShardParts.{gets}

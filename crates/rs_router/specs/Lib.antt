@@ -6,4 +6,4 @@ pub mod Delivery  -- one item more
 -- What the contracts name of the crates below:
 pub use Rattle.rs_ring.specs.Ends
 pub use Rattle.rs_ring.specs.Items
-pub use Rattle.rs_session.specs.Change
+pub use Rattle.rs_change.specs.Change

@@ -1,7 +1,7 @@
 -- What a shard is sent.
 use Rattle.std.specs.Prelude.{◌==◌, nat_lt, ℕ, Bool, true, false, List, Option, Some, None, if◌then◌else◌}
 use Rattle.std.specs.List.{filter_map}
-use Rattle.rs_session.specs.Change.{Change, change_of}
+use Rattle.rs_change.specs.Change.{Change, change_of}
 use Rattle.rs_router.specs.declared.routed.Routed.{Routed}
 use Rattle.rs_router.specs.declared.routed.Routed.TheVariants.{Word, Last}
 

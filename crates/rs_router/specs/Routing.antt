@@ -3,7 +3,7 @@ use Rattle.std.specs.Prelude.{◌≡◌, ◌≤◌, ◌^◌, ◌++◌, ◌∷◌
 use Rattle.std.specs.Prelude.{Some}
 use Rattle.std.specs.List.{list_all, list_any}
 use Rattle.rs_ring.specs.Ends.{Receiving}
-use Rattle.rs_session.specs.Change.{change_of, is_close}
+use Rattle.rs_change.specs.Change.{change_of, is_close}
 use Rattle.rs_change.specs.declared.word.Word.{Word}
 use Rattle.rs_router.specs.ShardParts.{shard_part}
 use Rattle.rs_router.specs.RoutedItems.{is_known, is_last, of_peer}

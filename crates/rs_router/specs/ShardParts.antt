@@ -1,7 +1,7 @@
 -- The part of a list of changes by shards. That each shard holds the prefixes of some first octets is our choice.
 use Rattle.std.specs.Prelude.{ℕ, ◌≤◌, ◌/◌, ◌%◌, ◌^◌, ◌==◌, Bool, true, List, filter}
-use Rattle.rs_update.specs.IpPrefix.{IpPrefix}
-use Rattle.rs_session.specs.Change.{Change, ChangeBody, Announced, Withdrawn, Lost, Closed}
+use Rattle.rs_types.specs.IpPrefix.{IpPrefix}
+use Rattle.rs_change.specs.Change.{Change, ChangeBody, Announced, Withdrawn, Lost, Closed}
 
 -- there are 1 to 16 shards
 abbrev pub IsShardCount : ℕ → Type 0

@@ -8,9 +8,9 @@ ghost use Rattle.rs_router.specs.Delivery.{item_of, sent_lists, CanSend, Deliver
 
 use crate::prefix_shard::shard_of;
 use crate::routed::Routed;
+use rs_change::{Body, Reason, Word};
 use rs_patience::{Patience, send_when_room};
 use rs_ring::{SendRefused, Sender};
-use rs_session::{Body, Reason, Word};
 use std::sync::Wait;
 
 // An item of which each shard gets one.

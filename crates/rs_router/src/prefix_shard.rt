@@ -3,7 +3,7 @@
 ghost use Rattle.std.specs.Prelude.{◌≡◌, ◌<◌};
 ghost use Rattle.rs_router.specs.ShardParts as spec;
 
-use rs_update::Prefix;
+use rs_types::Prefix;
 
 /// Into how many shards the prefixes are divided at most.
 pub const MAX_SHARDS: usize = 16;

@@ -2,8 +2,8 @@
 
 ghost use Rattle.rs_router.specs.RoutedItems.{is_last};
 
+use rs_change::Word;
 use rs_ring::Closing;
-use rs_session::Word;
 
 /// What a shard is sent.
 #[derive(Drop)]

@@ -9,9 +9,9 @@ ghost use Rattle.rs_router.specs.Routing.{SameReceivers};
 
 use crate::delivery::{Shared, deliver, send_to_all};
 use crate::routed::Routed;
+use rs_change::Word;
 use rs_patience::Patience;
 use rs_ring::{Numbered, Receiver, Sender};
-use rs_session::Word;
 use std::sync::Wait;
 
 // How many changes of one peer are taken before the next peer's turn.

@@ -4,7 +4,7 @@ use Rattle.std.specs.Prelude.{◌==◌, slice_get, slice_set}
 use Rattle.std.proofs.lemmas.List.{length-map, map-set}
 use Rattle.std.proofs.lemmas.Option.{slice_get-get_or}
 use Rattle.rs_ring.specs.Ends.{Sending}
-use Rattle.rs_session.specs.Change.{body_of, change_of}
+use Rattle.rs_change.specs.Change.{body_of, change_of}
 use Rattle.rs_change.specs.declared.word.Body.{Body}
 use Rattle.rs_router.specs.ShardParts.{gets, gets_body, shard_of}
 use Rattle.rs_router.specs.Delivery.{Delivered, sent_lists}
