@@ -1,6 +1,7 @@
 //! The words of the command line.
 
 use rs_options::WordsFault;
+use std::alloc::Global;
 use std::env;
 use std::env::Env;
 use std::io::ErrorKind;
@@ -11,10 +12,17 @@ pub fn read_arguments<R: AllocGlobal + Env>(rt: &R, head: &str) -> Result<Vec<St
     let alloc = rt.alloc();
     match env::args(rt) {
         Ok(words) => Ok(words.collect(alloc)?),
-        Err(error) if error.kind() == ErrorKind::OutOfMemory => Err(WordsFault::Memory),
-        Err(_) => {
-            let text = format!(in alloc; "{head}: an argument is not UTF-8\n")?;
-            Err(WordsFault::Refused(text))
-        }
+        Err(error) => Err(fault_of(alloc, error.kind(), head)),
+    }
+}
+
+// Why the words can't be read.
+fn fault_of(alloc: Global, kind: ErrorKind, head: &str) -> WordsFault {
+    if kind == ErrorKind::OutOfMemory {
+        return WordsFault::Memory;
+    }
+    match format!(in alloc; "{head}: an argument is not UTF-8\n") {
+        Ok(text) => WordsFault::Refused(text),
+        Err(_) => WordsFault::Memory,
     }
 }

@@ -27,12 +27,27 @@ pub fn open_files<R: AllocGlobal + Files, F: Read + Drop, O: Fn(R::File) -> F>(
     ensures no_failure { IfOk result (λ files.
         All (λ file. file.reader.failures + file.refused < u64.MAX) files.items) }
 {
-    if let Some(peer) = first_unreadable(rt, paths)? {
-        return Err(Unready::by_path(rt.alloc(), &paths[peer]));
+    match first_unreadable(rt, paths)? {
+        Some(peer) => Err(Unready::by_path(rt.alloc(), &paths[peer])),
+        None => open_each(rt, paths, bounds, &observed),
     }
+}
+
+// Opens the files of these paths, in their order, to be read within bounds through what `observed` makes of each.
+fn open_each<R: AllocGlobal + Files, F: Read + Drop, O: Fn(R::File) -> F>(
+    rt: &R,
+    paths: &[String],
+    bounds: Bounds,
+    observed: &O,
+) -> Result<Vec<Bounded<F>>, Unready>
+    requires { O.IsAlwaysCallable observed.now }
+    ensures one_for_each { IfOk result (λ files. length files.items ≡ length paths.now) }
+    ensures no_failure { IfOk result (λ files.
+        All (λ file. file.reader.failures + file.refused < u64.MAX) files.items) }
+{
     let mut files = Vec::with_capacity(rt.alloc(), paths.len())?;
     for path in paths {
-        let file = match open_bounded(rt, path, bounds, &observed) {
+        let file = match open_bounded(rt, path, bounds, observed) {
             Ok(file) => file,
             Err(fault) => return Err(Unready::by_file(rt.alloc(), fault, path)),
         };

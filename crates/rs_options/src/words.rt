@@ -1,11 +1,11 @@
 //! Reads the words of the command line, with `clap`.
 
 ghost use Rattle.std.specs.Prelude.{◌≡◌, [], IfErr, IfOk, IfSome, OnOk, false, map, string_bytes};
-ghost use Rattle.clap.specs.Words.{app_of, found_of, kind_of, rows_of, rule_of};
+ghost use Rattle.clap.specs.Words.{app_of, found_of, kind_of, rows_of, rule_of, with_rule};
 ghost use Rattle.rs_options.specs.CommandLine.{AreOptionsOf, HoldBounds, HoldOptions, IsTime, IsToldAs, SaysWhy};
-ghost use Rattle.rs_options.specs.CommandLine.{config_rule, errors_rule, faults_in, out_rule, program, ring_rule};
-ghost use Rattle.rs_options.specs.CommandLine.{shards_rule, strict_rule, tail_name, tail_rule, time_rule, until_rule};
-ghost use Rattle.rs_options.specs.CommandLine.{with_bounds, with_manner};
+ghost use Rattle.rs_options.specs.CommandLine.{config_rule, errors_rule, faults_in, free_option, out_rule, program};
+ghost use Rattle.rs_options.specs.CommandLine.{ring_rule, shards_rule, strict_rule, tail_name, tail_rule, time_rule};
+ghost use Rattle.rs_options.specs.CommandLine.{until_rule, with_bounds, with_manner, with_places};
 
 use crate::options::{Options, WordsFault};
 use crate::standard::standard_of;
@@ -42,9 +42,25 @@ Status:
   4  not all changes of a peer are known to have been applied: the fault is the program's own
   5  with --strict: a session closed before the end of its file, or there is a note";
 
+// What `--config` does, in its help.
+const CONFIG_HELP: &str =
+    "Configuration of the exchange: a TOML file of the server, its peers and their recorded files";
+
+// What `--out` does, in its help.
+const OUT_HELP: &str =
+    "Folder that takes the dumps, one NAME.mrt for each client; it has to be there";
+
 // What `--time` does, in its help.
 const TIME_HELP: &str =
     "Timestamp of every record of the dumps, in seconds since 1970, from 0 to 4294967295 [default: 0]";
+
+// What `--ring` does, in its help.
+const RING_HELP: &str =
+    "How many changes of routes wait at most between two threads, from 1 to 65536";
+
+// What `--shards` does, in its help.
+const SHARDS_HELP: &str =
+    "How many threads keep the tables, each of them some of the prefixes, from 1 to 16";
 
 // What `--errors` does, in its help.
 const ERRORS_HELP: &str =
@@ -129,15 +145,18 @@ fn options_of(alloc: Global, matches: &ArgMatches<'_>) -> Result<Options, WordsF
     };
     let bounds = bounds_of(alloc, matches)?;
     let time = time_of(alloc, matches, bounds.until.unwrap_or(0))?;
+    let strict = matches.get_flag("strict");
+    let config = String::from_str(alloc, config)?;
+    let out = String::from_str(alloc, out)?;
     Ok(Options {
-        config: String::from_str(alloc, config)?,
-        out: String::from_str(alloc, out)?,
+        config,
+        out,
         time,
         ring,
         shards,
         errors,
         bounds,
-        strict: matches.get_flag("strict"),
+        strict,
     })
 }
 
@@ -212,38 +231,57 @@ fn program<'a>(alloc: Global) -> Result<Command<'a>, AllocError>
         .version(VERSION)
         .about(ABOUT)
         .after_help(AFTER_HELP);
-    let command = command
-        .arg(config_argument(alloc))?
-        .arg(out_argument(alloc))?
-        .arg(time_argument(alloc))?;
-    with_more(alloc, command)
+    let command = with_places(alloc, command)?;
+    let command = with_manner(alloc, command)?;
+    with_bounds(alloc, command)
 }
 
-// The command with the options that say how a run goes, and how much of the files is read.
-fn with_more<'a>(alloc: Global, command: Command<'a>) -> Result<Command<'a>, AllocError>
-    ensures { IfOk result (λ made. app_of made ≡ with_bounds (with_manner (app_of command.entry))) }
+// The command with the three options that every run has.
+fn with_places<'a>(alloc: Global, command: Command<'a>) -> Result<Command<'a>, AllocError>
+    ensures { IfOk result (λ made. app_of made ≡ with_places (app_of command.entry)) }
 {
-    with_bounds(alloc, with_manner(alloc, command)?)
+    let command = with_option(command, config_argument(alloc))?;
+    let command = with_option(command, out_argument(alloc))?;
+    with_option(command, time_argument(alloc))
 }
 
 // The command with the three options that say how a run goes.
 fn with_manner<'a>(alloc: Global, command: Command<'a>) -> Result<Command<'a>, AllocError>
     ensures { IfOk result (λ made. app_of made ≡ with_manner (app_of command.entry)) }
 {
-    command
-        .arg(ring_argument(alloc))?
-        .arg(shards_argument(alloc))?
-        .arg(errors_argument(alloc))
+    let command = with_option(command, ring_argument(alloc))?;
+    let command = with_option(command, shards_argument(alloc))?;
+    with_option(command, errors_argument(alloc))
 }
 
 // The command with the three options that say how much of the files is read, and whether that is enough.
 fn with_bounds<'a>(alloc: Global, command: Command<'a>) -> Result<Command<'a>, AllocError>
     ensures { IfOk result (λ made. app_of made ≡ with_bounds (app_of command.entry)) }
 {
-    command
-        .arg(until_argument(alloc))?
-        .arg(tail_argument(alloc))?
-        .arg(strict_argument(alloc))
+    let command = with_option(command, until_argument(alloc))?;
+    let command = with_option(command, tail_argument(alloc))?;
+    with_option(command, strict_argument(alloc))
+}
+
+// The command with one option more. One equation is all that it says, so that the functions that add several are
+// proved without a search in all that `clap` says of a command.
+fn with_option<'a>(command: Command<'a>, option: Arg<'a>) -> Result<Command<'a>, AllocError>
+    requires { option.global ≡ false }
+    ensures { IfOk result (λ made. app_of made ≡ with_rule (app_of command.entry) (rule_of option.entry)) }
+{
+    command.arg(option)
+}
+
+// An option of one value, without one where the words don't give it.
+fn free_option<'a>(alloc: Global, name: &'a str, value: &'a str, help: &'a str) -> Arg<'a>
+    ensures rule { rule_of result ≡ free_option name.now }
+    ensures local { result.global ≡ false }
+{
+    Arg::new(alloc, name)
+        .long(name)
+        .value_name(value)
+        .action(ArgAction::Set)
+        .help(help)
 }
 
 // `--config FILE`
@@ -251,14 +289,7 @@ fn config_argument<'a>(alloc: Global) -> Arg<'a>
     ensures rule { rule_of result ≡ config_rule }
     ensures local { result.global ≡ false }
 {
-    Arg::new(alloc, "config")
-        .long("config")
-        .value_name("FILE")
-        .action(ArgAction::Set)
-        .required(true)
-        .help(
-            "Configuration of the exchange: a TOML file of the server, its peers and their recorded files",
-        )
+    free_option(alloc, "config", "FILE", CONFIG_HELP).required(true)
 }
 
 // `--out DIR`
@@ -266,13 +297,9 @@ fn out_argument<'a>(alloc: Global) -> Arg<'a>
     ensures rule { rule_of result ≡ out_rule }
     ensures local { result.global ≡ false }
 {
-    Arg::new(alloc, "out")
-        .long("out")
-        .value_name("DIR")
-        .action(ArgAction::Set)
+    free_option(alloc, "out", "DIR", OUT_HELP)
         .value_parser(ValueParser::NonEmptyString)
         .required(true)
-        .help("Folder that takes the dumps, one NAME.mrt for each client; it has to be there")
 }
 
 // `--time N`
@@ -280,12 +307,7 @@ fn time_argument<'a>(alloc: Global) -> Arg<'a>
     ensures rule { rule_of result ≡ time_rule }
     ensures local { result.global ≡ false }
 {
-    Arg::new(alloc, "time")
-        .long("time")
-        .value_name("N")
-        .action(ArgAction::Set)
-        .value_parser(value_parser!(u32))
-        .help(TIME_HELP)
+    free_option(alloc, "time", "N", TIME_HELP).value_parser(value_parser!(u32))
 }
 
 // `--ring N`
@@ -293,13 +315,9 @@ fn ring_argument<'a>(alloc: Global) -> Arg<'a>
     ensures rule { rule_of result ≡ ring_rule }
     ensures local { result.global ≡ false }
 {
-    Arg::new(alloc, "ring")
-        .long("ring")
-        .value_name("N")
-        .action(ArgAction::Set)
+    free_option(alloc, "ring", "N", RING_HELP)
         .value_parser(ValueParser::Unsigned(1, 65_536))
         .default_value("1024")
-        .help("How many changes of routes wait at most between two threads, from 1 to 65536")
 }
 
 // `--shards N`
@@ -307,13 +325,9 @@ fn shards_argument<'a>(alloc: Global) -> Arg<'a>
     ensures rule { rule_of result ≡ shards_rule }
     ensures local { result.global ≡ false }
 {
-    Arg::new(alloc, "shards")
-        .long("shards")
-        .value_name("N")
-        .action(ArgAction::Set)
+    free_option(alloc, "shards", "N", SHARDS_HELP)
         .value_parser(ValueParser::Unsigned(1, 16))
         .default_value("1")
-        .help("How many threads keep the tables, each of them some of the prefixes, from 1 to 16")
 }
 
 // `--errors STANDARD`
@@ -321,12 +335,7 @@ fn errors_argument<'a>(alloc: Global) -> Arg<'a>
     ensures rule { rule_of result ≡ errors_rule }
     ensures local { result.global ≡ false }
 {
-    Arg::new(alloc, "errors")
-        .long("errors")
-        .value_name("STANDARD")
-        .action(ArgAction::Set)
-        .default_value("rfc4271")
-        .help(ERRORS_HELP)
+    free_option(alloc, "errors", "STANDARD", ERRORS_HELP).default_value("rfc4271")
 }
 
 // `--until TIME`
@@ -334,11 +343,7 @@ fn until_argument<'a>(alloc: Global) -> Arg<'a>
     ensures rule { rule_of result ≡ until_rule }
     ensures local { result.global ≡ false }
 {
-    Arg::new(alloc, "until")
-        .long("until")
-        .value_name("TIME")
-        .action(ArgAction::Set)
-        .help(UNTIL_HELP)
+    free_option(alloc, "until", "TIME", UNTIL_HELP)
 }
 
 // `--tail TAIL`
@@ -346,12 +351,7 @@ fn tail_argument<'a>(alloc: Global) -> Arg<'a>
     ensures rule { rule_of result ≡ tail_rule }
     ensures local { result.global ≡ false }
 {
-    Arg::new(alloc, "tail")
-        .long("tail")
-        .value_name("TAIL")
-        .action(ArgAction::Set)
-        .default_value("strict")
-        .help(TAIL_HELP)
+    free_option(alloc, "tail", "TAIL", TAIL_HELP).default_value("strict")
 }
 
 // `--strict`

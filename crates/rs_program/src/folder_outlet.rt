@@ -95,12 +95,10 @@ where
     }
 
     fn start_ahead(&mut self, name: &str) -> Option<IoWriter<FileAt<R::File>>> {
-        let place = path_in(self.alloc, self.folder, name).ok()?;
-        if !takes_part_file(self.rt, place.as_str()).ok()? {
-            return None;
+        match create_ahead(self.rt, self.alloc, self.folder, name) {
+            Some(file) => Some(IoWriter::new(file)),
+            None => None,
         }
-        let file = create_part(self.rt, self.alloc, place).ok()?;
-        Some(IoWriter::new(file))
     }
 
     fn keep(&mut self, _name: &str, out: IoWriter<FileAt<R::File>>) -> Result<(), Unopened> {
@@ -133,6 +131,21 @@ fn create<R: Files>(
         Ok(true) => create_part(rt, alloc, place),
         Ok(false) => create_in_place(rt, place.as_str()),
         Err(_) => Err(Unopened),
+    }
+}
+
+// Makes the part file of a dump, where a part file takes its place.
+fn create_ahead<R: Files>(
+    rt: &R,
+    alloc: Global,
+    folder: &str,
+    name: &str,
+) -> Option<FileAt<R::File>> {
+    let place = path_in(alloc, folder, name).ok()?;
+    if takes_part_file(rt, place.as_str()).ok()? {
+        create_part(rt, alloc, place).ok()
+    } else {
+        None
     }
 }
 

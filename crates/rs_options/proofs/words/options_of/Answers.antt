@@ -26,7 +26,7 @@ returns-clause-options c =
       errors = sym (first_value-rows found (codes "errors")) ∙ (sym c.get_str-3.ensures ∙ search rules);
       bounds = search rules;
       strict = record {
-        given = λ is. c.get_flag.ensures.value (one_text-rows found (codes "strict") ∙ is);
-        absent = λ is. c.get_flag.ensures.other (one_text-rows found (codes "strict") ∙ is);
+        given = λ is. c.get_flag-strict.ensures.value (one_text-rows found (codes "strict") ∙ is);
+        absent = λ is. c.get_flag-strict.ensures.other (one_text-rows found (codes "strict") ∙ is);
       };
     }

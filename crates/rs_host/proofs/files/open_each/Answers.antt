@@ -1,7 +1,7 @@
 -- One file more, which hasn't failed either.
 use Rattle.std.proofs.Common.{◌≡◌, ◌+◌, ◌<◌, ◌^◌, ◌-◌, All, List, [], ◌∷◌, ◌++◌, length, length-append, ap, arith, rules}
 use Rattle.std.proofs.lemmas.List.Elements.{All-push}
-use Rattle.rs_host.proofs.files.open_files.Goals as goal
+use Rattle.rs_host.proofs.files.open_each.Goals as goal
 
 all-one_more : {X : Type 0} (xs : List X) (x : X) (P : X → Type 0) → All P xs → P x → All P (xs ++ x ∷ [])
 all-one_more xs x P = All-push P xs x
