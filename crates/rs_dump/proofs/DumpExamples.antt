@@ -11,7 +11,7 @@ use Rattle.rs_choice.specs.Plan.{Plan, Peer}
 use Rattle.rs_mrt.specs.Record.{record_spelling}
 use Rattle.rs_table.specs.Table.{TableRow}
 use Rattle.rs_dump.specs.Dump.{dumped, row_record}
-use Rattle.rs_dump.specs.PeerIndex.{peer_index}
+use Rattle.rs_records.specs.PeerIndex.{peer_index}
 
 -- ---- the exchange
 

@@ -3,14 +3,15 @@ use Rattle.std.proofs.Common.{◌≡◌, ℕ, suc, ◌+◌, ◌∙◌, List, [],
 use Rattle.std.proofs.Common.{refl, ap, sym, subst, arith}
 use Rattle.std.specs.List.{flat_map, enumerate_from}
 use Rattle.std.proofs.lemmas.Grind.{flat_map-append}
-use Rattle.std.proofs.lemmas.List.{append-nil, length-map, map-append, take_more, take-append-drop, drop_at}
-use Rattle.std.proofs.lemmas.List.Elements.{All-drop}
+use Rattle.std.proofs.lemmas.List.{append-nil, length-map, map-append, take_more, take-append-drop, take_at, drop_at}
+use Rattle.std.proofs.lemmas.List.Elements.{All-drop, All-take}
 use Rattle.rs_mrt.specs.Record.{record_spelling}
 use Rattle.rs_choice.specs.Plan.{Plan}
 use Rattle.rs_table.specs.declared.route.Row.{Row}
 use Rattle.rs_table.specs.RouteView.{row_of}
 use Rattle.rs_table.specs.Table.{TableRow}
-use Rattle.rs_dump.specs.Dump.{index_record, row_record, dumped, spelled_rows}
+use Rattle.rs_records.specs.PeerIndex.{index_record}
+use Rattle.rs_dump.specs.Dump.{row_record, dumped, spelled_rows}
 
 enumerate_from-append : {X : Type 0} (from : ℕ) (xs ys : List X)
     → enumerate_from from (xs ++ ys) ≡ enumerate_from from xs ++ enumerate_from (from + length xs) ys
@@ -77,7 +78,12 @@ unfolding dumped
 dumped-rows plan client rows time =
     ap (λ octets. octets ++ spelled_rows time 0 rows) (sym (append-nil (record_spelling (index_record plan client time))))
 
--- what holds of all rows holds of the later ones
+-- what holds of all rows holds of those before, and of the later ones
+pub All-before : (P : TableRow → Type 0) (rows later : List TableRow) → All P (rows ++ later) → All P rows
+All-before P rows later all =
+    let Q : List TableRow → Type 0 = λ part. All P part in
+    subst Q (take_at rows later (length rows) refl) (All-take P (length rows) (rows ++ later) all)
+
 pub All-behind : (P : TableRow → Type 0) (rows later : List TableRow) → All P (rows ++ later) → All P later
 All-behind P rows later all =
     let Q : List TableRow → Type 0 = λ part. All P part in

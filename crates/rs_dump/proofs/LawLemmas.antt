@@ -8,10 +8,11 @@ use Rattle.rs_mrt.specs.Record.{IsRecord, record_spelling}
 use Rattle.rs_update.specs.Prefix.{octets_for}
 use Rattle.rs_update.proofs.fields.WrittenPrefix.{spelled_prefix-spells}
 use Rattle.rs_table.specs.Table.{TableRow}
-use Rattle.rs_dump.specs.Dump.{index_record, row_record, dump_records, dumped}
+use Rattle.rs_records.specs.PeerIndex.{index_record}
+use Rattle.rs_dump.specs.Dump.{row_record, dump_records, dumped}
 use Rattle.rs_dump.specs.Laws.{PrefixIsSpelled, DumpIsItsRecords, Fits}
-use Rattle.rs_dump.specs.Rib.{rib_entry}
-use Rattle.rs_dump.proofs.PeerLemmas.{length_peer_index}
+use Rattle.rs_records.specs.Rib.{rib_entry}
+use Rattle.rs_records.proofs.PeerLemmas.{length_peer_index}
 
 -- ---- prefixes
 
@@ -34,7 +35,7 @@ row_fits time place row fits fit =
         arith,
         length-take-le count (big_bytes 4 row.prefix.address) few,
         length-append address (big_bytes 2 1),
-        length-append (address ++ big_bytes 2 1) (rib_entry row),
+        length-append (address ++ big_bytes 2 1) (rib_entry row.route),
         fit.attributes,
       );
     }

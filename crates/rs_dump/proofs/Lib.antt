@@ -1,9 +1,6 @@
-pub mod BufferLemmas
 pub mod DumpExamples
 pub mod DumpLemmas
 pub mod LawLemmas
-pub mod PeerLemmas
-pub mod PlanLemmas
 pub mod SideLemmas
 pub mod TurnLemmas
 pub mod UnderWayLemmas

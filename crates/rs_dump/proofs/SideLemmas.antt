@@ -1,9 +1,11 @@
 -- Dumps that are written beside each other, turn by turn.
-use Rattle.std.proofs.Common.{◌≡◌, ℕ, ◌+◌, ◌<◌, ◌≤◌, ◌∙◌, List, [], get_or, set, length, Option, IsFalse, inl, inr, ap, sym, subst, arith}
+use Rattle.std.proofs.Common.{◌≡◌, ℕ, ◌+◌, ◌<◌, ◌≤◌, ◌∙◌, List, [], get_or, set, length, Option, IsFalse, inl, inr, refl, ap, sym}
+use Rattle.std.proofs.Common.{subst, arith}
 use Rattle.std.proofs.lemmas.Bool.{both_ways, cases_Bool, cases_eq}
 use Rattle.std.proofs.lemmas.List.{append-nil, get_or_default, get_or-set_other, get_or-set_same}
-use Rattle.rs_dump.specs.SideBySide.{GoesOn, Goes, IsLost, IsWritten, IsWrittenFrom}
+use Rattle.rs_dump.specs.SideBySide.{CanBegin, CanGo, GoesOn, Goes, IsLost, IsWritten, IsWrittenFrom}
 use Rattle.rs_dump.specs.declared.side_by_side.Writing.{Writing}
+use Rattle.rs_dump.proofs.TurnLemmas.{IsUnderWay-none}
 use Rattle.rs_dump.proofs.UnderWayLemmas.{Appends-whole, AppendsBeginning-part, IsUnderWay-then}
 
 -- one element more of a list is replaced by one that stands to it as it should
@@ -31,6 +33,21 @@ module _ {X : Type 0} (R : X → X → Type 0) (old now : List X) (n : ℕ) (nex
   to_do-also to_do k d later = get_or-set_other now n k new d (λ same. omega (arith, same, later)) ∙ to_do k d (omega (arith, later))
 
 module _ {W : Type 0} (taken : W → Option (List ℕ)) (failures : W → ℕ) (label : W → Option (List ℕ)) where
+  -- no rows were written yet
+  pub on-none : (a : Writing W) → IsFalse a.failed → GoesOn taken failures label a a
+  on-none a ok =
+      record {
+        sent = λ _. IsUnderWay-none (taken a.out) a.dump.octets a.dump.octets refl;
+        no_failure = λ _. refl;
+        rows = λ _. refl;
+        lost = λ failed. absurd (both_ways a.failed ok failed);
+        label_stays = refl;
+      }
+
+  -- it can be written on
+  pub can-go : (a b : Writing W) → CanBegin failures a → GoesOn taken failures label a b → CanGo failures b
+  can-go a b can before = λ ok. omega (arith, can.1, before.no_failure ok)
+
   -- a write of a dump fails of which some rows were written
   lost-then : (a b c : Writing W) → GoesOn taken failures label a b → IsFalse b.failed → IsLost taken failures label b c
       → IsLost taken failures label a c

@@ -3,23 +3,13 @@ use Rattle.std.specs.Prelude.{ℕ, List, ◌∷◌, map}
 use Rattle.std.specs.List.{flat_map, enumerate_from}
 use Rattle.rs_mrt.specs.Record.{MrtRecord, record_spelling}
 use Rattle.rs_choice.specs.Plan.{Plan}
+use Rattle.rs_records.specs.PeerIndex.{index_record}
+use Rattle.rs_records.specs.Rib.{rib_record}
 use Rattle.rs_table.specs.Table.{TableRow}
-use Rattle.rs_dump.specs.PeerIndex.{PEER_INDEX_TABLE, peer_index}
-use Rattle.rs_dump.specs.Rib.{RIB_IPV4_UNICAST, rib_ipv4_unicast}
-
--- the Type (section 4)
-abbrev pub TABLE_DUMP_V2 : ℕ
-TABLE_DUMP_V2 = 13
-
--- the record of the client's peers
-abbrev pub index_record : Plan → ℕ → ℕ → MrtRecord
-index_record plan client time =
-    record { time = time; kind = TABLE_DUMP_V2; subtype = PEER_INDEX_TABLE; body = peer_index plan client }
 
 -- the record of a row, by its place among the rows: that is its Sequence Number
 abbrev pub row_record : ℕ → ℕ × TableRow → MrtRecord
-row_record time (place, row) =
-    record { time = time; kind = TABLE_DUMP_V2; subtype = RIB_IPV4_UNICAST; body = rib_ipv4_unicast place row }
+row_record time (place, row) = rib_record time place row.prefix row.route
 
 -- the records of a dump: that of the peers, and one for each row in the order given; all have one Timestamp, our choice
 abbrev pub dump_records : Plan → ℕ → List TableRow → ℕ → List MrtRecord

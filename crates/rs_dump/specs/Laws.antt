@@ -9,7 +9,7 @@ use Rattle.rs_choice.specs.Plan.{Plan}
 use Rattle.rs_mrt.specs.Record.{Splits}
 use Rattle.rs_table.specs.Table.{TableRow}
 use Rattle.rs_dump.specs.Dump.{dump_records, dumped}
-use Rattle.rs_dump.specs.PeerIndex.{view_name}
+use Rattle.rs_records.specs.PeerIndex.{view_name}
 
 -- a prefix stands in a dump as it would in an UPDATE (RFC 6396, section 4.3.2; RFC 4271, section 4.3)
 abbrev pub PrefixIsSpelled : Type 0

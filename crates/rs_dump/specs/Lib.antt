@@ -1,10 +1,7 @@
 -- What the standard says of a dump:
-pub mod PeerIndex  -- the PEER_INDEX_TABLE record
-pub mod Rib  -- a record of one prefix
 pub mod Dump  -- all records of a table
 pub mod Laws  -- a dump in the words of the file that it is
 -- How it is written:
-pub mod Buffer  -- records that wait
 pub mod UnderWay  -- a dump that is being written
 pub mod TableDump  -- one of a table
 pub mod TableDumpView  -- the same by its fields
@@ -14,6 +11,8 @@ pub use Rattle.rs_choice.specs.Plan
 pub use Rattle.rs_mrt.specs.Endian
 pub use Rattle.rs_mrt.specs.Record
 pub use Rattle.rs_mrt.specs.Stream
+pub use Rattle.rs_records.specs.PeerIndex
+pub use Rattle.rs_records.specs.Rib
 pub use Rattle.rs_table.specs.RouteView
 pub use Rattle.rs_table.specs.Table
 pub use Rattle.rs_update.specs.Spelling

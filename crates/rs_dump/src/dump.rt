@@ -6,10 +6,10 @@ ghost use Rattle.rs_mrt.specs.Stream.{AppendsBeginning};
 ghost use Rattle.rs_table.specs.RouteView.{row_of};
 ghost use Rattle.rs_dump.specs.Dump.{dumped};
 
-use crate::fault::DumpFault;
 use crate::under_way::{add_rows, begin_dump};
 use rs_choice::Exchange;
 use rs_mrt::{Write, write_all};
+use rs_records::DumpFault;
 use rs_table::Row;
 use std::alloc::Global;
 

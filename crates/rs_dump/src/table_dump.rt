@@ -9,9 +9,9 @@ ghost use Rattle.rs_table.specs.Table.{table_of};
 ghost use Rattle.rs_dump.specs.Dump.{dumped};
 ghost use Rattle.rs_dump.specs.UnderWay.{IsUnderWay};
 
-use crate::fault::DumpFault;
 use crate::under_way::{add_rows, begin_dump};
 use rs_mrt::{Failed, Write, write_all};
+use rs_records::DumpFault;
 use rs_table::{ClientRows, Row, Tables, table_is_computed};
 use std::alloc::Global;
 use std::marker::Model;

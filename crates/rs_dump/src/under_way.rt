@@ -8,14 +8,13 @@ ghost use Rattle.std.specs.Prelude.{vec_capacity};
 ghost use Rattle.rs_mrt.specs.Record.{record_spelling};
 ghost use Rattle.rs_mrt.specs.Stream.{AppendsBeginning};
 ghost use Rattle.rs_table.specs.RouteView.{row_of};
-ghost use Rattle.rs_dump.specs.Buffer.{HasRoom};
+ghost use Rattle.rs_records.specs.Buffer.{HasRoom};
 ghost use Rattle.rs_dump.specs.Dump.{dumped, row_record, spelled_rows};
 ghost use Rattle.rs_dump.specs.UnderWay.{IsUnderWay};
 
-use crate::peer_index::spell_peer_index;
-use crate::rib::{MAX_ROW_LEN, spell_row};
 use rs_choice::{Exchange, MAX_PEERS};
 use rs_mrt::{Failed, Write, write_all};
+use rs_records::{MAX_ROW_LEN, RibEntry, spell_peer_index, spell_row};
 use rs_table::Row;
 use std::alloc::{AllocError, Global};
 
@@ -63,7 +62,12 @@ fn add_row<W: Write>(
     ensures capacity { BUFFER_LEN ≤ vec_capacity buffer.new }
 {
     make_room(out, buffer)?;
-    spell_row(buffer, time, sequence, row);
+    let entry = RibEntry {
+        peer: row.route.peer,
+        time: row.route.time,
+        attributes: row.route.attributes,
+    };
+    spell_row(buffer, time, sequence, row.prefix, &entry);
     Ok(())
 }
 

@@ -3,6 +3,7 @@ pub mod Recorded  -- what recorded files make of an exchange
 pub mod SessionEnd  -- how a session ended
 pub mod Report  -- the lines of the report
 pub mod Run  -- what a run keeps and reports
+pub mod Refusal  -- why sessions can't be read
 pub mod RunAnswer  -- what a run answers, by its result
 -- What the contracts name of the crates below:
 pub use Rattle.rs_keep.specs.Kept

@@ -9,6 +9,7 @@ ghost use Rattle.rs_keep.specs.Kept.{dumps_of, IsStop};
 ghost use Rattle.rs_outlet.specs.Outlet.{Grows};
 ghost use Rattle.rs_outlet.specs.Started.{AreSameNames};
 ghost use Rattle.rs_run.specs.Recorded.{OverFiles, tables_of_files};
+ghost use Rattle.rs_run.specs.Refusal.{IsFaultOf, IsReadRefusal};
 ghost use Rattle.rs_run.specs.Report.{report_of};
 ghost use Rattle.rs_run.specs.Run.{IsReadStop};
 ghost use Rattle.rs_run.specs.RunAnswer.{RunAnswer};
@@ -163,11 +164,22 @@ fn serve_files<T: Threads + Wait + Sync, R: Read + Send + Drop>(
         &Open,
     ) {
         Ok(served) => Ok(served),
-        Err(FloorRefused::Memory) => Err(RunFault::Memory),
-        Err(FloorRefused::Read(peer)) => Err(RunFault::Read(peer)),
-        Err(FloorRefused::Unsettled(peer)) => Err(RunFault::Unsettled(peer)),
-        Err(FloorRefused::Capacity) => unreachable!(),
-        Err(FloorRefused::Shards) => unreachable!(),
+        Err(refused) => Err(read_fault(refused)),
+    }
+}
+
+// Why a run fails whose sessions can't be read, by what is refused: the capacity of the rings and the number of shards
+// are not.
+fn read_fault(refused: FloorRefused) -> RunFault
+    requires { IsReadRefusal refused }
+    ensures { IsFaultOf refused result }
+{
+    match refused {
+        FloorRefused::Memory => RunFault::Memory,
+        FloorRefused::Read(peer) => RunFault::Read(peer),
+        FloorRefused::Unsettled(peer) => RunFault::Unsettled(peer),
+        FloorRefused::Capacity => unreachable!(),
+        FloorRefused::Shards => unreachable!(),
     }
 }
 

@@ -1,6 +1,6 @@
 use Rattle.std.proofs.Common.{◌++◌, ◌∙◌, ap, sym}
 use Rattle.rs_mrt.specs.Record.{record_spelling}
-use Rattle.rs_dump.specs.Dump.{index_record}
+use Rattle.rs_records.specs.PeerIndex.{index_record}
 use Rattle.rs_dump.proofs.DumpLemmas.{dumped-nil}
 use Rattle.rs_dump.proofs.under_way.begin_dump.Goals as goal
 

@@ -1,8 +1,22 @@
 -- What is served is of files that the readers may give.
 use Rattle.rs_run.proofs.EndLemmas.{served-files}
+use Rattle.rs_run.proofs.RefusalLemmas.{is-read-refusal, is-read-stop, limits-within}
 use Rattle.rs_run.proofs.runner.serve_files.Goals as goal
 
 pub returns-in-Ok-clause-served : goal.returns-in-Ok-clause-served
 returns-in-Ok-clause-served g c =
     served-files g.R.Read.gives c.args.options.now.errors c.args.plan.now.value c.args.readers.items c.in-Ok.served
     c.a_session_closes_once.ensures c.requires.one_for_each c.in-Ok.ensures.answer.1
+
+pub read_fault-requires : goal.read_fault-requires
+read_fault-requires g c =
+    let options = c.args.options.now in
+    is-read-refusal g.R.Read.gives options.errors c.args.plan.now.value c.args.readers.items options.ring options.shards c.in-Err.refused
+    (limits-within options.ring options.shards c.requires.ring.0 c.requires.ring.1 c.requires.shards.0 c.requires.shards.1)
+    c.in-Err.ensures.answer
+
+pub returns-in-Err-clause-fault : goal.returns-in-Err-clause-fault
+returns-in-Err-clause-fault g c =
+    let options = c.args.options.now in
+    is-read-stop g.R.Read.gives options.errors c.args.plan.now.value c.args.readers.items options.ring options.shards c.in-Err.refused
+    c.read_fault.result c.read_fault.ensures c.in-Err.ensures.answer

@@ -3,7 +3,9 @@ use Rattle.std.specs.Prelude.{ℕ, List, [], ◌∷◌, ◌++◌, length, slice_
 use Rattle.std.specs.Option.{option_map_or}
 use Rattle.std.specs.List.{flat_map}
 use Rattle.rs_mrt.specs.Endian.{big_bytes}
+use Rattle.rs_mrt.specs.Record.{MrtRecord}
 use Rattle.rs_choice.specs.Plan.{Plan, Peer}
+use Rattle.rs_records.specs.DumpType.{TABLE_DUMP_V2}
 
 -- the Subtype
 abbrev pub PEER_INDEX_TABLE : ℕ
@@ -29,3 +31,8 @@ peer_index plan client =
     ++ view_name plan client
     ++ big_bytes 2 (length plan.peers)
     ++ flat_map peer_entry plan.peers
+
+-- the record of the client's peers
+abbrev pub index_record : Plan → ℕ → ℕ → MrtRecord
+index_record plan client time =
+    record { time = time; kind = TABLE_DUMP_V2; subtype = PEER_INDEX_TABLE; body = peer_index plan client }

@@ -7,9 +7,9 @@ use Rattle.std.proofs.lemmas.List.{flat_map_more}
 use Rattle.rs_mrt.specs.Endian.{big_bytes}
 use Rattle.rs_choice.specs.declared.plan.TheConstants.{MAX_NAME_LEN}
 use Rattle.rs_choice.specs.Plan.{Plan, Peer, plan_fault}
-use Rattle.rs_dump.specs.declared.peer_index.TheConstants.{PEER_ENTRY_LEN}
-use Rattle.rs_dump.specs.PeerIndex.{peer_entry, view_name, peer_index}
-use Rattle.rs_dump.proofs.PlanLemmas.{name_fits}
+use Rattle.rs_records.specs.declared.peer_index.TheConstants.{PEER_ENTRY_LEN}
+use Rattle.rs_records.specs.PeerIndex.{peer_entry, view_name, peer_index}
+use Rattle.rs_records.proofs.PlanLemmas.{name_fits}
 
 -- the members before a place, and the one there
 pub take-get : {X : Type 0} (xs : List X) (place : ℕ) (x : X) → slice_get xs place ≡ Some x → take (place + 1) xs ≡ take place xs ++ x ∷ []

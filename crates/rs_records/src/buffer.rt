@@ -5,8 +5,8 @@
 ghost use Rattle.std.specs.Prelude.{length};
 ghost use Rattle.rs_mrt.specs.Endian.{big_bytes};
 ghost use Rattle.rs_mrt.specs.Record.{header_spelling};
-ghost use Rattle.rs_dump.specs.Buffer.{HasRoom, Gains};
-ghost use Rattle.rs_dump.specs.Dump.{TABLE_DUMP_V2 as the_type};
+ghost use Rattle.rs_records.specs.Buffer.{HasRoom, Gains};
+ghost use Rattle.rs_records.specs.DumpType.{TABLE_DUMP_V2 as the_type};
 
 use rs_mrt::{HEADER_LEN, write_header};
 

@@ -2,11 +2,11 @@ use Rattle.std.proofs.Common.{◌≤◌, List, ℕ, length, take, subst, arith, 
 use Rattle.std.proofs.lemmas.Grind.{common_steps}
 use Rattle.std.specs.List.{flat_map}
 use Rattle.rs_choice.specs.Plan.{peer_of}
-use Rattle.rs_dump.specs.Buffer.{Gains}
-use Rattle.rs_dump.specs.PeerIndex.{peer_entry}
-use Rattle.rs_dump.proofs.BufferLemmas.{Gains-append}
-use Rattle.rs_dump.proofs.PeerLemmas.{peer_entries-more, length-peer_entries}
-use Rattle.rs_dump.proofs.peer_index.spell_peers.Goals as goal
+use Rattle.rs_records.specs.Buffer.{Gains}
+use Rattle.rs_records.specs.PeerIndex.{peer_entry}
+use Rattle.rs_records.proofs.BufferLemmas.{Gains-append}
+use Rattle.rs_records.proofs.PeerLemmas.{peer_entries-more, length-peer_entries}
+use Rattle.rs_records.proofs.peer_index.spell_peers.Goals as goal
 
 pub spell_peer-requires : goal.spell_peer-requires
 spell_peer-requires c =

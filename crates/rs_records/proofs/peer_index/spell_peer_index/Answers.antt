@@ -1,10 +1,10 @@
 use Rattle.std.proofs.Common.{◌++◌, ℕ, subst}
 use Rattle.rs_mrt.specs.Record.{header_spelling}
-use Rattle.rs_dump.specs.Buffer.{Gains}
-use Rattle.rs_dump.specs.Dump.{TABLE_DUMP_V2}
-use Rattle.rs_dump.specs.PeerIndex.{PEER_INDEX_TABLE, peer_index}
-use Rattle.rs_dump.proofs.BufferLemmas.{Gains-append}
-use Rattle.rs_dump.proofs.peer_index.spell_peer_index.Goals as goal
+use Rattle.rs_records.specs.Buffer.{Gains}
+use Rattle.rs_records.specs.DumpType.{TABLE_DUMP_V2}
+use Rattle.rs_records.specs.PeerIndex.{PEER_INDEX_TABLE, peer_index}
+use Rattle.rs_records.proofs.BufferLemmas.{Gains-append}
+use Rattle.rs_records.proofs.peer_index.spell_peer_index.Goals as goal
 
 pub returns-clause-spelled : goal.returns-clause-spelled
 returns-clause-spelled c =

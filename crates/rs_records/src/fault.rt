@@ -1,7 +1,7 @@
 //! Why a dump wasn't written.
 
 ghost use Rattle.std.specs.Prelude.{◌≡◌};
-ghost use Rattle.rs_dump.specs.declared.fault.DumpFault.TheVariants.{Write, Memory};
+ghost use Rattle.rs_records.specs.declared.fault.DumpFault.TheVariants.{Write, Memory};
 
 use rs_mrt::Failed;
 use std::alloc::AllocError;

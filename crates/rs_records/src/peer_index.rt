@@ -7,9 +7,8 @@ ghost use Rattle.std.specs.Prelude.{◌≡◌, ◌+◌, ◌*◌, ◌<◌, ◌≤
 ghost use Rattle.std.specs.List.{flat_map};
 ghost use Rattle.rs_choice.specs.Plan.{peer_of};
 ghost use Rattle.rs_mrt.specs.Record.{record_spelling};
-ghost use Rattle.rs_dump.specs.Buffer.{HasRoom, Gains};
-ghost use Rattle.rs_dump.specs.Dump.{index_record};
-ghost use Rattle.rs_dump.specs.PeerIndex.{peer_entry, peer_index, view_name};
+ghost use Rattle.rs_records.specs.Buffer.{HasRoom, Gains};
+ghost use Rattle.rs_records.specs.PeerIndex.{index_record, peer_entry, peer_index, view_name};
 
 use crate::buffer::{put, put_header, put_u16, put_u32};
 use rs_choice::{Exchange, MAX_PEERS, PeerSpec};
@@ -28,10 +27,10 @@ const PEER_ENTRY_LEN: usize = 13;
 const FIXED_LEN: usize = 8;
 
 /// The most octets that the record can have.
-pub(crate) const MAX_PEER_INDEX_LEN: usize = 3412;
+pub const MAX_PEER_INDEX_LEN: usize = 3412;
 
-// Appends the record.
-pub(crate) fn spell_peer_index(buffer: &mut Vec<u8>, plan: &Exchange, client: usize, time: u32)
+/// Appends the record of the peers of a client's dump, for which there is room.
+pub fn spell_peer_index(buffer: &mut Vec<u8>, plan: &Exchange, client: usize, time: u32)
     requires client_known { client < length plan.now.peers }
     requires room { HasRoom buffer.old MAX_PEER_INDEX_LEN }
     ensures spelled { Gains buffer.old buffer.new (record_spelling (index_record plan.now client time)) }

@@ -1,7 +1,7 @@
 -- What is appended to the buffer, one thing after another.
 use Rattle.std.proofs.Common.{ℕ, ◌∙◌, List, ◌++◌, ap, append_assoc, arith, length-append}
 use Rattle.std.specs.Global.{Vec}
-use Rattle.rs_dump.specs.Buffer.{Gains}
+use Rattle.rs_records.specs.Buffer.{Gains}
 
 pub Gains-append : (old mid new : Vec ℕ) (first second : List ℕ) → Gains old mid first → Gains mid new second
     → Gains old new (first ++ second)

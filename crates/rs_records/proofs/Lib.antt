@@ -1,0 +1,3 @@
+pub mod BufferLemmas
+pub mod PeerLemmas
+pub mod PlanLemmas
