@@ -23,19 +23,19 @@ mod sessions;
 mod streams;
 mod told;
 
-use super::words::spelled;
+use super::said::Said;
+use super::words::Octets;
 use rs_mrt::{
     Entry, MemoryReader, MrtFault, ReadLimits, Record, RecordReader, Records, Source, SourceFault,
-    entry, write_header,
+    entry,
 };
 use rs_ring::Closing;
 use rs_session::{Body, PeerId, Reason, Session, Word};
 use rs_update::{Errors, Prefix};
 use std::alloc::{AllocError, Global};
 use std::net::Ipv4Addr;
-use std::process::Abort;
 use std::test::Fail;
-use told::told_of;
+use told::add_told;
 
 // The peer whose sessions are read: AS 64501 at 192.0.2.11.
 const PEER: PeerId = PeerId {
@@ -43,51 +43,34 @@ const PEER: PeerId = PeerId {
     asn: 64501,
 };
 
-// The time, Type and Subtype of a record, and the words of its body.
-fn heading(line: &str) -> Option<(u32, u16, u16, &str)> {
-    let (time, line) = line.trim_start().split_once(' ')?;
-    let (kind, line) = line.split_once('.')?;
-    let (subtype, words) = line.split_once(' ')?;
-    Some((
-        time.parse().ok()?,
-        kind.parse().ok()?,
-        subtype.parse().ok()?,
-        words,
-    ))
-}
-
-// Appends the record of a line, its Length counted.
-fn add_record(file: &mut Vec<u8>, alloc: Global, line: &str) -> Result<(), Fail> {
-    let (time, kind, subtype, words) = heading(line).ok_or("a record")?;
-    Ok(add_body(file, (time, kind, subtype), &spelled(alloc, words)?)?)
-}
-
-// Appends a record of a time, a Type and a Subtype with a body.
-fn add_body(
-    file: &mut Vec<u8>,
-    (time, kind, subtype): (u32, u16, u16),
-    body: &[u8],
-) -> Result<(), AllocError> {
-    let len = u32::try_from(body.len()).unwrap_or(u32::MAX);
-    write_header(file, time, kind, subtype, len)?;
-    file.extend_from_slice(body)
+// Appends the record of a line: its time, Type and Subtype, its Length counted, and the words of its body.
+fn add_record(file: &mut Octets, line: &str) {
+    let (time, line) = line.trim_start().split_once(' ').unwrap_or((line, ""));
+    let (kind, line) = line.split_once('.').unwrap_or((line, ""));
+    let (subtype, words) = line.split_once(' ').unwrap_or((line, ""));
+    let len = u32::try_from(file.len_of(words)).unwrap_or(u32::MAX);
+    match (time.parse(), kind.parse(), subtype.parse()) {
+        (Ok(time), Ok(kind), Ok(subtype)) => file.add_header(time, kind, subtype, len),
+        _ => file.spell("no record"),
+    }
+    file.spell(words);
 }
 
 // Appends the octets or the record of a line.
-fn add_line(file: &mut Vec<u8>, alloc: Global, line: &str) -> Result<(), Fail> {
+fn add_line(file: &mut Octets, line: &str) {
     match line.trim_start().strip_prefix("octets ") {
-        Some(words) => Ok(file.extend_from_slice(&spelled(alloc, words)?)?),
-        None => add_record(file, alloc, line),
+        Some(words) => file.spell(words),
+        None => add_record(file, line),
     }
 }
 
 /// The file of these lines.
-pub fn file_of(alloc: Global, lines: &str) -> Result<Vec<u8>, Fail> {
-    let mut file = Vec::new(alloc);
+pub fn file_of(alloc: Global, lines: &str) -> Octets {
+    let mut file = Octets::new(alloc);
     for line in lines.lines() {
-        add_line(&mut file, alloc, line)?;
+        add_line(&mut file, line);
     }
-    Ok(file)
+    file
 }
 
 // The number after a word of a line.
@@ -96,36 +79,36 @@ fn number_after(line: &str, word: &str) -> Option<usize> {
     behind.split_whitespace().next()?.parse().ok()
 }
 
-// Why a session closed: by a NOTIFICATION with its code and subcode (RFC 4271, section 4.5), by the number of a fault
-// of the recording, or else.
-fn add_reason(said: &mut String, reason: Reason) -> Result<(), AllocError> {
+// Appends why a session closed: by a NOTIFICATION with its code and subcode (RFC 4271, section 4.5), by the number of a
+// fault of the recording, or else.
+fn add_reason(said: &mut Said, reason: Reason) {
     match reason {
-        Reason::Bgp { code, subcode } => write!(said, " NOTIFICATION {code}/{subcode}"),
-        Reason::Mrt(number) => write!(said, " recording's fault {number}"),
-        Reason::EndOfFile => said.push_str(" end of file"),
-        Reason::Memory => said.push_str(" out of memory"),
-        Reason::Read => said.push_str(" failed read"),
+        Reason::Bgp { code, subcode } => said.add(format_args!(" NOTIFICATION {code}/{subcode}")),
+        Reason::Mrt(number) => said.add(format_args!(" recording's fault {number}")),
+        Reason::EndOfFile => said.add(" end of file"),
+        Reason::Memory => said.add(" out of memory"),
+        Reason::Read => said.add(" failed read"),
     }
 }
 
 // Appends a sign and a prefix.
-fn add_prefix(said: &mut String, sign: char, prefix: Prefix) -> Result<(), AllocError> {
+fn add_prefix(said: &mut Said, sign: char, prefix: Prefix) {
     let address = Ipv4Addr::from_bits(prefix.address());
     let len = prefix.len();
-    write!(said, " {sign}{address}/{len}")
+    said.add(format_args!(" {sign}{address}/{len}"));
 }
 
 /// Appends the line of a change without its attributes. Only the close of a session closes its ring.
-pub fn add_change(said: &mut String, word: &Word) -> Result<(), AllocError> {
+pub fn add_change(said: &mut Said, word: &Word) {
     let time = word.time;
-    write!(said, "\n    {time}")?;
+    said.add(format_args!("\n    {time}"));
     if word.is_close() {
-        said.push_str(" closed:")?;
+        said.add(" closed:");
     }
     match &word.body {
         Body::Announce(prefix, _) => add_prefix(said, '+', *prefix),
         Body::Withdraw(prefix) => add_prefix(said, '-', *prefix),
-        Body::Down => said.push_str(" down"),
+        Body::Down => said.add(" down"),
         Body::Close(reason) => add_reason(said, *reason),
     }
 }
@@ -144,58 +127,52 @@ fn next<S: Source>(
 
 /// Appends what a session says in its first thousand changes, and how many records are passed over, where there are
 /// any. After its last change there is none, also where it is asked again.
-pub fn add_session<S: Source>(
-    said: &mut String,
-    session: &mut Session<S>,
-    asked: (Option<Prefix>, Option<u32>),
-) -> Result<(), AllocError> {
+pub fn add_session<S: Source>(said: &mut Said, session: &mut Session<S>, asked: &Asked) {
     for _ in 0..1000 {
-        if !add_next(said, session, asked)? {
+        if !add_next(said, session, asked) {
             break;
         }
     }
-    add_next(said, session, asked)?;
-    match session.passed_over() {
-        0 => Ok(()),
-        passed => write!(said, "\n    passed over {passed}"),
+    add_next(said, session, asked);
+    let passed = session.passed_over();
+    if passed != 0 {
+        said.add(format_args!("\n    passed over {passed}"));
     }
 }
 
 // Appends the next change of a session, and answers whether there is one.
-fn add_next<S: Source>(
-    said: &mut String,
-    session: &mut Session<S>,
-    asked: (Option<Prefix>, Option<u32>),
-) -> Result<bool, AllocError> {
-    let (prefix, until) = asked;
-    match next(session, prefix, until)? {
-        Some(word) => {
-            add_change(said, &word)?;
-            Ok(true)
+fn add_next<S: Source>(said: &mut Said, session: &mut Session<S>, asked: &Asked) -> bool {
+    match next(session, asked.prefix, asked.until) {
+        Ok(Some(word)) => {
+            add_change(said, &word);
+            true
         }
-        None => Ok(false),
+        Ok(None) => false,
+        Err(AllocError) => {
+            said.refuse();
+            false
+        }
     }
 }
 
 // Appends octets as digits, where there are any.
-fn add_digits(said: &mut String, octets: &[u8]) -> Result<(), AllocError> {
+fn add_digits(said: &mut Said, octets: &[u8]) {
     if !octets.is_empty() {
-        said.push(' ')?;
+        said.add(" ");
     }
     for octet in octets {
-        write!(said, "{octet:02X}")?;
+        said.add(format_args!("{octet:02X}"));
     }
-    Ok(())
 }
 
-/// Appends a fault of a record: its number and its text.
-pub fn add_fault(said: &mut String, fault: MrtFault) -> Result<(), AllocError> {
+// Appends a fault of a record: its number and its text.
+fn add_fault(said: &mut Said, fault: MrtFault) {
     let number = fault.number();
-    write!(said, " fault {number}: {fault}")
+    said.add(format_args!(" fault {number}: {fault}"));
 }
 
 // Appends whose message a record has, and its octets; or whose change of state it is, and the states; or neither.
-fn add_entry(said: &mut String, record: &Record) -> Result<(), AllocError> {
+fn add_entry(said: &mut Said, record: &Record) {
     match entry(record) {
         Ok(
             Entry::Message {
@@ -205,8 +182,8 @@ fn add_entry(said: &mut String, record: &Record) -> Result<(), AllocError> {
             },
         ) => {
             let address = Ipv4Addr::from_bits(peer);
-            write!(said, " {address} AS{peer_as} message")?;
-            add_digits(said, message)
+            said.add(format_args!(" {address} AS{peer_as} message"));
+            add_digits(said, message);
         }
         Ok(
             Entry::State {
@@ -217,69 +194,67 @@ fn add_entry(said: &mut String, record: &Record) -> Result<(), AllocError> {
             },
         ) => {
             let address = Ipv4Addr::from_bits(peer);
-            write!(said, " {address} AS{peer_as} state {old} to {new}")
+            said.add(format_args!(" {address} AS{peer_as} state {old} to {new}"));
         }
-        Ok(Entry::Other) => said.push_str(" other"),
+        Ok(Entry::Other) => said.add(" other"),
         Err(fault) => add_fault(said, fault),
     }
 }
 
-/// Appends what of a record is asked for.
-pub fn add_shown(said: &mut String, record: &Record, way: &str) -> Result<(), AllocError> {
+// Appends what of a record is asked for.
+fn add_shown(said: &mut Said, record: &Record, way: &str) {
     let (time, len) = (record.time, record.body.len());
-    write!(said, "\n    {time}")?;
+    said.add(format_args!("\n    {time}"));
     if way.starts_with("entries") {
         return add_entry(said, record);
     }
     let (kind, subtype) = (record.kind, record.subtype);
-    write!(said, " {kind}.{subtype}")?;
+    said.add(format_args!(" {kind}.{subtype}"));
     if way.starts_with("bodies") {
         return add_digits(said, record.body);
     }
-    write!(said, " {len} octets")
+    said.add(format_args!(" {len} octets"));
 }
 
 // Appends how a source answers that shows no record.
-fn add_stop(said: &mut String, answer: Result<bool, SourceFault>) -> Result<(), AllocError> {
+fn add_stop(said: &mut Said, answer: Result<bool, SourceFault>) {
     match answer {
-        Ok(true) => said.push_str("\n    nothing"),
-        Ok(false) => said.push_str("\n    end"),
+        Ok(true) => said.add("\n    nothing"),
+        Ok(false) => said.add("\n    end"),
         Err(SourceFault::Mrt(fault)) => {
-            said.push_str("\n   ")?;
-            add_fault(said, fault)
+            said.add("\n   ");
+            add_fault(said, fault);
         }
-        Err(fault) => write!(said, "\n    {fault}"),
+        Err(fault) => said.add(format_args!("\n    {fault}")),
     }
 }
 
 // Goes one record on, and appends what is shown then. Answers whether it is a record.
-fn add_step<S: Source>(said: &mut String, source: &mut S, way: &str) -> Result<bool, AllocError> {
+fn add_step<S: Source>(said: &mut Said, source: &mut S, way: &str) -> bool {
     let answer = source.advance();
     match source.shown() {
         Some(record) => {
-            add_shown(said, &record, way)?;
-            Ok(true)
+            add_shown(said, &record, way);
+            true
         }
         None => {
-            add_stop(said, answer)?;
-            Ok(false)
+            add_stop(said, answer);
+            false
         }
     }
 }
 
 // Appends the records of a source, and how it answers twice after them. At first it shows nothing.
-fn add_source<S: Source + Drop>(said: &mut String, source: S, way: &str) -> Result<(), AllocError> {
-    let mut source = source;
+fn add_source<S: Source>(said: &mut Said, source: &mut S, way: &str) {
     if source.shown().is_some() {
-        said.push_str("\n    a record too soon")?;
+        said.add("\n    a record too soon");
     }
     for _ in 0..1000 {
-        if !add_step(said, &mut source, way)? {
+        if !add_step(said, source, way) {
             break;
         }
     }
-    add_step(said, &mut source, way)?;
-    Ok(())
+    add_step(said, source, way);
 }
 
 // The standard by which faults are handled.
@@ -291,13 +266,25 @@ fn standard(way: &str) -> Errors {
     }
 }
 
-// The prefix for which a session is asked, where it is, and the time up to which UPDATEs are passed over.
-fn asked(way: &str) -> (Option<Prefix>, Option<u32>) {
+/// The prefix for which a session is asked, where it is, and the time up to which UPDATEs are passed over.
+#[derive(Drop)]
+pub struct Asked {
+    pub prefix: Option<Prefix>,
+    pub until: Option<u32>,
+}
+
+// What a session is asked for.
+fn asked_by(way: &str) -> Asked {
     if !way.starts_with("prefix") {
-        return (None, None);
+        return Asked {
+            prefix: None,
+            until: None,
+        };
     }
-    let until = number_after(way, "until ").and_then(|time| u32::try_from(time).ok());
-    (Prefix::new(0xCB00_7100, 24), until)
+    Asked {
+        prefix: Prefix::new(0xCB00_7100, 24),
+        until: number_after(way, "until ").and_then(|time| u32::try_from(time).ok()),
+    }
 }
 
 // The session of a source: by RFC 4271 where no standard is named.
@@ -309,93 +296,110 @@ fn session_of<S: Source>(alloc: Global, source: S, way: &str) -> Session<S> {
     }
 }
 
-// What a source says to the one who reads it so.
-fn said_by<S: Source + Drop>(alloc: Global, source: S, way: &str) -> Result<String, Fail> {
-    let mut said = String::new(alloc);
+// Appends what a source says to the one who reads it so.
+fn add_said_by<S: Source + Drop>(said: &mut Said, alloc: Global, source: S, way: &str) {
+    let mut source = source;
     if way.starts_with("session") || way.starts_with("prefix") {
-        add_session(&mut said, &mut session_of(alloc, source, way), asked(way))?;
+        add_session(said, &mut session_of(alloc, source, way), &asked_by(way));
     } else {
-        add_source(&mut said, source, way)?;
+        add_source(said, &mut source, way);
     }
-    Ok(said)
+}
+
+// The limits of a reader that gives pieces of at most so many octets, or of none.
+fn limits_of(way: &str, piece: usize) -> ReadLimits {
+    if piece == 0 {
+        return ReadLimits::none();
+    }
+    ReadLimits {
+        octets_before_failure: number_after(way, "fails "),
+        piece,
+        ..ReadLimits::none()
+    }
 }
 
 // What a file says to the one who reads it so, in pieces of at most so many octets, or at hand where they are none.
-fn read(alloc: Global, file: &[u8], way: &str, piece: usize) -> Result<String, Fail> {
+fn read(alloc: Global, file: &[u8], way: &str, piece: usize) -> Said {
+    let mut said = Said::new(alloc);
     let count = number_after(way, "octets ").unwrap_or(file.len());
-    let file = file.get(..count).ok_or("so many octets")?;
-    let octets_before_failure = number_after(way, "fails ");
-    let limits = match piece {
-        0 => ReadLimits::none(),
-        piece => ReadLimits {
-            octets_before_failure,
-            piece,
-            ..ReadLimits::none()
-        },
+    let Some(file) = file.get(..count) else {
+        said.refuse();
+        return said;
     };
     if way.contains("inventory") {
-        return told_of(alloc, file, limits);
-    }
-    match piece {
-        0 => said_by(alloc, Records::new(file), way),
-        _ => said_by(
-            alloc,
-            RecordReader::new(MemoryReader::new(file, limits)),
-            way,
-        ),
-    }
-}
-
-// The first of some lines that a text lacks.
-fn lacking<'a>(said: &str, lines: &'a str) -> Option<&'a str> {
-    lines
-        .lines()
-        .find(|line| !said.lines().any(|told| told == *line))
-}
-
-// What is said in a way to read a file is what its lines want: that they are all, or of an inventory some.
-fn check_said(rt: &impl Abort, said: &str, way: &str, wanted: &str, row: &str) {
-    if way.starts_with("inventory") {
-        assert_eq!(rt; lacking(said, wanted), None, "{row}, by {way}: {said}");
+        add_told(&mut said, alloc, file, limits_of(way, piece));
+    } else if piece == 0 {
+        add_said_by(&mut said, alloc, Records::new(file), way);
     } else {
-        assert_eq!(rt; said.trim(), wanted.trim(), "{row}, by {way}");
+        let reader = MemoryReader::new(file, limits_of(way, piece));
+        add_said_by(&mut said, alloc, RecordReader::new(reader), way);
+    }
+    said
+}
+
+// Whether a text has a line.
+fn has_line(text: &str, line: &str) -> bool {
+    for told in text.lines() {
+        if told == line {
+            return true;
+        }
+    }
+    false
+}
+
+// Whether a text has all of these lines.
+fn has_lines(text: &str, lines: &str) -> bool {
+    for line in lines.lines() {
+        if !has_line(text, line) {
+            return false;
+        }
+    }
+    true
+}
+
+// Whether what is said in a way to read a file is what its lines want: that they are all, or of an inventory some.
+fn is_wanted(said: &str, way: &str, wanted: &str) -> bool {
+    if way.starts_with("inventory") {
+        has_lines(said, wanted)
+    } else {
+        said.trim() == wanted.trim()
     }
 }
 
-// What comes of one way of reading a file is what its lines say.
-fn check_way(
-    rt: &impl Abort,
-    alloc: Global,
-    row: &str,
-    file: &[u8],
-    lines: &str,
-) -> Result<(), Fail> {
-    let (way, wanted) = lines.split_once('\n').ok_or("what is wanted")?;
+// Appends what comes of one way of reading a file, where that is not what its lines say.
+fn check_way(wrong: &mut Said, alloc: Global, row: &str, file: &[u8], lines: &str) {
+    let (way, wanted) = lines.split_once('\n').unwrap_or((lines, ""));
     let first = number_after(way, "pieces ").unwrap_or(0);
     let last = number_after(way, "to ").unwrap_or(first);
     for piece in first..=last {
-        check_said(rt, &read(alloc, file, way, piece)?, way, wanted, row);
+        let said = read(alloc, file, way, piece);
+        let said = said.text().unwrap_or("no answer");
+        if !is_wanted(said, way, wanted) {
+            wrong.add(format_args!("{row}, by {way}: {said}; "));
+        }
     }
-    Ok(())
 }
 
-// What comes of each way of reading a row's file is what it says.
-fn check_row(rt: &impl Abort, alloc: Global, row: &str) -> Result<(), Fail> {
-    let (head, ways) = row.split_once("\n  by ").ok_or("a way to read a row")?;
+// Appends what comes of each way of reading a row's file, where that is not what the row says.
+fn check_row(wrong: &mut Said, alloc: Global, row: &str) {
+    let (head, ways) = row.split_once("\n  by ").unwrap_or((row, "no way"));
     let (name, lines) = head.split_once('\n').unwrap_or((head, ""));
-    let file = file_of(alloc, lines)?;
+    let file = file_of(alloc, lines);
+    let Some(file) = file.whole() else {
+        return wrong.add(format_args!("no file in {row}; "));
+    };
     for way in ways.split("\n  by ") {
-        check_way(rt, alloc, name, &file, way)?;
+        check_way(wrong, alloc, name, file, way);
     }
-    Ok(())
 }
 
 /// Each of these rows is right. Empty lines part them, and what begins with # is a comment.
-pub fn check_rows(rt: &impl Abort, alloc: Global, rows: &str) -> Result<(), Fail> {
+pub fn check_rows(alloc: Global, rows: &str) -> Result<(), Fail> {
+    let mut wrong = Said::new(alloc);
     for row in rows.trim().split("\n\n") {
         if !row.starts_with('#') {
-            check_row(rt, alloc, row)?;
+            check_row(&mut wrong, alloc, row);
         }
     }
-    Ok(())
+    wrong.nothing()
 }

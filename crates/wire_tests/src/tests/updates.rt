@@ -10,43 +10,45 @@ mod prefixes;
 mod refusals;
 mod routes;
 
-use super::words::spelled;
+use super::said::Said;
+use super::words::{Octets, spelled};
 use rs_update::{
     Attributes, Errors, Message, MessageFault, Prefix, Update, read_message, read_message_by,
     write_attributes,
 };
 use spelled_in_hex::octets;
-use std::alloc::{AllocError, Global};
+use std::alloc::Global;
 use std::net::Ipv4Addr;
-use std::process::Abort;
 use std::test::Fail;
 
-// Appends a length of two octets, to which so many are added, and octets.
-fn push_field(contents: &mut Vec<u8>, field: &[u8], more: u16) -> Result<(), Fail> {
-    let len = u16::try_from(field.len())?.saturating_add(more);
-    contents.extend_from_slice(&len.to_be_bytes())?;
-    contents.extend_from_slice(field)?;
-    Ok(())
+// Appends a length of two octets.
+fn add_len(message: &mut Octets, len: usize) {
+    message.add(&u16::try_from(len).unwrap_or(u16::MAX).to_be_bytes());
 }
 
-// The octets behind the length of an UPDATE: its type, and its fields.
-fn fields(alloc: Global, withdrawn: &str, section: &str, nlri: &str) -> Result<Vec<u8>, Fail> {
-    let mut fields = vec![in alloc; 2u8; 1]?;
-    push_field(&mut fields, &spelled(alloc, withdrawn)?, 0)?;
-    push_field(&mut fields, &spelled(alloc, section)?, 0)?;
-    fields.extend_from_slice(&spelled(alloc, nlri)?)?;
-    Ok(fields)
-}
-
-// An UPDATE of withdrawn routes, path attributes and NLRI. Its header has 18 octets before the type.
-fn update(alloc: Global, withdrawn: &str, section: &str, nlri: &str) -> Result<Vec<u8>, Fail> {
-    let mut message = spelled(alloc, "MARKER")?;
-    push_field(&mut message, &fields(alloc, withdrawn, section, nlri)?, 18)?;
-    Ok(message)
+// An UPDATE of withdrawn routes, path attributes and NLRI. With its header, its type and both lengths it has 23 octets
+// more than these.
+fn update(alloc: Global, withdrawn: &str, section: &str, nlri: &str) -> Octets {
+    let mut message = Octets::new(alloc);
+    let withdrawn_len = message.len_of(withdrawn);
+    let section_len = message.len_of(section);
+    let len = message
+        .len_of(nlri)
+        .saturating_add(withdrawn_len)
+        .saturating_add(section_len);
+    message.spell("MARKER");
+    add_len(&mut message, len.saturating_add(23));
+    message.add(&[2]);
+    add_len(&mut message, withdrawn_len);
+    message.spell(withdrawn);
+    add_len(&mut message, section_len);
+    message.spell(section);
+    message.spell(nlri);
+    message
 }
 
 // The message of a row.
-fn message(alloc: Global, text: &str) -> Result<Vec<u8>, Fail> {
+fn message(alloc: Global, text: &str) -> Octets {
     let Some((withdrawn, behind)) = text.split_once('/') else {
         return spelled(alloc, text);
     };
@@ -55,44 +57,37 @@ fn message(alloc: Global, text: &str) -> Result<Vec<u8>, Fail> {
 }
 
 // Appends prefixes, each behind a sign.
-fn push_prefixes(text: &mut String, sign: char, prefixes: &[Prefix]) -> Result<(), AllocError> {
+fn add_prefixes(said: &mut Said, sign: char, prefixes: &[Prefix]) {
     for prefix in prefixes {
         let (address, len) = (Ipv4Addr::from_bits(prefix.address()), prefix.len());
-        write!(text, " {sign}{address}/{len}")?;
+        said.add(format_args!(" {sign}{address}/{len}"));
     }
-    Ok(())
 }
 
-// A word, the withdrawn prefixes and the announced ones, each in order.
-fn with_prefixes(
-    alloc: Global,
-    word: &str,
-    withdrawn: &[Prefix],
-    announced: &[Prefix],
-) -> Result<String, AllocError> {
-    let mut text = String::from_str(alloc, word)?;
-    push_prefixes(&mut text, '-', withdrawn)?;
-    push_prefixes(&mut text, '+', announced)?;
-    Ok(text)
+// Appends a word, the withdrawn prefixes and the announced ones, each in order.
+fn add_with_prefixes(said: &mut Said, word: &str, withdrawn: &[Prefix], announced: &[Prefix]) {
+    said.add(word);
+    add_prefixes(said, '-', withdrawn);
+    add_prefixes(said, '+', announced);
 }
 
-// What a message says: its type, and of an UPDATE its prefixes.
-fn text_of(alloc: Global, message: &Message) -> Result<String, AllocError> {
+// Appends what a message says: its type, and of an UPDATE its prefixes.
+fn add_message(said: &mut Said, message: &Message) {
     match message {
-        Message::Open => String::from_str(alloc, "OPEN"),
-        Message::Update(read) => with_prefixes(alloc, "UPDATE", &read.withdrawn, &read.nlri),
-        Message::Treated { withdrawn, nlri } => with_prefixes(alloc, "TREATED", withdrawn, nlri),
-        Message::Notification => String::from_str(alloc, "NOTIFICATION"),
-        Message::KeepAlive => String::from_str(alloc, "KEEPALIVE"),
-        Message::Refresh => String::from_str(alloc, "ROUTE-REFRESH"),
+        Message::Open => said.add("OPEN"),
+        Message::Update(read) => add_with_prefixes(said, "UPDATE", &read.withdrawn, &read.nlri),
+        Message::Treated { withdrawn, nlri } => add_with_prefixes(said, "TREATED", withdrawn, nlri),
+        Message::Notification => said.add("NOTIFICATION"),
+        Message::KeepAlive => said.add("KEEPALIVE"),
+        Message::Refresh => said.add("ROUTE-REFRESH"),
     }
 }
 
-// What is answered to a message: what it says, or its fault.
-fn answer(alloc: Global, read: &Result<Message, MessageFault>) -> Result<String, AllocError> {
+// Appends what is answered to a message: what it says, or its fault.
+fn add_answer(said: &mut Said, read: &Result<Message, MessageFault>) {
     match read {
-        Ok(message) => text_of(alloc, message),
-        Err(fault) => format!(in alloc; "{fault}"),
+        Ok(message) => add_message(said, message),
+        Err(fault) => said.add(format_args!("{fault}")),
     }
 }
 
@@ -111,47 +106,48 @@ enum Topic {
     Written,
 }
 
-// What is said of the text before the bar of a row.
-fn said(alloc: Global, topic: Topic, text: &str) -> Result<String, Fail> {
+// Appends what is said of the text before the bar of a row.
+fn say(said: &mut Said, alloc: Global, topic: Topic, text: &str) {
     match topic {
-        Topic::Message => messages::said(alloc, text),
-        Topic::Concern => concerning::said(alloc, text),
-        Topic::Prefix => prefixes::said(alloc, text),
-        Topic::Route => routes::said(alloc, text),
-        Topic::Written => routes::said_of_writing(alloc, text),
+        Topic::Message => messages::say(said, alloc, text),
+        Topic::Concern => concerning::say(said, alloc, text),
+        Topic::Prefix => prefixes::say(said, text),
+        Topic::Route => routes::say(said, alloc, text),
+        Topic::Written => routes::say_of_writing(said, alloc, text),
     }
 }
 
-// Asserts what is said in a row, unless it is a remark.
-fn check_row(rt: &impl Abort, alloc: Global, topic: Topic, row: &str) -> Result<(), Fail> {
-    if let Some((text, wanted)) = row.split_once(" | ") {
-        check_text(rt, &said(alloc, topic, text)?, wanted, row);
-    }
-    Ok(())
+// Appends what is said in a row, where that is not what is wanted. A row without a bar is a remark.
+fn add_wrong(wrong: &mut Said, alloc: Global, topic: Topic, row: &str) {
+    let Some((text, wanted)) = row.split_once(" | ") else {
+        return;
+    };
+    let mut said = Said::new(alloc);
+    say(&mut said, alloc, topic, text);
+    compare(wrong, &said, wanted, row);
 }
 
-// Asserts what is said in each row.
-fn check_rows(rt: &impl Abort, alloc: Global, topic: Topic, rows: &str) -> Result<(), Fail> {
+// Appends what is said, where that is not what is wanted in a row.
+fn compare(wrong: &mut Said, said: &Said, wanted: &str, row: &str) {
+    let found = said.text();
+    if found != Some(wanted) {
+        wrong.add(format_args!("{found:?} in place of {wanted} in the row {row}; "));
+    }
+}
+
+// In each row is said what is wanted.
+fn check_rows(alloc: Global, topic: Topic, rows: &str) -> Result<(), Fail> {
+    let mut wrong = Said::new(alloc);
     for row in rows.lines() {
-        check_row(rt, alloc, topic, row)?;
+        add_wrong(&mut wrong, alloc, topic, row);
     }
-    Ok(())
-}
-
-// Asserts that a text is the wanted one of a row.
-fn check_text(rt: &impl Abort, text: &str, wanted: &str, row: &str) {
-    assert_eq!(rt; text, wanted, "{row}");
-}
-
-// Asserts that octets are the wanted ones.
-fn check_octets(rt: &impl Abort, octets: &[u8], wanted: &[u8]) {
-    assert_eq!(rt; octets, wanted);
+    wrong.nothing()
 }
 
 // The attributes of an UPDATE whose routes stand.
-fn standing(read: Result<Message, MessageFault>) -> Result<Attributes, Fail> {
-    let Message::Update(read) = read? else {
-        return Err(Fail::from("not an UPDATE that stands"));
-    };
-    Ok(read.attributes.ok_or("no attributes")?)
+fn standing(read: Result<Message, MessageFault>) -> Option<Attributes> {
+    match read {
+        Ok(Message::Update(read)) => read.attributes,
+        _ => None,
+    }
 }

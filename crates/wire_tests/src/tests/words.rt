@@ -1,8 +1,8 @@
 //! How rows spell octets: in words, which are hexadecimal digits or names of some. `00*10` stands for ten such octets.
 
+use rs_mrt::write_header;
 use spelled_in_hex::octets;
 use std::alloc::Global;
-use std::test::Fail;
 
 // The names of digits. Of an UPDATE (RFC 4271, section 4.3): the Marker of a header; an attribute with its flags,
 // type, length and value, which is IGP, 64501 or 192.0.2.11; the three together, and with an ORIGIN of 3; the prefix
@@ -70,21 +70,79 @@ fn digits_of(word: &str) -> &str {
     word
 }
 
-// Appends the octets that a word spells.
-fn push_word(alloc: Global, out: &mut Vec<u8>, word: &str) -> Result<(), Fail> {
-    let (word, times) = word.split_once('*').unwrap_or((word, "1"));
-    let octets = octets(alloc, &[digits_of(word)])?;
-    for _ in 0..times.parse::<u32>()? {
-        out.extend_from_slice(&octets)?;
+/// Octets that are spelled by words. They are not whole where a word spells none or memory was refused.
+#[derive(Drop)]
+pub struct Octets {
+    alloc: Global,
+    octets: Vec<u8>,
+    is_whole: bool,
+}
+
+impl Octets {
+    /// Nothing yet.
+    pub fn new(alloc: Global) -> Octets {
+        Octets {
+            alloc,
+            octets: Vec::new(alloc),
+            is_whole: true,
+        }
     }
-    Ok(())
+
+    /// Appends octets.
+    pub fn add(&mut self, octets: &[u8]) {
+        if self.octets.extend_from_slice(octets).is_err() {
+            self.is_whole = false;
+        }
+    }
+
+    // Appends the octets that a word spells.
+    fn add_word(&mut self, word: &str) {
+        let (word, times) = word.split_once('*').unwrap_or((word, "1"));
+        match (octets(self.alloc, &[digits_of(word)]), times.parse::<u32>()) {
+            (Ok(octets), Ok(times)) => {
+                for _ in 0..times {
+                    self.add(&octets);
+                }
+            }
+            _ => self.is_whole = false,
+        }
+    }
+
+    /// Appends the octets that words spell.
+    pub fn spell(&mut self, words: &str) {
+        for word in words.split_whitespace() {
+            self.add_word(word);
+        }
+    }
+
+    /// How many octets words spell.
+    pub fn len_of(&mut self, words: &str) -> usize {
+        let spelled = spelled(self.alloc, words);
+        if !spelled.is_whole {
+            self.is_whole = false;
+        }
+        spelled.octets.len()
+    }
+
+    /// Appends the header of a record.
+    pub fn add_header(&mut self, time: u32, kind: u16, subtype: u16, len: u32) {
+        if write_header(&mut self.octets, time, kind, subtype, len).is_err() {
+            self.is_whole = false;
+        }
+    }
+
+    /// What was spelled, where that is whole.
+    pub fn whole(&self) -> Option<&[u8]> {
+        if self.is_whole {
+            return Some(&self.octets);
+        }
+        None
+    }
 }
 
 /// The octets that words spell.
-pub fn spelled(alloc: Global, words: &str) -> Result<Vec<u8>, Fail> {
-    let mut out = Vec::new(alloc);
-    for word in words.split_whitespace() {
-        push_word(alloc, &mut out, word)?;
-    }
-    Ok(out)
+pub fn spelled(alloc: Global, words: &str) -> Octets {
+    let mut octets = Octets::new(alloc);
+    octets.spell(words);
+    octets
 }

@@ -26,38 +26,39 @@ fn next_attributes(session: &mut Session<Records<'_>>) -> Option<Arc<Attributes>
 // An UPDATE that announces 1.0.0.0/8, 2.0.0.0/8 and 3.0.0.0/8.
 const THREE: &str = "100 16.4 of-64501 MARKER 0031 02 0000 0014 MANDATORY 0801 0802 0803";
 
+// Of the first two announcements of a file: whether they have the same attributes, whether these are shared with the
+// third one too, and their NEXT_HOP.
+fn shared(alloc: Global) -> Option<(bool, bool, u32)> {
+    let file = file_of(alloc, THREE);
+    let mut session = Session::new(alloc, file.whole()?, PEER);
+    let one = next_attributes(&mut session)?;
+    let other = next_attributes(&mut session)?;
+    let (count, others_count) = (Arc::strong_count(&one), Arc::strong_count(&other));
+    Some((count == others_count, count >= 3, one.next_hop()))
+}
+
 // The two share with one another, and with the announcement that is still to come.
 #[test]
-fn announcements_of_one_update_share_their_attributes(rt: HostRuntime) -> Result<(), Fail> {
-    let file = file_of(rt.alloc(), THREE)?;
-    let mut session = Session::new(rt.alloc(), &file, PEER);
-    let one = next_attributes(&mut session).expect(&rt, "an announcement");
-    let other = next_attributes(&mut session).expect(&rt, "an announcement");
-    let counts = (Arc::strong_count(&one), Arc::strong_count(&other));
-    assert_eq!(rt;
-        (counts.1 >= 3, one.next_hop()),
-        (counts.0 == counts.1, 0xC000_020B)
-    );
-    assert!(rt; counts.0 >= 3);
-    Ok(())
+fn announcements_of_one_update_share_their_attributes(rt: HostRuntime) {
+    assert_eq!(rt; shared(rt.alloc()), Some((true, true, 0xC000_020B)));
 }
 
 // A second ORIGIN, and an AGGREGATOR of six octets: both are discarded (RFC 7606, sections 3, 7.7).
 const DISCARDED: &str =
     "100 16.4 of-64501 MARKER 003C 02 0000 0021 40010100 40010103 40020602010000FBF5 400304C000020B C007060000FBF5C000 18CB0071";
 
-// The attributes of the first change of a file, faults being handled by RFC 7606.
-fn first_attributes(alloc: Global, file: &[u8]) -> Option<Arc<Attributes>> {
-    next_attributes(&mut Session::over_by(alloc, Records::new(file), PEER, Errors::Rfc7606))
+// ORIGIN of the first announcement of a file, and whether it has no AGGREGATOR, faults being handled by RFC 7606.
+fn first_attributes(alloc: Global) -> Option<(Origin, bool)> {
+    let file = file_of(alloc, DISCARDED);
+    let records = Records::new(file.whole()?);
+    let mut session = Session::over_by(alloc, records, PEER, Errors::Rfc7606);
+    let attributes = next_attributes(&mut session)?;
+    Some((attributes.origin(), attributes.aggregator().is_none()))
 }
 
 #[test]
-fn what_is_discarded_is_not_announced(rt: HostRuntime) -> Result<(), Fail> {
-    let file = file_of(rt.alloc(), DISCARDED)?;
-    let attributes = first_attributes(rt.alloc(), &file).expect(&rt, "an announcement");
-    let found = (attributes.origin(), attributes.aggregator().is_none());
-    assert_eq!(rt; found, (Origin::Igp, true));
-    Ok(())
+fn what_is_discarded_is_not_announced(rt: HostRuntime) {
+    assert_eq!(rt; first_attributes(rt.alloc()), Some((Origin::Igp, true)));
 }
 
 #[test]

@@ -5,6 +5,7 @@
 use super::{check_rows, file_of};
 use rs_inventory::{InventoryFault, read_inventory};
 use rs_mrt::{MemoryReader, ReadLimits};
+use std::alloc::Global;
 use std::test::*;
 
 // The kind is told by the Type, then the Subtype, then the Address Family.
@@ -93,7 +94,7 @@ the earliest time and the latest
 
 #[test]
 fn each_record_is_of_one_kind(rt: HostRuntime) -> Result<(), Fail> {
-    check_rows(&rt, rt.alloc(), KINDS)
+    check_rows(rt.alloc(), KINDS)
 }
 
 const PEERS: &str = "
@@ -180,7 +181,7 @@ changes that neither come to Established nor leave it
 
 #[test]
 fn what_is_known_of_each_peer(rt: HostRuntime) -> Result<(), Fail> {
-    check_rows(&rt, rt.alloc(), PEERS)
+    check_rows(rt.alloc(), PEERS)
 }
 
 const ENDS: &str = "
@@ -311,7 +312,7 @@ an empty file
 
 #[test]
 fn files_end_where_their_octets_end(rt: HostRuntime) -> Result<(), Fail> {
-    check_rows(&rt, rt.alloc(), ENDS)
+    check_rows(rt.alloc(), ENDS)
 }
 
 const PIECES: &str = "
@@ -336,25 +337,31 @@ a file that comes in pieces holds the same
 
 #[test]
 fn a_file_in_pieces_holds_the_same(rt: HostRuntime) -> Result<(), Fail> {
-    check_rows(&rt, rt.alloc(), PIECES)
+    check_rows(rt.alloc(), PIECES)
 }
 
 const THREE_RECORDS: &str = "100 16.4 of-64501 MARKER OPEN
     101 16.4 of-64501 MARKER CHANGES
     102 16.4 of-64502 MARKER KEEPALIVE";
 
+// Whether a read of a file fails after so many octets.
+fn fails(alloc: Global, file: &[u8], count: usize) -> bool {
+    let limits = ReadLimits {
+        octets_before_failure: Some(count),
+        piece: 9,
+        ..ReadLimits::none()
+    };
+    let answer = read_inventory(alloc, MemoryReader::new(file, limits));
+    matches!(answer, Err(InventoryFault::Read))
+}
+
 #[test]
 fn a_failed_read_gives_no_inventory(rt: HostRuntime) -> Result<(), Fail> {
-    let file = file_of(rt.alloc(), THREE_RECORDS)?;
+    let file = file_of(rt.alloc(), THREE_RECORDS);
+    let file = file.whole().ok_or("a file")?;
     for count in 0..file.len() {
-        let limits = ReadLimits {
-            octets_before_failure: Some(count),
-            piece: 9,
-            ..ReadLimits::none()
-        };
-        let answer = read_inventory(rt.alloc(), MemoryReader::new(&file, limits));
         assert!(rt;
-            matches!(answer, Err(InventoryFault::Read)),
+            fails(rt.alloc(), file, count),
             "a failure after {count} octets"
         );
     }

@@ -295,5 +295,5 @@ a record of 10,012 octets and two after it
 
 #[test]
 fn records_say_what_their_rows_want(rt: HostRuntime) -> Result<(), Fail> {
-    check_rows(&rt, rt.alloc(), RECORDS)
+    check_rows(rt.alloc(), RECORDS)
 }

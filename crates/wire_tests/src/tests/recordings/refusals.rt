@@ -3,11 +3,11 @@
 ghost use Rattle.std.specs.Prelude.{◌≡◌, List, [], Option, Some, None, Result, Err, refl};
 ghost use Rattle.rs_mrt.specs.declared.fault.SourceFault.TheVariants.{Read};
 
-use super::{PEER, add_change, add_session};
-use rs_mrt::{Record, Source, SourceFault};
+use super::super::said::Said;
+use super::{Asked, PEER, add_change, add_session};
+use rs_mrt::{Record, Records, Source, SourceFault};
 use rs_session::{Session, Word};
-use std::alloc::{AllocError, Global};
-use std::process::Abort;
+use std::alloc::Global;
 use std::test::*;
 
 // A source whose every read fails.
@@ -39,12 +39,15 @@ impl Source for Unreadable {
 }
 
 #[test]
-fn a_failed_read_closes(rt: HostRuntime) -> Result<(), Fail> {
-    let mut said = String::new(rt.alloc());
+fn a_failed_read_closes(rt: HostRuntime) {
+    let mut said = Said::new(rt.alloc());
     let mut session = Session::over(rt.alloc(), Unreadable, PEER);
-    add_session(&mut said, &mut session, (None, None))?;
-    assert_eq!(rt; said.trim(), "0 closed: failed read");
-    Ok(())
+    let all = Asked {
+        prefix: None,
+        until: None,
+    };
+    add_session(&mut said, &mut session, &all);
+    assert_eq!(rt; said.text(), Some("\n    0 closed: failed read"));
 }
 
 // A KEEPALIVE of another peer at time 100; an UPDATE at time 101 that withdraws 1.0.0.0/8 to 13.0.0.0/8 and
@@ -79,31 +82,40 @@ const CHANGES: &str = "101 -5.0.0.0/8
 101 +1.0.0.0/8
 0 closed: end of file";
 
-// The next change of a session, which is asked again where memory was refused; it has then passed over no record.
-fn next_after_refusals<S: Source>(rt: &impl Abort, session: &mut Session<S>) -> Option<Word> {
+// The next change of a session, which is asked again where memory was refused. None where it has then passed over a
+// record, and where memory is refused again and again.
+fn next_after_refusals(session: &mut Session<Records<'_>>) -> Option<Option<Word>> {
+    let passed = session.passed_over();
     for _ in 0..4 {
-        let passed = session.passed_over();
-        match session.next_word() {
-            Ok(change) => return change,
-            Err(AllocError) => assert!(rt; session.passed_over() == passed),
+        if let Ok(change) = session.next_word() {
+            return Some(change);
+        }
+        if session.passed_over() != passed {
+            break;
         }
     }
     None
 }
 
-// The line of a change, where there is memory for it.
-fn line_of(alloc: Global, change: &Word) -> Option<String> {
-    let mut line = String::new(alloc);
-    add_change(&mut line, change).ok()?;
-    Some(line)
+// Whether the line of a change is this one. Where its text is refused memory, it is some line.
+fn is_line(alloc: Global, change: &Word, line: &str) -> bool {
+    let mut said = Said::new(alloc);
+    add_change(&mut said, change);
+    match said.text() {
+        Some(found) => found.trim() == line,
+        None => true,
+    }
 }
 
-// The next change of a session is that of the line. Where its text is refused memory, it is some change.
-fn check_next<S: Source>(rt: &impl Abort, alloc: Global, session: &mut Session<S>, line: &str) {
-    let change = next_after_refusals(rt, session).expect(rt, "a change");
-    if let Some(found) = line_of(alloc, &change) {
-        assert_eq!(rt; found.trim(), line);
+// The first line that is not that of the next change of a session.
+fn first_other(alloc: Global, session: &mut Session<Records<'_>>) -> Option<&'static str> {
+    for line in CHANGES.lines() {
+        match next_after_refusals(session) {
+            Some(Some(change)) if is_line(alloc, &change, line) => {}
+            _ => return Some(line),
+        }
     }
+    None
 }
 
 // It holds whichever allocation is refused: the recording takes none, so that but those of the texts all are the
@@ -111,8 +123,7 @@ fn check_next<S: Source>(rt: &impl Abort, alloc: Global, session: &mut Session<S
 #[test]
 fn refused_memory_loses_nothing(rt: HostRuntime) {
     let mut session = Session::new(rt.alloc(), RECORDED, PEER);
-    for line in CHANGES.lines() {
-        check_next(&rt, rt.alloc(), &mut session, line);
-    }
-    assert!(rt; next_after_refusals(&rt, &mut session).is_none() && session.passed_over() == 1);
+    let other = first_other(rt.alloc(), &mut session);
+    let ended = matches!(next_after_refusals(&mut session), Some(None));
+    assert_eq!(rt; (other, ended, session.passed_over()), (None, true, 1));
 }

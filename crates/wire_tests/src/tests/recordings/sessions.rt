@@ -489,5 +489,5 @@ one UPDATE
 
 #[test]
 fn recorded_sessions_say_what_their_rows_want(rt: HostRuntime) -> Result<(), Fail> {
-    check_rows(&rt, rt.alloc(), SESSIONS)
+    check_rows(rt.alloc(), SESSIONS)
 }

@@ -1,22 +1,14 @@
 //! The texts in which rows write what a recorded file holds.
 
+use super::super::said::Said;
 use rs_inventory::{Inventory, Kind, Peer, PeerRecords, read_inventory};
 use rs_mrt::{MemoryReader, ReadLimits};
-use std::alloc::{AllocError, Global};
+use std::alloc::Global;
 use std::net::Ipv4Addr;
-use std::test::Fail;
 
-// Appends what is known of each peer: how many records it has, messages, changes of state, messages at fault, and
-// prefixes announced and withdrawn; its BGP Identifiers; when its sessions came up and went down.
-fn push_peers(text: &mut String, held: &Inventory) -> Result<(), AllocError> {
-    for (peer, of) in held.peers() {
-        push_peer(text, peer, of)?;
-    }
-    Ok(())
-}
-
-// Appends what is known of one peer.
-fn push_peer(text: &mut String, peer: &Peer, of: &PeerRecords) -> Result<(), AllocError> {
+// Appends what is known of a peer: how many records it has, messages, changes of state, messages at fault, and prefixes
+// announced and withdrawn; its BGP Identifiers; when its sessions came up and went down.
+fn add_peer(said: &mut Said, peer: &Peer, of: &PeerRecords) {
     let (address, asn) = (Ipv4Addr::from_bits(peer.address), peer.asn);
     let counts = [
         of.records(),
@@ -27,53 +19,49 @@ fn push_peer(text: &mut String, peer: &Peer, of: &PeerRecords) -> Result<(), All
         of.withdrawn(),
     ];
     let (identifiers, sessions) = (of.identifiers(), of.sessions());
-    write!(
-        text,
+    said.add(format_args!(
         "
     {address} {asn} counts {counts:?}
     {address} {asn} identifiers {identifiers:?}
     {address} {asn} sessions {sessions:?}"
-    )
+    ));
 }
 
 // Appends how many records there are of each kind of which there are any.
-fn push_kinds(text: &mut String, held: &Inventory) -> Result<(), AllocError> {
+fn add_kinds(said: &mut Said, held: &Inventory) {
     for kind in Kind::all() {
         let count = held.count_of(kind);
         if count > 0 {
-            write!(text, ", {count} {kind:?}")?;
+            said.add(format_args!(", {count} {kind:?}"));
         }
     }
-    Ok(())
 }
 
 // Appends how a file begins and ends, and how many peers it has.
-fn push_ends(text: &mut String, held: &Inventory) -> Result<(), AllocError> {
+fn add_ends(said: &mut Said, held: &Inventory) {
     let (octets, end, recorder) = (held.octets(), held.end(), held.recorder());
     let (first, last, compression) = (held.first(), held.last(), held.compression());
     let peers = held.peers().len();
-    write!(
-        text,
+    said.add(format_args!(
         "
     octets {octets:?} end {end:?}
     times {first:?} {last:?}
     compression {compression:?}
     {recorder:?}
     peers {peers}"
-    )
+    ));
 }
 
-// The text of what a file holds.
-fn told(alloc: Global, held: &Inventory) -> Result<String, AllocError> {
-    let mut text = format!(in alloc; "\n    records {}", held.records())?;
-    push_kinds(&mut text, held)?;
-    push_ends(&mut text, held)?;
-    push_peers(&mut text, held)?;
-    Ok(text)
-}
-
-/// The text, line by line, of what a file holds when its reader has these limits.
-pub fn told_of(alloc: Global, file: &[u8], limits: ReadLimits) -> Result<String, Fail> {
-    let held = read_inventory(alloc, MemoryReader::new(file, limits))?;
-    Ok(told(alloc, &held)?)
+/// Appends, line by line, what a file holds when its reader has these limits.
+pub fn add_told(said: &mut Said, alloc: Global, file: &[u8], limits: ReadLimits) {
+    let Ok(held) = read_inventory(alloc, MemoryReader::new(file, limits)) else {
+        return said.refuse();
+    };
+    let records = held.records();
+    said.add(format_args!("\n    records {records}"));
+    add_kinds(said, &held);
+    add_ends(said, &held);
+    for (peer, of) in held.peers() {
+        add_peer(said, peer, of);
+    }
 }

@@ -50,15 +50,18 @@ MARKER 0017 02 0001 0000 | true true
 MARKER 0017 02 0000 0001 | true true
 ";
 
-/// Whether a message may concern the prefix, by both standards.
-pub fn said(alloc: Global, text: &str) -> Result<String, Fail> {
-    let (message, prefix) = (message(alloc, text)?, narrow()?);
-    let by_rfc_4271 = concerns_prefix(Errors::Rfc4271, &message, prefix);
-    let by_rfc_7606 = concerns_prefix(Errors::Rfc7606, &message, prefix);
-    Ok(format!(in alloc; "{by_rfc_4271} {by_rfc_7606}")?)
+/// Appends whether a message may concern the prefix, by both standards.
+pub fn say(said: &mut Said, alloc: Global, text: &str) {
+    let message = message(alloc, text);
+    let (Some(message), Some(prefix)) = (message.whole(), narrow()) else {
+        return said.refuse();
+    };
+    let by_rfc_4271 = concerns_prefix(Errors::Rfc4271, message, prefix);
+    let by_rfc_7606 = concerns_prefix(Errors::Rfc7606, message, prefix);
+    said.add(format_args!("{by_rfc_4271} {by_rfc_7606}"));
 }
 
 #[test]
 fn messages_that_may_concern_a_prefix(rt: HostRuntime) -> Result<(), Fail> {
-    check_rows(&rt, rt.alloc(), Topic::Concern, MESSAGES)
+    check_rows(rt.alloc(), Topic::Concern, MESSAGES)
 }

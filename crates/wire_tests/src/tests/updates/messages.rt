@@ -175,25 +175,36 @@ NEXT_HOP: of 3 octets; 223.255.255.255, 127.0.0.1, 224.0.2.11, 255.255.255.255, 
 / ORIGIN AS_PATH 4003040000020B / ROUTE | BGP error 3/8 | TREATED +203.0.113.0/24
 ";
 
-// What a message says by a standard.
-fn said_by(alloc: Global, errors: Errors, message: &[u8]) -> Result<String, AllocError> {
-    answer(alloc, &read_message_by(alloc, errors, message))
+// Appends what a message says by a standard.
+fn add_by(said: &mut Said, alloc: Global, errors: Errors, message: &[u8]) {
+    add_answer(said, &read_message_by(alloc, errors, message));
 }
 
-/// What a message says, by both standards where they differ.
-pub fn said(alloc: Global, text: &str) -> Result<String, Fail> {
-    let message = message(alloc, text)?;
-    let by_rfc_4271 = said_by(alloc, Errors::Rfc4271, &message)?;
-    let by_rfc_7606 = said_by(alloc, Errors::Rfc7606, &message)?;
-    if by_rfc_4271 == by_rfc_7606 {
-        return Ok(by_rfc_4271);
+// Appends what a message says by RFC 7606, where that is something else than what was said.
+fn add_other(said: &mut Said, alloc: Global, message: &[u8]) {
+    let mut other = Said::new(alloc);
+    add_by(&mut other, alloc, Errors::Rfc7606, message);
+    match other.text() {
+        Some(other) if Some(other) != said.text() => said.add(format_args!(" | {other}")),
+        Some(_) => {}
+        None => said.refuse(),
     }
-    Ok(format!(in alloc; "{by_rfc_4271} | {by_rfc_7606}")?)
+}
+
+/// Appends what a message of a row says, by both standards where they differ.
+pub fn say(said: &mut Said, alloc: Global, text: &str) {
+    match message(alloc, text).whole() {
+        Some(message) => {
+            add_by(said, alloc, Errors::Rfc4271, message);
+            add_other(said, alloc, message);
+        }
+        None => said.refuse(),
+    }
 }
 
 #[test]
 fn messages_say_what_the_standards_say(rt: HostRuntime) -> Result<(), Fail> {
-    check_rows(&rt, rt.alloc(), Topic::Message, MESSAGES)
+    check_rows(rt.alloc(), Topic::Message, MESSAGES)
 }
 
 // The texts of a fault of each kind (RFC 4271, section 4.5).
@@ -202,14 +213,13 @@ const FAULTS: &str =
 
 #[test]
 fn each_fault_has_a_text_of_the_standard(rt: HostRuntime) -> Result<(), Fail> {
-    let alloc = rt.alloc();
     let (marker, length) = (HeaderFault::NotSynchronized, HeaderFault::BadLength);
     let (list, path) = (
         UpdateFault::MalformedAttributeList,
         UpdateFault::MalformedAsPath,
     );
     let memory = MessageFault::Memory;
-    let texts = format!(in alloc; "{marker}, {length}, {list}, {path}, {memory}")?;
-    check_text(&rt, &texts, FAULTS, "");
+    let texts = format!(in rt.alloc(); "{marker}, {length}, {list}, {path}, {memory}")?;
+    assert_eq!(rt; texts.as_str(), FAULTS);
     Ok(())
 }

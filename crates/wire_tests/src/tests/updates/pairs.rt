@@ -80,26 +80,27 @@ const NOTHING: Sample<'static> = Sample {
 };
 
 // The attribute that is received so, with its fault and what is written of it.
-fn read_sample<'a>(alloc: Global, received: &'a str, behind: &'a str) -> Result<Sample<'a>, Fail> {
-    let (fault, written) = behind.split_once(" |").ok_or("a second bar")?;
-    let kind = spelled(alloc, received)?.get(1).copied().ok_or("a type")?;
-    Ok(Sample {
+fn read_sample<'a>(alloc: Global, received: &'a str, behind: &'a str) -> Option<Sample<'a>> {
+    let (fault, written) = behind.split_once(" |")?;
+    let kind = *spelled(alloc, received).whole()?.get(1)?;
+    Some(Sample {
         received,
         kind,
-        fault: fault.parse()?,
+        fault: fault.parse().ok()?,
         written,
     })
 }
 
-// The attributes of the list.
-fn samples(alloc: Global) -> Result<Vec<Sample<'static>>, Fail> {
+// The attributes of the list, without those for which memory is refused.
+fn samples(alloc: Global) -> Vec<Sample<'static>> {
     let mut samples = Vec::new(alloc);
     for row in ATTRIBUTES.lines() {
-        if let Some((received, behind)) = row.split_once(" | ") {
-            samples.push(read_sample(alloc, received, behind)?)?;
+        let (received, behind) = row.split_once(" | ").unwrap_or((row, ""));
+        if let Some(sample) = read_sample(alloc, received, behind) {
+            let _ = samples.push(sample);
         }
     }
-    Ok(samples)
+    samples
 }
 
 // Two attributes, one behind the other.
@@ -173,8 +174,8 @@ impl<'a> Pair<'a> {
         ]
     }
 
-    // What is written where the routes stand: the first of each type, in ascending type.
-    fn written(self, alloc: Global) -> Result<Vec<u8>, Fail> {
+    // Appends the octets that are written where the routes stand: the first of each type, in ascending type.
+    fn add_written(self, said: &mut Said, alloc: Global) {
         let second = if self.is_repeated() {
             ""
         } else {
@@ -189,110 +190,108 @@ impl<'a> Pair<'a> {
             (self.second.kind, second),
         ];
         pieces.sort_unstable();
-        let mut written = Vec::new(alloc);
+        let mut written = Octets::new(alloc);
         for (_, piece) in pieces {
-            written.extend_from_slice(&spelled(alloc, piece)?)?;
+            written.spell(piece);
         }
-        Ok(written)
+        match written.whole() {
+            Some(written) => said.add(format_args!(" {written:?}")),
+            None => said.refuse(),
+        }
     }
 
-    // The path attributes of an UPDATE with the two.
-    fn section(self, alloc: Global) -> Result<String, AllocError> {
+    // Appends the path attributes of an UPDATE with the two.
+    fn add_section(self, said: &mut Said) {
         let [(_, origin), (_, path), (_, next_hop)] = self.before();
         let (first, second) = (self.first.received, self.second.received);
-        format!(in alloc; "{origin} {path} {next_hop} {first} {second}")
+        said.add(format_args!("{origin} {path} {next_hop} {first} {second}"));
     }
 
-    // What an UPDATE with the two says whose routes stand, and what is written of it where there are any.
-    fn standing_text(self, alloc: Global, routes: &str) -> Result<String, Fail> {
-        if routes.is_empty() {
-            return Ok(String::from_str(alloc, "UPDATE")?);
-        }
-        let written = self.written(alloc)?;
-        Ok(format!(in alloc; "UPDATE{routes} {written:?}")?)
-    }
-
-    // What an UPDATE with the two says by a standard, with these routes.
-    fn wanted(self, alloc: Global, errors: Errors, routes: &str) -> Result<String, Fail> {
+    // Appends what an UPDATE with the two says by a standard, with these routes: what is written too, where they stand.
+    fn add_wanted(self, said: &mut Said, alloc: Global, errors: Errors, routes: &str) {
         match self.comes_to(errors) {
-            (0, true) => Ok(format!(in alloc; "TREATED{routes}")?),
-            (0, false) => self.standing_text(alloc, routes),
-            (subcode, _) => Ok(format!(in alloc; "BGP error 3/{subcode}")?),
+            (0, true) => said.add(format_args!("TREATED{routes}")),
+            (0, false) => {
+                said.add(format_args!("UPDATE{routes}"));
+                if !routes.is_empty() {
+                    self.add_written(said, alloc);
+                }
+            }
+            (subcode, _) => said.add(format_args!("BGP error 3/{subcode}")),
         }
     }
 }
 
-// Appends what is written of the attributes of an UPDATE, where it has any.
-fn push_written(
-    alloc: Global,
-    text: &mut String,
-    read: &Result<Message, MessageFault>,
-) -> Result<(), AllocError> {
-    let Ok(Message::Update(update)) = read else {
-        return Ok(());
-    };
-    let Some(attributes) = &update.attributes else {
-        return Ok(());
-    };
+// Appends what is written of attributes.
+fn add_written(alloc: Global, said: &mut Said, attributes: &Attributes) {
     let mut written = Vec::new(alloc);
-    write_attributes(attributes, &mut written)?;
-    write!(text, " {written:?}")
+    match write_attributes(attributes, &mut written) {
+        Ok(()) => said.add(format_args!(" {written:?}")),
+        Err(_) => said.refuse(),
+    }
 }
 
-// What a message says by a standard, and what is written of its attributes.
-fn found(alloc: Global, errors: Errors, message: &[u8]) -> Result<String, AllocError> {
+// Appends what a message says by a standard, and what is written of its attributes, where it has any.
+fn add_found(said: &mut Said, alloc: Global, errors: Errors, message: &Octets) {
+    let Some(message) = message.whole() else {
+        return said.refuse();
+    };
     let read = read_message_by(alloc, errors, message);
-    let mut text = answer(alloc, &read)?;
-    push_written(alloc, &mut text, &read)?;
-    Ok(text)
+    add_answer(said, &read);
+    if let Ok(
+        Message::Update(
+            Update {
+                attributes: Some(attributes),
+                ..
+            },
+        ),
+    ) = &read
+    {
+        add_written(alloc, said, attributes);
+    }
 }
 
-// Asserts what a message says by both standards, and what is written of it.
-fn check_message(
-    rt: &impl Abort,
+// Appends what an UPDATE with a pair says by a standard, where that is not what it is to say.
+fn add_wrong(
+    wrong: &mut Said,
     alloc: Global,
     pair: Pair<'_>,
-    section: &str,
-    (nlri, routes): (&str, &str),
-) -> Result<(), Fail> {
-    let message = update(alloc, "", section, nlri)?;
+    (errors, nlri, routes): (Errors, &str, &str),
+) {
+    let (mut section, mut found) = (Said::new(alloc), Said::new(alloc));
+    let mut wanted = Said::new(alloc);
+    pair.add_section(&mut section);
+    let section = section.text().unwrap_or("");
+    add_found(&mut found, alloc, errors, &update(alloc, "", section, nlri));
+    pair.add_wanted(&mut wanted, alloc, errors, routes);
+    compare(wrong, &found, wanted.text().unwrap_or(""), section);
+}
+
+// Appends what UPDATEs with a pair say, without a route and with one, where that is not what they are to say.
+fn check_pair(wrong: &mut Said, alloc: Global, pair: Pair<'_>) {
     for errors in [Errors::Rfc4271, Errors::Rfc7606] {
-        let wanted = pair.wanted(alloc, errors, routes)?;
-        let found = found(alloc, errors, &message)?;
-        check_text(rt, &found, &wanted, section);
+        add_wrong(wrong, alloc, pair, (errors, "", ""));
+        add_wrong(wrong, alloc, pair, (errors, "ROUTE", " +203.0.113.0/24"));
     }
-    Ok(())
 }
 
-// Asserts what UPDATEs with a pair say, without a route and with one.
-fn check_pair(rt: &impl Abort, alloc: Global, pair: Pair<'_>) -> Result<(), Fail> {
-    let section = pair.section(alloc)?;
-    check_message(rt, alloc, pair, &section, ("", ""))?;
-    check_message(rt, alloc, pair, &section, ("ROUTE", " +203.0.113.0/24"))
-}
-
-// Asserts what UPDATEs with an attribute say: alone, and before each of the list.
-fn check_first(
-    rt: &impl Abort,
-    alloc: Global,
-    first: Sample<'_>,
-    list: &[Sample<'_>],
-) -> Result<(), Fail> {
+// The same of UPDATEs with an attribute: alone, and before each of the list.
+fn check_first(wrong: &mut Said, alloc: Global, first: Sample<'_>, list: &[Sample<'_>]) {
     let second = NOTHING;
-    check_pair(rt, alloc, Pair { first, second })?;
+    check_pair(wrong, alloc, Pair { first, second });
     for second in list {
         let second = *second;
-        check_pair(rt, alloc, Pair { first, second })?;
+        check_pair(wrong, alloc, Pair { first, second });
     }
-    Ok(())
 }
 
 #[test]
 fn each_attribute_alone_and_before_each_other(rt: HostRuntime) -> Result<(), Fail> {
-    let samples = samples(rt.alloc())?;
+    let samples = samples(rt.alloc());
     assert_eq!(rt; samples.len(), 42);
+    let mut wrong = Said::new(rt.alloc());
     for first in &samples {
-        check_first(&rt, rt.alloc(), *first, &samples)?;
+        check_first(&mut wrong, rt.alloc(), *first, &samples);
     }
-    Ok(())
+    wrong.nothing()
 }

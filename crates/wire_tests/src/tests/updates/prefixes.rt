@@ -33,29 +33,31 @@ Host bits are cleared, and a length is at most 32.
 ";
 
 /// The prefix 203.0.113.0/24.
-pub fn narrow() -> Result<Prefix, Fail> {
-    Ok(Prefix::new(0xCB00_7100, 24).ok_or("a length of 24")?)
+pub fn narrow() -> Option<Prefix> {
+    Prefix::new(0xCB00_7100, 24)
 }
 
-// What is said of a prefix.
-fn said_of(alloc: Global, prefix: Prefix) -> Result<String, Fail> {
+// Appends what is said of a prefix beside 203.0.113.0/24.
+fn say_of(said: &mut Said, prefix: Prefix, narrow: Prefix) {
     let (address, len) = (Ipv4Addr::from_bits(prefix.address()), prefix.len());
-    let (multicast, wide) = (prefix.is_multicast(), covers(prefix, narrow()?));
-    let place = prefix.cmp(&narrow()?);
-    Ok(format!(in alloc; "{address}/{len} {multicast} {wide} {place:?}")?)
+    let (multicast, wide) = (prefix.is_multicast(), covers(prefix, narrow));
+    let place = prefix.cmp(&narrow);
+    said.add(format_args!("{address}/{len} {multicast} {wide} {place:?}"));
 }
 
-/// What is said of the prefix of an address and a length.
-pub fn said(alloc: Global, text: &str) -> Result<String, Fail> {
-    let (address, len) = text.split_once('/').ok_or("a slash")?;
-    let address = address.parse::<Ipv4Addr>()?.to_bits();
-    match Prefix::new(address, len.parse()?) {
-        Some(prefix) => said_of(alloc, prefix),
-        None => Ok(String::from_str(alloc, "none")?),
+/// Appends what is said of the prefix of an address and a length.
+pub fn say(said: &mut Said, text: &str) {
+    let (address, len) = text.split_once('/').unwrap_or((text, ""));
+    let (Ok(address), Ok(len)) = (address.parse::<Ipv4Addr>(), len.parse()) else {
+        return said.add("no prefix");
+    };
+    match (Prefix::new(address.to_bits(), len), narrow()) {
+        (Some(prefix), Some(narrow)) => say_of(said, prefix, narrow),
+        _ => said.add("none"),
     }
 }
 
 #[test]
 fn prefixes_have_no_host_bits_and_an_order(rt: HostRuntime) -> Result<(), Fail> {
-    check_rows(&rt, rt.alloc(), Topic::Prefix, PREFIXES)
+    check_rows(rt.alloc(), Topic::Prefix, PREFIXES)
 }

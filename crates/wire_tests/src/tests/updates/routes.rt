@@ -51,99 +51,97 @@ const ASKED_COMMUNITIES: [(u32, u32); 6] = [
 ];
 
 // Appends ORIGIN, NEXT_HOP, MED, ATOMIC_AGGREGATE, AGGREGATOR, and how long all are in writing.
-fn push_values(text: &mut String, attributes: &Attributes) -> Result<(), AllocError> {
+fn add_values(said: &mut Said, attributes: &Attributes) {
     let next_hop = Ipv4Addr::from_bits(attributes.next_hop());
     let (origin, med) = (attributes.origin(), attributes.med());
     let (compared, atomic) = (attributes.compared_med(), attributes.atomic());
     let (aggregator, len) = (attributes.aggregator(), attributes.written_len());
-    write!(
-        text,
+    said.add(format_args!(
         "{origin:?} {next_hop} {med:?} {compared} {atomic} {aggregator:?} {len};"
-    )
+    ));
 }
 
 // Appends the segments of AS_PATH.
-fn push_path(alloc: Global, text: &mut String, attributes: &Attributes) -> Result<(), AllocError> {
+fn add_path(alloc: Global, said: &mut Said, attributes: &Attributes) {
     for segment in attributes.path() {
-        let segment = segment.to_segment(alloc)?;
-        write!(text, " {segment:?}")?;
+        match segment.to_segment(alloc) {
+            Ok(segment) => said.add(format_args!(" {segment:?}")),
+            Err(_) => said.refuse(),
+        }
     }
-    Ok(())
 }
 
 // Appends how long AS_PATH is, the neighbour AS, and what it holds of the AS numbers that are asked for.
-fn push_length(text: &mut String, attributes: &Attributes) -> Result<(), AllocError> {
+fn add_length(said: &mut Said, attributes: &Attributes) {
     let (length, neighbour) = (attributes.path_length(), attributes.neighbour(64501));
-    write!(text, " length {length} neighbour {neighbour} holds")?;
+    said.add(format_args!(" length {length} neighbour {neighbour} holds"));
     for asn in ASKED_NUMBERS {
         if attributes.holds_as(asn) {
-            write!(text, " {asn}")?;
+            said.add(format_args!(" {asn}"));
         }
     }
-    text.push(';')
+    said.add(";");
 }
 
 // Appends communities by their halves.
-fn push_halves(text: &mut String, communities: &[u32]) -> Result<(), AllocError> {
+fn add_halves(said: &mut Said, communities: &[u32]) {
     for value in communities {
         let (high, low) = (value / 65536, value % 65536);
-        write!(text, " {high}:{low}")?;
+        said.add(format_args!(" {high}:{low}"));
     }
-    Ok(())
 }
 
 // Appends the communities.
-fn push_communities(
-    alloc: Global,
-    text: &mut String,
-    attributes: &Attributes,
-) -> Result<(), AllocError> {
+fn add_communities(alloc: Global, said: &mut Said, attributes: &Attributes) {
     let Some(communities) = attributes.communities() else {
-        return text.push_str(" none");
+        return said.add(" none");
     };
     let (count, partial) = (communities.values.len(), communities.partial);
-    write!(text, " {count} communities, partial {partial},")?;
-    push_halves(text, &communities.values.to_vec(alloc)?)?;
-    text.push_str(" found")
+    said.add(format_args!(" {count} communities, partial {partial},"));
+    match communities.values.to_vec(alloc) {
+        Ok(values) => add_halves(said, &values),
+        Err(_) => said.refuse(),
+    }
+    said.add(" found");
 }
 
-// The communities that are found of those that are asked for, and the AS numbers of which any is.
-fn push_found(text: &mut String, attributes: &Attributes) -> Result<(), AllocError> {
+// Appends the communities that are found of those that are asked for, and the AS numbers of which any is.
+fn add_found(said: &mut Said, attributes: &Attributes) {
     for (high, low) in ASKED_COMMUNITIES {
         if attributes.has_community(high, low) {
-            write!(text, " {high}:{low}")?;
+            said.add(format_args!(" {high}:{low}"));
         }
         if attributes.has_community_of(high) {
-            write!(text, " {high}:*")?;
+            said.add(format_args!(" {high}:*"));
         }
     }
-    text.push(';')
+    said.add(";");
 }
 
 // Appends the attributes of unknown type.
-fn push_others(text: &mut String, attributes: &Attributes) -> Result<(), AllocError> {
+fn add_others(said: &mut Said, attributes: &Attributes) {
     for other in attributes.others() {
         let (kind, value) = (other.kind, other.value);
-        write!(text, " {kind} {value:?}")?;
+        said.add(format_args!(" {kind} {value:?}"));
     }
-    Ok(())
 }
 
 // Appends what a route's attributes say.
-fn push_all(alloc: Global, text: &mut String, attributes: &Attributes) -> Result<(), AllocError> {
-    push_values(text, attributes)?;
-    push_path(alloc, text, attributes)?;
-    push_length(text, attributes)?;
-    push_communities(alloc, text, attributes)?;
-    push_found(text, attributes)?;
-    push_others(text, attributes)
+fn add_all(said: &mut Said, alloc: Global, attributes: &Attributes) {
+    add_values(said, attributes);
+    add_path(alloc, said, attributes);
+    add_length(said, attributes);
+    add_communities(alloc, said, attributes);
+    add_found(said, attributes);
+    add_others(said, attributes);
 }
 
-/// What the attributes of a route say.
-pub fn said(alloc: Global, section: &str) -> Result<String, Fail> {
-    let mut text = String::new(alloc);
-    push_all(alloc, &mut text, &route(alloc, section)?)?;
-    Ok(text)
+/// Appends what the attributes of a route say.
+pub fn say(said: &mut Said, alloc: Global, section: &str) {
+    match route(alloc, section) {
+        Some(attributes) => add_all(said, alloc, &attributes),
+        None => said.add("no route"),
+    }
 }
 
 // A message, with faults handled by RFC 7606 where RFC 4271 finds one.
@@ -155,13 +153,13 @@ fn read(alloc: Global, message: &[u8]) -> Result<Message, MessageFault> {
 }
 
 // The attributes of a route with these path attributes.
-fn route(alloc: Global, section: &str) -> Result<Attributes, Fail> {
-    standing(read(alloc, &update(alloc, "", section, "ROUTE")?))
+fn route(alloc: Global, section: &str) -> Option<Attributes> {
+    standing(read(alloc, update(alloc, "", section, "ROUTE").whole()?))
 }
 
 #[test]
 fn attributes_say_what_was_received(rt: HostRuntime) -> Result<(), Fail> {
-    check_rows(&rt, rt.alloc(), Topic::Route, ROUTES)
+    check_rows(rt.alloc(), Topic::Route, ROUTES)
 }
 
 // Path attributes as received, and as written.
@@ -200,43 +198,47 @@ ORIGIN 40010103 AS_PATH NEXT_HOP -> MANDATORY | so
 C0200107 40010101 AS_PATH C0200108 NEXT_HOP 40200109 80040400000007 80040400000008 -> 40010101 AS_PATH NEXT_HOP 80040400000007 E0200107 | so
 ";
 
-// What is written of a route with these path attributes.
-fn written(alloc: Global, section: &str) -> Result<Vec<u8>, Fail> {
-    let mut out = Vec::new(alloc);
-    write_attributes(&route(alloc, section)?, &mut out)?;
-    Ok(out)
+// Appends what is written of a route with these path attributes, where that is something else than what is wanted.
+fn add_other(said: &mut Said, alloc: Global, section: &str, wanted: Option<&[u8]>) {
+    let mut written = Vec::new(alloc);
+    let is_written = match route(alloc, section) {
+        Some(attributes) => write_attributes(&attributes, &mut written).is_ok(),
+        None => false,
+    };
+    if !is_written || Some(written.as_slice()) != wanted {
+        said.add(format_args!(", but {section} is {written:?}"));
+    }
 }
 
-/// Whether a route is written so, and once more as what was written; if it isn't, how it is.
-pub fn said_of_writing(alloc: Global, text: &str) -> Result<String, Fail> {
-    let (section, wanted) = text.split_once(" -> ").ok_or("an arrow")?;
-    let (first, second) = (written(alloc, section)?, written(alloc, wanted)?);
-    if first == second && first == spelled(alloc, wanted)? {
-        return Ok(String::from_str(alloc, "so")?);
-    }
-    Ok(format!(in alloc; "{first:?} {second:?}")?)
+/// Appends that a route is written so, and once more as what was written, or how it is.
+pub fn say_of_writing(said: &mut Said, alloc: Global, text: &str) {
+    let (section, wanted) = text.split_once(" -> ").unwrap_or((text, ""));
+    let octets = spelled(alloc, wanted);
+    said.add("so");
+    add_other(said, alloc, section, octets.whole());
+    add_other(said, alloc, wanted, octets.whole());
 }
 
 #[test]
 fn attributes_are_written_in_ascending_type(rt: HostRuntime) -> Result<(), Fail> {
-    check_rows(&rt, rt.alloc(), Topic::Written, WRITTEN)
+    check_rows(rt.alloc(), Topic::Written, WRITTEN)
 }
 
 // What is written of attributes of 20 octets behind an octet, and whether there is no more room for it than there was.
-fn written_behind(alloc: Global, attributes: &Attributes) -> Result<(Vec<u8>, bool), Fail> {
-    let mut out = Vec::with_capacity(alloc, 21)?;
-    out.push(7)?;
+fn written_behind(alloc: Global, attributes: &Attributes) -> Option<(Vec<u8>, bool)> {
+    let mut out = Vec::with_capacity(alloc, 21).ok()?;
+    out.push(7).ok()?;
     let room = out.capacity();
-    write_attributes(attributes, &mut out)?;
+    write_attributes(attributes, &mut out).ok()?;
     let is_same = out.capacity() == room;
-    Ok((out, is_same))
+    Some((out, is_same))
 }
 
 #[test]
 fn writing_needs_no_memory_where_there_is_room(rt: HostRuntime) -> Result<(), Fail> {
-    let alloc = rt.alloc();
-    let (written, is_same) = written_behind(alloc, &route(alloc, "MANDATORY")?)?;
-    check_octets(&rt, &written, &spelled(alloc, "07 MANDATORY")?);
-    assert!(rt; is_same);
+    let attributes = route(rt.alloc(), "MANDATORY").ok_or("a route")?;
+    let (written, is_same) = written_behind(rt.alloc(), &attributes).ok_or("memory")?;
+    let wanted = spelled(rt.alloc(), "07 MANDATORY");
+    assert_eq!(rt; (Some(written.as_slice()), is_same), (wanted.whole(), true));
     Ok(())
 }
