@@ -1,5 +1,5 @@
-//! Texts that are put together. Nothing is answered to a part, so that who adds many has one way on. Whether memory was
-//! refused is told at the end.
+//! Texts that are put together. No part that is added gives an answer, so a function that adds many has one way on. At
+//! the end `text` and `nothing` say whether memory was refused.
 
 use std::alloc::Global;
 use std::fmt::Display;
