@@ -1,8 +1,9 @@
-//! What no clause says: that calls succeed, texts, what configurations set up, runs whose outlet or report fails, and
-//! runs whose dumps are written beside each other. Whole files and the dumps that they give stand in the folder
+//! What no clause says: that calls succeed, texts, rows of answers, what configurations set up, runs whose outlet or
+//! report fails, and runs whose dumps are written beside each other. Whole files and the dumps that they give stand in the folder
 //! `cases`, command lines and configurations that are refused in `cases_refused`: the built program is run on both.
 
 mod outlet_ahead;
+mod rows;
 mod runs;
 mod runs_ahead;
 mod setups;

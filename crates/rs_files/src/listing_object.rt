@@ -3,158 +3,110 @@
 use crate::listing_lines::part_of;
 use crate::recorded_file::RecordedFile;
 use rs_inventory::{Inventory, Kind, Peer, PeerRecords, SessionTimes};
-use serde::Serialize;
+use rs_rows::RowWriter;
+use serde_json::Value;
 use std::alloc::{AllocError, Global};
 use std::net::Ipv4Addr;
 
-// The whole object.
-#[derive(Drop, Serialize)]
-struct Files<'a> {
-    files: Vec<File<'a>>,
-}
-
-// A file. A compressed one has no records, and one of another format has none of a known kind.
-#[derive(Drop, Serialize)]
-struct File<'a> {
-    file: &'a str,
-    compressed: Option<&'static str>,
-    format: Option<&'static str>,
-    first: Option<u32>,
-    last: Option<u32>,
-    records: Kinds,
-    ends_within: Option<Cut>,
-    peers: Vec<PeerRow>,
-}
-
-// How many records there are, in all and of each kind.
-#[derive(Drop, Serialize)]
-struct Kinds {
-    all: u64,
-    update: u64,
-    open: u64,
-    notification: u64,
-    keepalive: u64,
-    route_refresh: u64,
-    faulty: u64,
-    state_change: u64,
-    two_octet: u64,
-    add_path: u64,
-    ipv6: u64,
-    table_dump_v2: u64,
-    cut_short: u64,
-    other: u64,
-}
-
-// In which part of which record, counted from 1, a file ends, and at which octet, counted from 0, the record begins.
-#[derive(Drop, Serialize)]
-struct Cut {
-    record: u64,
-    part: &'static str,
-    octet: Option<u64>,
-}
-
-// A peer.
-#[derive(Drop, Serialize)]
-struct PeerRow {
-    address: String,
-    #[serde(rename = "as")]
-    asn: u32,
-    records: u64,
-    announced: u64,
-    withdrawn: u64,
-    faulty: u64,
-    identifiers: Vec<String>,
-    sessions: Vec<SessionRow>,
-}
-
-// A session.
-#[derive(Drop, Serialize)]
-struct SessionRow {
-    up: Option<u32>,
-    down: Option<u32>,
-}
+// The kinds of records by their keys.
+const KINDS: [(&str, Kind); 13] = [
+    ("update", Kind::Update),
+    ("open", Kind::Open),
+    ("notification", Kind::Notification),
+    ("keepalive", Kind::KeepAlive),
+    ("route_refresh", Kind::RouteRefresh),
+    ("faulty", Kind::Faulty),
+    ("state_change", Kind::StateChange),
+    ("two_octet", Kind::TwoOctet),
+    ("add_path", Kind::AddPath),
+    ("ipv6", Kind::Ipv6),
+    ("table_dump_v2", Kind::TableDumpV2),
+    ("cut_short", Kind::CutShort),
+    ("other", Kind::Other),
+];
 
 /// What each file holds, as one JSON object and a line break. Fails where memory is refused.
 pub fn as_json(alloc: Global, files: &[RecordedFile]) -> Result<String, AllocError> {
-    let mut rows = Vec::with_capacity(alloc, files.len())?;
-    for file in files {
-        rows.push(file_row(alloc, file)?)?;
-    }
-    let Ok(mut text) = serde_json::to_string(alloc, &Files { files: rows }) else {
-        return Err(AllocError);
-    };
-    text.push('\n')?;
-    Ok(text)
+    let mut object = RowWriter::object(alloc);
+    object.value("files", files_value(alloc, files));
+    object.end_row();
+    object.take()
 }
 
-// A file.
-fn file_row(alloc: Global, file: &RecordedFile) -> Result<File<'_>, AllocError> {
+// The files.
+fn files_value(alloc: Global, files: &[RecordedFile]) -> Result<Value, AllocError> {
+    let mut list = Vec::with_capacity(alloc, files.len())?;
+    for file in files {
+        list.push(file_value(alloc, file)?)?;
+    }
+    Ok(Value::Array(list))
+}
+
+// A file. A compressed one has no records, and one of another format has none of a known kind.
+fn file_value(alloc: Global, file: &RecordedFile) -> Result<Value, AllocError> {
     let inventory = &file.inventory;
-    Ok(File {
-        file: &file.path,
-        compressed: inventory
-            .compression()
-            .map(|compression| compression.name()),
-        format: file.format.map(|format| format.name()),
-        first: inventory.first(),
-        last: inventory.last(),
-        records: count_kinds(inventory),
-        ends_within: end_within(inventory),
-        peers: peer_rows(alloc, inventory)?,
-    })
+    let compressed = inventory
+        .compression()
+        .map(|compression| compression.name());
+    let mut object = RowWriter::object(alloc);
+    object.text("file", &file.path);
+    object.text_or("compressed", compressed, "");
+    object.text_or("format", file.format.map(|format| format.name()), "");
+    object.number_or_none("first", inventory.first());
+    object.number_or_none("last", inventory.last());
+    object.value("records", counts_value(alloc, inventory));
+    object.value("ends_within", cut_value(alloc, inventory));
+    object.value("peers", peers_value(alloc, inventory));
+    object.into_value()
+}
+
+// How many records there are, in all and of each kind.
+fn counts_value(alloc: Global, inventory: &Inventory) -> Result<Value, AllocError> {
+    let mut object = RowWriter::object(alloc);
+    object.number("all", inventory.records());
+    for (key, kind) in KINDS {
+        object.number(key, inventory.count_of(kind));
+    }
+    object.into_value()
+}
+
+// In which part of which record, counted from 1, a file ends, and at which octet, counted from 0, the record begins;
+// null where it ends with a record.
+fn cut_value(alloc: Global, inventory: &Inventory) -> Result<Value, AllocError> {
+    let Some(fault) = inventory.end() else {
+        return Ok(Value::Null);
+    };
+    let mut object = RowWriter::object(alloc);
+    object.number("record", inventory.records().saturating_add(1));
+    object.text("part", part_of(fault));
+    object.value("octet", Ok(Value::from(inventory.octets())));
+    object.into_value()
 }
 
 // The peers, in order.
-fn peer_rows(alloc: Global, inventory: &Inventory) -> Result<Vec<PeerRow>, AllocError> {
-    let mut rows = Vec::new(alloc);
+fn peers_value(alloc: Global, inventory: &Inventory) -> Result<Value, AllocError> {
+    let mut list = Vec::new(alloc);
     for (peer, records) in inventory.peers() {
-        rows.push(peer_row(alloc, *peer, records)?)?;
+        list.push(peer_value(alloc, *peer, records)?)?;
     }
-    Ok(rows)
-}
-
-// How many records there are.
-fn count_kinds(inventory: &Inventory) -> Kinds {
-    Kinds {
-        all: inventory.records(),
-        update: inventory.count_of(Kind::Update),
-        open: inventory.count_of(Kind::Open),
-        notification: inventory.count_of(Kind::Notification),
-        keepalive: inventory.count_of(Kind::KeepAlive),
-        route_refresh: inventory.count_of(Kind::RouteRefresh),
-        faulty: inventory.count_of(Kind::Faulty),
-        state_change: inventory.count_of(Kind::StateChange),
-        two_octet: inventory.count_of(Kind::TwoOctet),
-        add_path: inventory.count_of(Kind::AddPath),
-        ipv6: inventory.count_of(Kind::Ipv6),
-        table_dump_v2: inventory.count_of(Kind::TableDumpV2),
-        cut_short: inventory.count_of(Kind::CutShort),
-        other: inventory.count_of(Kind::Other),
-    }
-}
-
-// Where a file ends within a record.
-fn end_within(inventory: &Inventory) -> Option<Cut> {
-    let fault = inventory.end()?;
-    Some(Cut {
-        record: inventory.records().saturating_add(1),
-        part: part_of(fault),
-        octet: inventory.octets(),
-    })
+    Ok(Value::Array(list))
 }
 
 // A peer.
-fn peer_row(alloc: Global, peer: Peer, records: &PeerRecords) -> Result<PeerRow, AllocError> {
-    Ok(PeerRow {
-        address: Ipv4Addr::from_bits(peer.address).to_string(alloc)?,
-        asn: peer.asn,
-        records: records.records(),
-        announced: records.announced(),
-        withdrawn: records.withdrawn(),
-        faulty: records.faulty(),
-        identifiers: identifier_texts(alloc, records.identifiers())?,
-        sessions: session_rows(alloc, records.sessions())?,
-    })
+fn peer_value(alloc: Global, peer: Peer, records: &PeerRecords) -> Result<Value, AllocError> {
+    let mut object = RowWriter::object(alloc);
+    object.shown("address", &Ipv4Addr::from_bits(peer.address));
+    object.number("as", u64::from(peer.asn));
+    object.number("records", records.records());
+    object.number("announced", records.announced());
+    object.number("withdrawn", records.withdrawn());
+    object.number("faulty", records.faulty());
+    object.list(
+        "identifiers",
+        identifier_texts(alloc, records.identifiers()),
+    );
+    object.value("sessions", sessions_value(alloc, records.sessions()));
+    object.into_value()
 }
 
 // The BGP Identifiers, in order.
@@ -167,11 +119,13 @@ fn identifier_texts(alloc: Global, identifiers: &[u32]) -> Result<Vec<String>, A
 }
 
 // The sessions, in order.
-fn session_rows(alloc: Global, sessions: &[SessionTimes]) -> Result<Vec<SessionRow>, AllocError> {
-    let mut rows = Vec::new(alloc);
+fn sessions_value(alloc: Global, sessions: &[SessionTimes]) -> Result<Value, AllocError> {
+    let mut list = Vec::with_capacity(alloc, sessions.len())?;
     for session in sessions {
-        let SessionTimes { up, down } = *session;
-        rows.push(SessionRow { up, down })?;
+        let mut object = RowWriter::object(alloc);
+        object.number_or_none("up", session.up);
+        object.number_or_none("down", session.down);
+        list.push(object.into_value()?)?;
     }
-    Ok(rows)
+    Ok(Value::Array(list))
 }

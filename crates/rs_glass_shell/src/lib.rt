@@ -3,17 +3,16 @@
 //! All of it is our choice, but for JSON (RFC 8259) and TOML 1.0.
 //!
 //! Reading order: `setup` (the peer that a word names). `serving` (how tables are built). `reply` (an answer).
-//! `unanswered` and `lines` (why there is none). `writing` (a file that is written whole). `columns`, `names`,
-//! `reasons` and `route_text` (texts). `reason_object` and `route_object` (JSON). `toml_text` (TOML).
+//! `unanswered` and `lines` (why there is none). `writing` (a file that is written whole). `names`, `reasons` and
+//! `route_text` (texts). `reason_fields` and `route_fields` (fields of rows). `toml_text` (TOML).
 #![tactic(auto)]
 
-mod columns;
 mod lines;
 mod names;
-mod reason_object;
+mod reason_fields;
 mod reasons;
 mod reply;
-mod route_object;
+mod route_fields;
 mod route_text;
 mod serving;
 mod setup;
@@ -21,18 +20,20 @@ mod toml_text;
 mod unanswered;
 mod writing;
 
-pub use columns::{add_cell, add_sentence, add_words, fill_cell};
 pub use lines::{PROGRAM, line};
-pub use names::{add_gets, asn_at, best_name, name_at, name_width, names_text, prefix_text};
-pub use reason_object::{name_of, put_condition, put_refusal, put_removal, put_text, step_key};
+pub use names::{
+    PrefixText, add_gets, asn_at, name_at, name_width, names_text, peer_name, prefix_text,
+};
+pub use reason_fields::{hand_peer, hand_reason};
 pub use reasons::{
-    add_lost, answer_name, close_text, condition_text, lost_text, origin_name, refused_text,
+    Because, NEXT_HOP_OFF_EXCHANGE, REFUSED_BY_COMMUNITY, REFUSED_BY_NAME,
+    SERVER_ADDRESS_AS_NEXT_HOP, SERVER_AS_IN_PATH, STEPS, answer_name, close_text, origin_name,
+    reason_key, step_key, step_name,
 };
 pub use reply::{Reply, answer_until};
-pub use route_object::{put_large_communities, put_route_attributes};
+pub use route_fields::{hand_attributes, hand_route};
 pub use route_text::{
-    LARGE_COMMUNITY, add_large_communities, add_route, communities_text, hex_text,
-    large_communities_text, path_text,
+    LARGE_COMMUNITY, attributes_text, community_texts, hex_text, large_community_texts, path_text,
 };
 pub use serving::served;
 pub use setup::{peer_named, peer_of_name};

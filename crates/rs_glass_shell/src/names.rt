@@ -3,6 +3,7 @@
 use rs_choice::Exchange;
 use rs_update::Prefix;
 use std::alloc::{AllocError, Global};
+use std::fmt;
 use std::net::Ipv4Addr;
 
 /// The name of the peer of a number; none where there is no such peer.
@@ -32,10 +33,20 @@ pub fn name_width(plan: &Exchange, title: &str) -> usize {
     longest.saturating_add(2)
 }
 
-/// A prefix as it is written: address, slash, length. Fails where memory is refused.
+/// A prefix as it is written: address, slash, length.
+#[derive(Clone, Copy, Debug, PartialEq, Eq, Drop)]
+pub struct PrefixText(pub Prefix);
+
+impl fmt::Display for PrefixText {
+    fn fmt<W: fmt::Write>(&self, f: &mut fmt::Formatter<W>) -> fmt::Result {
+        let (address, len) = (Ipv4Addr::from_bits(self.0.address()), self.0.len());
+        write!(f, "{address}/{len}")
+    }
+}
+
+/// The same as a text. Fails where memory is refused.
 pub fn prefix_text(alloc: Global, prefix: Prefix) -> Result<String, AllocError> {
-    let (address, len) = (Ipv4Addr::from_bits(prefix.address()), prefix.len());
-    format!(in alloc; "{address}/{len}")
+    PrefixText(prefix).to_string(alloc)
 }
 
 /// The names of peers, with commas between them. Fails where memory is refused.
@@ -58,23 +69,23 @@ pub fn add_gets(
     prefix: Prefix,
 ) -> Result<(), AllocError> {
     let (name, asn) = (name_at(plan, client), asn_at(plan, client));
-    let (address, len) = (Ipv4Addr::from_bits(prefix.address()), prefix.len());
+    let prefix = PrefixText(prefix);
     match best {
         Some(peer) => {
             let best = name_at(plan, peer);
             write!(
                 text,
-                "{name} (AS {asn}) gets the route of {best} to {address}/{len}"
+                "{name} (AS {asn}) gets the route of {best} to {prefix}"
             )
         }
-        None => write!(text, "{name} (AS {asn}) gets no route to {address}/{len}"),
+        None => write!(text, "{name} (AS {asn}) gets no route to {prefix}"),
     }
 }
 
-/// The name of the peer whose route a client gets.
-pub fn best_name(plan: &Exchange, best: Option<usize>) -> &str {
-    match best {
-        Some(peer) => name_at(plan, peer),
-        None => "none",
+/// The name of a peer, if there is one.
+pub fn peer_name(plan: &Exchange, peer: Option<usize>) -> Option<&str> {
+    match peer {
+        Some(peer) => Some(name_at(plan, peer)),
+        None => None,
     }
 }

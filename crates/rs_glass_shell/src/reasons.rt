@@ -1,12 +1,28 @@
-//! The reasons of answers, as texts.
+//! The reasons of answers: their keys, and their texts.
 
-use crate::names::name_at;
+use crate::names::{PrefixText, name_at};
 use rs_choice::{Exchange, Standing, Step};
 use rs_explain::{Condition, Explanation, Refusal, Removal};
 use rs_session::Reason;
 use rs_update::Origin;
 use std::alloc::{AllocError, Global};
+use std::fmt;
 use std::net::Ipv4Addr;
+
+/// The key of a route that is not eligible, since AS_PATH has the server's AS.
+pub const SERVER_AS_IN_PATH: &str = "server_as_in_path";
+
+/// The key of a route that is not eligible, since NEXT_HOP is the server's address.
+pub const SERVER_ADDRESS_AS_NEXT_HOP: &str = "server_address_as_next_hop";
+
+/// The key of a route that is not eligible, since NEXT_HOP is off the subnet of the exchange.
+pub const NEXT_HOP_OFF_EXCHANGE: &str = "next_hop_off_exchange";
+
+/// The key of a route that the client refuses by the name of its sender.
+pub const REFUSED_BY_NAME: &str = "name";
+
+/// The key of a route that a community refuses.
+pub const REFUSED_BY_COMMUNITY: &str = "community";
 
 /// The name of an answer.
 pub fn answer_name(explanation: &Explanation) -> &'static str {
@@ -17,6 +33,50 @@ pub fn answer_name(explanation: &Explanation) -> &'static str {
         Explanation::Refused(_) => "refused",
         Explanation::Best(_) => "best",
         Explanation::Lost(_) => "lost",
+    }
+}
+
+/// The key of the reason for which a client does not get a route; empty for another answer.
+pub fn reason_key(explanation: &Explanation) -> &'static str {
+    match explanation {
+        Explanation::Ineligible(Condition::OwnAs(_)) => SERVER_AS_IN_PATH,
+        Explanation::Ineligible(Condition::ServerAsNextHop(_)) => SERVER_ADDRESS_AS_NEXT_HOP,
+        Explanation::Ineligible(Condition::NextHopOffExchange(_)) => NEXT_HOP_OFF_EXCHANGE,
+        Explanation::Refused(Refusal::ByName) => REFUSED_BY_NAME,
+        Explanation::Refused(_) => REFUSED_BY_COMMUNITY,
+        Explanation::Lost(removal) => step_key(removal.step),
+        _ => "",
+    }
+}
+
+/// The steps of the decision process, in their order.
+pub const STEPS: [Step; 6] = [
+    Step::Preference,
+    Step::PathLength,
+    Step::Origin,
+    Step::Med,
+    Step::Identifier,
+    Step::Address,
+];
+
+/// The key of a step.
+pub fn step_key(step: Step) -> &'static str {
+    match step {
+        Step::Preference => "preference",
+        Step::PathLength => "path_length",
+        Step::Origin => "origin",
+        Step::Med => "med",
+        Step::Identifier => "identifier",
+        Step::Address => "address",
+    }
+}
+
+/// What a step compares, as a text has it.
+pub fn step_name(step: Step) -> &'static str {
+    match step {
+        Step::PathLength => "path length",
+        Step::Med => "MED",
+        _ => step_key(step),
     }
 }
 
@@ -40,117 +100,105 @@ pub fn close_text(alloc: Global, reason: Reason) -> Result<String, AllocError> {
     }
 }
 
-/// The community that refuses a route. Fails where memory is refused.
-pub fn community_text(alloc: Global, refusal: Refusal) -> Result<Option<String>, AllocError> {
-    match refusal {
-        Refusal::ByName => Ok(None),
-        Refusal::ToClient(asn) => Ok(Some(format!(in alloc; "0:{asn}")?)),
-        Refusal::ToAll(asn) => Ok(Some(format!(in alloc; "0:{asn}")?)),
+// What a step of the decision process compares of a candidate.
+#[derive(Clone, Copy)]
+struct Compared(Step, Standing);
+
+impl fmt::Display for Compared {
+    fn fmt<W: fmt::Write>(&self, f: &mut fmt::Formatter<W>) -> fmt::Result {
+        let standing = &self.1;
+        let number = match self.0 {
+            Step::Preference => standing.preference,
+            Step::PathLength => standing.path_length,
+            Step::Med => standing.med,
+            Step::Origin => return f.write_str(origin_name(standing.origin)),
+            Step::Identifier => return write_address(f, standing.id),
+            Step::Address => return write_address(f, standing.address),
+        };
+        write!(f, "{number}")
     }
 }
 
-// Adds what a step asks of a candidate.
-fn add_standing(text: &mut String, step: Step, standing: &Standing) -> Result<(), AllocError> {
-    let Standing {
-        preference,
-        path_length,
-        origin,
-        med,
-        id,
-        address,
-        ..
-    } = *standing;
-    match step {
-        Step::Preference => write!(text, "{preference}"),
-        Step::PathLength => write!(text, "{path_length}"),
-        Step::Origin => text.push_str(origin_name(origin)),
-        Step::Med => write!(text, "{med}"),
-        Step::Identifier => add_address(text, id),
-        Step::Address => add_address(text, address),
-    }
-}
-
-// Adds an address as it is written.
-fn add_address(text: &mut String, address: u32) -> Result<(), AllocError> {
+// Writes an address.
+fn write_address<W: fmt::Write>(f: &mut fmt::Formatter<W>, address: u32) -> fmt::Result {
     let address = Ipv4Addr::from_bits(address);
-    write!(text, "{address}")
+    write!(f, "{address}")
 }
 
-// What a step compares.
-fn step_name(step: Step) -> &'static str {
-    match step {
-        Step::Preference => "preference",
-        Step::PathLength => "path length",
-        Step::Origin => "origin",
-        Step::Med => "MED",
-        Step::Identifier => "identifier",
-        Step::Address => "address",
+/// Why a client does not get the route of a peer, as a text: the condition, the rule, or the step with its value and
+/// that of the route that beat it. Nothing for another answer.
+#[derive(Clone, Copy)]
+pub struct Because<'a> {
+    /// The exchange, whose peers are named.
+    pub plan: &'a Exchange,
+    /// The number of the client.
+    pub client: usize,
+    /// The number of the peer.
+    pub peer: usize,
+    /// The answer, with its reason.
+    pub explanation: &'a Explanation,
+}
+
+impl fmt::Display for Because<'_> {
+    fn fmt<W: fmt::Write>(&self, f: &mut fmt::Formatter<W>) -> fmt::Result {
+        let plan = self.plan;
+        match self.explanation {
+            Explanation::Ineligible(condition) => write_condition(f, plan, *condition),
+            Explanation::Refused(Refusal::ByName) => {
+                let (client, peer) = (name_at(plan, self.client), name_at(plan, self.peer));
+                write!(f, "{client} refuses routes from {peer}")
+            }
+            Explanation::Refused(Refusal::ToClient(asn)) => write_community(f, *asn),
+            Explanation::Refused(Refusal::ToAll(asn)) => write_community(f, *asn),
+            Explanation::Lost(removal) => write_removal(f, plan, removal),
+            _ => Ok(()),
+        }
     }
 }
 
-/// At which step a route was removed, with its value and that of the one that beat it. Fails where memory is refused.
-pub fn lost_text(alloc: Global, plan: &Exchange, removal: &Removal) -> Result<String, AllocError> {
-    let mut text = String::new(alloc);
-    add_lost(&mut text, plan, removal)?;
-    Ok(text)
+// Writes the community that refuses a route.
+fn write_community<W: fmt::Write>(f: &mut fmt::Formatter<W>, asn: u32) -> fmt::Result {
+    write!(f, "community 0:{asn}")
 }
 
-/// Adds the same to a text. Fails where memory is refused.
-pub fn add_lost(text: &mut String, plan: &Exchange, removal: &Removal) -> Result<(), AllocError> {
-    let (step, loser, rival) = (removal.step, &removal.loser, &removal.rival);
-    text.push_str(step_name(step))?;
-    text.push(' ')?;
-    add_standing(text, step, &loser.standing)?;
-    text.push_str(", ")?;
-    text.push_str(name_at(plan, rival.peer))?;
-    text.push_str(" has ")?;
-    add_standing(text, step, &rival.standing)?;
-    if let Step::Med = step {
-        let neighbour = rival.standing.neighbour;
-        write!(text, " (neighbour AS {neighbour})")?;
-    }
-    Ok(())
-}
-
-/// The condition of eligibility that fails. Fails where memory is refused.
-pub fn condition_text(
-    alloc: Global,
+// Writes the condition of eligibility that fails.
+fn write_condition<W: fmt::Write>(
+    f: &mut fmt::Formatter<W>,
     plan: &Exchange,
     condition: Condition,
-) -> Result<String, AllocError> {
+) -> fmt::Result {
     match condition {
-        Condition::OwnAs(asn) => format!(in alloc; "AS_PATH has the server's AS {asn}"),
+        Condition::OwnAs(asn) => write!(f, "AS_PATH has the server's AS {asn}"),
         Condition::ServerAsNextHop(address) => {
             let address = Ipv4Addr::from_bits(address);
-            format!(in alloc; "NEXT_HOP {address} is the server's address")
+            write!(f, "NEXT_HOP {address} is the server's address")
         }
         Condition::NextHopOffExchange(address) => {
             let address = Ipv4Addr::from_bits(address);
             match plan.local().subnet {
                 Some(subnet) => {
-                    let network = Ipv4Addr::from_bits(subnet.address());
-                    let len = subnet.len();
-                    format!(in alloc; "NEXT_HOP {address} is not in {network}/{len}")
+                    let subnet = PrefixText(subnet);
+                    write!(f, "NEXT_HOP {address} is not in {subnet}")
                 }
-                None => format!(in alloc; "NEXT_HOP {address}"),
+                None => write!(f, "NEXT_HOP {address}"),
             }
         }
     }
 }
 
-/// The rule that refuses a route. Fails where memory is refused.
-pub fn refused_text(
-    alloc: Global,
+// Writes at which step a route was removed, with its value and that of the one that beat it.
+fn write_removal<W: fmt::Write>(
+    f: &mut fmt::Formatter<W>,
     plan: &Exchange,
-    client: usize,
-    peer: usize,
-    refusal: Refusal,
-) -> Result<String, AllocError> {
-    match community_text(alloc, refusal)? {
-        Some(community) => format!(in alloc; "community {community}"),
-        None => {
-            let (client, peer) = (name_at(plan, client), name_at(plan, peer));
-            format!(in alloc; "{client} refuses routes from {peer}")
-        }
+    removal: &Removal,
+) -> fmt::Result {
+    let (step, rival) = (step_name(removal.step), name_at(plan, removal.rival.peer));
+    let value = Compared(removal.step, removal.loser.standing);
+    let rival_value = Compared(removal.step, removal.rival.standing);
+    write!(f, "{step} {value}, {rival} has {rival_value}")?;
+    if let Step::Med = removal.step {
+        let neighbour = removal.rival.standing.neighbour;
+        return write!(f, " (neighbour AS {neighbour})");
     }
+    Ok(())
 }

@@ -2,135 +2,98 @@
 
 ghost use Rattle.std.specs.Prelude.{◌<◌};
 
-use crate::csv_row::{CsvRow, add_csv_titles};
-use crate::layout::{Layout, add_json_line};
-use crate::missing_row::ANSWER_WIDTH;
+use crate::layout::{ANSWER_WIDTH, AS_WIDTH};
 use crate::wanted::Wanted;
-use rs_choice::Step;
-use rs_glass_shell::{add_cell, put_text};
-use rs_query::Form;
+use rs_choice::{Exchange, Step};
+use rs_glass_shell::{
+    NEXT_HOP_OFF_EXCHANGE, REFUSED_BY_COMMUNITY, REFUSED_BY_NAME, SERVER_ADDRESS_AS_NEXT_HOP,
+    SERVER_AS_IN_PATH, hand_peer, name_width, step_key,
+};
+use rs_rows::{Column, Form, RowWriter};
 use rs_survey::{Finding, Flaw, MissingReason, Tally};
-use serde_json::{Map, Value, put};
 use std::alloc::{AllocError, Global};
 
 // How wide the column of reasons is.
 const REASON_WIDTH: usize = 28;
 
-// The titles of CSV.
-const TITLES: [&str; 5] = ["peer", "as", "answer", "reason", "routes"];
-
-// A reason by its answer, its name as a key, and as it is counted.
-type Reason = (&'static str, &'static str, MissingReason);
+// The columns, with that of peers so wide.
+fn count_columns(names: usize) -> [Column; 5] {
+    [
+        Column::new("peer", "peer", names),
+        Column::new("as", "AS", AS_WIDTH),
+        Column::new("answer", "answer", ANSWER_WIDTH),
+        Column::new("reason", "reason", REASON_WIDTH),
+        Column::new("routes", "routes", 0),
+    ]
+}
 
 // The reasons, in the order in which they are listed.
-const REASONS: [Reason; 11] = [
-    (
-        "ineligible",
-        "server_as_in_path",
-        MissingReason::Ineligible(Flaw::OwnAs),
-    ),
-    (
-        "ineligible",
-        "server_address_as_next_hop",
-        MissingReason::Ineligible(Flaw::ServerAsNextHop),
-    ),
-    (
-        "ineligible",
-        "next_hop_off_exchange",
-        MissingReason::Ineligible(Flaw::NextHopOffExchange),
-    ),
-    ("refused", "name", MissingReason::RefusedByName),
-    ("refused", "community", MissingReason::RefusedByCommunity),
-    ("lost", "preference", MissingReason::Lost(Step::Preference)),
-    ("lost", "path_length", MissingReason::Lost(Step::PathLength)),
-    ("lost", "origin", MissingReason::Lost(Step::Origin)),
-    ("lost", "med", MissingReason::Lost(Step::Med)),
-    ("lost", "identifier", MissingReason::Lost(Step::Identifier)),
-    ("lost", "address", MissingReason::Lost(Step::Address)),
+const REASONS: [MissingReason; 11] = [
+    MissingReason::Ineligible(Flaw::OwnAs),
+    MissingReason::Ineligible(Flaw::ServerAsNextHop),
+    MissingReason::Ineligible(Flaw::NextHopOffExchange),
+    MissingReason::RefusedByName,
+    MissingReason::RefusedByCommunity,
+    MissingReason::Lost(Step::Preference),
+    MissingReason::Lost(Step::PathLength),
+    MissingReason::Lost(Step::Origin),
+    MissingReason::Lost(Step::Med),
+    MissingReason::Lost(Step::Identifier),
+    MissingReason::Lost(Step::Address),
 ];
 
-// The counts, a line for each sender and reason that are wanted and of which there are routes.
+// The name of a reason's answer, and the key of the reason.
+fn names_of(reason: MissingReason) -> (&'static str, &'static str) {
+    match reason {
+        MissingReason::Ineligible(Flaw::OwnAs) => ("ineligible", SERVER_AS_IN_PATH),
+        MissingReason::Ineligible(Flaw::ServerAsNextHop) => {
+            ("ineligible", SERVER_ADDRESS_AS_NEXT_HOP)
+        }
+        MissingReason::Ineligible(Flaw::NextHopOffExchange) => {
+            ("ineligible", NEXT_HOP_OFF_EXCHANGE)
+        }
+        MissingReason::RefusedByName => ("refused", REFUSED_BY_NAME),
+        MissingReason::RefusedByCommunity => ("refused", REFUSED_BY_COMMUNITY),
+        MissingReason::Lost(step) => ("lost", step_key(step)),
+    }
+}
+
+// The counts, a row for each sender and reason that are wanted and of which there are routes.
 pub(crate) fn counts_text(
     alloc: Global,
-    layout: &Layout,
+    plan: &Exchange,
+    form: Form,
     wanted: Wanted<'_>,
     counts: &Tally,
 ) -> Result<String, AllocError> {
-    let mut text = String::new(alloc);
-    add_count_titles(&mut text, alloc, layout)?;
+    let columns = count_columns(name_width(plan, "peer"));
+    let mut rows = RowWriter::new(alloc, form, &columns);
+    rows.titles();
     for peer in 0..counts.peers() {
-        add_sender(&mut text, alloc, layout, wanted, counts, peer)?;
+        hand_sender(&mut rows, plan, wanted, counts, peer);
     }
-    Ok(text)
+    rows.take()
 }
 
-// Adds the lines of a sender.
-fn add_sender(
-    text: &mut String,
-    alloc: Global,
-    layout: &Layout,
+// Hands over the rows of a sender.
+fn hand_sender(
+    rows: &mut RowWriter<'_>,
+    plan: &Exchange,
     wanted: Wanted<'_>,
     counts: &Tally,
     peer: usize,
-) -> Result<(), AllocError>
+)
     requires { peer < counts.now.peers }
 {
-    for (answer, key, reason) in &REASONS {
-        let count = counts.count(Finding::Missing(peer, *reason));
+    for reason in REASONS {
+        let count = counts.count(Finding::Missing(peer, reason));
+        let (answer, key) = names_of(reason);
         if count > 0 && wanted.asks_for(peer, answer, key) {
-            add_count(text, alloc, layout, peer, (*answer, *key, count))?;
-        }
-    }
-    Ok(())
-}
-
-// Adds the line of titles, where the form has one.
-fn add_count_titles(text: &mut String, alloc: Global, layout: &Layout) -> Result<(), AllocError> {
-    match layout.form {
-        Form::Text => {
-            layout.add_sender_titles(text)?;
-            add_cell(text, "answer", ANSWER_WIDTH)?;
-            add_cell(text, "reason", REASON_WIDTH)?;
-            text.push_str("routes\n")
-        }
-        Form::Csv => add_csv_titles(text, alloc, &TITLES),
-        Form::Json => Ok(()),
-    }
-}
-
-// Adds the line of a sender and a reason.
-fn add_count(
-    text: &mut String,
-    alloc: Global,
-    layout: &Layout,
-    peer: usize,
-    (answer, reason, count): (&str, &str, u64),
-) -> Result<(), AllocError> {
-    match layout.form {
-        Form::Text => {
-            layout.add_sender(text, peer)?;
-            add_cell(text, answer, ANSWER_WIDTH)?;
-            add_cell(text, reason, REASON_WIDTH)?;
-            writeln!(text, "{count}")
-        }
-        Form::Csv => {
-            let (asn, count) = (layout.asn(peer).to_string(alloc)?, count.to_string(alloc)?);
-            let mut row = CsvRow::new(alloc);
-            row.add(layout.name(peer))?;
-            row.add(&asn)?;
-            row.add(answer)?;
-            row.add(reason)?;
-            row.add(&count)?;
-            row.add_to(text)
-        }
-        Form::Json => {
-            let mut object = Map::new(alloc);
-            put_text(&mut object, alloc, "peer", layout.name(peer))?;
-            put(&mut object, alloc, "as", Value::from(layout.asn(peer)))?;
-            put_text(&mut object, alloc, "answer", answer)?;
-            put_text(&mut object, alloc, "reason", reason)?;
-            put(&mut object, alloc, "routes", Value::from(count))?;
-            add_json_line(text, alloc, object)
+            hand_peer(rows, plan, peer);
+            rows.text("answer", answer);
+            rows.text("reason", key);
+            rows.number("routes", count);
+            rows.end_row();
         }
     }
 }

@@ -3,16 +3,16 @@
 ghost use Rattle.std.specs.Prelude.{◌≡◌, length};
 
 use crate::diff_row::{
-    CHANGES, Sides, add_count, add_count_titles, add_diff_rows, add_diff_titles, change_of,
+    CHANGES, Sides, change_columns, change_of, diff_columns, hand_count, hand_difference,
 };
-use crate::layout::Layout;
-use crate::list_answering::print_page;
+use crate::list_answering::print_rows;
 use rs_choice::Exchange;
 use rs_glass_shell::{
-    PROGRAM, Reply, Unanswered, answer_until, name_at, peer_named, peer_of_name, served,
+    PROGRAM, Reply, Unanswered, answer_until, name_at, name_width, peer_named, peer_of_name, served,
 };
 use rs_host::{DONE, FAILED, REFUSED, configuration, read_arguments};
-use rs_query::{DiffQuery, Form};
+use rs_query::DiffQuery;
+use rs_rows::{Column, RowWriter};
 use rs_setup::Setup;
 use rs_survey::Differences;
 use rs_table::Tables;
@@ -50,9 +50,9 @@ where
 {
     let old = configuration(rt, &query.old.config)?;
     let new = configuration(rt, &query.new.config)?;
-    let page = compared(rt, &old, &new, query)?;
-    let mut reply = answer_until(page.text, new, query.new.until);
-    reply.status = if page.differs { DIFFERS } else { DONE };
+    let (text, differs) = compared(rt, &old, &new, query)?;
+    let mut reply = answer_until(text, new, query.new.until);
+    reply.status = if differs { DIFFERS } else { DONE };
     Ok(reply)
 }
 
@@ -62,7 +62,7 @@ fn compared<R: AllocGlobal + Files + Threads + Wait + Sync + Print>(
     old: &Setup,
     new: &Setup,
     query: &DiffQuery,
-) -> Result<Page, Unanswered>
+) -> Result<(String, bool), Unanswered>
 where
     R::File: Send,
     requires old { length old.now.files.items ≡ length old.now.plan.value.peers }
@@ -71,88 +71,71 @@ where
     let clients = clients(rt, old, new, &query.client)?;
     let before = served(rt, old, &query.old)?;
     let after = served(rt, new, &query.new)?;
-    let mut page = Page {
-        text: String::new(rt.alloc()),
-        differs: false,
-    };
-    let (old_tables, new_tables) = (before.tables(), after.tables());
-    let all = sides(old_tables.plan(), new_tables.plan(), "", query.form);
-    if query.count {
-        add_count_titles(&mut page.text, rt.alloc(), &all)?;
-    } else {
-        add_diff_titles(&mut page.text, rt.alloc(), &all)?;
-    }
-    for client in &clients {
-        add_client(rt, &mut page, old_tables, new_tables, client, query)?;
-    }
-    Ok(page)
+    listed(rt, before.tables(), after.tables(), &clients, query)
 }
 
-// What is gathered of the list, and whether something differs.
-#[derive(Drop)]
-struct Page {
-    text: String,
-    differs: bool,
-}
-
-// How the differences of a client are laid out.
-fn sides<'a>(old: &'a Exchange, new: &'a Exchange, client: &'a str, form: Form) -> Sides<'a> {
-    let (mut old, mut new) = (Layout::new(old, 0, form), Layout::new(new, 0, form));
-    let names = old.names.max(new.names);
-    old.names = names;
-    new.names = names;
-    Sides {
-        client,
-        clients: names.max(CLIENT_WIDTH),
-        old,
-        new,
-        form,
+// The same, of the tables of both.
+fn listed<R: AllocGlobal + Print>(
+    rt: &R,
+    old: &Tables,
+    new: &Tables,
+    clients: &[Client<'_>],
+    query: &DiffQuery,
+) -> Result<(String, bool), Unanswered> {
+    let names = name_width(old.plan(), "peer").max(name_width(new.plan(), "peer"));
+    let width = names.max(CLIENT_WIDTH);
+    let (rows, counts) = (diff_columns(names, width), change_columns(width));
+    let columns: &[Column] = if query.count { &counts } else { &rows };
+    let mut rows = RowWriter::new(rt.alloc(), query.form, columns);
+    rows.titles();
+    let mut differs = false;
+    for client in clients {
+        differs = add_client(rt, &mut rows, old, new, client, query.count)? || differs;
     }
+    Ok((rows.take()?, differs))
 }
 
-// Adds the differences of a client, or how many there are.
+// Adds the differences of a client, or how many there are. Answers whether there is any.
 fn add_client<R: AllocGlobal + Print>(
     rt: &R,
-    page: &mut Page,
+    rows: &mut RowWriter<'_>,
     old: &Tables,
     new: &Tables,
     client: &Client<'_>,
-    query: &DiffQuery,
-) -> Result<(), Unanswered> {
-    let sides = sides(old.plan(), new.plan(), client.name, query.form);
+    count: bool,
+) -> Result<bool, Unanswered> {
+    let sides = Sides {
+        client: client.name,
+        old: old.plan(),
+        new: new.plan(),
+    };
     let differences = Differences::new(rt.alloc(), old, client.old, new, client.new)?;
-    if query.count {
-        add_counts(rt, page, differences, &sides)
-    } else {
-        add_rows(rt, page, differences, &sides)
+    if count {
+        return Ok(hand_counts(rows, differences, &sides));
     }
+    add_rows(rt, rows, differences, &sides)
 }
 
 // Adds them.
 fn add_rows<R: AllocGlobal + Print>(
     rt: &R,
-    page: &mut Page,
+    rows: &mut RowWriter<'_>,
     differences: Differences<'_>,
     sides: &Sides<'_>,
-) -> Result<(), Unanswered> {
+) -> Result<bool, Unanswered> {
+    let mut differs = false;
     for one in differences {
-        page.differs = true;
-        add_diff_rows(&mut page.text, rt.alloc(), sides, &one)?;
-        print_page(rt, &mut page.text)?;
+        differs = true;
+        hand_difference(rows, sides, &one);
+        print_rows(rt, rows)?;
     }
-    Ok(())
+    Ok(differs)
 }
 
-// Adds how many there are of each kind.
-fn add_counts<R: AllocGlobal + Print>(
-    rt: &R,
-    page: &mut Page,
-    differences: Differences<'_>,
-    sides: &Sides<'_>,
-) -> Result<(), Unanswered> {
+// Hands over how many there are of each kind.
+fn hand_counts(rows: &mut RowWriter<'_>, differences: Differences<'_>, sides: &Sides<'_>) -> bool {
     let mut counts = [0; 4];
     for one in differences {
-        page.differs = true;
         let change = change_of(sides, &one);
         for (place, kind) in CHANGES.iter().enumerate() {
             if *kind == change {
@@ -162,10 +145,10 @@ fn add_counts<R: AllocGlobal + Print>(
     }
     for (place, kind) in CHANGES.iter().enumerate() {
         if counts[place] > 0 {
-            add_count(&mut page.text, rt.alloc(), sides, *kind, counts[place])?;
+            hand_count(rows, sides.client, *kind, counts[place]);
         }
     }
-    print_page(rt, &mut page.text)
+    counts.iter().any(|count| *count > 0)
 }
 
 // One more.

@@ -1,37 +1,47 @@
-//! A difference between two tables, as rows of a list.
+//! A difference between two tables, as rows of a list: in JSON one, and else one for the old route and one for the new.
 
-use crate::csv_row::{CsvRow, add_csv_titles};
-use crate::layout::{Layout, add_json_line};
-use crate::table_row::{add_route_fields, put_route};
-use rs_glass_shell::{add_cell, add_large_communities, add_route, prefix_text, put_text};
-use rs_query::Form;
+use crate::layout::{ANSWER_WIDTH, AS_WIDTH, PREFIX_WIDTH};
+use rs_choice::Exchange;
+use rs_glass_shell::{PrefixText, hand_route, name_at};
+use rs_rows::{Column, Form, RowWriter};
 use rs_survey::Choices;
 use rs_table::Route;
-use serde_json::{Map, Value, put};
+use serde_json::Value;
 use std::alloc::{AllocError, Global};
 
-// How wide the columns of clients and of changes are.
-const CHANGE_WIDTH: usize = 12;
+// How wide the mark before an old and a new route is.
+const MARK_WIDTH: usize = 2;
 
-// The titles of CSV.
-const TITLES: [&str; 13] = [
-    "client",
-    "prefix",
-    "change",
-    "side",
-    "peer",
-    "as",
-    "time",
-    "next_hop",
-    "path",
-    "origin",
-    "med",
-    "communities",
-    "large_communities",
-];
+// The columns of differences, with those of peers and of clients so wide. In text the change stands before the prefix.
+pub(crate) fn diff_columns(names: usize, clients: usize) -> [Column; 16] {
+    [
+        Column::of_text("mark", "", MARK_WIDTH),
+        Column::new("client", "client", clients),
+        Column::of_text("change", "change", ANSWER_WIDTH),
+        Column::new("prefix", "prefix", PREFIX_WIDTH),
+        Column::of_csv("change"),
+        Column::of_csv("side"),
+        Column::new("peer", "peer", names),
+        Column::new("as", "AS", AS_WIDTH),
+        Column::of_csv("time"),
+        Column::of_csv("next_hop"),
+        Column::of_csv("path"),
+        Column::of_csv("origin"),
+        Column::of_csv("med"),
+        Column::of_csv("communities"),
+        Column::of_csv("large_communities"),
+        Column::of_text("route", "route", 0),
+    ]
+}
 
-// The titles of counts in CSV.
-const COUNT_TITLES: [&str; 3] = ["client", "change", "routes"];
+// The columns of counts, with that of clients so wide.
+pub(crate) fn change_columns(clients: usize) -> [Column; 3] {
+    [
+        Column::new("client", "client", clients),
+        Column::new("change", "change", ANSWER_WIDTH),
+        Column::new("routes", "routes", 0),
+    ]
+}
 
 // What differs.
 #[derive(Clone, Copy, Debug, PartialEq, Eq)]
@@ -66,15 +76,12 @@ impl Change {
     }
 }
 
-// How differences are laid out: those of a client, and the names of both tables.
+// The client of differences, and the exchanges of both tables.
 #[derive(Clone, Copy)]
 pub(crate) struct Sides<'a> {
     pub(crate) client: &'a str,
-    // How wide the column of clients is.
-    pub(crate) clients: usize,
-    pub(crate) old: Layout<'a>,
-    pub(crate) new: Layout<'a>,
-    pub(crate) form: Form,
+    pub(crate) old: &'a Exchange,
+    pub(crate) new: &'a Exchange,
 }
 
 // What differs on a prefix.
@@ -83,7 +90,7 @@ pub(crate) fn change_of(sides: &Sides, one: &Choices) -> Change {
         (None, _) => Change::Gained,
         (_, None) => Change::Lost,
         (Some(old), Some(new)) => {
-            if sides.old.name(old.peer) == sides.new.name(new.peer) {
+            if name_at(sides.old, old.peer) == name_at(sides.new, new.peer) {
                 Change::Attributes
             } else {
                 Change::Peer
@@ -92,165 +99,66 @@ pub(crate) fn change_of(sides: &Sides, one: &Choices) -> Change {
     }
 }
 
-// Adds the line of titles, where the form has one.
-pub(crate) fn add_diff_titles(
-    text: &mut String,
-    alloc: Global,
-    sides: &Sides,
-) -> Result<(), AllocError> {
-    match sides.form {
-        Form::Text => {
-            text.push_str("  ")?;
-            add_cell(text, "client", sides.clients)?;
-            add_cell(text, "change", CHANGE_WIDTH)?;
-            sides.old.add_titles(text)?;
-            text.push_str("route\n")
-        }
-        Form::Csv => add_csv_titles(text, alloc, &TITLES),
-        Form::Json => Ok(()),
-    }
-}
-
-// Adds the rows of a difference: one for the old route, and one for the new.
-pub(crate) fn add_diff_rows(
-    text: &mut String,
-    alloc: Global,
-    sides: &Sides,
-    one: &Choices,
-) -> Result<(), AllocError> {
-    if let Form::Json = sides.form {
-        return add_object(text, alloc, sides, one);
+// Hands over a difference.
+pub(crate) fn hand_difference(rows: &mut RowWriter<'_>, sides: &Sides, one: &Choices) {
+    if rows.form() == Form::Json {
+        let alloc = rows.alloc();
+        hand_change(rows, "", sides, one);
+        rows.value("old", route_value(alloc, sides.old, &one.before));
+        rows.value("new", route_value(alloc, sides.new, &one.after));
+        return rows.end_row();
     }
     if let Some(route) = &one.before {
-        add_side(text, alloc, sides, one, Side::Old, route)?;
+        hand_change(rows, "-", sides, one);
+        hand_side(rows, "old", sides.old, route);
     }
     if let Some(route) = &one.after {
-        add_side(text, alloc, sides, one, Side::New, route)?;
+        hand_change(rows, "+", sides, one);
+        hand_side(rows, "new", sides.new, route);
     }
-    Ok(())
 }
 
-// Which of the two tables a route is of.
-#[derive(Clone, Copy, Debug, PartialEq, Eq)]
-enum Side {
-    Old,
-    New,
-}
-
-// Adds the row of one route.
-fn add_side(
-    text: &mut String,
-    alloc: Global,
-    sides: &Sides,
-    one: &Choices,
-    side: Side,
-    route: &Route,
-) -> Result<(), AllocError> {
-    let (layout, mark, name) = match side {
-        Side::Old => (&sides.old, "- ", "old"),
-        Side::New => (&sides.new, "+ ", "new"),
-    };
-    let change = change_of(sides, one).word();
-    if let Form::Csv = sides.form {
-        let prefix = prefix_text(alloc, one.prefix)?;
-        let mut fields = CsvRow::new(alloc);
-        fields.add(sides.client)?;
-        fields.add(&prefix)?;
-        fields.add(change)?;
-        fields.add(name)?;
-        add_route_fields(&mut fields, alloc, layout, route)?;
-        return fields.add_to(text);
+// Hands over the fields of a difference before those of a route.
+fn hand_change(rows: &mut RowWriter<'_>, mark: &str, sides: &Sides, one: &Choices) {
+    let (is_text, word) = (rows.form() == Form::Text, change_of(sides, one).word());
+    rows.words("mark", mark);
+    rows.text("client", sides.client);
+    if is_text {
+        rows.text("change", word);
     }
-    text.push_str(mark)?;
-    add_cell(text, sides.client, sides.clients)?;
-    add_cell(text, change, CHANGE_WIDTH)?;
-    layout.add_route(text, one.prefix, route.peer)?;
-    add_route(text, alloc, route.attributes)?;
-    add_large_communities(text, alloc, route.attributes)?;
-    text.push('\n')
+    rows.shown("prefix", &PrefixText(one.prefix));
+    if !is_text {
+        rows.text("change", word);
+    }
 }
 
-// Adds a difference as an object of JSON.
-fn add_object(
-    text: &mut String,
-    alloc: Global,
-    sides: &Sides,
-    one: &Choices,
-) -> Result<(), AllocError> {
-    let mut object = Map::new(alloc);
-    let prefix = prefix_text(alloc, one.prefix)?;
-    put_text(&mut object, alloc, "client", sides.client)?;
-    put_text(&mut object, alloc, "prefix", &prefix)?;
-    put_text(&mut object, alloc, "change", change_of(sides, one).word())?;
-    let old = route_value(alloc, &sides.old, &one.before)?;
-    put(&mut object, alloc, "old", old)?;
-    let new = route_value(alloc, &sides.new, &one.after)?;
-    put(&mut object, alloc, "new", new)?;
-    add_json_line(text, alloc, object)
+// Hands over the route of one side.
+fn hand_side(rows: &mut RowWriter<'_>, side: &str, plan: &Exchange, route: &Route) {
+    rows.words("side", side);
+    hand_route(rows, plan, route);
+    rows.end_row();
 }
 
 // A route as a value of JSON: null where there is none.
 fn route_value(
     alloc: Global,
-    layout: &Layout,
+    plan: &Exchange,
     route: &Option<Route<'_>>,
 ) -> Result<Value, AllocError> {
     match route {
         Some(route) => {
-            let mut object = Map::new(alloc);
-            put_route(&mut object, alloc, layout, route)?;
-            Ok(Value::Object(object))
+            let mut object = RowWriter::object(alloc);
+            hand_route(&mut object, plan, route);
+            object.into_value()
         }
         None => Ok(Value::Null),
     }
 }
 
-// Adds the line of titles of counts, where the form has one.
-pub(crate) fn add_count_titles(
-    text: &mut String,
-    alloc: Global,
-    sides: &Sides,
-) -> Result<(), AllocError> {
-    match sides.form {
-        Form::Text => {
-            add_cell(text, "client", sides.clients)?;
-            add_cell(text, "change", CHANGE_WIDTH)?;
-            text.push_str("routes\n")
-        }
-        Form::Csv => add_csv_titles(text, alloc, &COUNT_TITLES),
-        Form::Json => Ok(()),
-    }
-}
-
-// Adds how many differences of one kind a client has.
-pub(crate) fn add_count(
-    text: &mut String,
-    alloc: Global,
-    sides: &Sides,
-    change: Change,
-    count: u64,
-) -> Result<(), AllocError> {
-    let (client, word) = (sides.client, change.word());
-    match sides.form {
-        Form::Text => {
-            add_cell(text, client, sides.clients)?;
-            add_cell(text, word, CHANGE_WIDTH)?;
-            write!(text, "{count}\n")
-        }
-        Form::Csv => {
-            let number = count.to_string(alloc)?;
-            let mut fields = CsvRow::new(alloc);
-            fields.add(client)?;
-            fields.add(word)?;
-            fields.add(&number)?;
-            fields.add_to(text)
-        }
-        Form::Json => {
-            let mut object = Map::new(alloc);
-            put_text(&mut object, alloc, "client", client)?;
-            put_text(&mut object, alloc, "change", word)?;
-            put(&mut object, alloc, "routes", Value::from(count))?;
-            add_json_line(text, alloc, object)
-        }
-    }
+// Hands over how many differences of one kind a client has.
+pub(crate) fn hand_count(rows: &mut RowWriter<'_>, client: &str, change: Change, count: u64) {
+    rows.text("client", client);
+    rows.text("change", change.word());
+    rows.number("routes", count);
+    rows.end_row();
 }

@@ -2,13 +2,11 @@
 //! All of it is our choice, but for JSON (RFC 8259) and CSV (RFC 4180).
 //!
 //! Reading order: `list_answering` (the whole answer), `missing_list` and `wanted` (the list of `missing`). The rows of
-//! lists: `layout`, `table_row`, `missing_row`, `counted_row` and `csv_row`. A summary: `summary_numbers` (its
-//! numbers), `summary_text` (its tables) and `summary_row` (a row of CSV or JSON). Differences: `diff_answering` and
-//! `diff_row`.
+//! lists, each with its columns: `layout`, `table_row`, `missing_row` and `counted_row`. A summary: `summary_numbers`
+//! (its numbers), `summary_row` (its rows) and `summary_text` (the whole). Differences: `diff_answering` and `diff_row`.
 #![tactic(auto)]
 
 mod counted_row;
-mod csv_row;
 mod diff_answering;
 mod diff_row;
 mod layout;

@@ -1,17 +1,19 @@
 //! Answers the questions about whole tables: lists routes as they are found, or counts them.
 
+ghost use Rattle.std.specs.Prelude.{◌<◌, length};
+
 use crate::counted_row::counts_text;
-use crate::layout::Layout;
 use crate::missing_list::list_missing;
-use crate::summary_numbers::written;
-use crate::table_row::{add_table_row, add_table_titles};
+use crate::summary_text::summary_answer;
+use crate::table_row::{hand_table_row, table_columns};
 use crate::wanted::Wanted;
-use rs_glass_shell::{Reply, Unanswered, answer_until, peer_named, served};
+use rs_glass_shell::{Reply, Unanswered, answer_until, name_width, peer_named, served};
 use rs_host::configuration;
-use rs_query::{Form, MissingQuery, SummaryQuery, TableQuery};
+use rs_query::{MissingQuery, SummaryQuery, TableQuery};
+use rs_rows::{Column, Form, RowWriter};
 use rs_setup::Setup;
 use rs_survey::{AskedRows, count_missing, count_rows, summary_on_threads};
-use rs_table::{Row, Tables};
+use rs_table::Tables;
 use std::alloc::{AllocError, Global};
 use std::fs::Files;
 use std::io::Print;
@@ -55,23 +57,32 @@ where
 {
     let setup = configuration(rt, &query.tables.config)?;
     let client = peer_named(rt, &setup, &query.client)?;
-    let wanted = Wanted {
-        from: sender(rt, &setup, &query.from)?,
-        because: match &query.because {
-            Some(because) => Some(because.as_str()),
-            None => None,
-        },
-    };
+    let from = sender(rt, &setup, &query.from)?;
     let served = served(rt, &setup, &query.tables)?;
-    let tables = served.tables();
-    let layout = Layout::new(tables.plan(), client, query.form);
-    let text = if query.count {
-        let counts = count_missing(rt, rt.alloc(), tables, client)?;
-        counts_text(rt.alloc(), &layout, wanted, &counts)?
-    } else {
-        list_missing(rt, tables, client, layout, wanted)?
-    };
+    let text = missing_text(rt, served.tables(), client, from, query)?;
     Ok(answer_until(text, setup, query.tables.until))
+}
+
+// The last part of the list, or the counts. `from` is the sender that is asked for.
+fn missing_text<R: AllocGlobal + Threads + Sync + Print>(
+    rt: &R,
+    tables: &Tables,
+    client: usize,
+    from: Option<usize>,
+    query: &MissingQuery,
+) -> Result<String, Unanswered>
+    requires { client < length tables.now.plan.peers }
+{
+    let because = match &query.because {
+        Some(because) => Some(because.as_str()),
+        None => None,
+    };
+    let wanted = Wanted { from, because };
+    if query.count {
+        let counts = count_missing(rt, rt.alloc(), tables, client)?;
+        return Ok(counts_text(rt.alloc(), tables.plan(), query.form, wanted, &counts)?);
+    }
+    list_missing(rt, tables, client, query.form, wanted)
 }
 
 /// What becomes of the routes of all peers, in numbers.
@@ -87,7 +98,7 @@ where
     let served = served(rt, &setup, &query.tables)?;
     let tables = served.tables();
     let tally = summary_on_threads(rt, alloc, tables)?;
-    let text = written(alloc, &Layout::new(tables.plan(), 0, query.form), &tally)?;
+    let text = summary_answer(alloc, tables.plan(), query.form, &tally)?;
     Ok(answer_until(text, setup, query.tables.until))
 }
 
@@ -117,52 +128,48 @@ pub(crate) fn print_page<R: Print>(rt: &R, page: &mut String) -> Result<(), Unan
     }
 }
 
+// Prints the rows that were written, where they are many.
+pub(crate) fn print_rows<R: Print>(rt: &R, rows: &mut RowWriter<'_>) -> Result<(), Unanswered> {
+    if rows.len() < PAGE {
+        return Ok(());
+    }
+    print_page(rt, &mut rows.take()?)
+}
+
 // Lists the rows of a client's table.
 fn list_table<R: AllocGlobal + Print>(
     rt: &R,
     tables: &Tables,
     client: usize,
-    rows: &AskedRows,
+    asked: &AskedRows,
     form: Form,
 ) -> Result<String, Unanswered> {
-    let alloc = rt.alloc();
-    let layout = Layout::new(tables.plan(), client, form);
-    let mut page = String::new(alloc);
-    add_table_titles(&mut page, alloc, &layout)?;
+    let columns = table_columns(name_width(tables.plan(), "peer"));
+    let mut rows = RowWriter::new(rt.alloc(), form, &columns);
+    rows.titles();
     for row in tables.iter_rows(client) {
-        add_listed(&mut page, alloc, &layout, rows, &row)?;
-        print_page(rt, &mut page)?;
+        if asked.asks_for(&row) {
+            hand_table_row(&mut rows, tables.plan(), &row);
+            print_rows(rt, &mut rows)?;
+        }
     }
-    Ok(page)
+    Ok(rows.take()?)
 }
 
-// Adds a row, where it is listed.
-fn add_listed(
-    page: &mut String,
-    alloc: Global,
-    layout: &Layout,
-    rows: &AskedRows,
-    row: &Row,
-) -> Result<(), AllocError> {
-    if rows.asks_for(row) {
-        add_table_row(page, alloc, layout, row)
-    } else {
-        Ok(())
-    }
-}
-
-// Counts them.
+// Counts them. The text is the number alone.
 fn count_table(
     alloc: Global,
     tables: &Tables,
     client: usize,
-    rows: &AskedRows,
+    asked: &AskedRows,
     form: Form,
 ) -> Result<String, AllocError> {
-    let count = count_rows(tables, client, rows);
-    match form {
-        Form::Text => format!(in alloc; "{count}\n"),
-        Form::Csv => format!(in alloc; "routes\r\n{count}\r\n"),
-        Form::Json => format!(in alloc; "{{\"routes\":{count}}}\n"),
+    let columns = [Column::new("routes", "", 0)];
+    let mut rows = RowWriter::new(alloc, form, &columns);
+    if form == Form::Csv {
+        rows.titles();
     }
+    rows.number("routes", count_rows(tables, client, asked));
+    rows.end_row();
+    rows.take()
 }

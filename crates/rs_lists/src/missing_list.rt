@@ -7,11 +7,11 @@ ghost use Rattle.std.specs.Prelude.{◌<◌, length};
 ghost use Rattle.std.specs.List.{All};
 ghost use Rattle.rs_table.specs.PrefixRoutes.{AreRoutesOf, entry_of};
 
-use crate::layout::Layout;
 use crate::list_answering::print_page;
-use crate::missing_row::{add_missing_row, add_missing_titles, reason_key};
+use crate::missing_row::{hand_missing, missing_columns};
 use crate::wanted::Wanted;
-use rs_glass_shell::{Unanswered, answer_name};
+use rs_glass_shell::{Unanswered, answer_name, name_width, reason_key};
+use rs_rows::{Column, Form, RowWriter};
 use rs_survey::{MissingOn, every_prefix, missing_on};
 use rs_table::{PrefixRoutes, Tables};
 use std::alloc::{AllocError, Global};
@@ -30,7 +30,8 @@ struct Listing<'a> {
     alloc: Global,
     tables: &'a Tables,
     client: usize,
-    layout: Layout<'a>,
+    form: Form,
+    columns: &'a [Column],
     wanted: Wanted<'a>,
     // On how many prefixes a thread lays out the rows at a time.
     prefixes: usize,
@@ -41,23 +42,26 @@ pub(crate) fn list_missing<R: AllocGlobal + Print + Threads + Sync>(
     rt: &R,
     tables: &Tables,
     client: usize,
-    layout: Layout<'_>,
+    form: Form,
     wanted: Wanted<'_>,
 ) -> Result<String, Unanswered>
     requires { client < length tables.now.plan.peers }
 {
     let alloc = rt.alloc();
+    let columns = missing_columns(name_width(tables.plan(), "peer"));
     let listing = Listing {
         alloc,
         tables,
         client,
-        layout,
+        form,
+        columns: &columns,
         wanted,
         prefixes: (ROWS / tables.plan().count()).max(1),
     };
     let all = every_prefix(alloc, tables)?;
-    let mut page = String::new(alloc);
-    add_missing_titles(&mut page, alloc, &layout)?;
+    let mut titles = RowWriter::new(alloc, form, &columns);
+    titles.titles();
+    let mut page = titles.take()?;
     let at_once = listing.prefixes.saturating_mul(THREADS).max(1);
     for round in 0..all.len().div_ceil(at_once) {
         add_round(rt, &mut page, &listing, &all, round.saturating_mul(at_once))?;
@@ -102,16 +106,16 @@ fn rows_from(
     requires client { listing.now.client < length listing.now.tables.now.plan.peers }
     requires routes { All (λ on. AreRoutesOf listing.now.tables.now (entry_of on)) all.now }
 {
-    let mut rows = String::new(listing.alloc);
+    let mut rows = RowWriter::new(listing.alloc, listing.form, listing.columns);
     for place in first..first.saturating_add(listing.prefixes).min(all.len()) {
-        add_rows(&mut rows, listing, &all[place])?;
+        hand_rows(&mut rows, listing, &all[place])?;
     }
-    Ok(rows)
+    rows.take()
 }
 
-// Adds the rows on a prefix.
-fn add_rows(
-    rows: &mut String,
+// Hands over the rows on a prefix.
+fn hand_rows(
+    rows: &mut RowWriter<'_>,
     listing: &Listing<'_>,
     on: &PrefixRoutes<'_>,
 ) -> Result<(), AllocError>
@@ -119,20 +123,16 @@ fn add_rows(
     requires routes { AreRoutesOf listing.now.tables.now (entry_of on.now) }
 {
     let missing = missing_on(listing.alloc, listing.tables, listing.client, on)?;
-    add_missing(rows, listing, &missing)
+    hand_wanted(rows, listing, &missing);
+    Ok(())
 }
 
-// Adds those of them that are wanted.
-fn add_missing(
-    rows: &mut String,
-    listing: &Listing<'_>,
-    on: &MissingOn<'_>,
-) -> Result<(), AllocError> {
+// Hands over those of them that are wanted.
+fn hand_wanted(rows: &mut RowWriter<'_>, listing: &Listing<'_>, on: &MissingOn<'_>) {
     for one in &on.routes {
         let (answer, reason) = (answer_name(&one.explanation), reason_key(&one.explanation));
         if listing.wanted.asks_for(one.route.peer, answer, reason) {
-            add_missing_row(rows, listing.alloc, &listing.layout, on, one)?;
+            hand_missing(rows, listing.tables.plan(), listing.client, on, one);
         }
     }
-    Ok(())
 }

@@ -1,135 +1,122 @@
-//! A summary of whole tables, as a text of four tables.
+//! A summary of whole tables: as rows, or as a text of four tables.
 
 ghost use Rattle.std.specs.Prelude.{◌<◌};
 
-use crate::layout::Layout;
-use crate::summary_numbers::{STEPS, of_peer};
-use rs_glass_shell::{add_cell, fill_cell, name_width};
+use crate::summary_row::{
+    NUMBER_WIDTH, hand_hidden, hand_pair, hand_sender, hand_step, summary_columns,
+};
+use rs_choice::Exchange;
+use rs_glass_shell::{STEPS, name_at, name_width, step_name};
+use rs_rows::{Form, RowWriter, add_cell, fill_cell};
 use rs_survey::{Finding, Tally};
-use std::alloc::AllocError;
-
-// How wide a column of numbers is.
-const NUMBER_WIDTH: usize = 11;
+use std::alloc::{AllocError, Global};
 
 // How wide the column of steps is.
 const STEP_WIDTH: usize = 14;
 
-// The titles of the numbers of each peer, without the last one.
-const PEER_TITLES: [&str; 6] = [
-    "left",
-    "server AS",
-    "server hop",
-    "off subnet",
-    "refused",
-    "lost",
-];
-
-// Adds the four tables.
-pub(crate) fn add_tables(
-    text: &mut String,
-    layout: &Layout,
+// The summary, in the form that is asked for.
+pub(crate) fn summary_answer(
+    alloc: Global,
+    plan: &Exchange,
+    form: Form,
     tally: &Tally,
-) -> Result<(), AllocError> {
-    add_peers(text, layout, tally)?;
-    text.push('\n')?;
-    add_matrix(text, layout, tally)?;
-    text.push('\n')?;
-    add_steps(text, tally)?;
-    text.push('\n')?;
+) -> Result<String, AllocError> {
+    let columns = summary_columns(name_width(plan, "peer"));
+    let mut rows = RowWriter::new(alloc, form, &columns);
+    rows.titles();
+    for peer in 0..tally.peers() {
+        hand_sender(&mut rows, plan, tally, peer);
+    }
+    if form == Form::Text {
+        return tables_text(alloc, plan, tally, &rows.take()?);
+    }
+    for client in 0..tally.peers() {
+        hand_client(&mut rows, plan, tally, client);
+    }
+    for step in STEPS {
+        hand_step(&mut rows, tally, step);
+    }
+    hand_hidden(&mut rows, tally);
+    rows.take()
+}
+
+// Hands over the rows of a client, one for each other peer.
+fn hand_client(rows: &mut RowWriter<'_>, plan: &Exchange, tally: &Tally, client: usize)
+    requires { client < tally.now.peers }
+{
+    for peer in 0..tally.peers() {
+        if peer != client {
+            hand_pair(rows, plan, tally, client, peer);
+        }
+    }
+}
+
+// The text, of which the table of peers is given.
+fn tables_text(
+    alloc: Global,
+    plan: &Exchange,
+    tally: &Tally,
+    peers: &str,
+) -> Result<String, AllocError> {
     let hidden = tally.count(Finding::Hidden);
-    writeln!(
-        text,
-        "hidden paths: prefixes on which one decision for all clients would leave a client none\n{hidden}"
+    let mut matrix = String::new(alloc);
+    add_matrix(&mut matrix, plan, tally)?;
+    let mut steps = String::new(alloc);
+    add_steps(&mut steps, tally)?;
+    format!(in alloc;
+        "peers: prefixes left, of these ineligible; at the other peers refused, lost, best\n{peers}\n{matrix}\n{steps}\nhidden paths: prefixes on which one decision for all clients would leave a client none\n{hidden}\n"
     )
 }
 
-// Adds what becomes of the routes of each peer.
-fn add_peers(text: &mut String, layout: &Layout, tally: &Tally) -> Result<(), AllocError> {
-    text.push_str(
-        "peers: prefixes left, of these ineligible; at the other peers refused, lost, best\n",
-    )?;
-    layout.add_sender_titles(text)?;
-    for title in &PEER_TITLES {
-        add_cell(text, title, NUMBER_WIDTH)?;
-    }
-    text.push_str("best\n")?;
-    for peer in 0..tally.peers() {
-        add_peer(text, layout, tally, peer)?;
-    }
-    Ok(())
-}
-
-// Adds the line of a peer.
-fn add_peer(
-    text: &mut String,
-    layout: &Layout,
-    tally: &Tally,
-    peer: usize,
-) -> Result<(), AllocError>
-    requires { peer < tally.now.peers }
-{
-    layout.add_sender(text, peer)?;
-    let numbers = of_peer(tally, peer);
-    for (_, number) in numbers.iter().take(PEER_TITLES.len()) {
-        add_number(text, *number, NUMBER_WIDTH)?;
-    }
-    let (_, best) = numbers[PEER_TITLES.len()];
-    writeln!(text, "{best}")
-}
-
 // Adds how many routes each client gets from each sender.
-fn add_matrix(text: &mut String, layout: &Layout, tally: &Tally) -> Result<(), AllocError> {
-    add_matrix_titles(text, layout, tally)?;
+fn add_matrix(text: &mut String, plan: &Exchange, tally: &Tally) -> Result<(), AllocError> {
+    let (clients, senders) = (name_width(plan, "client"), sender_width(plan));
+    text.push_str("clients: routes that each gets from each peer\n")?;
+    add_cell(text, "client", clients)?;
+    for peer in 0..tally.peers() {
+        add_cell(text, name_at(plan, peer), senders)?;
+    }
+    text.push_str("all\n")?;
     for client in 0..tally.peers() {
-        add_client(text, layout, tally, client)?;
+        add_client(text, plan, tally, client)?;
     }
     Ok(())
 }
 
-// Adds its titles.
-fn add_matrix_titles(text: &mut String, layout: &Layout, tally: &Tally) -> Result<(), AllocError> {
-    text.push_str("clients: routes that each gets from each peer\n")?;
-    add_cell(text, "client", name_width(layout.plan, "client"))?;
-    for peer in 0..tally.peers() {
-        add_cell(text, layout.name(peer), layout.names.max(NUMBER_WIDTH))?;
-    }
-    text.push_str("all\n")
+// How wide the column of a sender is.
+fn sender_width(plan: &Exchange) -> usize {
+    name_width(plan, "peer").max(NUMBER_WIDTH)
 }
 
 // Adds the line of a client.
 fn add_client(
     text: &mut String,
-    layout: &Layout,
+    plan: &Exchange,
     tally: &Tally,
     client: usize,
 ) -> Result<(), AllocError>
     requires { client < tally.now.peers }
 {
-    let width = layout.names.max(NUMBER_WIDTH);
+    let width = sender_width(plan);
     let mut all: u64 = 0;
-    add_cell(text, layout.name(client), name_width(layout.plan, "client"))?;
+    add_cell(text, name_at(plan, client), name_width(plan, "client"))?;
     for peer in 0..tally.peers() {
         let routes = tally.count(Finding::Best(client, peer));
         all = all.saturating_add(routes);
-        add_number(text, routes, width)?;
+        let start = text.len();
+        write!(text, "{routes}")?;
+        fill_cell(text, start, width)?;
     }
     writeln!(text, "{all}")
 }
 
-// Adds how many routes each step of the decision process removed.
+// Adds how many routes each step removed.
 fn add_steps(text: &mut String, tally: &Tally) -> Result<(), AllocError> {
     text.push_str("decision: routes lost by the step that removed them\n")?;
-    for (_, name, step) in &STEPS {
-        add_cell(text, name, STEP_WIDTH)?;
-        let lost = tally.count(Finding::Removed(*step));
+    for step in STEPS {
+        add_cell(text, step_name(step), STEP_WIDTH)?;
+        let lost = tally.count(Finding::Removed(step));
         writeln!(text, "{lost}")?;
     }
     Ok(())
-}
-
-// Adds a number as a cell.
-fn add_number(text: &mut String, number: u64, width: usize) -> Result<(), AllocError> {
-    let start = text.len();
-    write!(text, "{number}")?;
-    fill_cell(text, start, width)
 }

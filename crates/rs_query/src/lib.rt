@@ -15,7 +15,7 @@ mod values;
 mod words;
 
 pub use query::{
-    CheckQuery, Destination, DiffQuery, Form, HistoryQuery, MissingQuery, PageQuery, PeersQuery,
-    Query, Span, StartQuery, SummaryQuery, TableQuery, TablesQuery, WhyQuery,
+    CheckQuery, Destination, DiffQuery, HistoryQuery, MissingQuery, PageQuery, PeersQuery, Query,
+    Span, StartQuery, SummaryQuery, TableQuery, TablesQuery, WhyQuery,
 };
 pub use words::read_query;

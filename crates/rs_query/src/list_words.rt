@@ -1,9 +1,10 @@
 //! The questions about whole tables that the words of the command line ask.
 
-use crate::query::{Form, MissingQuery, PageQuery, SummaryQuery, TableQuery, TablesQuery};
+use crate::query::{MissingQuery, PageQuery, SummaryQuery, TableQuery, TablesQuery};
 use crate::words::{errors, prefix, text, time};
 use clap::ArgMatches;
 use rs_host::WordsFault;
+use rs_rows::Form;
 use std::alloc::Global;
 
 // `table`

@@ -1,5 +1,6 @@
 //! What the command line asks.
 
+use rs_rows::Form;
 use rs_update::{Errors, Prefix};
 
 /// A question.
@@ -200,15 +201,4 @@ pub struct TablesQuery {
     pub until: Option<u32>,
     /// How many threads keep the tables, 1 to 16.
     pub shards: usize,
-}
-
-/// How a list is written.
-#[derive(Clone, Copy, Debug, PartialEq, Eq, Drop)]
-pub enum Form {
-    /// In aligned columns, for people.
-    Text,
-    /// As CSV (RFC 4180), with a line of titles.
-    Csv,
-    /// As JSON (RFC 8259), an object on each line.
-    Json,
 }

@@ -1,9 +1,9 @@
 //! All path attributes of a route as lines of a text (RFC 4271, section 4.3; RFC 1997; RFC 8092).
 
 use rs_glass_shell::{
-    LARGE_COMMUNITY, add_cell, add_words, communities_text, hex_text, large_communities_text,
-    origin_name, path_text,
+    LARGE_COMMUNITY, community_texts, hex_text, large_community_texts, origin_name, path_text,
 };
+use rs_rows::{add_cell, add_words, joined};
 use rs_update::{Attributes, Unrecognized};
 use std::alloc::{AllocError, Global};
 use std::net::Ipv4Addr;
@@ -36,7 +36,8 @@ pub(crate) fn add_attributes(
             &format!(in alloc; "AS {asn} {address}")?,
         )?;
     }
-    add_list(text, "COMMUNITIES", &communities_text(alloc, attributes)?)?;
+    let communities = community_texts(alloc, attributes)?;
+    add_list(text, "COMMUNITIES", &joined(alloc, &communities)?)?;
     for other in attributes.others() {
         add_other(text, alloc, attributes, &other)?;
     }
@@ -71,11 +72,8 @@ fn add_other(
     other: &Unrecognized<'_>,
 ) -> Result<(), AllocError> {
     if other.kind == LARGE_COMMUNITY {
-        return add_list(
-            text,
-            "LARGE_COMMUNITY",
-            &large_communities_text(alloc, attributes)?,
-        );
+        let communities = large_community_texts(alloc, attributes)?;
+        return add_list(text, "LARGE_COMMUNITY", &joined(alloc, &communities)?);
     }
     let kind = other.kind;
     let name = format!(in alloc; "attribute {kind}")?;

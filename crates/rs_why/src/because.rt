@@ -5,7 +5,7 @@ use crate::starts::Start;
 use rs_choice::Exchange;
 use rs_explain::{EndedBy, Explanation, LastSaid};
 use rs_glass::{Answer, Said};
-use rs_glass_shell::{close_text, condition_text, lost_text, names_text, refused_text};
+use rs_glass_shell::{Because, close_text, names_text};
 use rs_session::Reason;
 use std::alloc::{AllocError, Global};
 
@@ -22,14 +22,20 @@ pub(crate) fn because(
     match &answer.explanation {
         Explanation::Own => String::from_str(alloc, "its own"),
         Explanation::Absent => absent_text(alloc, &answer.said, start, clock),
-        Explanation::Ineligible(condition) => condition_text(alloc, plan, *condition),
-        Explanation::Refused(refusal) => refused_text(alloc, plan, client, peer, *refusal),
         Explanation::Best(beaten) if beaten.is_empty() => String::from_str(alloc, "alone"),
         Explanation::Best(beaten) => {
             let names = names_text(alloc, plan, beaten)?;
             format!(in alloc; "beat {names}")
         }
-        Explanation::Lost(removal) => lost_text(alloc, plan, removal),
+        explanation => {
+            let because = Because {
+                plan,
+                client,
+                peer,
+                explanation,
+            };
+            because.to_string(alloc)
+        }
     }
 }
 

@@ -3,8 +3,8 @@
 use crate::starts::Start;
 use rs_explain::LastSaid;
 use rs_glass::Said;
-use rs_glass_shell::add_cell;
 use rs_host::{Utc, civil_time};
+use rs_rows::add_cell;
 use std::alloc::{AllocError, Global};
 
 // The seconds of a day.

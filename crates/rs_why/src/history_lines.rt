@@ -5,10 +5,10 @@ use crate::clock::Clock;
 use rs_choice::Exchange;
 use rs_glass::{Event, Gets, History};
 use rs_glass_shell::{
-    add_cell, add_gets, add_large_communities, add_route, add_sentence, add_words, best_name,
-    close_text, name_at, name_width, prefix_text,
+    add_gets, attributes_text, close_text, name_at, name_width, peer_name, prefix_text,
 };
 use rs_host::Utc;
+use rs_rows::{add_cell, add_sentence, add_words};
 use rs_session::Reason;
 use std::alloc::{AllocError, Global};
 
@@ -108,7 +108,8 @@ fn add_line(
     add_cell(text, &time_text(alloc, layout.clock, one)?, layout.times)?;
     add_cell(text, name_at(view.plan, one.peer), layout.names)?;
     if layout.gets > 0 {
-        add_cell(text, best_name(view.plan, one.best), layout.gets)?;
+        let best = peer_name(view.plan, one.best).unwrap_or("none");
+        add_cell(text, best, layout.gets)?;
     }
     let event = event_text(alloc, view, &one.event)?;
     add_words(text, line, &event)?;
@@ -239,10 +240,8 @@ pub(crate) fn event_text(
     match event {
         Event::Announced(_) if view.attributes => String::from_str(alloc, "announced"),
         Event::Announced(attributes) => {
-            let mut text = String::from_str(alloc, "announced: ")?;
-            add_route(&mut text, alloc, attributes)?;
-            add_large_communities(&mut text, alloc, attributes)?;
-            Ok(text)
+            let route = attributes_text(alloc, attributes)?;
+            format!(in alloc; "announced: {route}")
         }
         Event::Withdrawn => String::from_str(alloc, "withdrawn"),
         Event::Lost(Some(loss)) => {

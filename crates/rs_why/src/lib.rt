@@ -4,12 +4,12 @@
 //! Reading order: `answering` (the whole answer), `unread` (why there is none). `why_lines` and `why_object` (why a
 //! client has each peer's route, or not). `history_lines` and `history_object` (what happened). The same as a picture:
 //! `lives` (how long routes stood), `picture`, `picture_lanes` and `canvas`. Below them `because` (the reasons),
-//! `starts` (since when recordings run), `clock` (times), `attribute_lines` and `attribute_object`.
+//! `starts` (since when recordings run), `clock` (times), `attribute_lines` and `attribute_fields`.
 #![tactic(auto)]
 
 mod answering;
+mod attribute_fields;
 mod attribute_lines;
-mod attribute_object;
 mod because;
 mod canvas;
 mod clock;

@@ -6,7 +6,7 @@ use crate::canvas::{BASE, Canvas};
 use crate::history_lines::{event_text, gets_title, time_of};
 use crate::lives::{Life, PeerLives};
 use rs_glass::{Event, Gets};
-use rs_glass_shell::{add_large_communities, add_route, asn_at, name_at};
+use rs_glass_shell::{asn_at, attributes_text, name_at};
 use rs_picture::{add_mark, add_stretch, add_text};
 use rs_session::Reason;
 use std::alloc::AllocError;
@@ -220,8 +220,7 @@ fn add_life_title(
     }
     if let Some(gets) = canvas.history.events.get(life.announced) {
         if let Event::Announced(attributes) = &gets.event {
-            add_route(&mut title, alloc, attributes)?;
-            add_large_communities(&mut title, alloc, attributes)?;
+            title.push_str(&attributes_text(alloc, attributes)?)?;
         }
     }
     if let Some(client) = canvas.history.client {

@@ -6,10 +6,9 @@ use crate::clock::Clock;
 use crate::starts::Start;
 use rs_choice::Exchange;
 use rs_glass::{Answer, Answers, LessSpecific};
-use rs_glass_shell::{
-    add_cell, add_gets, add_sentence, add_words, answer_name, asn_at, name_at, name_width,
-};
+use rs_glass_shell::{add_gets, answer_name, asn_at, name_at, name_width};
 use rs_host::Utc;
+use rs_rows::{add_cell, add_sentence, add_words};
 use rs_table::{Route, Tables};
 use rs_update::Prefix;
 use std::alloc::{AllocError, Global};

@@ -1,18 +1,18 @@
 //! The answers as JSON: one object.
 
-use crate::attribute_object::attributes_object;
+use crate::attribute_fields::attributes_object;
 use crate::starts::never_announced;
 use crate::why_lines::WhyView;
 use rs_choice::Exchange;
 use rs_explain::{EndedBy, Ending, Explanation, LastSaid};
 use rs_glass::{Answer, Answers, LessSpecific, Said};
 use rs_glass_shell::{
-    answer_name, asn_at, close_text, name_of, prefix_text, put_condition, put_refusal, put_removal,
-    put_text,
+    PrefixText, answer_name, close_text, hand_peer, hand_reason, name_at, peer_name,
 };
+use rs_rows::RowWriter;
 use rs_session::Reason;
 use rs_update::Prefix;
-use serde_json::{Map, Value, json, put};
+use serde_json::Value;
 use std::alloc::{AllocError, Global};
 
 /// The answers as one JSON object on one line, with a line break behind it. Fails where memory is refused.
@@ -22,44 +22,28 @@ pub fn why_json(
     answers: &Answers,
 ) -> Result<String, AllocError> {
     let plan = view.plan;
+    let mut object = RowWriter::object(alloc);
+    object.text("client", name_at(plan, answers.client));
+    object.shown("prefix", &PrefixText(answers.prefix));
+    object.number_or_none("until", view.until);
+    object.text_or("best", peer_name(plan, answers.best), "");
+    object.value("peers", peers_value(alloc, view, answers));
+    object.value("less_specific", less_specific_value(alloc, plan, answers));
+    object.end_row();
+    object.take()
+}
+
+// The answers of the peers.
+fn peers_value(alloc: Global, view: &WhyView<'_>, answers: &Answers) -> Result<Value, AllocError> {
     let mut peers = Vec::with_capacity(alloc, answers.peers.len())?;
     for (peer, answer) in answers.peers.iter().enumerate() {
-        peers.push(peer_object(alloc, view, answers.prefix, (peer, answer))?)?;
+        peers.push(peer_value(alloc, view, answers.prefix, peer, answer)?)?;
     }
-    let mut object = Map::new(alloc);
-    put(
-        &mut object,
-        alloc,
-        "client",
-        name_of(alloc, plan, Some(answers.client))?,
-    )?;
-    put(
-        &mut object,
-        alloc,
-        "prefix",
-        Value::String(prefix_text(alloc, answers.prefix)?),
-    )?;
-    put(&mut object, alloc, "until", Value::from(view.until))?;
-    put(
-        &mut object,
-        alloc,
-        "best",
-        name_of(alloc, plan, answers.best)?,
-    )?;
-    put(&mut object, alloc, "peers", Value::Array(peers))?;
-    put(
-        &mut object,
-        alloc,
-        "less_specific",
-        less_specific_object(alloc, plan, answers)?,
-    )?;
-    let mut text = Value::Object(object).to_string(alloc)?;
-    text.push('\n')?;
-    Ok(text)
+    Ok(Value::Array(peers))
 }
 
 // The less specific prefix and what the client gets there, or null.
-fn less_specific_object(
+fn less_specific_value(
     alloc: Global,
     plan: &Exchange,
     answers: &Answers,
@@ -67,45 +51,33 @@ fn less_specific_object(
     let Some(LessSpecific { prefix, best }) = answers.less_specific else {
         return Ok(Value::Null);
     };
-    let best = name_of(alloc, plan, best)?;
-    let prefix = Value::String(prefix_text(alloc, prefix)?);
-    json!(in alloc; {"prefix": prefix, "best": best})
+    let mut object = RowWriter::object(alloc);
+    object.shown("prefix", &PrefixText(prefix));
+    object.text_or("best", peer_name(plan, best), "");
+    object.into_value()
 }
 
 // The answer of a peer.
-fn peer_object(
+fn peer_value(
     alloc: Global,
     view: &WhyView<'_>,
     prefix: Prefix,
-    (peer, answer): (usize, &Answer),
+    peer: usize,
+    answer: &Answer,
 ) -> Result<Value, AllocError> {
-    let plan = view.plan;
-    let mut object = Map::new(alloc);
-    put(
-        &mut object,
-        alloc,
-        "peer",
-        name_of(alloc, plan, Some(peer))?,
-    )?;
-    put(&mut object, alloc, "as", Value::from(asn_at(plan, peer)))?;
-    put(&mut object, alloc, "time", Value::from(answer.said.time()))?;
-    let name = answer_name(&answer.explanation);
-    put(
-        &mut object,
-        alloc,
-        "answer",
-        Value::try_from_str(alloc, name)?,
-    )?;
-    add_reason(&mut object, alloc, plan, (peer, answer))?;
+    let mut object = RowWriter::object(alloc);
+    hand_peer(&mut object, view.plan, peer);
+    object.number_or_none("time", answer.said.time());
+    object.text("answer", answer_name(&answer.explanation));
+    hand_because(&mut object, view.plan, peer, answer);
     if never_announced(answer) {
         let since = view.start(peer).map(|start| start.time());
-        put(&mut object, alloc, "recorded_since", Value::from(since))?;
+        object.number_or_none("recorded_since", since);
     }
     if view.attributes {
-        let shown = shown_attributes(alloc, view, peer, prefix)?;
-        put(&mut object, alloc, "attributes", shown)?;
+        object.value("attributes", shown_attributes(alloc, view, peer, prefix));
     }
-    Ok(Value::Object(object))
+    object.into_value()
 }
 
 // All attributes of a peer's route, or null.
@@ -121,45 +93,35 @@ fn shown_attributes(
     }
 }
 
-// Adds the reason of an answer, and what belongs to it.
-fn add_reason(
-    object: &mut Map<String, Value>,
-    alloc: Global,
-    plan: &Exchange,
-    (peer, answer): (usize, &Answer),
-) -> Result<(), AllocError> {
+// Hands over the reason of an answer, and what belongs to it.
+fn hand_because(object: &mut RowWriter<'_>, plan: &Exchange, peer: usize, answer: &Answer) {
+    let alloc = object.alloc();
     match &answer.explanation {
-        Explanation::Own => put(object, alloc, "reason", Value::Null),
-        Explanation::Absent => add_absence(object, alloc, &answer.said),
-        Explanation::Ineligible(condition) => put_condition(object, alloc, *condition),
-        Explanation::Refused(refusal) => put_refusal(object, alloc, plan, (peer, *refusal)),
+        Explanation::Own => object.value("reason", Ok(Value::Null)),
+        Explanation::Absent => hand_absence(object, &answer.said),
         Explanation::Best(beaten) => {
-            put_text(
-                object,
-                alloc,
-                "reason",
-                if beaten.is_empty() { "alone" } else { "beat" },
-            )?;
-            put(object, alloc, "beat", names_list(alloc, plan, beaten)?)
+            object.text("reason", if beaten.is_empty() { "alone" } else { "beat" });
+            object.value("beat", names_value(alloc, plan, beaten));
         }
-        Explanation::Lost(removal) => put_removal(object, alloc, plan, removal),
+        explanation => hand_reason(object, plan, peer, explanation),
     }
 }
 
-// Adds why a peer has no route.
-fn add_absence(
-    object: &mut Map<String, Value>,
-    alloc: Global,
-    said: &Said,
-) -> Result<(), AllocError> {
-    let LastSaid::Ended(announced, ending) = said.last else {
-        put_text(object, alloc, "reason", "never_announced")?;
-        put(object, alloc, "announced", Value::Null)?;
-        return put(object, alloc, "by", closed_by(alloc, said)?);
-    };
-    put_text(object, alloc, "reason", ending_key(&ending))?;
-    put(object, alloc, "announced", Value::from(announced))?;
-    put(object, alloc, "by", ended_by(alloc, said, &ending)?)
+// Hands over why a peer has no route.
+fn hand_absence(object: &mut RowWriter<'_>, said: &Said) {
+    let alloc = object.alloc();
+    match said.last {
+        LastSaid::Ended(announced, ending) => {
+            object.text("reason", ending_key(&ending));
+            object.number("announced", u64::from(announced));
+            object.value("by", ended_by(alloc, said, &ending));
+        }
+        _ => {
+            object.text("reason", "never_announced");
+            object.value("announced", Ok(Value::Null));
+            object.value("by", closed_by(alloc, said));
+        }
+    }
 }
 
 // How a route was taken away.
@@ -190,10 +152,10 @@ fn closed_by(alloc: Global, said: &Said) -> Result<Value, AllocError> {
 }
 
 // The names of peers.
-fn names_list(alloc: Global, plan: &Exchange, peers: &[usize]) -> Result<Value, AllocError> {
+fn names_value(alloc: Global, plan: &Exchange, peers: &[usize]) -> Result<Value, AllocError> {
     let mut names = Vec::with_capacity(alloc, peers.len())?;
     for peer in peers {
-        names.push(name_of(alloc, plan, Some(*peer))?)?;
+        names.push(Value::try_from_str(alloc, name_at(plan, *peer))?)?;
     }
     Ok(Value::Array(names))
 }

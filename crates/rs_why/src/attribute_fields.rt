@@ -1,0 +1,60 @@
+//! All path attributes of a route as fields of an object.
+
+use rs_glass_shell::{LARGE_COMMUNITY, hand_attributes, hex_text};
+use rs_rows::RowWriter;
+use rs_update::{Aggregator, Attributes, Unrecognized};
+use serde_json::Value;
+use std::alloc::{AllocError, Global};
+use std::net::Ipv4Addr;
+
+// All path attributes of a route, as an object.
+pub(crate) fn attributes_object(
+    alloc: Global,
+    attributes: &Attributes,
+) -> Result<Value, AllocError> {
+    let mut object = RowWriter::object(alloc);
+    hand_attributes(&mut object, attributes);
+    hand_rare(&mut object, attributes);
+    object.into_value()
+}
+
+// Hands over those that an announcement is not told by.
+pub(crate) fn hand_rare(object: &mut RowWriter<'_>, attributes: &Attributes) {
+    let alloc = object.alloc();
+    object.value("atomic_aggregate", Ok(Value::from(attributes.atomic())));
+    object.value(
+        "aggregator",
+        aggregator_value(alloc, attributes.aggregator()),
+    );
+    object.value("unrecognized", others_value(alloc, attributes));
+}
+
+// The AGGREGATOR of a route, or null.
+fn aggregator_value(alloc: Global, aggregator: Option<Aggregator>) -> Result<Value, AllocError> {
+    match aggregator {
+        Some(aggregator) => {
+            let (asn, address) = (aggregator.asn, Ipv4Addr::from_bits(aggregator.address));
+            Ok(Value::String(format!(in alloc; "AS {asn} {address}")?))
+        }
+        None => Ok(Value::Null),
+    }
+}
+
+// The unrecognized attributes of a route.
+fn others_value(alloc: Global, attributes: &Attributes) -> Result<Value, AllocError> {
+    let mut others = Vec::new(alloc);
+    for other in attributes.others() {
+        if other.kind != LARGE_COMMUNITY {
+            others.push(other_object(alloc, &other)?)?;
+        }
+    }
+    Ok(Value::Array(others))
+}
+
+// An unrecognized attribute: its type, and its octets.
+fn other_object(alloc: Global, other: &Unrecognized<'_>) -> Result<Value, AllocError> {
+    let mut object = RowWriter::object(alloc);
+    object.number("type", u64::from(other.kind));
+    object.made("value", hex_text(alloc, other.value));
+    object.into_value()
+}
