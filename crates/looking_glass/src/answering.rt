@@ -1,7 +1,7 @@
 //! Answers the question of the command line: reads what it names, and writes what comes of it.
 
 use rs_files::{check, peers, start};
-use rs_glass_shell::{PROGRAM, Reply, Unanswered};
+use rs_glass_shell::{Noted, PROGRAM, Reply, Unanswered};
 use rs_host::{DONE, WordsFault, read_arguments};
 use rs_lists::{diff, missing, summary, table};
 use rs_page::page;
@@ -27,7 +27,7 @@ where
         Query::Peers(query) => Ok(Reply {
             text: peers(rt, query)?,
             status: DONE,
-            read: None,
+            noted: Noted::Nothing,
         }),
         Query::Check(query) => check(rt, &query.config),
         Query::Start(query) => start(rt, &query),

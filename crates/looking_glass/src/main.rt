@@ -10,21 +10,25 @@
 mod answering;
 
 use crate::answering::answer;
-use rs_glass_shell::{PROGRAM, Reply, Unanswered, line};
+use rs_glass_shell::{Noted, PROGRAM, Reply, Unanswered, line};
 use rs_host::end_with;
 use rs_lists::end_status;
-use rs_mrt::Bounds;
-use rs_notes::{Subject, print_notes};
-use rs_setup::Setup;
+use rs_notes::{Subject, print_notes, print_texts};
 use std::env::Env;
 use std::fs::Files;
 use std::process::ExitCode;
 
 fn main(rt: HostRuntime) -> ExitCode {
     let unanswered = match answer(&rt) {
-        Ok(Reply { text, status, read }) => match print!(&rt; "{text}") {
+        Ok(
+            Reply {
+                text,
+                status,
+                noted,
+            },
+        ) => match print!(&rt; "{text}") {
             Ok(()) => {
-                note(&rt, &read);
+                note(&rt, &noted);
                 return ExitCode::from(status);
             }
             Err(_) => Unanswered::Output,
@@ -35,14 +39,18 @@ fn main(rt: HostRuntime) -> ExitCode {
 }
 
 // Prints the notes on the files that were read.
-fn note<R: AllocGlobal + Files + Eprint>(rt: &R, read: &Option<(Setup, Bounds)>) {
-    if let Some((setup, bounds)) = read {
-        let subject = Subject {
-            setup,
-            bounds: *bounds,
-            endings: None,
-        };
-        print_notes(rt, PROGRAM, subject);
+fn note<R: AllocGlobal + Files + Eprint>(rt: &R, noted: &Noted) {
+    match noted {
+        Noted::Nothing => {}
+        Noted::Files(setup, bounds) => {
+            let subject = Subject {
+                setup,
+                bounds: *bounds,
+                endings: None,
+            };
+            print_notes(rt, PROGRAM, subject);
+        }
+        Noted::Texts(texts) => print_texts(rt, PROGRAM, texts),
     }
 }
 

@@ -6,7 +6,7 @@ use crate::recorded_file::RecordedFile;
 use crate::recordings::recorded_file;
 use crate::refused::refusal_text;
 use rs_choice::PeerSpec;
-use rs_glass_shell::{Reply, Unanswered, close_text};
+use rs_glass_shell::{Noted, Reply, Unanswered, close_text};
 use rs_host::{
     FAILED, NOT_CLEAN, REFUSED, Unready, Utc, first_unreadable, found_at, on_one_line, open_file,
     read_file,
@@ -45,7 +45,7 @@ fn told(text: String, status: u8) -> Reply {
     Reply {
         text,
         status,
-        read: None,
+        noted: Noted::Nothing,
     }
 }
 

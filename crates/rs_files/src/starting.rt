@@ -6,7 +6,7 @@ use crate::peer_lines::as_text;
 use crate::session_files::{SessionFile, put_in_place, remove_parts};
 use crate::sessions::{begin_sessions, counts_of};
 use crate::table_faults::{by_routes, by_table};
-use rs_glass_shell::{Reply, Unanswered};
+use rs_glass_shell::{Noted, Reply, Unanswered};
 use rs_host::{DONE, Unready, open_file};
 use rs_mrt::Read;
 use rs_query::StartQuery;
@@ -22,7 +22,7 @@ pub fn start<R: AllocGlobal + Files>(rt: &R, query: &StartQuery) -> Result<Reply
         Ok(text) => Ok(Reply {
             text,
             status: DONE,
-            read: None,
+            noted: Noted::Nothing,
         }),
         Err(unanswered) => {
             remove_parts(rt, &files);

@@ -30,7 +30,7 @@ pub use reasons::{
     SERVER_ADDRESS_AS_NEXT_HOP, SERVER_AS_IN_PATH, STEPS, answer_name, close_text, origin_name,
     reason_key, step_key, step_name,
 };
-pub use reply::{Reply, answer_until};
+pub use reply::{Noted, Reply, answer_until};
 pub use route_fields::{hand_attributes, hand_route};
 pub use route_text::{
     LARGE_COMMUNITY, attributes_text, community_texts, hex_text, large_community_texts, path_text,

@@ -11,9 +11,19 @@ pub struct Reply {
     pub text: String,
     /// The status with which the program ends.
     pub status: u8,
-    /// The exchange whose files get notes, and how much of each file was read. None where the question is about files
-    /// alone.
-    pub read: Option<(Setup, Bounds)>,
+    /// Which notes are printed behind it.
+    pub noted: Noted,
+}
+
+/// Which notes are printed behind an answer.
+#[derive(Drop)]
+pub enum Noted {
+    /// None: the question is about files alone.
+    Nothing,
+    /// Those on the files of this exchange, of which so much was read.
+    Files(Setup, Bounds),
+    /// These, which were made for the answer.
+    Texts(Vec<String>),
 }
 
 /// An answer for which the files of a setup were read up to a time.
@@ -22,6 +32,6 @@ pub fn answer_until(text: String, setup: Setup, until: Option<u32>) -> Reply {
     Reply {
         text,
         status: DONE,
-        read: Some((setup, Bounds { until, tail })),
+        noted: Noted::Files(setup, Bounds { until, tail }),
     }
 }

@@ -14,17 +14,17 @@ use std::io::Read;
 
 /// What the recorded file at a path holds, and its first octets.
 #[derive(Drop)]
-pub(crate) struct Contents<'a> {
+pub struct Contents<'a> {
     /// The path.
-    pub(crate) path: &'a str,
+    pub path: &'a str,
     /// The first octets.
-    pub(crate) front: Vec<u8>,
+    pub front: Vec<u8>,
     /// What its records hold.
-    pub(crate) held: Inventory,
+    pub held: Inventory,
 }
 
 /// What the files of these paths hold, each within bounds, without those that cannot be read again.
-pub(crate) fn contents_at<'a, R: AllocGlobal + Files>(
+pub fn contents_at<'a, R: AllocGlobal + Files>(
     rt: &R,
     paths: &'a [String],
     bounds: Bounds,
@@ -39,7 +39,7 @@ pub(crate) fn contents_at<'a, R: AllocGlobal + Files>(
 }
 
 /// What the file at a path holds, where that is known.
-pub(crate) fn contents_of<'b, 'a>(all: &'b [Contents<'a>], path: &str) -> Option<&'b Contents<'a>> {
+pub fn contents_of<'b, 'a>(all: &'b [Contents<'a>], path: &str) -> Option<&'b Contents<'a>> {
     all.iter().find(|contents| contents.path == path)
 }
 

@@ -13,9 +13,9 @@ mod hint;
 mod note;
 mod notes;
 
-pub use contents::format_at;
+pub use contents::{Contents, contents_at, contents_of, format_at};
 pub use cut::Cut;
 pub use format::Format;
 pub use hint::{Hint, hint_on};
 pub use note::{cut_line, note_line};
-pub use notes::{Close, Ending, Notes, Subject, notes_on, print_notes};
+pub use notes::{Close, Ending, Notes, Subject, notes_of, notes_on, print_notes, print_texts};

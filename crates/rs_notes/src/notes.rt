@@ -79,23 +79,37 @@ pub fn print_notes<R: AllocGlobal + Files + Eprint>(
     subject: Subject<'_>,
 ) -> bool {
     let notes = notes_on(rt, subject);
-    for text in &notes.texts {
+    print_texts(rt, program, &notes.texts);
+    notes.any
+}
+
+/// Prints the texts of notes in the same way.
+pub fn print_texts<R: Eprint>(rt: &R, program: &str, texts: &[String]) {
+    for text in texts {
         let _ = eprintln!(rt; "{program}: note: {text}");
     }
-    notes.any
 }
 
 /// The notes on the recorded files of an exchange: those of each peer in configured order, and then that on the server.
 pub fn notes_on<R: AllocGlobal + Files>(rt: &R, subject: Subject<'_>) -> Notes {
+    let all = contents_at(rt, &subject.setup.files, subject.bounds);
+    notes_of(rt, subject, &all)
+}
+
+/// The same, where it is known what the files hold within these bounds.
+pub fn notes_of<R: AllocGlobal + Files>(
+    rt: &R,
+    subject: Subject<'_>,
+    all: &[Contents<'_>],
+) -> Notes {
     let setup = subject.setup;
-    let all = contents_at(rt, &setup.files, subject.bounds);
     let mut notes = Notes {
         texts: Vec::new(rt.alloc()),
         any: false,
     };
     let mut told = None;
     for peer in 0..setup.plan.count().min(setup.files.len()) {
-        if let Some(contents) = contents_of(&all, &setup.files[peer]) {
+        if let Some(contents) = contents_of(all, &setup.files[peer]) {
             let ending = ending_of(subject.endings, peer, &contents.held);
             let spec = setup.plan.peer(peer);
             add_notes(
@@ -109,7 +123,7 @@ pub fn notes_on<R: AllocGlobal + Files>(rt: &R, subject: Subject<'_>) -> Notes {
             );
         }
     }
-    add_server(rt, subject, &all, &mut notes);
+    add_server(rt, subject, all, &mut notes);
     notes
 }
 

@@ -10,10 +10,10 @@ use crate::members::members_of;
 use crate::shown::Shown;
 use crate::style::STYLE;
 use crate::times::times_of;
-use rs_glass_shell::{Reply, Unanswered, answer_until, served, write_whole};
-use rs_host::configuration;
+use rs_glass_shell::{Noted, Reply, Unanswered, served, write_whole};
+use rs_host::{DONE, configuration};
 use rs_mrt::{Bounds, Tail};
-use rs_notes::{Subject, notes_on};
+use rs_notes::{Subject, contents_at, notes_of};
 use rs_picture::PALETTE;
 use rs_query::PageQuery;
 use rs_survey::summary_on_threads;
@@ -38,16 +38,15 @@ where
         until: query.tables.until,
         tail: Tail::Strict,
     };
-    let times = times_of(rt, &setup, bounds, query.tables.errors)?;
+    let contents = contents_at(rt, &setup.files, bounds);
+    let times = times_of(rt, &setup, &contents, bounds, query.tables.errors)?;
     let members = members_of(alloc, &tally, &times)?;
-    let notes = notes_on(
-        rt,
-        Subject {
-            setup: &setup,
-            bounds,
-            endings: None,
-        },
-    );
+    let subject = Subject {
+        setup: &setup,
+        bounds,
+        endings: None,
+    };
+    let notes = notes_of(rt, subject, &contents);
     let text = page_text(
         alloc,
         &Shown {
@@ -60,7 +59,11 @@ where
         },
     )?;
     write_whole(rt, &query.out, &text)?;
-    Ok(answer_until(String::new(alloc), setup, query.tables.until))
+    Ok(Reply {
+        text: String::new(alloc),
+        status: DONE,
+        noted: Noted::Texts(notes.texts),
+    })
 }
 
 // The text of the page.

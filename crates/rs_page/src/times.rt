@@ -1,7 +1,7 @@
 //! What recordings show over time: the sessions of each peer, and how many changes came when.
 //!
-//! Our choices: each file is read twice for that, behind the run that builds the tables. So of a file that gives its
-//! octets only once nothing is shown.
+//! Our choices: each file is read once more for that, behind the run that builds the tables and what notes tell of it. So
+//! of a file that gives its octets only once nothing is shown.
 
 ghost use Rattle.std.specs.Prelude.{◌<◌};
 
@@ -10,9 +10,10 @@ use crate::spans::{Ends, Span, spans_of};
 use rs_choice::PeerSpec;
 use rs_glass::{Loss, loss_of};
 use rs_glass_shell::Unanswered;
-use rs_host::{Unready, found_at, open_file};
-use rs_inventory::{Inventory, InventoryFault, Peer, PeerRecords, read_outline};
+use rs_host::{Unready, open_file};
+use rs_inventory::{Peer, PeerRecords};
 use rs_mrt::{BoundedReader, Bounds, Read, RecordReader};
+use rs_notes::{Contents, contents_of};
 use rs_session::{Body, PeerId, Reason, Session, Word};
 use rs_setup::Setup;
 use rs_update::Errors;
@@ -41,22 +42,15 @@ pub(crate) struct PeerTimes {
     pub(crate) spans: Vec<Span>,
 }
 
-// What a file holds, by its path; none where it can't be read again.
-#[derive(Drop)]
-struct Outline<'a> {
-    path: &'a str,
-    held: Option<Inventory>,
-}
-
-/// What the recorded files of a setup show within bounds.
+/// What the recorded files of a setup show within bounds, where it is known what they hold.
 pub(crate) fn times_of<R: AllocGlobal + Files>(
     rt: &R,
     setup: &Setup,
+    contents: &[Contents<'_>],
     bounds: Bounds,
     errors: Errors,
 ) -> Result<Times, Unanswered> {
-    let outlines = outlines(rt, &setup.files, bounds)?;
-    let (first, last) = range_of(setup, &outlines);
+    let (first, last) = range_of(setup, contents);
     let mut times = Times {
         peers: Vec::new(rt.alloc()),
         changes: Changes::none(first.unwrap_or(0), last.unwrap_or(0)),
@@ -64,7 +58,7 @@ pub(crate) fn times_of<R: AllocGlobal + Files>(
     };
     for peer in 0..setup.plan.count().min(setup.files.len()) {
         let (spec, path) = (setup.plan.peer(peer), setup.files[peer].as_str());
-        let one = match records_of(&outlines, path, peer_of(spec)) {
+        let one = match records_of(contents, path, peer_of(spec)) {
             Some(records) => heard(
                 rt,
                 records,
@@ -89,72 +83,18 @@ fn silent(alloc: Global) -> PeerTimes {
     }
 }
 
-// The outlines of the files at these paths.
-fn outlines<'a, R: AllocGlobal + Files>(
-    rt: &R,
-    paths: &'a [String],
-    bounds: Bounds,
-) -> Result<Vec<Outline<'a>>, Unanswered> {
-    let mut all = Vec::new(rt.alloc());
-    for path in paths {
-        if !is_outlined(&all, path) {
-            let held = outline_at(rt, path, bounds)?;
-            let path = path.as_str();
-            if all.push(Outline { path, held }).is_err() {
-                return Err(Unanswered::Memory);
-            }
-        }
-    }
-    Ok(all)
-}
-
-// Whether the file at a path was read.
-fn is_outlined(all: &[Outline<'_>], path: &str) -> bool {
-    all.iter().any(|outline| outline.path == path)
-}
-
-// The outline of the file at a path, where it gives its octets each time it is read.
-fn outline_at<R: AllocGlobal + Files>(
-    rt: &R,
-    path: &str,
-    bounds: Bounds,
-) -> Result<Option<Inventory>, Unanswered> {
-    match found_at(rt, path)? {
-        Some(found) if found.is_file() => {}
-        _ => return Ok(None),
-    }
-    let alloc = rt.alloc();
-    let file = match open_file(rt, path) {
-        Ok(file) => file,
-        Err(fault) => return Err(Unanswered::from(Unready::by_file(alloc, fault, path))),
-    };
-    match read_outline(alloc, BoundedReader::new(alloc, file, bounds), None) {
-        Ok(held) => Ok(Some(held)),
-        Err(InventoryFault::Memory) => Err(Unanswered::Memory),
-        Err(InventoryFault::Read) => Err(Unanswered::from(Unready::by_path(alloc, path))),
-    }
-}
-
 // The records of a peer in the file at a path.
-fn records_of<'b>(all: &'b [Outline<'_>], path: &str, peer: Peer) -> Option<&'b PeerRecords> {
-    for outline in all {
-        if outline.path == path {
-            return match &outline.held {
-                Some(held) => held.peers().get(&peer),
-                None => None,
-            };
-        }
-    }
-    None
+fn records_of<'b>(all: &'b [Contents<'_>], path: &str, peer: Peer) -> Option<&'b PeerRecords> {
+    contents_of(all, path)?.held.peers().get(&peer)
 }
 
 // The times of the first and the last record of all peers.
-fn range_of(setup: &Setup, outlines: &[Outline<'_>]) -> (Option<u32>, Option<u32>) {
+fn range_of(setup: &Setup, contents: &[Contents<'_>]) -> (Option<u32>, Option<u32>) {
     let mut first: Option<u32> = None;
     let mut last: Option<u32> = None;
     for peer in 0..setup.plan.count().min(setup.files.len()) {
         let of = peer_of(setup.plan.peer(peer));
-        if let Some(records) = records_of(outlines, &setup.files[peer], of) {
+        if let Some(records) = records_of(contents, &setup.files[peer], of) {
             let course = records.course();
             first = earlier(first, course.first);
             last = later(last, course.last);
