@@ -11,6 +11,8 @@ pub(crate) enum Takes {
     Nothing,
     // A value, which help names so.
     Value(&'static str),
+    // A path that isn't empty, which help names so.
+    Path(&'static str),
     // One of these values, the first one where it isn't given.
     Choice(&'static str, &'static [&'static str]),
     // One of these values.
@@ -61,6 +63,60 @@ pub(crate) struct Row {
 }
 
 impl Row {
+    // An option that is given once or not at all, and has nothing to do with others.
+    pub(crate) const fn new(name: &'static str, takes: Takes, help: &'static str) -> Row {
+        Row {
+            name,
+            takes,
+            given: Given::Maybe,
+            tie: Tie::Free,
+            help,
+        }
+    }
+
+    // One that takes nothing.
+    pub(crate) const fn flag(name: &'static str, help: &'static str) -> Row {
+        Row::new(name, Takes::Nothing, help)
+    }
+
+    // One with a value, which help names so.
+    pub(crate) const fn value(
+        name: &'static str,
+        value: &'static str,
+        help: &'static str,
+    ) -> Row {
+        Row::new(name, Takes::Value(value), help)
+    }
+
+    // The same option, given once.
+    pub(crate) const fn once(self) -> Row {
+        Row {
+            given: Given::Once,
+            ..self
+        }
+    }
+
+    // The same option, given any number of times.
+    pub(crate) const fn often(self) -> Row {
+        Row {
+            given: Given::Often,
+            ..self
+        }
+    }
+
+    // The same option, given once or more.
+    pub(crate) const fn once_or_more(self) -> Row {
+        Row {
+            given: Given::OnceOrMore,
+            ..self
+        }
+    }
+
+    // The same option, which has this to do with another one.
+    pub(crate) const fn tied(self, tie: Tie) -> Row {
+        Row { tie, ..self }
+    }
+
     // The option as `clap` knows it.
     pub(crate) fn argument<'a>(&self, alloc: Global) -> Result<Arg<'a>, AllocError> {
         match self.tie {
@@ -78,6 +134,9 @@ impl Row {
         match self.takes {
             Takes::Nothing => arg.long(self.name).action(ArgAction::SetTrue),
             Takes::Value(value) => self.valued(arg, value),
+            Takes::Path(value) => self
+                .valued(arg, value)
+                .value_parser(ValueParser::NonEmptyString),
             Takes::Choice(value, choices) => self
                 .valued(arg, value)
                 .value_parser(ValueParser::Names(choices))

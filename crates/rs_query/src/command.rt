@@ -1,6 +1,6 @@
 //! The program's command, as `clap` knows it: a table of commands, each with a table of its options.
 
-use crate::argument::{Given, Row, Takes, Tie};
+use crate::argument::{Row, Takes, Tie};
 use clap::Command;
 use rs_host::VERSION;
 use std::alloc::{AllocError, Global};
@@ -145,219 +145,110 @@ const REASONS: [&str; 14] = [
     "address",
 ];
 
-const CONFIG: Row = Row {
-    name: "config",
-    takes: Takes::Value("FILE"),
-    given: Given::Once,
-    tie: Tie::Free,
-    help: "Configuration of the exchange, as route_server takes it",
-};
+const CONFIG: Row = ANY_CONFIG.once();
 
-const CONFIGS: Row = Row {
-    given: Given::OnceOrMore,
-    ..CONFIG
-};
+const CONFIGS: Row = ANY_CONFIG.once_or_more();
 
-const CLIENT: Row = Row {
-    name: "client",
-    takes: Takes::Value("NAME"),
-    given: Given::Once,
-    tie: Tie::Free,
-    help: "Name of the client, or its address or AS number",
-};
+const ANY_CONFIG: Row = Row::value(
+    "config",
+    "FILE",
+    "Configuration of the exchange, as route_server takes it",
+);
 
-const ANY_CLIENT: Row = Row {
-    given: Given::Maybe,
-    ..CLIENT
-};
+const CLIENT: Row = ANY_CLIENT.once();
 
-const PREFIX: Row = Row {
-    name: "prefix",
-    takes: Takes::Value("PREFIX"),
-    given: Given::Maybe,
-    tie: Tie::Free,
-    help: "IPv4 prefix, as 192.0.2.0/24",
-};
+const ANY_CLIENT: Row = Row::value(
+    "client",
+    "NAME",
+    "Name of the client, or its address or AS number",
+);
 
-const DESTINATION: Row = Row {
-    name: "prefix",
-    takes: Takes::Value("PREFIX"),
-    given: Given::Once,
-    tie: Tie::Free,
-    help: "IPv4 prefix, as 192.0.2.0/24, or an address: the longest prefix with a route to it",
-};
+const PREFIX: Row = Row::value("prefix", "PREFIX", "IPv4 prefix, as 192.0.2.0/24");
 
-const ALL: Row = Row {
-    name: "all",
-    takes: Takes::Nothing,
-    given: Given::Maybe,
-    tie: Tie::Free,
-    help: "Shows each peer that never announced the prefix",
-};
+const DESTINATION: Row = Row::value(
+    "prefix",
+    "PREFIX",
+    "IPv4 prefix, as 192.0.2.0/24, or an address: the longest prefix with a route to it",
+)
+.once();
 
-const ATTRIBUTES: Row = Row {
-    name: "attributes",
-    takes: Takes::Nothing,
-    given: Given::Maybe,
-    tie: Tie::Free,
-    help: "Shows all path attributes of the routes",
-};
+const ALL: Row = Row::flag("all", "Shows each peer that never announced the prefix");
 
-const ENDS: Row = Row {
-    name: "ends",
-    takes: Takes::Nothing,
-    given: Given::Maybe,
-    tie: Tie::Free,
-    help: "Shows the ends of the files",
-};
+const ATTRIBUTES: Row = Row::flag("attributes", "Shows all path attributes of the routes");
 
-const SINCE: Row = Row {
-    name: "from",
-    takes: Takes::Value("TIME"),
-    given: Given::Maybe,
-    tie: Tie::Free,
-    help: "Shows changes from this time on: seconds since 1970, or as 2026-11-22T06:36:20Z",
-};
+const ENDS: Row = Row::flag("ends", "Shows the ends of the files");
 
-const UNTIL: Row = Row {
-    name: "until",
-    takes: Takes::Value("TIME"),
-    given: Given::Maybe,
-    tie: Tie::Free,
-    help: "Stops reading at the first later record: seconds since 1970, or as 2026-11-22T06:36:20Z",
-};
+const SINCE: Row = Row::value(
+    "from",
+    "TIME",
+    "Shows changes from this time on: seconds since 1970, or as 2026-11-22T06:36:20Z",
+);
 
-const UNTILS: Row = Row {
-    given: Given::Often,
-    ..UNTIL
-};
+const UNTIL: Row = Row::value(
+    "until",
+    "TIME",
+    "Stops reading at the first later record: seconds since 1970, or as 2026-11-22T06:36:20Z",
+);
 
-const ERRORS: Row = Row {
-    name: "errors",
-    takes: Takes::Choice("STANDARD", &["rfc4271", "rfc7606"]),
-    given: Given::Maybe,
-    tie: Tie::Free,
-    help: "How faults in path attributes are handled",
-};
+const UNTILS: Row = UNTIL.often();
 
-const STANDARDS: Row = Row {
-    given: Given::Often,
-    ..ERRORS
-};
+const ERRORS: Row = Row::new(
+    "errors",
+    Takes::Choice("STANDARD", &["rfc4271", "rfc7606"]),
+    "How faults in path attributes are handled",
+);
 
-const JSON: Row = Row {
-    name: "json",
-    takes: Takes::Nothing,
-    given: Given::Maybe,
-    tie: Tie::Free,
-    help: "Writes the answer as JSON",
-};
+const STANDARDS: Row = ERRORS.often();
 
-const JSON_OR_TOML: Row = Row {
-    tie: Tie::Against("toml"),
-    ..JSON
-};
+const JSON: Row = Row::flag("json", "Writes the answer as JSON");
 
-const TOML: Row = Row {
-    name: "toml",
-    takes: Takes::Nothing,
-    given: Given::Maybe,
-    tie: Tie::Free,
-    help: "Writes a configuration to start from",
-};
+const JSON_OR_TOML: Row = JSON.tied(Tie::Against("toml"));
 
-const CSV: Row = Row {
-    name: "csv",
-    takes: Takes::Nothing,
-    given: Given::Maybe,
-    tie: Tie::Against("json"),
-    help: "Writes the list as CSV",
-};
+const TOML: Row = Row::flag("toml", "Writes a configuration to start from");
 
-const TABLE: Row = Row {
-    name: "table",
-    takes: Takes::Value("FILE"),
-    given: Given::Once,
-    tie: Tie::Free,
-    help: "Table of a collector (MRT, TABLE_DUMP_V2)",
-};
+const CSV: Row = Row::flag("csv", "Writes the list as CSV").tied(Tie::Against("json"));
 
-const FOLDER: Row = Row {
-    name: "out",
-    takes: Takes::Value("DIR"),
-    given: Given::Once,
-    tie: Tie::Free,
-    help: "Folder that takes a file for each peer",
-};
+const TABLE: Row = Row::value("table", "FILE", "Table of a collector (MRT, TABLE_DUMP_V2)").once();
 
-const PEER: Row = Row {
-    name: "peer",
-    takes: Takes::Value("ADDRESS"),
-    given: Given::Often,
-    tie: Tie::Free,
-    help: "Address of a peer whose session is written; all peers if left out",
-};
+const FOLDER: Row = Row::new(
+    "out",
+    Takes::Path("DIR"),
+    "Folder that takes a file for each peer",
+)
+.once();
 
-const PAGE: Row = Row {
-    name: "out",
-    takes: Takes::Value("FILE"),
-    given: Given::Once,
-    tie: Tie::Free,
-    help: "File that is written (HTML)",
-};
+const PEER: Row = Row::value(
+    "peer",
+    "ADDRESS",
+    "Address of a peer whose session is written; all peers if left out",
+)
+.often();
 
-const SVG: Row = Row {
-    name: "svg",
-    takes: Takes::Value("FILE"),
-    given: Given::Maybe,
-    tie: Tie::Free,
-    help: "File that takes a picture of the history too (SVG)",
-};
+const PAGE: Row = Row::new("out", Takes::Path("FILE"), "File that is written (HTML)").once();
 
-const FILES: Row = Row {
-    name: "file",
-    takes: Takes::Paths,
-    given: Given::OnceOrMore,
-    tie: Tie::Free,
-    help: "Recorded files (MRT)",
-};
+const SVG: Row = Row::new(
+    "svg",
+    Takes::Path("FILE"),
+    "File that takes a picture of the history too (SVG)",
+);
 
-const FROM: Row = Row {
-    name: "from",
-    takes: Takes::Value("NAME"),
-    given: Given::Maybe,
-    tie: Tie::Free,
-    help: "Name of the peer whose routes are listed",
-};
+const FILES: Row = Row::new("file", Takes::Paths, "Recorded files (MRT)").once_or_more();
 
-const LONGER: Row = Row {
-    name: "longer",
-    takes: Takes::Nothing,
-    given: Given::Maybe,
-    tie: Tie::With("prefix"),
-    help: "Lists more specific prefixes too",
-};
+const FROM: Row = Row::value("from", "NAME", "Name of the peer whose routes are listed");
 
-const BECAUSE: Row = Row {
-    name: "because",
-    takes: Takes::OneOf("REASON", &REASONS),
-    given: Given::Maybe,
-    tie: Tie::Free,
-    help: "Answer or reason for which routes are listed",
-};
+const LONGER: Row =
+    Row::flag("longer", "Lists more specific prefixes too").tied(Tie::With("prefix"));
 
-const COUNT: Row = Row {
-    name: "count",
-    takes: Takes::Nothing,
-    given: Given::Maybe,
-    tie: Tie::Free,
-    help: "Counts the routes and lists none",
-};
+const BECAUSE: Row = Row::new(
+    "because",
+    Takes::OneOf("REASON", &REASONS),
+    "Answer or reason for which routes are listed",
+);
 
-const SHARDS: Row = Row {
-    name: "shards",
-    takes: Takes::Threads,
-    given: Given::Maybe,
-    tie: Tie::Free,
-    help: "How many threads keep the tables, from 1 to 16",
-};
+const COUNT: Row = Row::flag("count", "Counts the routes and lists none");
+
+const SHARDS: Row = Row::new(
+    "shards",
+    Takes::Threads,
+    "How many threads keep the tables, from 1 to 16",
+);
