@@ -2,7 +2,7 @@
 //! sessions that a collector's table gives.
 //! All of it is our choice, but for JSON (RFC 8259) and TOML 1.0.
 //!
-//! Reading order: `recordings` (the whole answer), `recorded_file`, `listing_lines`, `listing_object`, `listing_pieces`
+//! Reading order: `recordings` (the whole answer), `recorded_file`, `listing_answer`, `listing_pieces`
 //! and `listing_toml` (what recorded files hold, as a text, as JSON and as a configuration). `checking`, `refused` and
 //! `closing` (what a run would meet). Sessions of a table: `starting` (the whole answer), `listed` (which peers get a
 //! file), `session_files` (the files, which are put in place when all are whole), `sessions` (what is written to them).
@@ -13,8 +13,7 @@ mod checking;
 mod closing;
 mod configuration;
 mod listed;
-mod listing_lines;
-mod listing_object;
+mod listing_answer;
 mod listing_pieces;
 mod listing_toml;
 mod peer_lines;

@@ -1,7 +1,6 @@
 //! Answers what recorded files hold.
 
-use crate::listing_lines::as_text;
-use crate::listing_object::as_json;
+use crate::listing_answer::{as_json, as_text};
 use crate::listing_toml::as_toml;
 use crate::recorded_file::RecordedFile;
 use rs_glass_shell::Unanswered;

@@ -22,7 +22,7 @@ mod writing;
 
 pub use lines::{PROGRAM, line};
 pub use names::{
-    PrefixText, add_gets, asn_at, name_at, name_width, names_text, peer_name, prefix_text,
+    PrefixText, add_gets, asn_at, name_at, name_width, names_text, peer_name,
 };
 pub use reason_fields::{hand_peer, hand_reason};
 pub use reasons::{

@@ -44,11 +44,6 @@ impl fmt::Display for PrefixText {
     }
 }
 
-/// The same as a text. Fails where memory is refused.
-pub fn prefix_text(alloc: Global, prefix: Prefix) -> Result<String, AllocError> {
-    PrefixText(prefix).to_string(alloc)
-}
-
 /// The names of peers, with commas between them. Fails where memory is refused.
 pub fn names_text(alloc: Global, plan: &Exchange, peers: &[usize]) -> Result<String, AllocError> {
     let mut text = String::new(alloc);

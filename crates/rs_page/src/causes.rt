@@ -6,7 +6,7 @@ use crate::elements::{
 };
 use crate::members::Member;
 use crate::shown::Shown;
-use rs_choice::Step;
+use rs_glass_shell::{STEPS, step_name};
 use rs_survey::Finding;
 use std::alloc::AllocError;
 
@@ -24,16 +24,6 @@ const CAUSES: [(&str, usize, &str); 4] = [
     ("server hop", 3, "ko"),
     ("off subnet", 4, "ko"),
     ("refused", 5, "kr"),
-];
-
-// The steps, each by its name.
-const STEPS: [(&str, Step); 6] = [
-    ("preference", Step::Preference),
-    ("path length", Step::PathLength),
-    ("origin", Step::Origin),
-    ("MED", Step::Med),
-    ("identifier", Step::Identifier),
-    ("address", Step::Address),
 ];
 
 /// Adds the sections of the causes and of the steps.
@@ -109,14 +99,12 @@ fn sum_at(members: &[Member], place: usize) -> u64 {
 fn steps_of(shown: &Shown<'_>) -> [Bar; 6] {
     let mut numbers: [u64; 6] = [0; 6];
     for place in 0..STEPS.len() {
-        let (_, step) = STEPS[place];
-        numbers[place] = shown.tally.count(Finding::Removed(step));
+        numbers[place] = shown.tally.count(Finding::Removed(STEPS[place]));
     }
     let most = greatest(&numbers);
     let mut bars = [bar_of("", 0, most, "kg"); 6];
     for place in 0..STEPS.len() {
-        let (label, _) = STEPS[place];
-        bars[place] = bar_of(label, numbers[place], most, "kg");
+        bars[place] = bar_of(step_name(STEPS[place]), numbers[place], most, "kg");
     }
     bars
 }

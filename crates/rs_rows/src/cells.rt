@@ -14,6 +14,15 @@ pub fn fill_cell(text: &mut String, start: usize, width: usize) -> Result<(), Al
     add_spaces(text, len, width)
 }
 
+// Adds a cell with as many spaces before it as fill it up to a width, and two behind it.
+pub(crate) fn add_right(line: &mut String, cell: &str, width: usize) -> Result<(), AllocError> {
+    if cell.len() < width {
+        add_spaces(line, cell.len(), width)?;
+    }
+    line.push_str(cell)?;
+    line.push_str("  ")
+}
+
 // Spaces, as many as fill up most cells.
 const SPACES: &str = "                                ";
 

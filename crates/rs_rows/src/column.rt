@@ -2,6 +2,17 @@
 
 use crate::form::Form;
 
+/// How text lays out the fields of a column.
+#[derive(Clone, Copy, Debug, PartialEq, Eq, Drop)]
+pub enum Align {
+    /// To the left, with spaces behind them.
+    Left,
+    /// To the right, with spaces before them and two behind.
+    Right,
+    /// Broken between words where a line is too long: for the last column.
+    Broken,
+}
+
 /// A column of a list.
 #[derive(Clone, Copy, Debug, PartialEq, Eq, Drop)]
 pub struct Column {
@@ -15,6 +26,8 @@ pub struct Column {
     pub in_text: bool,
     /// Whether CSV has it.
     pub in_csv: bool,
+    /// How text lays out its fields.
+    pub align: Align,
 }
 
 impl Column {
@@ -26,28 +39,39 @@ impl Column {
             width,
             in_text: true,
             in_csv: true,
+            align: Align::Left,
+        }
+    }
+
+    /// A column whose fields text lays out to the right.
+    pub fn right(key: &'static str, title: &'static str, width: usize) -> Column {
+        Column {
+            align: Align::Right,
+            ..Column::new(key, title, width)
+        }
+    }
+
+    /// The last column, whose fields text breaks between words where a line is too long.
+    pub fn broken(key: &'static str, title: &'static str) -> Column {
+        Column {
+            align: Align::Broken,
+            ..Column::new(key, title, 0)
         }
     }
 
     /// A column of text alone.
     pub fn of_text(key: &'static str, title: &'static str, width: usize) -> Column {
         Column {
-            key,
-            title,
-            width,
-            in_text: true,
             in_csv: false,
+            ..Column::new(key, title, width)
         }
     }
 
     /// A column of CSV alone.
     pub fn of_csv(key: &'static str) -> Column {
         Column {
-            key,
-            title: "",
-            width: 0,
             in_text: false,
-            in_csv: true,
+            ..Column::new(key, "", 0)
         }
     }
 

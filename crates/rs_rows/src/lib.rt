@@ -13,6 +13,6 @@ mod row_writer;
 mod sheet;
 
 pub use cells::{add_cell, add_sentence, add_words, fill_cell};
-pub use column::Column;
+pub use column::{Align, Column};
 pub use form::Form;
 pub use row_writer::{RowWriter, joined};

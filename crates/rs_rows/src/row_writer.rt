@@ -38,6 +38,17 @@ impl<'a> RowWriter<'a> {
         RowWriter::new(alloc, Form::Json, &[])
     }
 
+    /// A writer of a list of objects, which are a value of JSON.
+    pub fn objects(alloc: Global) -> RowWriter<'static> {
+        RowWriter {
+            alloc,
+            columns: &[],
+            place: 0,
+            sheet: Sheet::of_objects(alloc),
+            refused: false,
+        }
+    }
+
     /// How it writes.
     pub fn form(&self) -> Form {
         self.sheet.form()
@@ -71,7 +82,7 @@ impl<'a> RowWriter<'a> {
                 } else {
                     column.title
                 };
-                let added = self.sheet.add_field(title, column.width);
+                let added = self.sheet.add_field(title, column);
                 self.keep(added);
             }
         }
@@ -89,8 +100,8 @@ impl<'a> RowWriter<'a> {
 
     /// Takes a text for people, which JSON does not have.
     pub fn words(&mut self, key: &str, text: &str) {
-        if let Some(width) = self.find(key) {
-            let added = self.sheet.add_field(text, width);
+        if let Some(column) = self.find(key) {
+            let added = self.sheet.add_field(text, &column);
             self.keep(added);
         }
     }
@@ -123,8 +134,8 @@ impl<'a> RowWriter<'a> {
 
     /// Takes what a value shows for people, which JSON does not have.
     pub fn shown_words<T: Display>(&mut self, key: &str, value: &T) {
-        if let Some(width) = self.find(key) {
-            let added = self.sheet.add_shown(self.alloc, value, width);
+        if let Some(column) = self.find(key) {
+            let added = self.sheet.add_shown(self.alloc, value, &column);
             self.keep(added);
         }
     }
@@ -174,6 +185,24 @@ impl<'a> RowWriter<'a> {
         }
     }
 
+    /// Takes lines between rows, which text alone has: each with its line break, or that memory was refused for them.
+    pub fn lines(&mut self, lines: Result<String, AllocError>) {
+        let added = match lines {
+            Ok(lines) => self.sheet.add_lines(&lines),
+            Err(refused) => Err(refused),
+        };
+        self.keep(added);
+    }
+
+    /// Takes a line of words between rows, which text alone has and breaks where it is too long.
+    pub fn sentence(&mut self, words: Result<String, AllocError>) {
+        let added = match words {
+            Ok(words) => self.sheet.add_sentence(&words),
+            Err(refused) => Err(refused),
+        };
+        self.keep(added);
+    }
+
     /// Ends a row.
     pub fn end_row(&mut self) {
         self.pass_to(self.columns.len());
@@ -189,16 +218,18 @@ impl<'a> RowWriter<'a> {
         if mem::replace(&mut self.refused, false) {
             return Err(AllocError);
         }
-        sheet.into_text()
+        sheet.into_text(self.alloc)
     }
 
-    /// The object that was written. Fails where memory was refused for any of it; null where the form is not JSON.
+    /// The object that was written, or the list of objects. Fails where memory was refused for any of it; null where the
+    /// form is not JSON.
     pub fn into_value(self) -> Result<Value, AllocError> {
         if self.refused {
             return Err(AllocError);
         }
         match self.sheet {
             Sheet::Json(_, object) => Ok(Value::Object(object)),
+            Sheet::Objects(objects, _) => Ok(Value::Array(objects)),
             _ => Ok(Value::Null),
         }
     }
@@ -209,8 +240,8 @@ impl<'a> RowWriter<'a> {
         self.keep(added);
     }
 
-    // Goes to the column of a key, and answers how wide it is; none where the form has no such column from here on.
-    fn find(&mut self, key: &str) -> Option<usize> {
+    // Goes to the column of a key, and answers it; none where the form has no such column from here on.
+    fn find(&mut self, key: &str) -> Option<Column> {
         let form = self.form();
         if form == Form::Json {
             return None;
@@ -220,7 +251,7 @@ impl<'a> RowWriter<'a> {
             if column.key == key && column.is_in(form) {
                 self.pass_to(place);
                 self.place = place.saturating_add(1);
-                return Some(column.width);
+                return Some(*column);
             }
             place = place.saturating_add(1);
         }
@@ -232,7 +263,7 @@ impl<'a> RowWriter<'a> {
         let form = self.form();
         for column in self.columns.iter().take(place).skip(self.place) {
             if column.is_in(form) {
-                let added = self.sheet.add_field("", column.width);
+                let added = self.sheet.add_field("", column);
                 self.keep(added);
             }
         }

@@ -2,13 +2,11 @@
 
 ghost use Rattle.std.specs.Prelude.{◌≡◌, IfOk, length};
 
-use crate::history_lines::{HistoryView, history_text};
-use crate::history_object::history_json;
+use crate::history_answer::{HistoryView, history_json, history_text};
 use crate::picture::history_picture;
 use crate::starts::starts;
 use crate::unread::by_reading;
-use crate::why_lines::{WhyView, why_text};
-use crate::why_object::why_json;
+use crate::why_answer::{WhyView, why_json, why_text};
 use rs_glass::{
     History, Question, Reading, explain_all, fill_history, longest_announced, read_happenings,
     read_sessions,

@@ -11,9 +11,19 @@ use std::net::Ipv4Addr;
 // How far the lines are indented.
 const INDENT: usize = 6;
 
-// Adds a line for each path attribute of a route, in ascending order of their types: its name, or its type where it is
-// not recognized, and its value.
-pub(crate) fn add_attributes(
+// A line for each path attribute of a route, in ascending order of their types: its name, or its type where it is not
+// recognized, and its value.
+pub(crate) fn attribute_lines(
+    alloc: Global,
+    attributes: &Attributes,
+) -> Result<String, AllocError> {
+    let mut text = String::new(alloc);
+    add_attributes(&mut text, alloc, attributes)?;
+    Ok(text)
+}
+
+// Adds them.
+fn add_attributes(
     text: &mut String,
     alloc: Global,
     attributes: &Attributes,

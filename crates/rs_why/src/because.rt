@@ -1,62 +1,104 @@
-//! The reasons of answers, with what a peer's changes say last.
+//! The reasons of answers, with what a peer's changes say last: as words, and as fields of JSON.
 
 use crate::clock::Clock;
-use crate::starts::Start;
+use crate::starts::{Start, never_announced};
 use rs_choice::Exchange;
-use rs_explain::{EndedBy, Explanation, LastSaid};
+use rs_explain::{EndedBy, Ending, Explanation, LastSaid};
 use rs_glass::{Answer, Said};
-use rs_glass_shell::{Because, close_text, names_text};
+use rs_glass_shell::{Because, close_text, hand_reason, name_at, names_text};
+use rs_rows::{Form, RowWriter};
 use rs_session::Reason;
+use serde_json::Value;
 use std::alloc::{AllocError, Global};
 
-// The reason of an answer.
-pub(crate) fn because(
-    alloc: Global,
-    plan: &Exchange,
-    client: usize,
-    peer: usize,
-    answer: &Answer,
-    start: Option<Start>,
-    clock: Clock,
-) -> Result<String, AllocError> {
-    match &answer.explanation {
-        Explanation::Own => String::from_str(alloc, "its own"),
-        Explanation::Absent => absent_text(alloc, &answer.said, start, clock),
-        Explanation::Best(beaten) if beaten.is_empty() => String::from_str(alloc, "alone"),
+// The answer about a peer, and how it is shown.
+#[derive(Clone, Copy)]
+pub(crate) struct Answered<'a> {
+    // The exchange, whose peers are named.
+    pub(crate) plan: &'a Exchange,
+    // The number of the client.
+    pub(crate) client: usize,
+    // The number of the peer.
+    pub(crate) peer: usize,
+    // The answer.
+    pub(crate) answer: &'a Answer,
+    // Since when the peer's recording runs, if it never announced a route.
+    pub(crate) start: Option<Start>,
+    // How times are shown.
+    pub(crate) clock: Clock,
+}
+
+// Hands over the reason of an answer: as words in one field, or in JSON with what belongs to it.
+pub(crate) fn hand_because(row: &mut RowWriter<'_>, it: &Answered<'_>) {
+    if row.form() == Form::Json {
+        return hand_values(row, it);
+    }
+    match &it.answer.explanation {
+        Explanation::Own => row.words("because", "its own"),
+        Explanation::Absent => row.made_words("because", absent_text(row.alloc(), it)),
         Explanation::Best(beaten) => {
-            let names = names_text(alloc, plan, beaten)?;
-            format!(in alloc; "beat {names}")
+            row.made_words("because", beat_text(row.alloc(), it.plan, beaten));
         }
         explanation => {
             let because = Because {
-                plan,
-                client,
-                peer,
+                plan: it.plan,
+                client: it.client,
+                peer: it.peer,
                 explanation,
             };
-            because.to_string(alloc)
+            row.shown_words("because", &because);
         }
     }
 }
 
+// Hands over the reason of an answer and what belongs to it, in JSON.
+fn hand_values(row: &mut RowWriter<'_>, it: &Answered<'_>) {
+    match &it.answer.explanation {
+        Explanation::Own => row.value("reason", Ok(Value::Null)),
+        Explanation::Absent => hand_absence(row, &it.answer.said),
+        Explanation::Best(beaten) => {
+            row.text("reason", if beaten.is_empty() { "alone" } else { "beat" });
+            row.value("beat", names_value(row.alloc(), it.plan, beaten));
+        }
+        explanation => hand_reason(row, it.plan, it.peer, explanation),
+    }
+    if never_announced(it.answer) {
+        let since = it.start.map(|start| start.time());
+        row.number_or_none("recorded_since", since);
+    }
+}
+
+// Which routes a route beat.
+fn beat_text(alloc: Global, plan: &Exchange, beaten: &[usize]) -> Result<String, AllocError> {
+    if beaten.is_empty() {
+        return String::from_str(alloc, "alone");
+    }
+    let names = names_text(alloc, plan, beaten)?;
+    format!(in alloc; "beat {names}")
+}
+
+// The names of peers.
+fn names_value(alloc: Global, plan: &Exchange, peers: &[usize]) -> Result<Value, AllocError> {
+    let mut names = Vec::with_capacity(alloc, peers.len())?;
+    for peer in peers {
+        names.push(Value::try_from_str(alloc, name_at(plan, *peer))?)?;
+    }
+    Ok(Value::Array(names))
+}
+
 // Why a peer has no route.
-fn absent_text(
-    alloc: Global,
-    said: &Said,
-    start: Option<Start>,
-    clock: Clock,
-) -> Result<String, AllocError> {
-    let LastSaid::Ended(announced, ending) = said.last else {
-        return never_text(alloc, said, start, clock);
+fn absent_text(alloc: Global, it: &Answered<'_>) -> Result<String, AllocError> {
+    let LastSaid::Ended(announced, ending) = it.answer.said.last else {
+        return never_text(alloc, it);
     };
-    let announced = clock.text(alloc, announced)?;
-    match ending.by {
-        EndedBy::Withdrawal => format!(in alloc; "withdrawn (announced {announced})"),
-        EndedBy::Loss => match said.loss {
-            Some(loss) => format!(in alloc; "session lost: {loss}"),
-            None => String::from_str(alloc, "session lost"),
-        },
-        EndedBy::Close(reason) => {
+    match (ending.by, it.answer.said.loss) {
+        (EndedBy::Withdrawal, _) => {
+            let announced = it.clock.text(alloc, announced)?;
+            format!(in alloc; "withdrawn (announced {announced})")
+        }
+        (EndedBy::Loss, Some(loss)) => format!(in alloc; "session lost: {loss}"),
+        (EndedBy::Loss, None) => String::from_str(alloc, "session lost"),
+        (EndedBy::Close(reason), _) => {
             let reason = close_text(alloc, reason)?;
             format!(in alloc; "session closed: {reason}")
         }
@@ -65,29 +107,67 @@ fn absent_text(
 
 // That a peer never announced a route: since when that is known, and why its session closed, where that was not at the
 // end of its file. A recording that begins later says nothing.
-fn never_text(
-    alloc: Global,
-    said: &Said,
-    start: Option<Start>,
-    clock: Clock,
-) -> Result<String, AllocError> {
+fn never_text(alloc: Global, it: &Answered<'_>) -> Result<String, AllocError> {
     let mut text = String::from_str(alloc, "never announced")?;
-    match start {
+    match it.start {
         Some(Start::InTime(time)) => {
-            let time = clock.text(alloc, time)?;
+            let time = it.clock.text(alloc, time)?;
             write!(text, " since {time}")?;
         }
         Some(Start::Later(time)) => {
-            let time = clock.text(alloc, time)?;
+            let time = it.clock.text(alloc, time)?;
             return format!(in alloc; "not recorded before {time}");
         }
         None => {}
     }
-    if let Some(reason) = fault_of(said) {
+    if let Some(reason) = fault_of(&it.answer.said) {
         let reason = close_text(alloc, reason)?;
         write!(text, ", session closed: {reason}")?;
     }
     Ok(text)
+}
+
+// Hands over why a peer has no route, in JSON.
+fn hand_absence(row: &mut RowWriter<'_>, said: &Said) {
+    let alloc = row.alloc();
+    match said.last {
+        LastSaid::Ended(announced, ending) => {
+            row.text("reason", ending_key(&ending));
+            row.number("announced", u64::from(announced));
+            row.value("by", ended_by(alloc, said, &ending));
+        }
+        _ => {
+            row.text("reason", "never_announced");
+            row.value("announced", Ok(Value::Null));
+            row.value("by", close_value(alloc, fault_of(said)));
+        }
+    }
+}
+
+// How a route was taken away.
+fn ending_key(ending: &Ending) -> &'static str {
+    match ending.by {
+        EndedBy::Withdrawal => "withdrawn",
+        EndedBy::Loss => "session_lost",
+        EndedBy::Close(_) => "session_closed",
+    }
+}
+
+// By what a session was lost or closed that took a route away, or null.
+fn ended_by(alloc: Global, said: &Said, ending: &Ending) -> Result<Value, AllocError> {
+    match (ending.by, said.loss) {
+        (EndedBy::Loss, Some(loss)) => Ok(Value::String(loss.to_string(alloc)?)),
+        (EndedBy::Close(reason), _) => close_value(alloc, Some(reason)),
+        _ => Ok(Value::Null),
+    }
+}
+
+// Why a session closed, or null.
+fn close_value(alloc: Global, reason: Option<Reason>) -> Result<Value, AllocError> {
+    match reason {
+        Some(reason) => Ok(Value::String(close_text(alloc, reason)?)),
+        None => Ok(Value::Null),
+    }
 }
 
 // Why a session closed, where that was not at the end of its file.

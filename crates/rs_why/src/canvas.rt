@@ -5,7 +5,7 @@
 //! the route that came last is seen to stay.
 
 use crate::clock::Clock;
-use crate::history_lines::{HistoryView, time_of};
+use crate::history_answer::{HistoryView, time_of};
 use crate::lives::PeerLives;
 use rs_glass::History;
 use rs_picture::{Lanes, MOST_LANES, TimeAxis};

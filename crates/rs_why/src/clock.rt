@@ -4,7 +4,7 @@ use crate::starts::Start;
 use rs_explain::LastSaid;
 use rs_glass::Said;
 use rs_host::{Utc, civil_time};
-use rs_rows::add_cell;
+use rs_rows::{Form, RowWriter};
 use std::alloc::{AllocError, Global};
 
 // The seconds of a day.
@@ -93,24 +93,13 @@ impl Clock {
         }
     }
 
-    // Adds the title of a column of times.
-    pub(crate) fn add_title(self, text: &mut String) -> Result<(), AllocError> {
-        add_cell(text, "time", self.width())
-    }
-
-    // Adds a time to its column; nothing but spaces where there is none.
-    pub(crate) fn add_cell(
-        self,
-        text: &mut String,
-        alloc: Global,
-        time: Option<u32>,
-    ) -> Result<(), AllocError> {
+    // Hands over a time, if there is one: in text as it is shown, and in JSON in seconds.
+    pub(crate) fn hand(self, row: &mut RowWriter<'_>, time: Option<u32>) {
         match time {
-            Some(time) => {
-                let shown = self.text(alloc, time)?;
-                add_cell(text, &shown, self.width())
+            Some(time) if row.form() == Form::Text => {
+                row.made_words("time", self.text(row.alloc(), time));
             }
-            None => add_cell(text, "", self.width()),
+            _ => row.number_or_none("time", time),
         }
     }
 

@@ -1,10 +1,10 @@
 //! Answers about one prefix: why a client has each peer's route, or not, and what happened on the prefix.
 //! All of it is our choice, but for JSON (RFC 8259).
 //!
-//! Reading order: `answering` (the whole answer), `unread` (why there is none). `why_lines` and `why_object` (why a
-//! client has each peer's route, or not). `history_lines` and `history_object` (what happened). The same as a picture:
-//! `lives` (how long routes stood), `picture`, `picture_lanes` and `canvas`. Below them `because` (the reasons),
-//! `starts` (since when recordings run), `clock` (times), `attribute_lines` and `attribute_fields`.
+//! Reading order: `answering` (the whole answer), `unread` (why there is none). `why_answer` and `because` (why a client
+//! has each peer's route, or not). `history_answer` (what happened). The same as a picture: `lives` (how long routes
+//! stood), `picture`, `picture_lanes` and `canvas`. Below them `starts` (since when recordings run), `clock` (times),
+//! `attribute_lines` and `attribute_fields`.
 #![tactic(auto)]
 
 mod answering;
@@ -13,14 +13,12 @@ mod attribute_lines;
 mod because;
 mod canvas;
 mod clock;
-mod history_lines;
-mod history_object;
+mod history_answer;
 mod lives;
 mod picture;
 mod picture_lanes;
 mod starts;
 mod unread;
-mod why_lines;
-mod why_object;
+mod why_answer;
 
 pub use answering::{history, why};

@@ -4,11 +4,11 @@
 //! same history as a text stands in the description.
 
 use crate::canvas::{BASE, Canvas, EDGE, HEAD, ROW, STYLE, WIDTH};
-use crate::history_lines::HistoryView;
+use crate::history_answer::HistoryView;
 use crate::lives::{PeerLives, lives_of};
 use crate::picture_lanes::{add_cross, add_lanes};
 use rs_glass::History;
-use rs_glass_shell::{name_at, prefix_text};
+use rs_glass_shell::{PrefixText, name_at};
 use rs_picture::{Mark, PALETTE, add_rectangle, add_text, close_picture, marks, open_picture};
 use std::alloc::{AllocError, Global};
 
@@ -31,7 +31,7 @@ pub(crate) fn history_picture(
     let canvas = Canvas::of(alloc, view, history, &peers);
     let mut text = String::new(alloc);
     let height = canvas.height();
-    let prefix = prefix_text(alloc, history.prefix)?;
+    let prefix = PrefixText(history.prefix).to_string(alloc)?;
     text.push_str("<?xml version=\"1.0\" encoding=\"UTF-8\"?>\n")?;
     open_picture(
         &mut text,

@@ -3,7 +3,7 @@
 ghost use Rattle.std.specs.Prelude.{◌<◌};
 
 use crate::canvas::{BASE, Canvas};
-use crate::history_lines::{event_text, gets_title, time_of};
+use crate::history_answer::{event_text, gets_title, time_of};
 use crate::lives::{Life, PeerLives};
 use rs_glass::{Event, Gets};
 use rs_glass_shell::{asn_at, attributes_text, name_at};

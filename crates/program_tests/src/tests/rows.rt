@@ -62,3 +62,63 @@ fn rows_in_all_forms(alloc: Global) -> Result<String, AllocError> {
 fn a_row_is_written_in_each_form(rt: HostRuntime) -> Result<(), Fail> {
     check(&rows_in_all_forms(rt.alloc())?, WRITTEN, "rows")
 }
+
+// A list with a column to the right, one that is broken between words, and lines between its rows.
+const BROKEN: &str = concat!(
+    "A sentence goes on in the next line where it has more than eighty columns, so\n",
+    "  here.\n",
+    "count  why\n",
+    "   12  these words go on below where they begin, since the line is full at its\n",
+    "       end\n",
+    "beside\n",
+    "    7  \n",
+);
+
+// Its rows.
+fn broken_rows(alloc: Global) -> Result<String, AllocError> {
+    let columns = [
+        Column::right("count", "count", 5),
+        Column::broken("why", "why"),
+    ];
+    let mut row = RowWriter::new(alloc, Form::Text, &columns);
+    row.sentence(String::from_str(
+        alloc,
+        "A sentence goes on in the next line where it has more than eighty columns, so here.",
+    ));
+    row.titles();
+    row.number("count", 12);
+    row.words(
+        "why",
+        "these words go on below where they begin, since the line is full at its end",
+    );
+    row.end_row();
+    row.lines(String::from_str(alloc, "beside\n"));
+    row.number("count", 7);
+    row.end_row();
+    row.take()
+}
+
+#[test]
+fn a_column_is_laid_out_to_the_right_or_broken(rt: HostRuntime) -> Result<(), Fail> {
+    check(&broken_rows(rt.alloc())?, BROKEN, "rows")
+}
+
+// An object with a list of objects, of which text has no line.
+fn nested_rows(alloc: Global) -> Result<String, AllocError> {
+    let mut list = RowWriter::objects(alloc);
+    list.number("up", 1);
+    list.sentence(String::from_str(alloc, "for people"));
+    list.end_row();
+    list.number_or_none("up", None);
+    list.end_row();
+    let mut object = RowWriter::object(alloc);
+    object.value("sessions", list.into_value());
+    object.end_row();
+    object.take()
+}
+
+#[test]
+fn objects_are_a_value_of_an_object(rt: HostRuntime) -> Result<(), Fail> {
+    let wanted = "{\"sessions\":[{\"up\":1},{\"up\":null}]}\n";
+    check(&nested_rows(rt.alloc())?, wanted, "rows")
+}
