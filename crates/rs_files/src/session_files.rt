@@ -1,12 +1,12 @@
 //! The files of sessions.
 //!
 //! Our choice: a session is written beside its place, to a part file. The part files take their places once all
-//! sessions are whole, so that a reader never finds a part of one. Where something else than a file stands in a place,
-//! such as a link or a device, or the table itself, nothing is written.
+//! sessions are whole, so that a reader never finds a part of one. If something else than a file stands in a place, such
+//! as a link or a device, nothing is written; nor if the table stands there, or in the place of a part file.
 
 use crate::table_faults::unwritten;
 use rs_glass_shell::Unanswered;
-use rs_host::{FileIdentity, found_at};
+use rs_host::{files_read, part_path, writes_over};
 use rs_query::StartQuery;
 use std::alloc::{AllocError, Global};
 use std::fs;
@@ -32,12 +32,6 @@ pub(crate) fn session_path(
     format!(in alloc; "{folder}{slash}{address}.mrt")
 }
 
-// The path of its part file.
-fn part_path(alloc: Global, folder: &str, address: u32) -> Result<String, AllocError> {
-    let (slash, address) = (slash_behind(folder), Ipv4Addr::from_bits(address));
-    format!(in alloc; "{folder}{slash}.{address}.mrt.part")
-}
-
 // What stands between a folder and the name of a file: a folder that ends in `/` gets no second one.
 fn slash_behind(folder: &str) -> &'static str {
     if folder.as_bytes().ends_with(b"/") {
@@ -59,7 +53,7 @@ pub(crate) fn create<R: AllocGlobal + Files>(
     if !is_free(rt, &place, &query.table)? {
         return Err(unwritten(alloc, &place));
     }
-    let part = part_path(alloc, &query.out, address)?;
+    let part = part_path(alloc, &place)?;
     // The file is made after it is listed: so it is taken away whatever fails.
     let made = String::from_str(alloc, &part)?;
     let named = String::from_str(alloc, &place)?;
@@ -73,20 +67,16 @@ pub(crate) fn create<R: AllocGlobal + Files>(
     }
 }
 
-// Whether a session may be put in a place: nothing is known to be there, or a file is, and not the table at this path.
-fn is_free<R: Files>(rt: &R, place: &str, table: &str) -> Result<bool, AllocError> {
-    let found = match fs::symlink_metadata(rt, place) {
-        Ok(found) => found,
+// Whether a session may be put in a place: nothing is known to be there, or a file is; and that, like what stands in the
+// place of its part file, isn't the table at this path.
+fn is_free<R: AllocGlobal + Files>(rt: &R, place: &str, table: &str) -> Result<bool, AllocError> {
+    match fs::symlink_metadata(rt, place) {
+        Ok(found) if !found.is_file() => return Ok(false),
         Err(error) if error.kind() == ErrorKind::OutOfMemory => return Err(AllocError),
-        Err(_) => return Ok(true),
-    };
-    if !found.is_file() {
-        return Ok(false);
+        _ => {}
     }
-    match found_at(rt, table)? {
-        Some(table) => Ok(FileIdentity::of(&table) != FileIdentity::of(&found)),
-        None => Ok(true),
-    }
+    let read = files_read(rt, table, &[])?;
+    Ok(!writes_over(rt, place, &read)?)
 }
 
 /// Puts the files of sessions that are whole in their places.

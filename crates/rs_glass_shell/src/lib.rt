@@ -39,4 +39,4 @@ pub use serving::served;
 pub use setup::{peer_named, peer_of_name};
 pub use toml_text::{PeerNames, quoted};
 pub use unanswered::Unanswered;
-pub use writing::write_whole;
+pub use writing::{check_place, write_whole};

@@ -2,13 +2,29 @@
 //!
 //! Our choice: where nothing or a file stands at the path, the text is written beside it, to a part file that then
 //! takes its place. So an older file stays where that fails. What else stands there, such as a device, is opened
-//! itself.
+//! itself. No file is written over one that is read.
 
 use crate::unanswered::Unanswered;
-use rs_host::{part_path, takes_part_file};
+use rs_host::{files_read, part_path, takes_part_file, writes_over};
+use rs_setup::Setup;
 use std::fs;
 use std::fs::{File, Files};
 use std::io::Write;
+
+/// Refuses a place, with `Unwritten`, if a file with it would be written over the configuration at a path or over a
+/// recorded file of its setup. Fails if memory is refused.
+pub fn check_place<R: AllocGlobal + Files>(
+    rt: &R,
+    place: &str,
+    config: &str,
+    setup: &Setup,
+) -> Result<(), Unanswered> {
+    let read = files_read(rt, config, &setup.files)?;
+    if writes_over(rt, place, &read)? {
+        return Err(Unanswered::Unwritten(String::from_str(rt.alloc(), place)?));
+    }
+    Ok(())
+}
 
 /// Writes a text to the file at a path. Fails with `Unwritten` where that fails, and then an older file stays; or where
 /// memory is refused.

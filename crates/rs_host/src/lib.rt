@@ -4,7 +4,8 @@
 //! Reading order: `fault` (why a file can't be read), `whole` (a file that is read whole), `recorded` (a recorded
 //! file, which is read in pieces). `file_identity` (which file a path names), `read_once` (what is seen before any is
 //! opened). `unready` (why what a program needs can't be read), `setup_file` (the configuration), `files` (opening the
-//! recorded files), `part_file` (files that are written whole or not at all). `escaped` (texts whose control characters
+//! recorded files), `part_file` (files that are written whole or not at all), `overwritten` (none of them over a file that
+//! is read). `escaped` (texts whose control characters
 //! are escaped), `times` (times of records as texts, RFC 6396, section 2). `arguments` (the words of the command line).
 //! `refusal` (why a command line or a configuration is refused), `line` and `status` (how a program ends).
 #![tactic(auto)]
@@ -15,6 +16,7 @@ mod fault;
 mod file_identity;
 mod files;
 mod line;
+mod overwritten;
 mod part_file;
 mod read_once;
 mod recorded;
@@ -31,6 +33,7 @@ pub use fault::FileFault;
 pub use file_identity::{FileIdentity, found_at};
 pub use files::open_files;
 pub use line::{MEMORY_TEXT, OUTPUT_TEXT, end_with, program_line, unread_line};
+pub use overwritten::{files_read, writes_over};
 pub use part_file::{part_path, takes_part_file};
 pub use read_once::first_unreadable;
 pub use recorded::{Bounded, PIECE_LEN, Recorded, in_pieces, open, open_file};

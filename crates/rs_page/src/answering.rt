@@ -10,7 +10,7 @@ use crate::members::members_of;
 use crate::shown::Shown;
 use crate::style::STYLE;
 use crate::times::times_of;
-use rs_glass_shell::{Noted, Reply, Unanswered, served, write_whole};
+use rs_glass_shell::{Noted, Reply, Unanswered, check_place, served, write_whole};
 use rs_host::{DONE, configuration};
 use rs_mrt::{Bounds, Tail};
 use rs_notes::{Subject, contents_at, notes_of};
@@ -22,7 +22,8 @@ use std::fs::Files;
 use std::sync::Wait;
 use std::thread::Threads;
 
-/// Writes an exchange to a file, as a page of HTML in pictures. The answer is empty.
+/// Writes an exchange to a file, as a page of HTML in pictures. The answer is empty. A file over one that is read is
+/// refused, and nothing is written.
 pub fn page<R: AllocGlobal + Files + Threads + Wait + Sync>(
     rt: &R,
     query: &PageQuery,
@@ -32,6 +33,7 @@ where
 {
     let alloc = rt.alloc();
     let setup = configuration(rt, &query.tables.config)?;
+    check_place(rt, &query.out, &query.tables.config, &setup)?;
     let served = served(rt, &setup, &query.tables)?;
     let tally = summary_on_threads(rt, alloc, served.tables())?;
     let bounds = Bounds {

@@ -11,7 +11,7 @@ use rs_glass::{
     History, Question, Reading, explain_all, fill_history, longest_announced, read_happenings,
     read_sessions,
 };
-use rs_glass_shell::{Reply, Unanswered, answer_until, peer_named, write_whole};
+use rs_glass_shell::{Reply, Unanswered, answer_until, check_place, peer_named, write_whole};
 use rs_host::{WordsFault, configuration, first_unreadable, on_one_line, open_files};
 use rs_mrt::{Bounds, Tail};
 use rs_query::{Destination, HistoryQuery, Span, WhyQuery};
@@ -52,7 +52,7 @@ where
     Ok(answer_until(text, setup, query.span.until))
 }
 
-/// What happened on a prefix.
+/// What happened on a prefix. A picture over a file that is read is refused, and nothing is written.
 pub fn history<R: AllocGlobal + Files + Threads + Sync>(
     rt: &R,
     query: &HistoryQuery,
@@ -62,6 +62,9 @@ where
 {
     let alloc = rt.alloc();
     let setup = configuration(rt, &query.config)?;
+    if let Some(place) = &query.svg {
+        check_place(rt, place, &query.config, &setup)?;
+    }
     let client = match &query.client {
         Some(word) => Some(peer_named(rt, &setup, word)?),
         None => None,
