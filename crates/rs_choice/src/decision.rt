@@ -19,7 +19,7 @@ use crate::plan::MAX_PEERS;
 
 impl Exchange {
     /// The same as `choose`, in one pass by neighbour groups, of at most 256 candidates. It takes no memory.
-    /// Tests alone call it: `choose_for_all` makes the same pass over the routes of a table.
+    /// `rs_survey` calls it for a summary; `choose_for_all` makes the same pass over the routes of a table.
     pub fn choose_by_groups(&self, candidates: &[Candidate]) -> Option<usize>
         requires known { All (λ candidate. candidate.peer < length self.now.peers) candidates.now }
         requires bound { length candidates.now ≤ MAX_PEERS }

@@ -13,7 +13,7 @@
 //! - The same decision for lists of any length: `scan`.
 //! - What holds of the definitions that the contracts cite: `laws`.
 //!
-//! The program decides by `choose_for_all`; tests alone call `choose` and `choose_by_groups`.
+//! The tables decide by `choose_for_all`, and a summary of `rs_survey` by `choose_by_groups`; tests alone call `choose`.
 #![tactic(auto)]
 
 mod candidacy;
