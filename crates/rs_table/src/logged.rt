@@ -15,7 +15,8 @@ pub(crate) struct LoggedChange {
     change: Packed,
 }
 
-// The fields of a change. Octets stand first, so that they share the room behind the variant's number.
+// The fields of a change. Octets stand first, so that they share the room behind the variant's number. Both variants
+// list them: a struct of what both have would begin at the fourth octet, and a change would take 32 octets.
 #[derive(Drop)]
 enum Packed {
     Announced {
