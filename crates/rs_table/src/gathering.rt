@@ -58,6 +58,28 @@ impl Model for Gathering {
 }
 
 impl Gathering {
+    /// Begins before any change: no peer of the plan has a route, and all sessions are open. A list with fewer entries
+    /// than `few` is not compacted.
+    ///
+    /// Fails where memory is refused.
+    pub fn of_plan(alloc: Global, plan: Arc<Exchange>, few: usize) -> Result<Gathering, AllocError>
+        ensures plan { IfOk result (λ gathering. gathering.plan ≡ plan.value) }
+        ensures empty { IfOk result (λ gathering. (peer : ℕ) → rib_of gathering peer ≡ nothing_held) }
+        ensures count { IfOk result (λ gathering. length gathering.ribs ≡ length plan.value.peers) }
+    {
+        let mut closed = Vec::with_capacity(alloc, plan.count())?;
+        closed.resize(plan.count(), false)?;
+        let mut losses = Vec::with_capacity(alloc, plan.count())?;
+        losses.resize(plan.count(), 0)?;
+        let logs = empty_logs(alloc, few)?;
+        Ok(Gathering {
+            plan,
+            closed,
+            losses,
+            logs,
+        })
+    }
+
     /// Begins with tables of which no peer has a route yet. A list with fewer entries than `few` is not
     /// compacted.
     ///
