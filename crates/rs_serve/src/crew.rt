@@ -42,8 +42,8 @@ struct Room<R: Read> {
     parts: Vec<Tables>,
 }
 
-// All that takes memory before the first thread starts: the rings, the empty tables, and room for what is known of
-// each thread. Nothing was sent or received.
+// All that takes memory before the first thread starts: the rings, what each shard gathers changes in, and room for
+// what is known of each thread. Nothing was sent or received.
 #[derive(Drop)]
 pub(crate) struct Crew<R: Read> {
     pub(crate) lines: Lines<R>,

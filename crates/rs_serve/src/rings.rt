@@ -1,4 +1,4 @@
-//! The rings and the empty tables of all shards, before a run on threads.
+//! The rings of all shards, and what each one gathers changes in, before a run on threads.
 
 ghost use Rattle.std.specs.Prelude.{◌≡◌, ◌<◌, true, IfOk, OnOk, length};
 ghost use Rattle.rs_ring.specs.Items.{is_capacity};
@@ -9,7 +9,7 @@ use crate::shard_crew::ShardJob;
 use rs_choice::Exchange;
 use rs_ring::{Sender, ring};
 use rs_router::Routed;
-use rs_table::Tables;
+use rs_table::{FEW_ENTRIES, Gathering};
 use std::alloc::{AllocError, Global};
 use std::sync::Arc;
 
@@ -20,7 +20,7 @@ pub(crate) struct Rings {
     pub(crate) to: Vec<Sender<Routed>>,
 }
 
-// The rings of all shards, and their tables. Refused where memory is.
+// The rings of all shards, and what each one gathers changes in. Refused where memory is.
 pub(crate) fn open_rings(
     alloc: Global,
     plan: &Arc<Exchange>,
@@ -43,7 +43,8 @@ pub(crate) fn open_rings(
 }
 
 impl Rings {
-    // Opens the ring of one shard more: its job, with empty tables, and the sending end. Refused where memory is.
+    // Opens the ring of one shard more: its job, with nothing gathered yet, and the sending end. Refused where memory
+    // is.
     fn open(
         &mut self,
         alloc: Global,
@@ -54,7 +55,7 @@ impl Rings {
         ensures { OnOk result (HasRingMore plan.now.value
             self.old.jobs.items self.old.to.items self.new.jobs.items self.new.to.items) }
     {
-        let tables = Tables::new(alloc, plan.clone()?)?;
+        let tables = Gathering::of_plan(alloc, plan.clone()?, FEW_ENTRIES)?;
         let Ok((sender, from)) = ring(alloc, capacity) else {
             return Err(AllocError);
         };

@@ -7,10 +7,10 @@ ghost use Rattle.rs_router.specs.Routing.{EndsLast};
 ghost use Rattle.rs_table.specs.Content.{nothing_held, rib_of};
 ghost use Rattle.rs_serve.specs.Held.{HoldReceived};
 
-use crate::taking::{after_item, begun, settled};
+use crate::taking::{after_item, settled};
 use rs_ring::{Numbered, Receiver};
 use rs_router::Routed;
-use rs_table::Tables;
+use rs_table::{Gathering, Tables};
 use rs_worker::{Gate, Patience};
 use std::sync::Wait;
 
@@ -23,16 +23,16 @@ pub struct ShardEnd {
     pub from: Receiver<Routed>,
 }
 
-/// Takes all items that come through a ring, up to the last one, into tables of which no peer has a route
-/// yet. A change of a peer that isn't there, or whose session closed, is dropped. The changes are gathered, and
-/// each client's choice on each prefix is made once, after the last item.
+/// Takes all items that come through a ring, up to the last one, into a gathering without changes: tables of which no
+/// peer has a route yet. A change of a peer that isn't there, or whose session closed, is dropped. Each client's choice
+/// on each prefix is made once, after the last item.
 ///
 /// It passes the gate once for each item, before it handles it. Refused memory it drops what it gathered and all
 /// later changes, but receives them, so that no other thread waits for it.
 pub fn shard_worker<G: Gate>(
     rt: &impl Wait,
     shard: usize,
-    tables: Tables,
+    tables: Gathering,
     from: Receiver<Routed>,
     gate: &G,
 ) -> ShardEnd
@@ -44,7 +44,7 @@ pub fn shard_worker<G: Gate>(
     ensures ring { result.from.ring ≡ from.ring }
 {
     let mut from = from;
-    let mut gathered = begun(tables);
+    let mut gathered = Some(tables);
     for _ in rt.forever() {
         if from.closed() {
             return ShardEnd {

@@ -10,17 +10,17 @@ ghost use Rattle.rs_serve.specs.Held.{HoldReceived};
 use crate::shard::{ShardEnd, shard_worker};
 use rs_ring::{Receiver, Sender};
 use rs_router::Routed;
-use rs_table::Tables;
+use rs_table::{Gathering, Tables};
 use rs_worker::Gate;
 use std::snapshot::Snapshot;
 use std::sync::Wait;
 use std::thread::{Promise, PromisedHandle, Scope, Threads};
 
-/// What one shard takes: tables of which no peer has a route yet, and the ring to receive through.
+/// What one shard takes: a gathering without changes, and the ring to receive through.
 #[derive(Drop)]
 pub struct ShardJob {
-    /// The tables.
-    pub tables: Tables,
+    /// What its tables are gathered in: no peer has a route yet.
+    pub tables: Gathering,
     /// The receiving end of its ring.
     pub from: Receiver<Routed>,
 }
@@ -28,7 +28,7 @@ pub struct ShardJob {
 /// What the thread of a shard promises: its end is that of a shard with these tables and this ring.
 #[derive(Drop)]
 pub struct ShardOf {
-    pub(crate) tables: Snapshot<Tables>,
+    pub(crate) tables: Snapshot<Gathering>,
     pub(crate) from: Snapshot<Receiver<Routed>>,
 }
 

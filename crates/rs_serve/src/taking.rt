@@ -1,21 +1,13 @@
 //! What one item makes of what a shard gathered, and the tables of all of them.
 
-ghost use Rattle.std.specs.Prelude.{◌≡◌, ℕ, List, ◌++◌, ◌∷◌, [], OnOk, IfSome};
-ghost use Rattle.rs_table.specs.Content.{TablesContent, nothing_held, rib_of};
+ghost use Rattle.std.specs.Prelude.{List, ◌++◌, ◌∷◌, [], OnOk, IfSome};
+ghost use Rattle.rs_table.specs.Content.{TablesContent};
 ghost use Rattle.rs_router.specs.declared.routed.Routed.{Routed};
 ghost use Rattle.rs_serve.specs.Held.{HoldReceived, Takes};
 
 use rs_router::Routed;
-use rs_table::{FEW_ENTRIES, Gathering, Tables};
+use rs_table::{Gathering, Tables};
 use std::alloc::AllocError;
-
-// What is gathered before the first item. None where memory is refused.
-pub(crate) fn begun(tables: Tables) -> Option<Gathering>
-    requires { (peer : ℕ) → rib_of tables peer ≡ nothing_held }
-    ensures { IfSome result (HoldReceived tables []) }
-{
-    Gathering::new(tables, FEW_ENTRIES).ok()
-}
 
 // What is gathered after one item more, where anything was. None where memory is refused.
 pub(crate) fn after_item(gathered: Option<Gathering>, item: Routed) -> Option<Gathering>

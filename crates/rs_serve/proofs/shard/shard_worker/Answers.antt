@@ -8,17 +8,18 @@ use Rattle.rs_router.specs.declared.routed.Routed.{Routed}
 use Rattle.rs_router.specs.declared.routed.Routed.TheVariants as routed
 use Rattle.rs_table.proofs.RibLemmas.{any-one_more}
 use Rattle.rs_serve.specs.Held.{HoldReceived}
+use Rattle.rs_serve.proofs.TakingLemmas.{held-nothing}
 use Rattle.rs_serve.proofs.shard.shard_worker.Goals as goal
 
 pub loop-init : goal.loop-init
 loop-init g c =
-    let Held : List Routed → Type 0 = λ items. IfSome c.begun-gathered.result (HoldReceived c.args.tables items) in
+    let Held : List Routed → Type 0 = λ items. HoldReceived c.args.tables items c.args.tables in
     let Ended : List Routed → Type 0 = λ items. has_close is_last items ≡ true → EndsLast items in
     record {
       next = tt;
       finite = tt;
       ring = refl;
-      gathered = subst Held (sym c.requires.unreceived) c.begun-gathered.ensures;
+      gathered = subst Held (sym c.requires.unreceived) (held-nothing c.args.tables c.args.tables refl refl c.requires.new);
       ended = subst Ended (sym c.requires.unreceived) (λ e. absurd cc);
     }
 
