@@ -5,11 +5,11 @@ ghost use Rattle.rs_table.specs.Content.{nothing_held, rib_of};
 
 use super::changes::ring_of;
 use super::exchanges::{address_of, two_peers};
-use super::shards::empty_tables;
+use super::shards::nothing_gathered;
 use rs_ring::{Receiver, Sender};
 use rs_serve::{Routed, ShardEnd, route, shard_worker};
 use rs_session::{PeerId, Word};
-use rs_table::Tables;
+use rs_table::{Gathering, Tables};
 use rs_worker::{Open, WorkerEnd, worker};
 use std::alloc::Global;
 use std::sync::Wait;
@@ -77,7 +77,7 @@ fn route_and_hold<R: Threads + Wait + Sync>(
     other_from: Receiver<Word>,
     to: Sender<Routed>,
     of_shard: Receiver<Routed>,
-    tables: Tables,
+    tables: Gathering,
 ) -> ((Receiver<Word>, Receiver<Word>), ShardEnd)
     requires unreceived { (from.received ≡ []) × (other_from.received ≡ []) }
     requires unsent { (to.sent ≡ []) × (of_shard.received ≡ []) }
@@ -111,7 +111,7 @@ fn run_by_hand<R: Threads + Wait + Sync>(
     alloc: Global,
     first: &[u8],
     second: &[u8],
-    tables: Tables,
+    tables: Gathering,
 ) -> Option<(usize, usize, Tables)>
     requires limit { (length first.now < 2 ^ 50) × (length second.now < 2 ^ 50) }
     requires empty { (peer : ℕ) → rib_of tables peer ≡ nothing_held }
@@ -146,7 +146,7 @@ fn counted<R: Threads + Wait + Sync>(
     count: u32,
 ) -> Option<(usize, usize, usize)> {
     let peers = two_peers(alloc, count)?;
-    let tables = empty_tables(alloc, &peers)?;
+    let tables = nothing_gathered(alloc, &peers)?;
     let [first, second] = peers.as_slice() else {
         return None;
     };

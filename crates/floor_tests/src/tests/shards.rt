@@ -8,7 +8,7 @@ use super::exchanges::{Peer, exchange};
 use super::rows::peers_of;
 use rs_ring::{Closing, SendRefused, Sender};
 use rs_serve::{Routed, ShardEnd, shard_worker};
-use rs_table::Tables;
+use rs_table::{FEW_ENTRIES, Gathering, Tables};
 use rs_update::Attributes;
 use rs_worker::Open;
 use std::alloc::{AllocError, Global};
@@ -67,19 +67,19 @@ fn send_all(rt: &impl Wait, sender: Sender<Routed>, route: &Arc<Attributes>) -> 
     send(rt, &mut sender, Routed::Last)
 }
 
-/// The tables of peers before any change.
-pub fn empty_tables(alloc: Global, peers: &[Peer]) -> Option<Tables>
+/// What the changes of peers are gathered in, before any change.
+pub fn nothing_gathered(alloc: Global, peers: &[Peer]) -> Option<Gathering>
     ensures { IfSome result (λ tables. (peer : ℕ) → rib_of tables peer ≡ nothing_held) }
 {
-    Tables::new(alloc, exchange(alloc, peers)?).ok()
+    Gathering::of_plan(alloc, exchange(alloc, peers)?, FEW_ENTRIES).ok()
 }
 
-// The tables of three peers before any change.
-fn no_routes(alloc: Global) -> Option<Tables>
+// The same of three peers.
+fn no_routes(alloc: Global) -> Option<Gathering>
     ensures { IfSome result (λ tables. (peer : ℕ) → rib_of tables peer ≡ nothing_held) }
 {
     let peers = peers_of(alloc, "64501/11:nothing 64502/12:nothing 64503/13:nothing")?;
-    empty_tables(alloc, &peers)
+    nothing_gathered(alloc, &peers)
 }
 
 // What the shard of number 3 holds of all changes, which come through a ring of this capacity from another thread.
