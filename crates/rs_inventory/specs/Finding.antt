@@ -68,11 +68,6 @@ news_of_kind octets kinds.KeepAlive = news.Message
 news_of_kind octets kinds.RouteRefresh = news.Message
 news_of_kind octets _ = news.Faulty
 
--- whether a message is an OPEN
-abbrev pub is_open : Result MessageContent MessageFault → Bool
-is_open (Ok IsOpen) = true
-is_open answer = false
-
 -- the same by how deep messages are read: whole, or no more than their types
 abbrev pub kind_at : Depth → List ℕ → Kind
 kind_at depths.Whole octets = kind_of_message (message_of octets)
@@ -81,10 +76,6 @@ kind_at (depths.Outline recorder) octets = kind_of_type (type_in octets)
 abbrev pub news_at : Depth → List ℕ → News
 news_at depths.Whole octets = news_of_message octets (message_of octets)
 news_at (depths.Outline recorder) octets = news_of_kind octets (kind_of_type (type_in octets))
-
-abbrev pub is_open_at : Depth → List ℕ → Bool
-is_open_at depths.Whole octets = is_open (message_of octets)
-is_open_at (depths.Outline recorder) octets = is_kind kinds.Open (kind_of_type (type_in octets))
 
 -- ---- a change of state
 
@@ -138,15 +129,16 @@ opener_of fields =
     note_of (big_number 4 (drop 8 fields)) (sender_as (big_number 2 fields) (drop 16 fields))
     (news.TwoOctetOpen (identifier_of (drop 16 fields)))
 
--- what such fields say where the message is an OPEN
-abbrev pub two_octet_open : Depth → List ℕ → Option Note
-two_octet_open depth fields =
-    if is_ipv4_message fields && is_open_at depth (drop 16 fields) then Some (opener_of fields) else None
+-- what such fields say where the message is an OPEN by its type
+abbrev pub two_octet_open : List ℕ → Option Note
+two_octet_open fields =
+    if is_ipv4_message fields && is_kind kinds.Open (kind_of_type (type_in (drop 16 fields))) then Some (opener_of fields)
+    else None
 
 -- what a record of a session with two-octet AS numbers says: its messages have Subtype 1, and of those only
 -- an OPEN is read (our choice)
-unfoldable pub two_octet_note : Depth → MrtRecord → Option Note
-two_octet_note depth r = if r.subtype == 1 then option_and_then (two_octet_open depth) (fields_of r) else None
+unfoldable pub two_octet_note : MrtRecord → Option Note
+two_octet_note r = if r.subtype == 1 then option_and_then two_octet_open (fields_of r) else None
 
 -- what a record adds by what it says
 abbrev pub finding_by : Depth → MrtRecord → Result Meaning MrtFault → Finding
@@ -170,7 +162,7 @@ finding_by depth r (Ok Other) =
       kind = unread_kind r;
       octets = known_octets r.body;
       recorder = None;
-      note = two_octet_note depth r;
+      note = two_octet_note r;
     }
 finding_by depth r (Err fault) =
     record { time = r.time; kind = kinds.CutShort; octets = known_octets r.body; recorder = None; note = None }

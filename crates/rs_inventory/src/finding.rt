@@ -3,7 +3,7 @@
 ghost use Rattle.std.specs.Prelude.{◌≡◌, ◌≤◌, length, IfOk, IsTrue};
 ghost use Rattle.rs_mrt.specs.Record.{record_of};
 ghost use Rattle.rs_update.specs.Message.{message_of};
-ghost use Rattle.rs_inventory.specs.Finding.{finding_of, is_ipv4_message, is_open, is_open_at, is_peer, kind_at};
+ghost use Rattle.rs_inventory.specs.Finding.{finding_of, is_ipv4_message, is_peer, kind_at};
 ghost use Rattle.rs_inventory.specs.Finding.{kind_of_message, kind_of_type, known_octets, news_at, news_of_kind};
 ghost use Rattle.rs_inventory.specs.Finding.{news_of_message, news_of_states, note_of, opener_of, recorder_at};
 ghost use Rattle.rs_inventory.specs.Finding.{recorder_in, two_octet_note, two_octet_open, type_in, where_asked};
@@ -142,7 +142,7 @@ impl Finding {
             }),
             Ok(Entry::Other) => Ok(Finding {
                 kind: Kind::of_unread(record),
-                note: two_octet_note(alloc, record, depth)?,
+                note: two_octet_note(record),
                 ..nothing
             }),
             Err(_) => Ok(nothing),
@@ -311,35 +311,31 @@ fn state_news(old: u16, new: u16) -> News
 }
 
 // What a record of a session with two-octet AS numbers says of a peer: only an OPEN is read, since some recorders
-// write each OPEN so.
+// write each OPEN so. However deep messages are read, it is one by its type, and so the peer's course is the same.
 #[tactic(auto, unfolding(crate::specs::Finding::two_octet_note))]
-fn two_octet_note(
-    alloc: Global,
-    record: &Record<'_>,
-    depth: Depth,
-) -> Result<Option<Note>, AllocError>
-    ensures { IfOk result (λ note. note ≡ two_octet_note depth (record_of «record».now)) }
+fn two_octet_note(record: &Record<'_>) -> Option<Note>
+    ensures { result ≡ two_octet_note (record_of «record».now) }
 {
     if record.subtype != MESSAGE {
-        return Ok(None);
+        return None;
     }
     match session_fields(record) {
-        Some(fields) => two_octet_open(alloc, fields, depth),
-        None => Ok(None),
+        Some(fields) => two_octet_open(fields),
+        None => None,
     }
 }
 
 // What the OPEN says that stands behind the fields of a session with two-octet AS numbers and an IPv4 peer.
-fn two_octet_open(alloc: Global, fields: &[u8], depth: Depth) -> Result<Option<Note>, AllocError>
-    ensures { IfOk result (λ note. note ≡ two_octet_open depth fields.now) }
+fn two_octet_open(fields: &[u8]) -> Option<Note>
+    ensures { result ≡ two_octet_open fields.now }
 {
     if !is_ipv4_message(fields) {
-        return Ok(None);
+        return None;
     }
-    if !is_open_at(alloc, &fields[MESSAGE_AT..], depth)? {
-        return Ok(None);
+    match kind_of_type(&fields[MESSAGE_AT..]) {
+        Kind::Open => Some(opener(fields)),
+        _ => None,
     }
-    Ok(Some(opener(fields)))
 }
 
 // Whether fields of a session with two-octet AS numbers are those of an IPv4 peer, with a message behind them.
@@ -362,28 +358,6 @@ fn opener(fields: &[u8]) -> Note
         sender_as(BigEndian::read_u16(fields), message),
         News::TwoOctetOpen(identifier(message)),
     )
-}
-
-// Whether a message is an OPEN, where it is read so deep.
-fn is_open_at(alloc: Global, octets: &[u8], depth: Depth) -> Result<bool, AllocError>
-    ensures { IfOk result (λ is. is ≡ is_open_at depth octets.now) }
-{
-    match depth {
-        Depth::Whole => is_open(alloc, octets),
-        Depth::Outline(_) => Ok(matches!(kind_of_type(octets), Kind::Open)),
-    }
-}
-
-// Whether a message is an OPEN.
-fn is_open(alloc: Global, octets: &[u8]) -> Result<bool, AllocError>
-    ensures { IfOk result (λ is. is ≡ is_open (message_of octets.now)) }
-{
-    match read_message(alloc, octets) {
-        Ok(Message::Open) => Ok(true),
-        Ok(_message) => Ok(false),
-        Err(MessageFault::Bgp { .. }) => Ok(false),
-        Err(MessageFault::Memory) => Err(AllocError),
-    }
 }
 
 // The AS number of the sender of an OPEN, recorded by two octets.
