@@ -41,7 +41,7 @@ const BZIP2_LEVEL_AT: usize = 3;
 
 impl Compression {
     /// How a file is compressed that begins with these octets; none where it isn't. Six octets suffice.
-    pub(crate) fn of(front: &[u8]) -> Option<Compression>
+    pub fn of(front: &[u8]) -> Option<Compression>
         ensures { result ≡ compression_of front.now }
     {
         if front.starts_with(&GZIP) {

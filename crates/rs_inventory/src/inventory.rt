@@ -1,16 +1,20 @@
 //! What a recorded file holds (RFC 6396).
 
 ghost use Rattle.std.specs.Prelude.{◌≡◌, [], IfOk, OnOk, Some, None, slice_index};
+ghost use Rattle.rs_mrt.specs.Record.{record_of};
+ghost use Rattle.rs_inventory.specs.Finding.{finding_of};
 ghost use Rattle.rs_inventory.specs.Inventory.{HoldsNothing, TakesFinding, TakesNote, WithCounts, earlier_of, later_of};
 ghost use Rattle.rs_inventory.specs.Inventory.{first_of, sum_of};
 ghost use Rattle.rs_inventory.specs.Kind.{place_of};
 ghost use Rattle.rs_inventory.specs.Peer.{TellsMore, peer_content};
+ghost use Rattle.rs_inventory.specs.declared.depth.Depth.TheVariants.{Outline};
 
 use crate::compression::Compression;
+use crate::depth::Depth;
 use crate::finding::{Finding, News, Note};
 use crate::kind::{KINDS, Kind};
 use crate::peer::{Peer, PeerRecords};
-use rs_mrt::MrtFault;
+use rs_mrt::{MrtFault, Record};
 use std::alloc::{AllocError, Global};
 use std::collections::BTreeMap;
 use std::marker::Model;
@@ -50,8 +54,8 @@ impl Model for Inventory {
 }
 
 impl Inventory {
-    /// An inventory of no record.
-    pub(crate) fn none(alloc: Global, compression: Option<Compression>) -> Inventory
+    /// An inventory of no record: of a file that is compressed so, or of one that isn't.
+    pub fn none(alloc: Global, compression: Option<Compression>) -> Inventory
         ensures holds { HoldsNothing result }
         ensures compression { result.compression ≡ compression }
     {
@@ -78,8 +82,26 @@ impl Inventory {
         Ok(())
     }
 
-    /// Takes how the file ends.
-    pub(crate) fn take_end(&mut self, end: Option<MrtFault>)
+    /// Takes the next record as `read_outline` does: of its message no more than the type is read. Answers who recorded
+    /// it, where it is a message of a session with four-octet AS numbers.
+    ///
+    /// Fails where memory is refused. Then the inventory may count the record or not.
+    pub fn take_outline(
+        &mut self,
+        alloc: Global,
+        record: &Record<'_>,
+    ) -> Result<Option<Peer>, AllocError>
+        ensures takes { IfOk result (λ _. TakesFinding self.old (finding_of (Outline None) (record_of «record».now)) self.new) }
+        ensures compression { IfOk result (λ _. self.new.compression ≡ self.old.compression) }
+        ensures recorder { IfOk result (λ peer. peer ≡ (finding_of (Outline None) (record_of «record».now)).recorder) }
+    {
+        let finding = Finding::of(alloc, record, Depth::Outline(None))?;
+        self.take(alloc, finding)?;
+        Ok(finding.recorder)
+    }
+
+    /// Takes how the file ends: in which part of a record, or none where it ends after whole records.
+    pub fn take_end(&mut self, end: Option<MrtFault>)
         ensures { self.new ≡ record self.old { end = end } }
     {
         self.end = end;
