@@ -12,6 +12,8 @@ use Rattle.rs_choice.specs.Plan.{Peer, Plan}
 use Rattle.rs_choice.specs.Refusal.{refuses}
 use Rattle.rs_explain.specs.declared.condition.Condition.{Condition}
 use Rattle.rs_explain.specs.declared.condition.Condition.TheVariants.{OwnAs, ServerAsNextHop, NextHopOffExchange}
+use Rattle.rs_explain.specs.declared.condition.ConditionKind.{ConditionKind}
+use Rattle.rs_explain.specs.declared.condition.ConditionKind.TheVariants as kinds
 use Rattle.rs_explain.specs.declared.refusal.Refusal.{Refusal}
 use Rattle.rs_explain.specs.declared.refusal.Refusal.TheVariants.{ByName, ToClient, ToAll}
 
@@ -32,6 +34,12 @@ conditions local sender attributes =
 abbrev pub failed_condition : Plan → ℕ → PathAttributes → Option Condition
 failed_condition plan number attributes =
     option_and_then (λ sender. first_answer (conditions plan.local sender attributes)) (slice_get plan.peers number)
+
+-- which condition it is, without its value
+abbrev pub kind_of : Condition → ConditionKind
+kind_of (OwnAs asn) = kinds.OwnAs
+kind_of (ServerAsNextHop address) = kinds.ServerAsNextHop
+kind_of (NextHopOffExchange address) = kinds.NextHopOffExchange
 
 -- the rules in their order, for a client of an AS number that refuses all routes of the sender by its name or
 -- not, and a route with these communities: each rule by whether it speaks of the route, and by how it refuses

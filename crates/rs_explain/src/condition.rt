@@ -1,7 +1,7 @@
 //! The conditions of eligibility, one by one (RFC 4271, section 9.1.2 the first, section 6.3 the others).
 
 ghost use Rattle.std.specs.Prelude.{◌≡◌, ◌<◌, length};
-ghost use Rattle.rs_explain.specs.Reasons.{failed_condition};
+ghost use Rattle.rs_explain.specs.Reasons.{failed_condition, kind_of};
 
 use rs_choice::Exchange;
 use rs_update::Attributes;
@@ -15,6 +15,30 @@ pub enum Condition {
     ServerAsNextHop(u32),
     /// Its NEXT_HOP, which is given, is neither the sender's address nor inside the subnet of the exchange.
     NextHopOffExchange(u32),
+}
+
+/// Which condition of eligibility a route fails: a `Condition` without its value.
+#[derive(Clone, Copy, Debug, PartialEq, Eq)]
+pub enum ConditionKind {
+    /// The server's AS is in its AS_PATH (RFC 4271, section 9.1.2).
+    OwnAs,
+    /// Its NEXT_HOP is the server's address (RFC 4271, section 6.3).
+    ServerAsNextHop,
+    /// Its NEXT_HOP is neither the sender's address nor inside the subnet of the exchange (RFC 4271, section 6.3).
+    NextHopOffExchange,
+}
+
+impl Condition {
+    /// Which condition it is.
+    pub fn kind(self) -> ConditionKind
+        ensures { result ≡ kind_of self }
+    {
+        match self {
+            Condition::OwnAs(_) => ConditionKind::OwnAs,
+            Condition::ServerAsNextHop(_) => ConditionKind::ServerAsNextHop,
+            Condition::NextHopOffExchange(_) => ConditionKind::NextHopOffExchange,
+        }
+    }
 }
 
 /// The first condition of eligibility that a route of the peer of number `peer` fails; none of an eligible route. It

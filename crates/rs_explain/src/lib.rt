@@ -4,7 +4,7 @@
 //! Standards: RFC 4271, section 9.1 (eligible routes, decision process); RFC 7947, section 2.3 (export policy).
 //!
 //! Reading order: `condition`, `refusal`, `contender` (the candidates of a client), `removal` (the step that
-//! removes one), `explanation`. Then `last_said` (the last state of a prefix by a list of changes) and `laws`.
+//! removes one), `explanation`, `missing_reason` (its reason alone). Then `last_said` (the last state of a prefix by a list of changes) and `laws`.
 #![tactic(auto)]
 
 mod condition;
@@ -12,10 +12,11 @@ mod contender;
 mod explanation;
 mod last_said;
 mod laws;
+mod missing_reason;
 mod refusal;
 mod removal;
 
-pub use condition::{Condition, failed_condition};
+pub use condition::{Condition, ConditionKind, failed_condition};
 pub use contender::Contender;
 pub use explanation::{Candidates, Explanation, explain};
 pub use last_said::{EndedBy, Ending, LastSaid};
@@ -23,5 +24,6 @@ pub use laws::{
     an_explanation_agrees_with_why, the_rival_is_a_candidate,
     what_is_said_last_agrees_with_the_routes_left,
 };
+pub use missing_reason::MissingReason;
 pub use refusal::Refusal;
-pub use removal::{Removal, beats_by_med};
+pub use removal::{Removal, STEPS, beats_by_med};

@@ -21,8 +21,8 @@ pub struct Removal {
     pub rival: Contender,
 }
 
-// The steps of the decision process in their order.
-pub(crate) const STEPS: [Step; 6] = [
+/// The steps of the decision process, in their order.
+pub const STEPS: [Step; 6] = [
     Step::Preference,
     Step::PathLength,
     Step::Origin,

@@ -1,0 +1,41 @@
+//! The reason for which a client does not get a route, without what belongs to it.
+
+ghost use Rattle.std.specs.Prelude.{◌≡◌};
+ghost use Rattle.rs_explain.specs.MissingReasons.{reason_in};
+
+use crate::condition::ConditionKind;
+use crate::explanation::Explanation;
+use crate::refusal::Refusal;
+use rs_choice::Step;
+
+/// The reason for which a client does not get a route.
+#[derive(Clone, Copy, Debug, PartialEq, Eq)]
+pub enum MissingReason {
+    /// The route fails this condition of eligibility.
+    Ineligible(ConditionKind),
+    /// The client refuses all routes of the sender, by its name.
+    RefusedByName,
+    /// A community of the route refuses it.
+    RefusedByCommunity,
+    /// This step of the decision process removes it.
+    Lost(Step),
+}
+
+impl MissingReason {
+    /// The reason that an explanation has; none of a route that the client gets or that isn't there, and of its own.
+    pub fn of(explanation: &Explanation) -> Option<MissingReason>
+        ensures { result ≡ reason_in explanation.now }
+    {
+        match explanation {
+            Explanation::Own => None,
+            Explanation::Absent => None,
+            Explanation::Ineligible(condition) => {
+                Some(MissingReason::Ineligible(condition.kind()))
+            }
+            Explanation::Refused(Refusal::ByName) => Some(MissingReason::RefusedByName),
+            Explanation::Refused(_) => Some(MissingReason::RefusedByCommunity),
+            Explanation::Best(_) => None,
+            Explanation::Lost(removal) => Some(MissingReason::Lost(removal.step)),
+        }
+    }
+}
