@@ -62,61 +62,16 @@ pub(crate) struct Row {
     pub(crate) help: &'static str,
 }
 
+// An option that takes nothing, is given once or not at all, and has nothing to do with others.
+pub(crate) const FLAG: Row = Row {
+    name: "",
+    takes: Takes::Nothing,
+    given: Given::Maybe,
+    tie: Tie::Free,
+    help: "",
+};
+
 impl Row {
-    // An option that is given once or not at all, and has nothing to do with others.
-    pub(crate) const fn new(name: &'static str, takes: Takes, help: &'static str) -> Row {
-        Row {
-            name,
-            takes,
-            given: Given::Maybe,
-            tie: Tie::Free,
-            help,
-        }
-    }
-
-    // One that takes nothing.
-    pub(crate) const fn flag(name: &'static str, help: &'static str) -> Row {
-        Row::new(name, Takes::Nothing, help)
-    }
-
-    // One with a value, which help names so.
-    pub(crate) const fn value(
-        name: &'static str,
-        value: &'static str,
-        help: &'static str,
-    ) -> Row {
-        Row::new(name, Takes::Value(value), help)
-    }
-
-    // The same option, given once.
-    pub(crate) const fn once(self) -> Row {
-        Row {
-            given: Given::Once,
-            ..self
-        }
-    }
-
-    // The same option, given any number of times.
-    pub(crate) const fn often(self) -> Row {
-        Row {
-            given: Given::Often,
-            ..self
-        }
-    }
-
-    // The same option, given once or more.
-    pub(crate) const fn once_or_more(self) -> Row {
-        Row {
-            given: Given::OnceOrMore,
-            ..self
-        }
-    }
-
-    // The same option, which has this to do with another one.
-    pub(crate) const fn tied(self, tie: Tie) -> Row {
-        Row { tie, ..self }
-    }
-
     // The option as `clap` knows it.
     pub(crate) fn argument<'a>(&self, alloc: Global) -> Result<Arg<'a>, AllocError> {
         match self.tie {

@@ -1,6 +1,6 @@
 //! The program's command, as `clap` knows it: a table of commands, each with a table of its options.
 
-use crate::argument::{Row, Takes, Tie};
+use crate::argument::{FLAG, Given, Row, Takes, Tie};
 use clap::Command;
 use rs_host::VERSION;
 use std::alloc::{AllocError, Global};
@@ -145,110 +145,196 @@ const REASONS: [&str; 14] = [
     "address",
 ];
 
-const CONFIG: Row = ANY_CONFIG.once();
+const CONFIG: Row = Row {
+    name: "config",
+    takes: Takes::Value("FILE"),
+    given: Given::Once,
+    help: "Configuration of the exchange, as route_server takes it",
+    ..FLAG
+};
 
-const CONFIGS: Row = ANY_CONFIG.once_or_more();
+const CONFIGS: Row = Row {
+    given: Given::OnceOrMore,
+    ..CONFIG
+};
 
-const ANY_CONFIG: Row = Row::value(
-    "config",
-    "FILE",
-    "Configuration of the exchange, as route_server takes it",
-);
+const ANY_CLIENT: Row = Row {
+    name: "client",
+    takes: Takes::Value("NAME"),
+    help: "Name of the client, or its address or AS number",
+    ..FLAG
+};
 
-const CLIENT: Row = ANY_CLIENT.once();
+const CLIENT: Row = Row {
+    given: Given::Once,
+    ..ANY_CLIENT
+};
 
-const ANY_CLIENT: Row = Row::value(
-    "client",
-    "NAME",
-    "Name of the client, or its address or AS number",
-);
+const PREFIX: Row = Row {
+    name: "prefix",
+    takes: Takes::Value("PREFIX"),
+    help: "IPv4 prefix, as 192.0.2.0/24",
+    ..FLAG
+};
 
-const PREFIX: Row = Row::value("prefix", "PREFIX", "IPv4 prefix, as 192.0.2.0/24");
+const DESTINATION: Row = Row {
+    name: "prefix",
+    takes: Takes::Value("PREFIX"),
+    given: Given::Once,
+    help: "IPv4 prefix, as 192.0.2.0/24, or an address: the longest prefix with a route to it",
+    ..FLAG
+};
 
-const DESTINATION: Row = Row::value(
-    "prefix",
-    "PREFIX",
-    "IPv4 prefix, as 192.0.2.0/24, or an address: the longest prefix with a route to it",
-)
-.once();
+const ALL: Row = Row {
+    name: "all",
+    help: "Shows each peer that never announced the prefix",
+    ..FLAG
+};
 
-const ALL: Row = Row::flag("all", "Shows each peer that never announced the prefix");
+const ATTRIBUTES: Row = Row {
+    name: "attributes",
+    help: "Shows all path attributes of the routes",
+    ..FLAG
+};
 
-const ATTRIBUTES: Row = Row::flag("attributes", "Shows all path attributes of the routes");
+const ENDS: Row = Row {
+    name: "ends",
+    help: "Shows the ends of the files",
+    ..FLAG
+};
 
-const ENDS: Row = Row::flag("ends", "Shows the ends of the files");
+const SINCE: Row = Row {
+    name: "from",
+    takes: Takes::Value("TIME"),
+    help: "Shows changes from this time on: seconds since 1970, or as 2026-11-22T06:36:20Z",
+    ..FLAG
+};
 
-const SINCE: Row = Row::value(
-    "from",
-    "TIME",
-    "Shows changes from this time on: seconds since 1970, or as 2026-11-22T06:36:20Z",
-);
+const UNTIL: Row = Row {
+    name: "until",
+    takes: Takes::Value("TIME"),
+    help: "Stops reading at the first later record: seconds since 1970, or as 2026-11-22T06:36:20Z",
+    ..FLAG
+};
 
-const UNTIL: Row = Row::value(
-    "until",
-    "TIME",
-    "Stops reading at the first later record: seconds since 1970, or as 2026-11-22T06:36:20Z",
-);
+const UNTILS: Row = Row {
+    given: Given::Often,
+    ..UNTIL
+};
 
-const UNTILS: Row = UNTIL.often();
+const ERRORS: Row = Row {
+    name: "errors",
+    takes: Takes::Choice("STANDARD", &["rfc4271", "rfc7606"]),
+    help: "How faults in path attributes are handled",
+    ..FLAG
+};
 
-const ERRORS: Row = Row::new(
-    "errors",
-    Takes::Choice("STANDARD", &["rfc4271", "rfc7606"]),
-    "How faults in path attributes are handled",
-);
+const STANDARDS: Row = Row {
+    given: Given::Often,
+    ..ERRORS
+};
 
-const STANDARDS: Row = ERRORS.often();
+const JSON: Row = Row {
+    name: "json",
+    help: "Writes the answer as JSON",
+    ..FLAG
+};
 
-const JSON: Row = Row::flag("json", "Writes the answer as JSON");
+const JSON_OR_TOML: Row = Row {
+    tie: Tie::Against("toml"),
+    ..JSON
+};
 
-const JSON_OR_TOML: Row = JSON.tied(Tie::Against("toml"));
+const TOML: Row = Row {
+    name: "toml",
+    help: "Writes a configuration to start from",
+    ..FLAG
+};
 
-const TOML: Row = Row::flag("toml", "Writes a configuration to start from");
+const CSV: Row = Row {
+    name: "csv",
+    tie: Tie::Against("json"),
+    help: "Writes the list as CSV",
+    ..FLAG
+};
 
-const CSV: Row = Row::flag("csv", "Writes the list as CSV").tied(Tie::Against("json"));
+const TABLE: Row = Row {
+    name: "table",
+    takes: Takes::Value("FILE"),
+    given: Given::Once,
+    help: "Table of a collector (MRT, TABLE_DUMP_V2)",
+    ..FLAG
+};
 
-const TABLE: Row = Row::value("table", "FILE", "Table of a collector (MRT, TABLE_DUMP_V2)").once();
+const FOLDER: Row = Row {
+    name: "out",
+    takes: Takes::Path("DIR"),
+    given: Given::Once,
+    help: "Folder that takes a file for each peer",
+    ..FLAG
+};
 
-const FOLDER: Row = Row::new(
-    "out",
-    Takes::Path("DIR"),
-    "Folder that takes a file for each peer",
-)
-.once();
+const PEER: Row = Row {
+    name: "peer",
+    takes: Takes::Value("ADDRESS"),
+    given: Given::Often,
+    help: "Address of a peer whose session is written; all peers if left out",
+    ..FLAG
+};
 
-const PEER: Row = Row::value(
-    "peer",
-    "ADDRESS",
-    "Address of a peer whose session is written; all peers if left out",
-)
-.often();
+const PAGE: Row = Row {
+    name: "out",
+    takes: Takes::Path("FILE"),
+    given: Given::Once,
+    help: "File that is written (HTML)",
+    ..FLAG
+};
 
-const PAGE: Row = Row::new("out", Takes::Path("FILE"), "File that is written (HTML)").once();
+const SVG: Row = Row {
+    name: "svg",
+    takes: Takes::Path("FILE"),
+    help: "File that takes a picture of the history too (SVG)",
+    ..FLAG
+};
 
-const SVG: Row = Row::new(
-    "svg",
-    Takes::Path("FILE"),
-    "File that takes a picture of the history too (SVG)",
-);
+const FILES: Row = Row {
+    name: "file",
+    takes: Takes::Paths,
+    given: Given::OnceOrMore,
+    help: "Recorded files (MRT)",
+    ..FLAG
+};
 
-const FILES: Row = Row::new("file", Takes::Paths, "Recorded files (MRT)").once_or_more();
+const FROM: Row = Row {
+    name: "from",
+    takes: Takes::Value("NAME"),
+    help: "Name of the peer whose routes are listed",
+    ..FLAG
+};
 
-const FROM: Row = Row::value("from", "NAME", "Name of the peer whose routes are listed");
+const LONGER: Row = Row {
+    name: "longer",
+    tie: Tie::With("prefix"),
+    help: "Lists more specific prefixes too",
+    ..FLAG
+};
 
-const LONGER: Row =
-    Row::flag("longer", "Lists more specific prefixes too").tied(Tie::With("prefix"));
+const BECAUSE: Row = Row {
+    name: "because",
+    takes: Takes::OneOf("REASON", &REASONS),
+    help: "Answer or reason for which routes are listed",
+    ..FLAG
+};
 
-const BECAUSE: Row = Row::new(
-    "because",
-    Takes::OneOf("REASON", &REASONS),
-    "Answer or reason for which routes are listed",
-);
+const COUNT: Row = Row {
+    name: "count",
+    help: "Counts the routes and lists none",
+    ..FLAG
+};
 
-const COUNT: Row = Row::flag("count", "Counts the routes and lists none");
-
-const SHARDS: Row = Row::new(
-    "shards",
-    Takes::Threads,
-    "How many threads keep the tables, from 1 to 16",
-);
+const SHARDS: Row = Row {
+    name: "shards",
+    takes: Takes::Threads,
+    help: "How many threads keep the tables, from 1 to 16",
+    ..FLAG
+};
