@@ -3,7 +3,7 @@
 ghost use Rattle.std.specs.Prelude.{◌<◌};
 
 use crate::times::Times;
-use rs_survey::{Finding, Flaw, Tally};
+use rs_survey::{ConditionKind, Finding, Tally};
 use std::alloc::{AllocError, Global};
 
 /// How many numbers a peer has.
@@ -55,9 +55,9 @@ fn numbers_of(tally: &Tally, peer: usize, announced: u64) -> [u64; NUMBERS]
     [
         announced,
         tally.count(Finding::Left(peer)),
-        tally.count(Finding::Ineligible(peer, Flaw::OwnAs)),
-        tally.count(Finding::Ineligible(peer, Flaw::ServerAsNextHop)),
-        tally.count(Finding::Ineligible(peer, Flaw::NextHopOffExchange)),
+        tally.count(Finding::Ineligible(peer, ConditionKind::OwnAs)),
+        tally.count(Finding::Ineligible(peer, ConditionKind::ServerAsNextHop)),
+        tally.count(Finding::Ineligible(peer, ConditionKind::NextHopOffExchange)),
         refused,
         lost.saturating_add(best),
         best,

@@ -16,13 +16,12 @@ use Rattle.rs_choice.specs.Policy.{is_permitted, is_permitted_from}
 use Rattle.rs_choice.proofs.Members.{contains-mem, mem-filter}
 use Rattle.rs_explain.specs.declared.contender.Contender.{Contender}
 use Rattle.rs_explain.specs.Contenders.{contender_of}
-use Rattle.rs_explain.specs.Reasons.{failed_condition}
+use Rattle.rs_explain.specs.Reasons.{failed_condition, kind_of}
 use Rattle.rs_table.specs.declared.route.Route.{Route}
 use Rattle.rs_table.specs.RouteView.{sent_route_of}
 use Rattle.rs_table.specs.Table.{is_from}
 use Rattle.rs_survey.specs.declared.finding.Finding.TheVariants.{Refused, Lost, Best, Removed}
 use Rattle.rs_survey.specs.declared.seen.Seen.{Seen}
-use Rattle.rs_survey.specs.Findings.{flaw_of}
 use Rattle.rs_survey.specs.Seen.{IsSeen}
 use Rattle.rs_survey.specs.Summary.{of_candidate, removed_at, to_client}
 
@@ -38,10 +37,10 @@ some-map : {A B : Type 0} (f : A → B) (o : Option A) → is_some (option_map f
 some-map f None = refl
 some-map f (Some x) = refl
 
-pub flaw_seen : (plan : Plan) (one : Seen) → IsSeen plan one →
-    is_some (failed_condition plan one.route.peer one.route.attributes.now) ≡ is_some one.flaw
-flaw_seen plan one is =
-    sym (some-map flaw_of (failed_condition plan one.route.peer one.route.attributes.now)) ∙ ap is_some (sym is.flaw)
+pub failed_seen : (plan : Plan) (one : Seen) → IsSeen plan one →
+    is_some (failed_condition plan one.route.peer one.route.attributes.now) ≡ is_some one.failed
+failed_seen plan one is =
+    sym (some-map kind_of (failed_condition plan one.route.peer one.route.attributes.now)) ∙ ap is_some (sym is.failed)
 
 or_true : (x : Bool) → (x || true) ≡ true
 or_true true = refl

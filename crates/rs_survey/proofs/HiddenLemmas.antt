@@ -19,14 +19,14 @@ use Rattle.rs_survey.specs.Summary.{shared_choice}
 use Rattle.rs_survey.proofs.SeenLemmas.{eligible_seen}
 
 abbrev pub fit : List Seen → List Seen
-fit seen = filter (λ one. is_none one.flaw) seen
+fit seen = filter (λ one. is_none one.failed) seen
 
 pub all_known : (plan : Plan) (seen : List Seen) → All (IsSeen plan) seen →
     All (λ candidate. candidate.peer < length plan.peers) (map candidate_of_seen (fit seen))
 all_known plan [] all = All-nil (λ (candidate : Candidate). candidate.peer < length plan.peers)
 all_known plan (one ∷ seen) all =
     let later = all_known plan seen (All-tail (IsSeen plan) one seen all) in
-    elim (cases_Bool (is_none one.flaw)) [
+    elim (cases_Bool (is_none one.failed)) [
       | inl kept ↦ rw kept (All-cons (λ (candidate : Candidate). candidate.peer < length plan.peers) (candidate_of_seen one)
           (map candidate_of_seen (fit seen)) (all 0 one (omega arith)).known later)
       | inr dropped ↦ rw dropped later
@@ -37,8 +37,8 @@ few_fit seen =
     omega (
       arith,
       length-map (fit seen) candidate_of_seen,
-      length-filter (λ one. is_none one.flaw) seen,
-      count_by-le-length (λ one. is_none one.flaw) seen,
+      length-filter (λ one. is_none one.failed) seen,
+      count_by-le-length (λ one. is_none one.failed) seen,
     )
 
 eligible_are : (plan : Plan) (seen : List Seen) → All (IsSeen plan) seen →

@@ -17,22 +17,22 @@ use Rattle.rs_table.specs.Table.{TableRow, best_of, candidates_of, is_from, pref
 use Rattle.rs_explain.specs.declared.condition.Condition.{Condition}
 use Rattle.rs_explain.specs.declared.explanation.Explanation.{Explanation}
 use Rattle.rs_explain.specs.declared.explanation.Explanation.TheVariants.{Own, Absent, Ineligible, Refused, Best, Lost}
+use Rattle.rs_explain.specs.declared.missing_reason.MissingReason.TheVariants as reasons
 use Rattle.rs_explain.specs.declared.refusal.Refusal.{Refusal}
 use Rattle.rs_explain.specs.Explanations.{IsDecided, IsExplanation, reason_of}
-use Rattle.rs_explain.specs.Reasons.{failed_condition, refusal_of}
+use Rattle.rs_explain.specs.MissingReasons.{reason_in, reason_of_refusal}
+use Rattle.rs_explain.specs.Reasons.{failed_condition, kind_of, refusal_of}
 use Rattle.rs_survey.specs.declared.finding.Finding.TheVariants.{Missing}
-use Rattle.rs_survey.specs.declared.missing_reason.MissingReason.TheVariants as reasons
 use Rattle.rs_survey.specs.declared.on_prefix.MissingOn.{MissingOn}
 use Rattle.rs_survey.specs.declared.on_prefix.MissingRoute.{MissingRoute}
-use Rattle.rs_survey.specs.Findings.{flaw_of}
 use Rattle.rs_survey.specs.Grows.{Grows}
-use Rattle.rs_survey.specs.Missing.{AreMissing, missing_from, missing_on}
-use Rattle.rs_survey.specs.MissingCounts.{counted_of, missing_finding, missing_findings, missing_findings_on, reason_for, reason_in}
-use Rattle.rs_survey.specs.MissingCounts.{reason_of_refusal}
+use Rattle.rs_survey.specs.Asked.{is_asked_sender}
+use Rattle.rs_survey.specs.Missing.{AreMissing, asked_from, missing_from, missing_on}
+use Rattle.rs_survey.specs.MissingCounts.{counted_of, missing_finding, missing_findings, missing_findings_on, reason_for}
 use Rattle.rs_survey.specs.Summary.{removed_at}
 use Rattle.rs_survey.specs.Tally.{TallyContent}
 use Rattle.rs_survey.proofs.GrowthLemmas.{grows_then}
-use Rattle.rs_survey.proofs.MissingLemmas.{missing_peer}
+use Rattle.rs_survey.proofs.MissingLemmas.{if_holds, missing_peer}
 use Rattle.rs_survey.proofs.StepLemmas.{counted_step}
 
 abbrev pub row_on : IpPrefix → SentRoute → TableRow
@@ -69,7 +69,7 @@ reason_by : (tables : TablesContent) (client : ℕ) (prefix : IpPrefix) (route :
     IsMissingRoute tables client prefix route → IsExplanation tables client route.peer prefix explanation →
     MatchOption (option_or (option_map (λ condition. Ineligible condition) failed) (option_map (λ refusal. Refused refusal) refusal))
     (IsDecided tables client route.peer prefix explanation) (λ reason. explanation ≡ reason) → reason_in explanation
-    ≡ option_or (option_map (λ condition. reasons.Ineligible (flaw_of condition)) failed)
+    ≡ option_or (option_map (λ condition. reasons.Ineligible (kind_of condition)) failed)
     (option_or (option_map reason_of_refusal refusal)
     (option_map (λ step. reasons.Lost step)
     (removed_at (standing_of tables.plan) decision_steps (candidates_of tables client prefix) route)))
@@ -142,13 +142,19 @@ missing_step tables client prefix peer route known is =
       not_best = subst (λ (p : ℕ). is_from p best ≡ false) (sym own) parts.1;
     }
 
-missing_are : (tables : TablesContent) (client : ℕ) (prefix : IpPrefix) →
-    All (IsMissingRoute tables client prefix) (missing_on tables client prefix)
-missing_are tables client prefix =
+asked_step : (tables : TablesContent) (client : ℕ) (from : Option ℕ) (prefix : IpPrefix) (peer : ℕ) (route : SentRoute) →
+    peer < length tables.plan.peers → asked_from tables client from prefix peer ≡ Some route → IsMissingRoute tables client prefix route
+asked_step tables client from prefix peer route known is =
+    missing_step tables client prefix peer route known
+    (sym (if_holds (is_asked_sender from peer) (missing_from tables client prefix peer) route (sym is)))
+
+missing_are : (tables : TablesContent) (client : ℕ) (from : Option ℕ) (prefix : IpPrefix) →
+    All (IsMissingRoute tables client prefix) (missing_on tables client from prefix)
+missing_are tables client from prefix =
     let count = length tables.plan.peers in
     let place : 0 + count ≡ count = omega arith in
-    all-filter_map (λ (x : ℕ). x < count) (IsMissingRoute tables client prefix) (missing_from tables client prefix)
-    (missing_step tables client prefix) (range_with_len 0 count)
+    all-filter_map (λ (x : ℕ). x < count) (IsMissingRoute tables client prefix) (asked_from tables client from prefix)
+    (asked_step tables client from prefix) (range_with_len 0 count)
     (subst (λ (bound : ℕ). All (λ (x : ℕ). x < bound) (range_with_len 0 count)) place (all-range 0 count))
 
 all-unmap : {X Y : Type 0} (P : Y → Type 0) (f : X → Y) (xs : List X) → All P (map f xs) → All (λ x. P (f x)) xs
@@ -164,19 +170,19 @@ all-means P Q step (x ∷ xs) all =
 abbrev sent_of_missing : MissingRoute → SentRoute
 sent_of_missing one = sent_route_of one.route
 
-routes_are_missing : (tables : TablesContent) (client : ℕ) (on : MissingOn) → AreMissing tables client on →
+routes_are_missing : (tables : TablesContent) (client : ℕ) (from : Option ℕ) (on : MissingOn) → AreMissing tables client from on →
     All (λ one. IsMissingRoute tables client on.prefix (sent_of_missing one)) on.routes.items
-routes_are_missing tables client on are =
+routes_are_missing tables client from on are =
     all-unmap (IsMissingRoute tables client on.prefix) sent_of_missing on.routes.items
-    (subst (All (IsMissingRoute tables client on.prefix)) (sym are.routes) (missing_are tables client on.prefix))
+    (subst (All (IsMissingRoute tables client on.prefix)) (sym are.routes) (missing_are tables client from on.prefix))
 
 -- their senders are known
-pub known_senders : (tables : TablesContent) (client peers : ℕ) (on : MissingOn) → AreMissing tables client on →
+pub known_senders : (tables : TablesContent) (client : ℕ) (from : Option ℕ) (peers : ℕ) (on : MissingOn) → AreMissing tables client from on →
     peers ≡ length tables.plan.peers → All (λ one. one.route.peer < peers) on.routes.items
-known_senders tables client peers on are same =
+known_senders tables client from peers on are same =
     subst (λ (count : ℕ). All (λ (one : MissingRoute). one.route.peer < count) on.routes.items) (sym same)
     (all-means (λ (one : MissingRoute). IsMissingRoute tables client on.prefix (sent_of_missing one))
-    (λ one. one.route.peer < length tables.plan.peers) (λ one is. is.known) on.routes.items (routes_are_missing tables client on are))
+    (λ one. one.route.peer < length tables.plan.peers) (λ one is. is.known) on.routes.items (routes_are_missing tables client from on are))
 
 findings_explained : (tables : TablesContent) (client : ℕ) (prefix : IpPrefix) (items : List MissingRoute) →
     All (λ one. IsMissingRoute tables client prefix (sent_of_missing one)) items →
@@ -194,10 +200,10 @@ findings_explained tables client prefix (one ∷ items) missing explained =
     λ i. cons_option (here i) (later i)
 
 -- the findings on a prefix
-pub findings_here : (tables : TablesContent) (client : ℕ) (on : MissingOn) → AreMissing tables client on →
-    filter_map counted_of on.routes.items ≡ missing_findings_on tables client on.prefix
-findings_here tables client on are =
-    findings_explained tables client on.prefix on.routes.items (routes_are_missing tables client on are) are.explained
+pub findings_here : (tables : TablesContent) (client : ℕ) (from : Option ℕ) (on : MissingOn) → AreMissing tables client from on →
+    filter_map counted_of on.routes.items ≡ missing_findings_on tables client from on.prefix
+findings_here tables client from on are =
+    findings_explained tables client on.prefix on.routes.items (routes_are_missing tables client from on are) are.explained
     ∙ ap (λ (routes : List SentRoute). filter_map (missing_finding tables client) (map (row_on on.prefix) routes)) are.routes
 
 -- ---- the routes on all prefixes
@@ -208,10 +214,10 @@ filter_map-flat_map f g [] = refl
 filter_map-flat_map f g (x ∷ xs) =
     filter_map-append f (g x) (flat_map g xs) ∙ ap (λ later. filter_map f (g x) ++ later) (filter_map-flat_map f g xs)
 
-pub missing_on_each : (tables : TablesContent) (client : ℕ) →
-    missing_findings tables client ≡ flat_map (missing_findings_on tables client) (prefixes_held tables.ribs)
-missing_on_each tables client =
-    filter_map-flat_map (missing_finding tables client) (λ prefix. map (row_on prefix) (missing_on tables client prefix))
+pub missing_on_each : (tables : TablesContent) (client : ℕ) (from : Option ℕ) →
+    missing_findings tables client from ≡ flat_map (missing_findings_on tables client from) (prefixes_held tables.ribs)
+missing_on_each tables client from =
+    filter_map-flat_map (missing_finding tables client) (λ prefix. map (row_on prefix) (missing_on tables client from prefix))
     (prefixes_held tables.ribs)
 
 -- ---- one route more

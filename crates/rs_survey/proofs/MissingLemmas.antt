@@ -10,7 +10,8 @@ use Rattle.rs_table.specs.Left.{RouteLeft}
 use Rattle.rs_table.specs.PrefixRoutes.{AreRoutesOf, route_on}
 use Rattle.rs_table.specs.Cell.{CellContent}
 use Rattle.rs_table.specs.Table.{best_of, is_from, sent_by}
-use Rattle.rs_survey.specs.Missing.{missing_among, missing_from}
+use Rattle.rs_survey.specs.Asked.{is_asked_sender}
+use Rattle.rs_survey.specs.Missing.{asked_from, missing_among, missing_from}
 
 -- one number more
 behind : {X : Type 0} (o : Option X) (all front later : List X) → all ≡ front ++ later → cons_option o all ≡ cons_option o front ++ later
@@ -33,6 +34,11 @@ more f n =
     ap (λ count. filter_map f (range_with_len 0 count)) one_more ∙ more-from f 0 n
     ∙ ap (λ place. filter_map f (range_with_len 0 n) ++ cons_option (f place) []) place
 
+-- a route that is found where something holds is found
+pub if_holds : {X : Type 0} (holds : Bool) (o : Option X) (x : X) → Some x ≡ cond holds o None → Some x ≡ o
+if_holds true o x is = is
+if_holds false o x is = absurd (cc is)
+
 -- a route that is missing is its peer's
 pub missing_peer : (client peer : ℕ) (best : Option SentRoute) (left : Option RouteLeft) (route : SentRoute)
     → Some route ≡ missing_among client peer best (option_map (sent_by peer) left) → route.peer ≡ peer
@@ -50,3 +56,11 @@ pub missing-on : (tables : TablesContent) (client peer : ℕ) (entry : IpPrefix 
 missing-on tables client peer entry best are known is =
     ap (λ best. missing_among client peer best (route_on entry peer)) is
     ∙ ap (missing_among client peer (best_of tables client entry.0)) (are.routes peer known)
+
+-- the same of the sender that is asked for, if one is
+pub asked-on : (tables : TablesContent) (client : ℕ) (from : Option ℕ) (peer : ℕ) (entry : IpPrefix × CellContent) (best : Option SentRoute)
+    → AreRoutesOf tables entry → peer < length tables.plan.peers → best ≡ best_of tables client entry.0 →
+    cond (is_asked_sender from peer) (missing_among client peer best (route_on entry peer)) None
+    ≡ asked_from tables client from entry.0 peer
+asked-on tables client from peer entry best are known is =
+    ap (λ (found : Option SentRoute). cond (is_asked_sender from peer) found None) (missing-on tables client peer entry best are known is)

@@ -1,5 +1,5 @@
 -- The rows of a client that are to come: for `first_prefix` and `take` of rows_to_come.rt, and what is above them.
-use Rattle.std.proofs.Common.{◌≡◌, ◌∙◌, sym, ap, subst, refl, List, [], ◌∷◌, map, true, false, inl, inr}
+use Rattle.std.proofs.Common.{◌≡◌, ◌∙◌, sym, ap, subst, refl, ℕ, List, [], ◌∷◌, map, true, false, inl, inr}
 use Rattle.std.specs.Prelude.{◌⊎◌, Option, None, Some}
 use Rattle.std.specs.List.{AllByRecursion, cons_option}
 use Rattle.std.specs.List.Sorted.{IsStrictlySortedBy}
@@ -12,11 +12,12 @@ use Rattle.std.specs.declared.cmp.Ordering.TheVariants.{Less, Equal, Greater}
 use Rattle.rs_update.specs.IpPrefix.{IpPrefix}
 use Rattle.rs_update.specs.PrefixOrder.{prefix_cmp}
 use Rattle.rs_table.specs.RouteView.{row_of, sent_route_of}
-use Rattle.rs_table.specs.Table.{TableRow, route_in}
+use Rattle.rs_table.specs.Content.{TablesContent}
+use Rattle.rs_table.specs.Table.{IsTable, TableRow, route_in}
 use Rattle.rs_table.specs.declared.route.Row.{Row}
 use Rattle.rs_table.proofs.PrefixLemmas.{prefix_total, prefix_cmp-IsAntisymmetric}
 use Rattle.rs_survey.specs.Differences.{ClientOf, IsBehind, route_of}
-use Rattle.rs_survey.specs.RowsToCome.{Ahead, AreAhead, AreAll, GetsNoneBetween, GetsNoneBehind, IsFirst, ahead_view}
+use Rattle.rs_survey.specs.RowsToCome.{Ahead, AreAhead, AreAll, GetsNoneBetween, GetsNoneBehind, IsFirst, ahead_view, rows_in}
 use Rattle.rs_survey.specs.declared.rows_to_come.RowsToCome.TheInside.{Inside}
 
 -- ---- the order of prefixes
@@ -145,6 +146,35 @@ module _ (whose : ClientOf) (last : Option IpPrefix) where
       all = λ q later. are.all q (behind-later last p q behind later);
     }
 
+-- ---- all rows of a client
+
+abbrev AllOf : TablesContent → Option ℕ → List TableRow → Type 0
+AllOf tables client rows = AreAll (record { whose = record { tables = tables; client = client }; last = None; rows = rows })
+
+pub all-of-client : (tables : TablesContent) (client : Option ℕ) (number : ℕ) (rest : Option (List TableRow)) (rows : List TableRow)
+    → client ≡ Some number → rest ≡ Some rows → IsTable tables number rows → AllOf tables client (rows_in rest)
+all-of-client tables client number rest rows is at table =
+    subst (λ (client : Option ℕ). AllOf tables client (rows_in rest)) (sym is)
+    (subst (λ (rest : Option (List TableRow)). AllOf tables (Some number) (rows_in rest)) (sym at)
+    (record { ascending = table.ascending; all = λ q behind. table.best q }))
+
+pub none-of-absent : (tables : TablesContent) (client : Option ℕ) (rest : Option (List TableRow)) → client ≡ None → rest ≡ None
+    → AllOf tables client (rows_in rest)
+unfolding IsStrictlySortedBy
+none-of-absent tables client rest is at =
+    subst (λ (client : Option ℕ). AllOf tables client (rows_in rest)) (sym is)
+    (subst (λ (rest : Option (List TableRow)). AllOf tables None (rows_in rest)) (sym at)
+    (record { ascending = tt; all = λ q behind. refl }))
+
+-- the first of them, and those behind it
+pub first-of-all : (tables : TablesContent) (client : Option ℕ) (rows : List TableRow) (first : Option Row) (rest : List TableRow)
+    → AllOf tables client rows → YieldsFirstBy row_of (λ (rows : List TableRow). rows) rows first rest
+    → (first ≡ None → rest ≡ []) × AllOf tables client (cons_option (option_map row_of first) rest)
+first-of-all tables client rows None rest are steps =
+    (λ none. steps.1, subst (λ (rows : List TableRow). AllOf tables client rows) (steps.0 ∙ sym steps.1) are)
+first-of-all tables client rows (Some one) rest are steps =
+    (λ none. absurd (cc none), subst (λ (rows : List TableRow). AllOf tables client rows) steps are)
+
 -- ---- the same by the fields
 
 abbrev ahead_of : Inside → Option Row → Option IpPrefix → List TableRow → Ahead
@@ -155,21 +185,21 @@ ahead_of fields first last rest = record {
 }
 
 module _ (fields : Inside) (is : AreAhead fields) where
-  all-are : (row : Row) → fields.first ≡ Some row → AreAll (ahead_of fields (Some row) fields.last fields.rest)
-  all-are row found = subst (λ (first : Option Row). AreAll (ahead_of fields first fields.last fields.rest)) found is.are_all
+  all-are : (row : Row) → fields.first ≡ Some row → AreAll (ahead_of fields (Some row) fields.last (rows_in fields.rest))
+  all-are row found = subst (λ (first : Option Row). AreAll (ahead_of fields first fields.last (rows_in fields.rest))) found is.are_all
 
   pub first-is : (row : Row) → fields.first ≡ Some row → IsFirst (ahead_view fields) row.prefix
   first-is row found =
-      subst (λ (first : Option Row). IsFirst (ahead_of fields first fields.last fields.rest) row.prefix) (sym found)
-      (is-first (ahead_view fields).whose fields.last (row_of row) fields.rest (all-are row found))
+      subst (λ (first : Option Row). IsFirst (ahead_of fields first fields.last (rows_in fields.rest)) row.prefix) (sym found)
+      (is-first (ahead_view fields).whose fields.last (row_of row) (rows_in fields.rest) (all-are row found))
 
   pub first-gets : (row : Row) → fields.first ≡ Some row → Some (sent_route_of row.route) ≡ route_of (ahead_view fields).whose row.prefix
-  first-gets row found = gets (ahead_view fields).whose fields.last (row_of row) fields.rest (all-are row found)
+  first-gets row found = gets (ahead_view fields).whose fields.last (row_of row) (rows_in fields.rest) (all-are row found)
 
   pub none-are : fields.first ≡ None → AreAll (ahead_of fields None fields.last [])
   none-are none =
       subst (λ (rest : List TableRow). AreAll (ahead_of fields None fields.last rest)) (is.ends none)
-      (subst (λ (first : Option Row). AreAll (ahead_of fields first fields.last fields.rest)) none is.are_all)
+      (subst (λ (first : Option Row). AreAll (ahead_of fields first fields.last (rows_in fields.rest))) none is.are_all)
 
   pub all-behind : fields.first ≡ None → GetsNoneBehind (ahead_view fields).whose fields.last
   all-behind none = none-behind (ahead_view fields).whose fields.last (none-are none)
@@ -180,7 +210,7 @@ module _ (fields : Inside) (is : AreAhead fields) where
     after-none none first gone = record {
       ends = λ _. is.ends none;
       are_all =
-          subst (λ (first : Option Row). AreAll (ahead_of fields first (Some p) fields.rest)) (sym gone)
+          subst (λ (first : Option Row). AreAll (ahead_of fields first (Some p) (rows_in fields.rest))) (sym gone)
           (subst (λ (rest : List TableRow). AreAll (ahead_of fields None (Some p) rest)) (sym (is.ends none))
           (still-none (ahead_view fields).whose fields.last (none-are none) p behind));
     }
@@ -188,7 +218,7 @@ module _ (fields : Inside) (is : AreAhead fields) where
     module _ (row : Row) (found : fields.first ≡ Some row) (between : GetsNoneBetween (ahead_view fields).whose fields.last p)
         (apart : row.prefix ≡ p → ⊥) where
       pub none-on : None ≡ route_of (ahead_view fields).whose p
-      none-on = gets-none (ahead_view fields).whose fields.last (row_of row) fields.rest (all-are row found) p behind between apart
+      none-on = gets-none (ahead_view fields).whose fields.last (row_of row) (rows_in fields.rest) (all-are row found) p behind between apart
 
       pub after-other : AreAhead (record {
         tables = fields.tables;
@@ -199,20 +229,20 @@ module _ (fields : Inside) (is : AreAhead fields) where
       })
       after-other = record {
         ends = λ none. absurd (cc none);
-        are_all = left-over (ahead_view fields).whose fields.last (row_of row) fields.rest (all-are row found) p behind between apart;
+        are_all = left-over (ahead_view fields).whose fields.last (row_of row) (rows_in fields.rest) (all-are row found) p behind between apart;
       }
 
   -- the next row is the first of the rest
-  pub after-taken : (row : Row) → fields.first ≡ Some row → (p : IpPrefix) → row.prefix ≡ p → (next : Option Row) (rest : List TableRow)
-      → YieldsFirstBy row_of (λ (rows : List TableRow). rows) fields.rest next rest
+  pub after-taken : (row : Row) → fields.first ≡ Some row → (p : IpPrefix) → row.prefix ≡ p → (next : Option Row) (rest : Option (List TableRow))
+      → YieldsFirstBy row_of (λ (rows : List TableRow). rows) (rows_in fields.rest) next (rows_in rest)
       → AreAhead (record { tables = fields.tables; client = fields.client; first = next; rest = rest; last = Some p })
   after-taken row found p same next rest steps =
-      let are = taken (ahead_view fields).whose fields.last (row_of row) fields.rest (all-are row found) in
+      let are = taken (ahead_view fields).whose fields.last (row_of row) (rows_in fields.rest) (all-are row found) in
       by next steps
-      (subst (λ (q : IpPrefix). AreAll (record { whose = (ahead_view fields).whose; last = Some q; rows = fields.rest })) same are)
+      (subst (λ (q : IpPrefix). AreAll (record { whose = (ahead_view fields).whose; last = Some q; rows = rows_in fields.rest })) same are)
     where
-      by : (next : Option Row) → YieldsFirstBy row_of (λ (rows : List TableRow). rows) fields.rest next rest
-          → AreAll (record { whose = (ahead_view fields).whose; last = Some p; rows = fields.rest })
+      by : (next : Option Row) → YieldsFirstBy row_of (λ (rows : List TableRow). rows) (rows_in fields.rest) next (rows_in rest)
+          → AreAll (record { whose = (ahead_view fields).whose; last = Some p; rows = rows_in fields.rest })
           → AreAhead (record { tables = fields.tables; client = fields.client; first = next; rest = rest; last = Some p })
       by None steps are = record {
         ends = λ _. steps.1;

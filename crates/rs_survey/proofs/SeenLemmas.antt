@@ -15,11 +15,10 @@ use Rattle.rs_choice.specs.Eligibility.{is_eligible}
 use Rattle.rs_choice.specs.Plan.{Plan}
 use Rattle.rs_table.specs.Content.{RibContent, TablesContent, nothing_held, rib_of}
 use Rattle.rs_table.specs.Table.{route_from, sent_by}
-use Rattle.rs_explain.specs.Reasons.{failed_condition}
+use Rattle.rs_explain.specs.Reasons.{failed_condition, kind_of}
 use Rattle.rs_explain.specs.Removals.{beats_by_med}
 use Rattle.rs_explain.proofs.AgreementLemmas.{eligible_unless}
 use Rattle.rs_survey.specs.declared.seen.Seen.{Seen}
-use Rattle.rs_survey.specs.Findings.{flaw_of}
 use Rattle.rs_survey.specs.Seen.{IsSeen}
 
 -- the routes of the peers from one number on
@@ -41,10 +40,10 @@ none-map f None = refl
 none-map f (Some x) = refl
 
 pub eligible_seen : (plan : Plan) (seen : Seen) → IsSeen plan seen →
-    is_eligible plan seen.route.peer seen.route.attributes.now ≡ is_none seen.flaw
+    is_eligible plan seen.route.peer seen.route.attributes.now ≡ is_none seen.failed
 eligible_seen plan seen is =
     eligible_unless plan seen.route.peer seen.route.attributes.now is.known
-    ∙ sym (none-map flaw_of (failed_condition plan seen.route.peer seen.route.attributes.now)) ∙ ap is_none (sym is.flaw)
+    ∙ sym (none-map kind_of (failed_condition plan seen.route.peer seen.route.attributes.now)) ∙ ap is_none (sym is.failed)
 
 pub some_not_none : {A : Type 0} (o : Option A) → is_some o ≡ true → is_none o ≡ false
 some_not_none None is = absurd (cc is)

@@ -13,14 +13,14 @@ use Rattle.std.proofs.lemmas.List.Elements.{All-push}
 use Rattle.std.proofs.lemmas.List.Sums.{sum_by-append}
 use Rattle.rs_choice.specs.declared.step.Step.{Step}
 use Rattle.rs_choice.specs.declared.step.Step.TheVariants.{Preference, PathLength, Origin, Med, Identifier, Address}
+use Rattle.rs_explain.specs.declared.condition.ConditionKind.{ConditionKind}
+use Rattle.rs_explain.specs.declared.condition.ConditionKind.TheVariants.{OwnAs, ServerAsNextHop, NextHopOffExchange}
+use Rattle.rs_explain.specs.declared.missing_reason.MissingReason.{MissingReason}
+use Rattle.rs_explain.specs.declared.missing_reason.MissingReason.TheVariants as reasons
 use Rattle.rs_survey.specs.declared.finding.Finding.{Finding}
 use Rattle.rs_survey.specs.declared.finding.Finding.TheVariants.{Left, Ineligible, Refused, Lost, Best, Removed, Hidden, Missing}
-use Rattle.rs_survey.specs.declared.finding.Flaw.{Flaw}
-use Rattle.rs_survey.specs.declared.finding.Flaw.TheVariants.{OwnAs, ServerAsNextHop, NextHopOffExchange}
 use Rattle.rs_survey.specs.declared.finding.Key.{Key}
-use Rattle.rs_survey.specs.declared.missing_reason.MissingReason.{MissingReason}
-use Rattle.rs_survey.specs.declared.missing_reason.MissingReason.TheVariants as reasons
-use Rattle.rs_survey.specs.Findings.{IsKnown, flaw_number, is_same, is_same_key, key_of, reason_number, step_number}
+use Rattle.rs_survey.specs.Findings.{IsKnown, condition_number, is_same, is_same_key, key_of, reason_number, step_number}
 use Rattle.rs_survey.specs.Tally.{IsTally, TallyContent, digits, most, place_in, room_for}
 
 -- ---- places tell findings apart
@@ -35,10 +35,10 @@ record HasDigits (width : ℕ) (key : Key) : Type 0 where
   first : key.first < width
   second : key.second < width
 
-flaw_below : (flaw : Flaw) → flaw_number flaw < 3
-flaw_below OwnAs = omega arith
-flaw_below ServerAsNextHop = omega arith
-flaw_below NextHopOffExchange = omega arith
+condition_below : (condition : ConditionKind) → condition_number condition < 3
+condition_below OwnAs = omega arith
+condition_below ServerAsNextHop = omega arith
+condition_below NextHopOffExchange = omega arith
 
 step_below : (step : Step) → step_number step < 6
 step_below Preference = omega arith
@@ -49,15 +49,15 @@ step_below Identifier = omega arith
 step_below Address = omega arith
 
 reason_below : (reason : MissingReason) → reason_number reason < 11
-reason_below (reasons.Ineligible flaw) = omega (arith, flaw_below flaw)
+reason_below (reasons.Ineligible condition) = omega (arith, condition_below condition)
 reason_below reasons.RefusedByName = omega arith
 reason_below reasons.RefusedByCommunity = omega arith
 reason_below (reasons.Lost step) = omega (arith, step_below step)
 
 has_digits : (peers : ℕ) (finding : Finding) → IsKnown peers finding → HasDigits (digits peers) (key_of finding)
 has_digits peers (Left sender) known = record { first = omega (arith, known); second = omega arith }
-has_digits peers (Ineligible sender flaw) known =
-    record { first = omega (arith, known); second = omega (arith, flaw_below flaw) }
+has_digits peers (Ineligible sender condition) known =
+    record { first = omega (arith, known); second = omega (arith, condition_below condition) }
 has_digits peers (Refused client sender) known = record { first = omega (arith, known.0); second = omega (arith, known.1) }
 has_digits peers (Lost client sender) known = record { first = omega (arith, known.0); second = omega (arith, known.1) }
 has_digits peers (Best client sender) known = record { first = omega (arith, known.0); second = omega (arith, known.1) }
@@ -93,7 +93,7 @@ same_key width one other digits also same =
 
 kind_below : (finding : Finding) → (key_of finding).kind < 8
 kind_below (Left sender) = omega arith
-kind_below (Ineligible sender flaw) = omega arith
+kind_below (Ineligible sender condition) = omega arith
 kind_below (Refused client sender) = omega arith
 kind_below (Lost client sender) = omega arith
 kind_below (Best client sender) = omega arith

@@ -13,12 +13,12 @@ use Rattle.rs_survey.specs.Tally.{IsTally, TallyContent}
 -- the client, if it is about one, is a peer of the plan
 abbrev pub IsOfPeer : TablesContent → Counted → Type 0
 IsOfPeer tables Summary = Unit {0}
-IsOfPeer tables (Missing client) = client < length tables.plan.peers
+IsOfPeer tables (Missing client from) = client < length tables.plan.peers
 
 -- what is counted on a prefix
 abbrev pub counted_on : TablesContent → Counted → IpPrefix → List Finding
 counted_on tables Summary prefix = findings_on tables prefix
-counted_on tables (Missing client) prefix = missing_findings_on tables client prefix
+counted_on tables (Missing client from) prefix = missing_findings_on tables client from prefix
 
 -- it is counted on some prefixes
 pub record CountsOn (tables : TablesContent) (what : Counted) (some : List IpPrefix) (tally : TallyContent) : Type 0

@@ -3,7 +3,7 @@
 -- Tables of two exchanges number their peers each in its own way, so that senders are compared by their names. Since
 -- when a client gets a route is not compared.
 use Rattle.std.specs.Prelude.{◌≡◌, ℕ, ⊤, List, Option, Some, None, MatchOption, slice_get}
-use Rattle.std.specs.Option.{option_map}
+use Rattle.std.specs.Option.{option_and_then, option_map}
 use Rattle.std.specs.declared.cmp.Ordering.TheVariants.{Less}
 use Rattle.rs_update.specs.IpPrefix.{IpPrefix}
 use Rattle.rs_update.specs.PathAttributes.{PathAttributes}
@@ -30,14 +30,14 @@ name_of plan peer = option_map (λ one. one.name) (slice_get plan.peers peer)
 abbrev pub choice_of : Plan → SentRoute → Choice
 choice_of plan route = record { sender = name_of plan route.peer; attributes = route.attributes }
 
--- a client of some tables
+-- a client of some tables; none if it is absent from them
 pub record ClientOf : Type 0 where
   pub tables : TablesContent
-  pub client : ℕ
+  pub client : Option ℕ
 
--- the route that it gets on a prefix (RFC 7947, section 2.3), and what is compared of that
+-- the route that it gets on a prefix (RFC 7947, section 2.3), none if it is absent; and what is compared of that
 abbrev pub route_of : ClientOf → IpPrefix → Option SentRoute
-route_of one prefix = best_of one.tables one.client prefix
+route_of one prefix = option_and_then (λ client. best_of one.tables client prefix) one.client
 
 abbrev pub chosen : Plan → Option Route → Option Choice
 chosen plan route = option_map (choice_of plan) (option_map sent_route_of route)

@@ -2,28 +2,20 @@
 use Rattle.std.specs.Prelude.{◌<◌, ℕ, ◌+◌, ◌==◌, ◌&&◌, Bool}
 use Rattle.rs_choice.specs.declared.step.Step.{Step}
 use Rattle.rs_choice.specs.declared.step.Step.TheVariants.{Preference, PathLength, Origin, Med, Identifier, Address}
-use Rattle.rs_explain.specs.declared.condition.Condition.{Condition}
-use Rattle.rs_explain.specs.declared.condition.Condition.TheVariants as conditions
+use Rattle.rs_explain.specs.declared.condition.ConditionKind.{ConditionKind}
+use Rattle.rs_explain.specs.declared.condition.ConditionKind.TheVariants.{OwnAs, ServerAsNextHop, NextHopOffExchange}
+use Rattle.rs_explain.specs.declared.missing_reason.MissingReason.{MissingReason}
+use Rattle.rs_explain.specs.declared.missing_reason.MissingReason.TheVariants as reasons
 use Rattle.rs_survey.specs.declared.finding.Finding.{Finding}
 use Rattle.rs_survey.specs.declared.finding.Finding.TheVariants.{Left, Ineligible, Refused, Lost, Best}
 use Rattle.rs_survey.specs.declared.finding.Finding.TheVariants.{Removed, Hidden, Missing}
-use Rattle.rs_survey.specs.declared.finding.Flaw.{Flaw}
-use Rattle.rs_survey.specs.declared.finding.Flaw.TheVariants.{OwnAs, ServerAsNextHop, NextHopOffExchange}
 use Rattle.rs_survey.specs.declared.finding.Key.{Key}
-use Rattle.rs_survey.specs.declared.missing_reason.MissingReason.{MissingReason}
-use Rattle.rs_survey.specs.declared.missing_reason.MissingReason.TheVariants as reasons
-
--- a condition without its value
-abbrev pub flaw_of : Condition → Flaw
-flaw_of (conditions.OwnAs asn) = OwnAs
-flaw_of (conditions.ServerAsNextHop address) = ServerAsNextHop
-flaw_of (conditions.NextHopOffExchange address) = NextHopOffExchange
 
 -- the conditions and the steps by their places in the standard's order
-abbrev pub flaw_number : Flaw → ℕ
-flaw_number OwnAs = 0
-flaw_number ServerAsNextHop = 1
-flaw_number NextHopOffExchange = 2
+abbrev pub condition_number : ConditionKind → ℕ
+condition_number OwnAs = 0
+condition_number ServerAsNextHop = 1
+condition_number NextHopOffExchange = 2
 
 abbrev pub step_number : Step → ℕ
 step_number Preference = 0
@@ -35,7 +27,7 @@ step_number Address = 5
 
 -- the reasons by their places: conditions, rules, steps
 abbrev pub reason_number : MissingReason → ℕ
-reason_number (reasons.Ineligible flaw) = flaw_number flaw
+reason_number (reasons.Ineligible condition) = condition_number condition
 reason_number reasons.RefusedByName = 3
 reason_number reasons.RefusedByCommunity = 4
 reason_number (reasons.Lost step) = 5 + step_number step
@@ -43,7 +35,7 @@ reason_number (reasons.Lost step) = 5 + step_number step
 -- three numbers that tell a finding from every other one: of its kind, and what it is about
 abbrev pub key_of : Finding → Key
 key_of (Left sender) = record { kind = 0; first = sender; second = 0 }
-key_of (Ineligible sender flaw) = record { kind = 1; first = sender; second = flaw_number flaw }
+key_of (Ineligible sender condition) = record { kind = 1; first = sender; second = condition_number condition }
 key_of (Refused client sender) = record { kind = 2; first = client; second = sender }
 key_of (Lost client sender) = record { kind = 3; first = client; second = sender }
 key_of (Best client sender) = record { kind = 4; first = client; second = sender }
@@ -61,7 +53,7 @@ is_same one other = is_same_key (key_of one) (key_of other)
 -- its peers are of an exchange of so many peers
 abbrev pub IsKnown : ℕ → Finding → Type 0
 IsKnown peers (Left sender) = sender < peers
-IsKnown peers (Ineligible sender flaw) = sender < peers
+IsKnown peers (Ineligible sender condition) = sender < peers
 IsKnown peers (Refused client sender) = (client < peers) × (sender < peers)
 IsKnown peers (Lost client sender) = (client < peers) × (sender < peers)
 IsKnown peers (Best client sender) = (client < peers) × (sender < peers)

@@ -9,6 +9,7 @@ use Rattle.rs_table.specs.RouteView.{sent_route_of}
 use Rattle.rs_table.specs.Table.{TableRow, best_of, is_from, prefixes_held, route_from}
 use Rattle.rs_explain.specs.Explanations.{IsExplanation}
 use Rattle.rs_survey.specs.declared.on_prefix.MissingOn.{MissingOn}
+use Rattle.rs_survey.specs.Asked.{is_asked_sender}
 
 -- a peer's route, if it has one, where the peer is not the client, and the client gets the route of no peer or of
 -- another one
@@ -20,20 +21,27 @@ abbrev pub missing_from : TablesContent → ℕ → IpPrefix → ℕ → Option 
 missing_from tables client prefix peer =
     missing_among client peer (best_of tables client prefix) (route_from tables prefix peer)
 
--- the routes on a prefix that are missing to a client, in the order of the peers
-abbrev pub missing_on : TablesContent → ℕ → IpPrefix → List SentRoute
-missing_on tables client prefix =
-    filter_map (missing_from tables client prefix) (range_with_len 0 (length tables.plan.peers))
+-- the same where the peer is the sender that is asked for, if one is
+abbrev pub asked_from : TablesContent → ℕ → Option ℕ → IpPrefix → ℕ → Option SentRoute
+asked_from tables client from prefix peer =
+    if is_asked_sender from peer then missing_from tables client prefix peer else None
+
+-- the routes on a prefix that are missing to a client, of the sender that is asked for, if one is, in the order of the
+-- peers
+abbrev pub missing_on : TablesContent → ℕ → Option ℕ → IpPrefix → List SentRoute
+missing_on tables client from prefix =
+    filter_map (asked_from tables client from prefix) (range_with_len 0 (length tables.plan.peers))
 
 -- and on all prefixes on which some peer has left a route, in ascending order of the prefixes
-abbrev pub missing_of : TablesContent → ℕ → List TableRow
-missing_of tables client =
-    flat_map (λ prefix. map (λ route. record { prefix = prefix; route = route }) (missing_on tables client prefix))
+abbrev pub missing_of : TablesContent → ℕ → Option ℕ → List TableRow
+missing_of tables client from =
+    flat_map (λ prefix. map (λ route. record { prefix = prefix; route = route }) (missing_on tables client from prefix))
     (prefixes_held tables.ribs)
 
--- these are the routes on a prefix that are missing to a client, each with the explanation
-pub record AreMissing (tables : TablesContent) (client : ℕ) (missing : MissingOn) : Type 0 where
+-- these are those routes on a prefix, each with the explanation
+pub record AreMissing (tables : TablesContent) (client : ℕ) (from : Option ℕ) (missing : MissingOn) : Type 0 where
   pub best : option_map sent_route_of missing.best ≡ best_of tables client missing.prefix
-  pub routes : map (λ one. sent_route_of one.route) missing.routes.items ≡ missing_on tables client missing.prefix
+  pub routes : map (λ one. sent_route_of one.route) missing.routes.items
+      ≡ missing_on tables client from missing.prefix
   pub explained : All (λ one. IsExplanation tables client one.route.peer missing.prefix one.explanation)
       missing.routes.items

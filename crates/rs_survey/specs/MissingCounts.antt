@@ -6,32 +6,21 @@ use Rattle.rs_update.specs.IpPrefix.{IpPrefix}
 use Rattle.rs_choice.specs.Decision.{decision_steps, standing_of}
 use Rattle.rs_table.specs.Content.{TablesContent}
 use Rattle.rs_table.specs.Table.{TableRow, candidates_of}
-use Rattle.rs_explain.specs.declared.explanation.Explanation.{Explanation}
-use Rattle.rs_explain.specs.declared.explanation.Explanation.TheVariants as explanations
-use Rattle.rs_explain.specs.declared.refusal.Refusal.{Refusal}
-use Rattle.rs_explain.specs.declared.refusal.Refusal.TheVariants.{ByName, ToClient, ToAll}
-use Rattle.rs_explain.specs.Reasons.{failed_condition, refusal_of}
+use Rattle.rs_explain.specs.declared.missing_reason.MissingReason.{MissingReason}
+use Rattle.rs_explain.specs.declared.missing_reason.MissingReason.TheVariants.{Ineligible, Lost}
+use Rattle.rs_explain.specs.MissingReasons.{reason_in, reason_of_refusal}
+use Rattle.rs_explain.specs.Reasons.{failed_condition, kind_of, refusal_of}
 use Rattle.rs_survey.specs.declared.finding.Finding.{Finding}
 use Rattle.rs_survey.specs.declared.finding.Finding.TheVariants.{Missing}
-use Rattle.rs_survey.specs.declared.missing_reason.MissingReason.{MissingReason}
-use Rattle.rs_survey.specs.declared.missing_reason.MissingReason.TheVariants.{Ineligible, RefusedByName}
-use Rattle.rs_survey.specs.declared.missing_reason.MissingReason.TheVariants.{RefusedByCommunity, Lost}
 use Rattle.rs_survey.specs.declared.on_prefix.MissingRoute.{MissingRoute}
-use Rattle.rs_survey.specs.Findings.{flaw_of}
 use Rattle.rs_survey.specs.Missing.{missing_of, missing_on}
 use Rattle.rs_survey.specs.Summary.{removed_at}
-
--- a rule that refuses, as a reason
-abbrev pub reason_of_refusal : Refusal → MissingReason
-reason_of_refusal ByName = RefusedByName
-reason_of_refusal (ToClient asn) = RefusedByCommunity
-reason_of_refusal (ToAll asn) = RefusedByCommunity
 
 -- the reason for which a client does not get a route of another peer: the first condition that fails, or else the rule
 -- that refuses, or else the step of the decision process that removes it
 abbrev pub reason_for : TablesContent → ℕ → TableRow → Option MissingReason
 reason_for tables client row =
-    option_or (option_map (λ condition. Ineligible (flaw_of condition))
+    option_or (option_map (λ condition. Ineligible (kind_of condition))
     (failed_condition tables.plan row.route.peer row.route.attributes))
     (option_or (option_map reason_of_refusal (refusal_of tables.plan client row.route.peer row.route.attributes))
     (option_map (λ step. Lost step)
@@ -42,25 +31,16 @@ abbrev pub missing_finding : TablesContent → ℕ → TableRow → Option Findi
 missing_finding tables client row = option_map (Missing row.route.peer) (reason_for tables client row)
 
 -- and of those on a prefix
-abbrev pub missing_findings_on : TablesContent → ℕ → IpPrefix → List Finding
-missing_findings_on tables client prefix =
+abbrev pub missing_findings_on : TablesContent → ℕ → Option ℕ → IpPrefix → List Finding
+missing_findings_on tables client from prefix =
     filter_map (missing_finding tables client)
-    (map (λ route. record { prefix = prefix; route = route }) (missing_on tables client prefix))
+    (map (λ route. record { prefix = prefix; route = route }) (missing_on tables client from prefix))
 
 -- and of the whole list of these routes
-abbrev pub missing_findings : TablesContent → ℕ → List Finding
-missing_findings tables client = filter_map (missing_finding tables client) (missing_of tables client)
+abbrev pub missing_findings : TablesContent → ℕ → Option ℕ → List Finding
+missing_findings tables client from = filter_map (missing_finding tables client) (missing_of tables client from)
 
 -- ---- the same by an explanation
-
--- the reason that an explanation has
-abbrev pub reason_in : Explanation → Option MissingReason
-reason_in explanations.Own = None
-reason_in explanations.Absent = None
-reason_in (explanations.Ineligible condition) = Some (Ineligible (flaw_of condition))
-reason_in (explanations.Refused refusal) = Some (reason_of_refusal refusal)
-reason_in (explanations.Best beaten) = None
-reason_in (explanations.Lost removal) = Some (Lost removal.step)
 
 abbrev pub counted_of : MissingRoute → Option Finding
 counted_of one = option_map (Missing one.route.peer) (reason_in one.explanation)

@@ -3,7 +3,7 @@ use Rattle.std.specs.Prelude.{◌≡◌, ℕ, List, [], Option, Some, None, Matc
 use Rattle.std.specs.Coded.{Coded, code_by, coded×, coded_ℕ, coded_option}
 use Rattle.std.specs.List.{cons_option}
 use Rattle.std.specs.List.Sorted.{IsStrictlySortedBy}
-use Rattle.std.specs.Option.{option_map}
+use Rattle.std.specs.Option.{option_map, unwrap_or}
 use Rattle.std.specs.declared.cmp.Ordering.TheVariants.{Less}
 use Rattle.rs_update.specs.IpPrefix.{IpPrefix}
 use Rattle.rs_update.specs.PrefixOrder.{prefix_cmp}
@@ -22,7 +22,7 @@ pub record Ahead : Type 0 where
 
 abbrev pub client_code : Coded ClientOf
 client_code =
-    code_by (TablesContent × ℕ) (coded× tables_code coded_ℕ) (λ c. (c.tables, c.client))
+    code_by (TablesContent × Option ℕ) (coded× tables_code (coded_option coded_ℕ)) (λ c. (c.tables, c.client))
     (λ p. record { tables = p.0; client = p.1 }) (λ _. refl)
 
 abbrev pub ahead_code : Coded Ahead
@@ -31,11 +31,15 @@ ahead_code =
     (coded× client_code (coded× (coded_option prefix_code) rows_code)) (λ a. (a.whose, (a.last, a.rows)))
     (λ p. record { whose = p.0; last = p.1.0; rows = p.1.1 }) (λ _. refl)
 
+-- the rows behind the first one: none where the client is absent
+abbrev pub rows_in : Option (List TableRow) → List TableRow
+rows_in rest = unwrap_or rest []
+
 abbrev pub ahead_view : rows.Inside → Ahead
 ahead_view fields = record {
   whose = record { tables = fields.tables.now; client = fields.client };
   last = fields.last;
-  rows = cons_option (option_map row_of fields.first) fields.rest;
+  rows = cons_option (option_map row_of fields.first) (rows_in fields.rest);
 }
 
 -- their prefixes ascend from the last one on, and they are all rows behind it
@@ -44,7 +48,7 @@ pub record AreAll (ahead : Ahead) : Type 0 where
   pub all : (prefix : IpPrefix) → IsBehind ahead.last prefix → route_in ahead.rows prefix ≡ route_of ahead.whose prefix
 
 pub record AreAhead (fields : rows.Inside) : Type 0 where
-  pub ends : fields.first ≡ None → fields.rest ≡ []
+  pub ends : fields.first ≡ None → rows_in fields.rest ≡ []
   pub are_all : AreAll (ahead_view fields)
 
 -- ---- what comes next

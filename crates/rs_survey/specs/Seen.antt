@@ -12,10 +12,9 @@ use Rattle.rs_choice.specs.Eligibility.{is_eligible}
 use Rattle.rs_choice.specs.Plan.{Plan}
 use Rattle.rs_choice.specs.Policy.{is_permitted}
 use Rattle.rs_table.specs.RouteView.{sent_route_of}
-use Rattle.rs_explain.specs.Reasons.{failed_condition}
+use Rattle.rs_explain.specs.Reasons.{failed_condition, kind_of}
 use Rattle.rs_explain.specs.Removals.{beats_by_med}
 use Rattle.rs_survey.specs.declared.seen.Seen.{Seen}
-use Rattle.rs_survey.specs.Findings.{flaw_of}
 
 abbrev pub sent_of_seen : Seen → SentRoute
 sent_of_seen seen = sent_route_of seen.route
@@ -24,7 +23,7 @@ sent_of_seen seen = sent_route_of seen.route
 pub record IsSeen (plan : Plan) (seen : Seen) : Type 0 where
   pub known : seen.route.peer < length plan.peers
   pub standing : seen.standing ≡ standing_of plan (sent_of_seen seen)
-  pub flaw : seen.flaw ≡ option_map flaw_of (failed_condition plan seen.route.peer seen.route.attributes.now)
+  pub failed : seen.failed ≡ option_map kind_of (failed_condition plan seen.route.peer seen.route.attributes.now)
   pub restricted : seen.restricted ≡ has_community_of_in seen.route.attributes.now.communities 0
 
 -- a route on the prefix is a candidate of the client, which gets the best one, and keeps another out by MED

@@ -11,10 +11,9 @@ use Rattle.rs_choice.specs.Decision.{SentRoute, beats, choice, decision_steps, s
 use Rattle.rs_choice.specs.Plan.{Plan}
 use Rattle.rs_table.specs.Content.{TablesContent}
 use Rattle.rs_table.specs.Table.{is_from, prefixes_held, routes_on}
-use Rattle.rs_explain.specs.Reasons.{failed_condition}
+use Rattle.rs_explain.specs.Reasons.{failed_condition, kind_of}
 use Rattle.rs_survey.specs.declared.finding.Finding.{Finding}
 use Rattle.rs_survey.specs.declared.finding.Finding.TheVariants.{Left, Ineligible, Refused, Lost, Best, Removed, Hidden}
-use Rattle.rs_survey.specs.Findings.{flaw_of}
 
 -- the step that removes a member of a set: the first at which some member that the steps before left beats it
 unfoldable pub removed_at : {M : Type 0} → (M → Standing) → List Step → List M → M → Option Step
@@ -26,8 +25,8 @@ removed_at standing (step ∷ later) set one =
 -- of a route by itself: it is left, and may fail a condition of eligibility
 abbrev pub of_route : Plan → SentRoute → List Finding
 of_route plan route =
-    Left route.peer ∷ option_to_list (option_map (λ flaw. Ineligible route.peer flaw)
-    (option_map flaw_of (failed_condition plan route.peer route.attributes)))
+    Left route.peer ∷ option_to_list (option_map (λ condition. Ineligible route.peer condition)
+    (option_map kind_of (failed_condition plan route.peer route.attributes)))
 
 -- of a candidate of a client: the client gets it, or a step removes it
 abbrev pub of_candidate : Plan → List SentRoute → ℕ → SentRoute → List Finding

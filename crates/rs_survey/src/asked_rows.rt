@@ -33,7 +33,7 @@ impl AskedRows {
 }
 
 // Whether a sender is the one that is asked for, if one is.
-fn is_asked_sender(from: Option<usize>, peer: usize) -> bool
+pub(crate) fn is_asked_sender(from: Option<usize>, peer: usize) -> bool
     ensures { result ≡ is_asked_sender from peer }
 {
     match from {

@@ -64,8 +64,8 @@ fn count_route(plan: &Exchange, one: &Seen, tally: &mut Tally)
     let _peers = plan.count();
     let sender = one.route.peer;
     tally.add(Finding::Left(sender));
-    if let Some(flaw) = one.flaw {
-        tally.add(Finding::Ineligible(sender, flaw));
+    if let Some(condition) = one.failed {
+        tally.add(Finding::Ineligible(sender, condition));
     }
 }
 
@@ -142,7 +142,7 @@ fn count_to(
     if client == sender {
         return;
     }
-    if one.flaw.is_some() {
+    if one.failed.is_some() {
         return;
     }
     if !permits(plan, client, one) {

@@ -41,15 +41,16 @@ impl<'a> Model for Differences<'a> {
 
 impl<'a> Differences<'a> {
     /// The prefixes on which the choice of the peer of number `client_before` of some tables differs from that of the
-    /// peer of number `client_after` of others. A number that no peer has stands for a client that gets no route.
+    /// peer of number `client_after` of others. None stands for a client that is absent from the tables: it gets no route,
+    /// as does the client of a number that no peer has.
     ///
     /// Fails where memory is refused; what it gives takes no more.
     pub fn new(
         alloc: Global,
         before: &'a Tables,
-        client_before: usize,
+        client_before: Option<usize>,
         after: &'a Tables,
-        client_after: usize,
+        client_after: Option<usize>,
     ) -> Result<Differences<'a>, AllocError>
         ensures before { IfOk result (λ all. all.before ≡ record { tables = before.now; client = client_before }) }
         ensures after { IfOk result (λ all. all.after ≡ record { tables = after.now; client = client_after }) }

@@ -1,22 +1,10 @@
 //! What is counted on each prefix: by a summary, and of the routes that a client does not get.
 
 ghost use Rattle.std.specs.Prelude.{◌≡◌};
-ghost use Rattle.rs_survey.specs.Findings.{flaw_of, key_of, step_number};
+ghost use Rattle.rs_survey.specs.Findings.{key_of, reason_number, step_number};
 
-use crate::missing_reason::MissingReason;
 use rs_choice::Step;
-use rs_explain::Condition;
-
-/// A condition of eligibility that a route fails.
-#[derive(Clone, Copy, Debug, PartialEq, Eq)]
-pub enum Flaw {
-    /// The server's AS is in its AS_PATH (RFC 4271, section 9.1.2).
-    OwnAs,
-    /// Its NEXT_HOP is the server's address (RFC 4271, section 6.3).
-    ServerAsNextHop,
-    /// Its NEXT_HOP is neither the sender's address nor inside the subnet of the exchange (RFC 4271, section 6.3).
-    NextHopOffExchange,
-}
+use rs_explain::{ConditionKind, MissingReason};
 
 /// What is counted on a prefix. Peers stand by their numbers.
 #[derive(Clone, Copy, Debug, PartialEq, Eq)]
@@ -24,7 +12,7 @@ pub enum Finding {
     /// This peer has left a route.
     Left(usize),
     /// The route of this peer is not eligible: the first condition that it fails.
-    Ineligible(usize, Flaw),
+    Ineligible(usize, ConditionKind),
     /// Export policy refuses to this client, which is given first, the eligible route of this sender.
     Refused(usize, usize),
     /// This client, which is given first, gets another route than the candidate of this sender.
@@ -38,19 +26,6 @@ pub enum Finding {
     /// The client whose missing routes are counted does not get the route of this sender, for this reason. A summary
     /// counts none of these.
     Missing(usize, MissingReason),
-}
-
-impl Flaw {
-    // The condition without its value.
-    pub(crate) fn of(condition: Condition) -> Flaw
-        ensures { result ≡ flaw_of condition }
-    {
-        match condition {
-            Condition::OwnAs(_) => Flaw::OwnAs,
-            Condition::ServerAsNextHop(_) => Flaw::ServerAsNextHop,
-            Condition::NextHopOffExchange(_) => Flaw::NextHopOffExchange,
-        }
-    }
 }
 
 // Three numbers that tell a finding from every other one: of its kind, and what it is about.
@@ -68,13 +43,13 @@ impl Finding {
     {
         match self {
             Finding::Left(sender) => make_key(0, sender, 0),
-            Finding::Ineligible(sender, flaw) => make_key(1, sender, flaw as usize),
+            Finding::Ineligible(sender, condition) => make_key(1, sender, condition as usize),
             Finding::Refused(client, sender) => make_key(2, client, sender),
             Finding::Lost(client, sender) => make_key(3, client, sender),
             Finding::Best(client, sender) => make_key(4, client, sender),
             Finding::Removed(step) => make_key(5, step_number(step), 0),
             Finding::Hidden => make_key(6, 0, 0),
-            Finding::Missing(sender, reason) => make_key(7, sender, reason.number()),
+            Finding::Missing(sender, reason) => make_key(7, sender, reason_number(reason)),
         }
     }
 }
@@ -90,8 +65,20 @@ fn make_key(kind: usize, first: usize, second: usize) -> Key
     }
 }
 
+// The place of a reason among all: conditions, rules, steps.
+fn reason_number(reason: MissingReason) -> usize
+    ensures { result ≡ reason_number reason }
+{
+    match reason {
+        MissingReason::Ineligible(condition) => condition as usize,
+        MissingReason::RefusedByName => 3,
+        MissingReason::RefusedByCommunity => 4,
+        MissingReason::Lost(step) => 5 + step_number(step),
+    }
+}
+
 // The place of a step in the decision process.
-pub(crate) fn step_number(step: Step) -> usize
+fn step_number(step: Step) -> usize
     ensures { result ≡ step_number step }
 {
     step as usize

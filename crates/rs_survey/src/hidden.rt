@@ -34,10 +34,10 @@ pub(crate) fn shared_choice<'a>(
 
 // The eligible routes.
 fn eligible<'a>(alloc: Global, seen: &[Seen<'a>]) -> Result<Vec<Candidate<'a>>, AllocError>
-    ensures { IfOk result (λ all. all.items ≡ map candidate_of_seen (filter (λ one. is_none one.flaw) seen.now)) }
+    ensures { IfOk result (λ all. all.items ≡ map candidate_of_seen (filter (λ one. is_none one.failed) seen.now)) }
 {
     seen.iter()
-        .filter(|one| one.flaw.is_none())
+        .filter(|one| one.failed.is_none())
         .map(|one| Candidate {
             peer: one.route.peer,
             attributes: one.route.attributes,

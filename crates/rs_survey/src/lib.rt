@@ -9,8 +9,7 @@
 //! (the rows of both), `differences`. What is counted: `finding` (each finding), `tally` (how often it was made). What
 //! a summary counts from: `seen` (the routes on a prefix), `removing` (the step that removes a candidate), `hidden`
 //! (what one decision for all clients would hide). On one prefix are counted: the findings of a summary (`counting`),
-//! and the routes that a client does not get, by reason (`missing_reason`, `missing_counts`). On all prefixes:
-//! `on_threads`. Then `laws`.
+//! and the routes that a client does not get, by reason (`missing_counts`). On all prefixes: `on_threads`. Then `laws`.
 #![tactic(auto)]
 
 mod asked_rows;
@@ -21,7 +20,6 @@ mod finding;
 mod hidden;
 mod laws;
 mod missing_counts;
-mod missing_reason;
 mod on_prefix;
 mod on_threads;
 mod prefix_list;
@@ -34,10 +32,10 @@ mod tally;
 pub use asked_rows::{AskedRows, count_rows};
 pub use choices::Choices;
 pub use differences::Differences;
-pub use finding::{Finding, Flaw};
+pub use finding::Finding;
 pub use laws::the_step_that_is_counted_is_explained;
-pub use missing_reason::MissingReason;
 pub use on_prefix::{MissingOn, MissingRoute, missing_on};
 pub use on_threads::{count_missing, summary_on_threads};
 pub use prefix_list::every_prefix;
+pub use rs_explain::{ConditionKind, MissingReason};
 pub use tally::Tally;

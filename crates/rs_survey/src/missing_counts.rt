@@ -7,26 +7,27 @@ ghost use Rattle.rs_survey.specs.Grows.{Grows};
 ghost use Rattle.rs_survey.specs.MissingCounts.{counted_of, missing_findings_on};
 
 use crate::finding::Finding;
-use crate::missing_reason::MissingReason;
 use crate::on_prefix::{MissingRoute, missing_on};
 use crate::tally::Tally;
+use rs_explain::MissingReason;
 use rs_table::{PrefixRoutes, Tables};
 use std::alloc::{AllocError, Global};
 
-// Counts the routes on a prefix that a client does not get, by sender and reason.
+// Counts the routes on a prefix that a client does not get, of one sender or of all, by sender and reason.
 pub(crate) fn count_missing_on(
     alloc: Global,
     tables: &Tables,
     client: usize,
+    from: Option<usize>,
     on: &PrefixRoutes<'_>,
     tally: &mut Tally,
 ) -> Result<(), AllocError>
     requires client_known { client < length tables.now.plan.peers }
     requires routes { AreRoutesOf tables.now (entry_of on.now) }
     requires peers { tally.old.peers ≡ length tables.now.plan.peers }
-    ensures { OnOk result (Grows tally.old tally.new (missing_findings_on tables.now client on.now.prefix)) }
+    ensures { OnOk result (Grows tally.old tally.new (missing_findings_on tables.now client from on.now.prefix)) }
 {
-    let missing = missing_on(alloc, tables, client, on)?;
+    let missing = missing_on(alloc, tables, client, from, on)?;
     count_routes(&missing.routes, tally);
     Ok(())
 }

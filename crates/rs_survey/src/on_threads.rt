@@ -29,8 +29,8 @@ const THREADS: usize = 4;
 enum Counted {
     // The findings of a summary.
     Summary,
-    // The routes that the client of this number does not get.
-    Missing(usize),
+    // The routes that the client of this number does not get: of the sender of this number, or of all senders.
+    Missing(usize, Option<usize>),
 }
 
 /// Counts what is found on every prefix of some tables, on four threads: which routes are left and why they are not
@@ -48,8 +48,9 @@ pub fn summary_on_threads<T: Threads + Sync>(
     count_on_threads(rt, alloc, tables, Counted::Summary)
 }
 
-/// Counts the routes that the peer of number `client` does not get, by sender and reason, on four threads: a
-/// `Finding::Missing` is made once for each such route that `missing_on` gives on every prefix.
+/// Counts the routes that the peer of number `client` does not get, by sender and reason, on four threads: those of the
+/// sender of number `from`, or of all senders if none is given. A `Finding::Missing` is made once for each such route
+/// that `missing_on` gives on every prefix.
 ///
 /// It holds where each prefix is, in 16 octets, and on each thread the counts and the routes of one prefix at a time.
 /// Fails where memory is refused.
@@ -58,12 +59,13 @@ pub fn count_missing<T: Threads + Sync>(
     alloc: Global,
     tables: &Tables,
     client: usize,
+    from: Option<usize>,
 ) -> Result<Tally, AllocError>
     requires { client < length tables.now.plan.peers }
     ensures peers { IfOk result (λ tally. tally.peers ≡ length tables.now.plan.peers) }
-    ensures counts { IfOk result (λ tally. IsTally tally (missing_findings tables.now client)) }
+    ensures counts { IfOk result (λ tally. IsTally tally (missing_findings tables.now client from)) }
 {
-    count_on_threads(rt, alloc, tables, Counted::Missing(client))
+    count_on_threads(rt, alloc, tables, Counted::Missing(client, from))
 }
 
 // Counts on every prefix.
@@ -124,7 +126,9 @@ impl Counted {
     {
         match self {
             Counted::Summary => count_on(alloc, tables, on, tally),
-            Counted::Missing(client) => count_missing_on(alloc, tables, client, on, tally),
+            Counted::Missing(client, from) => {
+                count_missing_on(alloc, tables, client, from, on, tally)
+            },
         }
     }
 }

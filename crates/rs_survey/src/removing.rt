@@ -98,7 +98,7 @@ fn keeps_out(plan: &Exchange, client: usize, best: &Standing, one: &Standing, ot
     if !Step::Med.beats(&other.standing, one) {
         return false;
     }
-    if other.flaw.is_some() {
+    if other.failed.is_some() {
         return false;
     }
     if !beats_by_med(best, one, &other.standing) {

@@ -1,10 +1,11 @@
 //! The rows of a client's table that are to come.
 
 ghost use Rattle.std.specs.Prelude.{◌≡◌, ◌<◌, ◌≤◌, None, OnSome, length};
+ghost use Rattle.std.specs.Iterator.{YieldsFirstBy};
 ghost use Rattle.std.specs.Option.{option_map};
-ghost use Rattle.rs_table.specs.RouteView.{sent_route_of};
+ghost use Rattle.rs_table.specs.RouteView.{row_of, sent_route_of};
 ghost use Rattle.rs_survey.specs.Differences.{IsBehind, route_of};
-ghost use Rattle.rs_survey.specs.RowsToCome.{GetsNoneBetween, IsFirstPrefix, IsTaken};
+ghost use Rattle.rs_survey.specs.RowsToCome.{GetsNoneBetween, IsFirstPrefix, IsTaken, rows_in};
 
 use rs_table::{ClientRows, Route, Row, Tables};
 use rs_update::Prefix;
@@ -14,10 +15,11 @@ use std::marker::Model;
 #[derive(Drop)]
 pub(crate) struct RowsToCome<'a> {
     tables: &'a Tables,
-    client: usize,
-    // The first of them, and those behind it.
+    // None where the client is absent from the tables.
+    client: Option<usize>,
+    // The first of them, and those behind it. No rows where the client is absent.
     first: Option<Row<'a>>,
-    rest: ClientRows<'a>,
+    rest: Option<ClientRows<'a>>,
     // The prefix behind which they are; none where they are all rows.
     last: Option<Prefix>,
 }
@@ -35,13 +37,16 @@ impl<'a> Model for RowsToCome<'a> {
 }
 
 impl<'a> RowsToCome<'a> {
-    // All rows of a client's table.
-    pub(crate) fn new(tables: &'a Tables, client: usize) -> RowsToCome<'a>
+    // All rows of a client's table; none where it is absent from the tables.
+    pub(crate) fn new(tables: &'a Tables, client: Option<usize>) -> RowsToCome<'a>
         ensures whose { result.whose ≡ record { tables = tables.now; client = client } }
         ensures last { result.last ≡ None }
     {
-        let mut rest = tables.iter_rows(client);
-        let first = rest.next();
+        let mut rest = match client {
+            Some(number) => Some(tables.iter_rows(number)),
+            None => None,
+        };
+        let first = next_row(&mut rest);
         RowsToCome {
             tables,
             client,
@@ -82,11 +87,21 @@ impl<'a> RowsToCome<'a> {
             return None;
         };
         if row.prefix == prefix {
-            self.first = self.rest.next();
+            self.first = next_row(&mut self.rest);
             Some(row.route)
         } else {
             self.first = Some(row);
             None
         }
+    }
+}
+
+// The next of a client's rows, if it has a table.
+fn next_row<'a>(rows: &mut Option<ClientRows<'a>>) -> Option<Row<'a>>
+    ensures { YieldsFirstBy row_of (λ rows. rows) (rows_in rows.old) result (rows_in rows.new) }
+{
+    match rows {
+        Some(rows) => rows.next(),
+        None => None,
     }
 }

@@ -8,9 +8,8 @@ ghost use Rattle.rs_table.specs.RouteView.{sent_route_of};
 ghost use Rattle.rs_table.specs.Table.{routes_on};
 ghost use Rattle.rs_survey.specs.Seen.{IsSeen, sent_of_seen};
 
-use crate::finding::Flaw;
 use rs_choice::{Candidate, Exchange, MAX_PEERS, Standing};
-use rs_explain::failed_condition;
+use rs_explain::{Condition, ConditionKind, failed_condition};
 use rs_table::{PrefixRoutes, Route, Tables};
 use std::alloc::{AllocError, Global};
 
@@ -21,7 +20,7 @@ pub(crate) struct Seen<'a> {
     // What the decision process asks of it.
     pub(crate) standing: Standing,
     // The first condition of eligibility that it fails.
-    pub(crate) flaw: Option<Flaw>,
+    pub(crate) failed: Option<ConditionKind>,
     // Whether it has a community (0, AS): without one only its sender's name can be refused.
     pub(crate) restricted: bool,
 }
@@ -59,7 +58,7 @@ fn route_seen<'a>(plan: &Exchange, peer: usize, route: Route<'a>) -> Seen<'a>
             peer,
             attributes: route.attributes,
         }),
-        flaw: failed_condition(plan, peer, route.attributes).map(Flaw::of),
+        failed: failed_condition(plan, peer, route.attributes).map(Condition::kind),
         restricted: route.attributes.has_community_of(0),
     }
 }

@@ -31,12 +31,12 @@ impl<'a> Model for SideBySide<'a> {
 }
 
 impl<'a> SideBySide<'a> {
-    // All prefixes on which one of two clients gets a route.
+    // All prefixes on which one of two clients gets a route. None stands for a client that is absent from the tables.
     pub(crate) fn new(
         before: &'a Tables,
-        client_before: usize,
+        client_before: Option<usize>,
         after: &'a Tables,
-        client_after: usize,
+        client_after: Option<usize>,
     ) -> SideBySide<'a>
         ensures before { result.before ≡ record { tables = before.now; client = client_before } }
         ensures after { result.after ≡ record { tables = after.now; client = client_after } }

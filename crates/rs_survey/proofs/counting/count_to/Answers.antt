@@ -1,7 +1,7 @@
 use Rattle.std.proofs.Common.{◌∙◌, sym, map, subst}
 use Rattle.rs_survey.specs.Grows.{Grows}
 use Rattle.rs_survey.specs.Seen.{sent_of_seen}
-use Rattle.rs_survey.proofs.CountLemmas.{candidate_is, differs, flaw_seen, nothing_ineligible, nothing_own, refused_is}
+use Rattle.rs_survey.proofs.CountLemmas.{candidate_is, differs, failed_seen, nothing_ineligible, nothing_own, refused_is}
 use Rattle.rs_survey.proofs.GrowthLemmas.{grows_none}
 use Rattle.rs_survey.proofs.counting.count_to.Goals as goal
 
@@ -16,7 +16,7 @@ pub returns-then-is_some : goal.returns-then-is_some
 returns-then-is_some c =
     subst (Grows c.args.tally.now c.args.tally.now)
     (sym (nothing_ineligible c.args.plan.now (map sent_of_seen c.args.seen.now) c.args.client (sent_of_seen c.args.one.now)
-    (flaw_seen c.args.plan.now c.args.one.now c.requires.one ∙ sym c.is_some.ensures ∙ c.if-is_some.true)))
+    (failed_seen c.args.plan.now c.args.one.now c.requires.one ∙ sym c.is_some.ensures ∙ c.if-is_some.true)))
     (grows_none c.args.tally.now)
 
 pub returns-then-not-permits : goal.returns-then-not-permits
@@ -24,7 +24,7 @@ returns-then-not-permits c =
     subst (Grows c.args.tally.now c.add.new.self)
     (sym (refused_is c.args.plan.now (map sent_of_seen c.args.seen.now) c.args.client (sent_of_seen c.args.one.now)
     (differs c.args.client c.args.one.now.route.peer c.if-client-sender.false)
-    (flaw_seen c.args.plan.now c.args.one.now c.requires.one ∙ sym c.is_some.ensures ∙ c.if-is_some.false)
+    (failed_seen c.args.plan.now c.args.one.now c.requires.one ∙ sym c.is_some.ensures ∙ c.if-is_some.false)
     (sym c.permits.ensures ∙ c.if-not-permits.true)))
     c.add.ensures
 
@@ -33,6 +33,6 @@ returns c =
     subst (Grows c.args.tally.now c.count_candidate.new.tally)
     (sym (candidate_is c.args.plan.now (map sent_of_seen c.args.seen.now) c.args.client (sent_of_seen c.args.one.now)
     (differs c.args.client c.args.one.now.route.peer c.if-client-sender.false)
-    (flaw_seen c.args.plan.now c.args.one.now c.requires.one ∙ sym c.is_some.ensures ∙ c.if-is_some.false)
+    (failed_seen c.args.plan.now c.args.one.now c.requires.one ∙ sym c.is_some.ensures ∙ c.if-is_some.false)
     (sym c.permits.ensures ∙ c.if-not-permits.false)))
     c.count_candidate.ensures

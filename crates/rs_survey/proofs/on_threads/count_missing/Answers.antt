@@ -7,5 +7,5 @@ use Rattle.rs_survey.proofs.on_threads.count_missing.Goals as goal
 pub returns-clause-counts : goal.returns-clause-counts
 returns-clause-counts g c =
     IfOk-weaker c.count_on_threads.result _ _
-    (λ tally counts. subst (IsTally tally) (sym (missing_on_each c.args.tables.now c.args.client)) counts.counts)
+    (λ tally counts. subst (IsTally tally) (sym (missing_on_each c.args.tables.now c.args.client c.args.from)) counts.counts)
     c.count_on_threads.ensures

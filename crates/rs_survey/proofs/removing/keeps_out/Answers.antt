@@ -27,7 +27,7 @@ returns-then-is_some c =
     first_fails (is_eligible plan other.route.peer other.route.attributes.now)
     (beats_by_med c.args.best.now c.args.one.now (standing_of plan (sent_of_seen other))) (is_sent_to plan c.args.client
     (sent_of_seen other))
-    (eligible_seen plan other c.requires.seen ∙ some_not_none other.flaw (sym c.is_some.ensures ∙ c.if-is_some.true))
+    (eligible_seen plan other c.requires.seen ∙ some_not_none other.failed (sym c.is_some.ensures ∙ c.if-is_some.true))
 
 pub returns-then-not-beats_by_med : goal.returns-then-not-beats_by_med
 returns-then-not-beats_by_med c =
@@ -47,6 +47,6 @@ returns c =
     ∙ third_decides (is_eligible plan other.route.peer other.route.attributes.now)
     (beats_by_med c.args.best.now c.args.one.now (standing_of plan (sent_of_seen other)))
     (is_sent_to plan c.args.client (sent_of_seen other))
-    (eligible_seen plan other c.requires.seen ∙ not_some_none other.flaw (sym c.is_some.ensures ∙ c.if-is_some.false))
+    (eligible_seen plan other c.requires.seen ∙ not_some_none other.failed (sym c.is_some.ensures ∙ c.if-is_some.false))
     (ap (beats_by_med c.args.best.now c.args.one.now) (sym c.requires.seen.standing) ∙ sym c.beats_by_med.ensures
     ∙ c.if-not-beats_by_med.false)

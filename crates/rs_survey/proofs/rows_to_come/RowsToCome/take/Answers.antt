@@ -16,8 +16,8 @@ pub invariant_of-self-then-eq : goal.invariant_of-self-then-eq
 invariant_of-self-then-eq c =
     let found : c.self.inside.first ≡ Some c.in-Some.row = search rules in
     let same : c.in-Some.row.prefix ≡ c.args.prefix = search rules in
-    after-taken c.self.inside c.self.invariant c.in-Some.row found c.args.prefix same c.next-self-inside.result c.next-self-inside.new.self
-    c.next-self-inside.ensures.steps
+    after-taken c.self.inside c.self.invariant c.in-Some.row found c.args.prefix same c.next_row-self-inside.result
+    c.next_row-self-inside.new.rows c.next_row-self-inside.ensures
 
 pub invariant_of-self-else-eq : goal.invariant_of-self-else-eq
 invariant_of-self-else-eq c =
