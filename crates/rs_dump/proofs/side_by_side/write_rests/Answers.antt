@@ -2,7 +2,7 @@ use Rattle.std.proofs.Common.{◌<◌, ◌∙◌, length, refl, subst, sym, arit
 use Rattle.std.proofs.lemmas.List.{length-set}
 use Rattle.rs_dump.specs.SideBySide.{CanGo, IsWrittenFrom}
 use Rattle.rs_dump.specs.declared.side_by_side.Writing.{Writing}
-use Rattle.rs_dump.proofs.SideLemmas.{done-also, to_do-also}
+use Rattle.rs_types.proofs.ReplacingLemmas.{done-also, to_do-also}
 use Rattle.rs_dump.proofs.side_by_side.write_rests.Goals as goal
 
 pub loop-number-preserved : goal.loop-number-preserved

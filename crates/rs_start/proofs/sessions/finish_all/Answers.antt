@@ -1,7 +1,7 @@
 use Rattle.std.proofs.Common.{◌<◌, ◌∙◌, [], length, arith}
 use Rattle.std.proofs.lemmas.List.{length-set}
 use Rattle.rs_start.specs.Sessions.{EndsBy}
-use Rattle.rs_start.proofs.SessionLemmas.{done-also, to_do-also}
+use Rattle.rs_types.proofs.ReplacingLemmas.{done-also, to_do-also}
 use Rattle.rs_start.proofs.sessions.finish_all.Goals as goal
 
 pub loop-place-preserved : goal.loop-place-preserved
