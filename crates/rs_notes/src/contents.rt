@@ -1,7 +1,7 @@
 //! What recorded files hold, as notes tell of it.
 //!
-//! Our choices: each file is read once more for its notes, however many peers name it, and of each message only the
-//! type. So a pipe gets no note, nor does a file that cannot be read.
+//! Our choices: where it isn't known from the reading of the file, the file is read once more, however many peers name
+//! it, and of each message only the type. A pipe gets no note, nor does a file that cannot be read.
 
 use crate::format::{FRONT_LEN, Format};
 use crate::hint::is_known;
@@ -21,10 +21,12 @@ pub struct Contents<'a> {
     pub front: Vec<u8>,
     /// What its records hold.
     pub held: Inventory,
+    /// Whether a message names the server as its recorder, where that is known.
+    pub names_server: Option<bool>,
 }
 
 /// What the files of these paths hold, each within bounds, without those that cannot be read again.
-pub fn contents_at<'a, R: AllocGlobal + Files>(
+pub(crate) fn contents_at<'a, R: AllocGlobal + Files>(
     rt: &R,
     paths: &'a [String],
     bounds: Bounds,
@@ -43,8 +45,8 @@ pub fn contents_of<'b, 'a>(all: &'b [Contents<'a>], path: &str) -> Option<&'b Co
     all.iter().find(|contents| contents.path == path)
 }
 
-// Adds what the file at a path holds, where it can be read again.
-fn add_contents<'a, R: AllocGlobal + Files>(
+/// Adds what the file at a path holds, where it can be read again.
+pub(crate) fn add_contents<'a, R: AllocGlobal + Files>(
     rt: &R,
     all: &mut Vec<Contents<'a>>,
     path: &'a str,
@@ -56,7 +58,12 @@ fn add_contents<'a, R: AllocGlobal + Files>(
     let Some(held) = outline_at(rt, path, bounds, None) else {
         return;
     };
-    let _: Result<(), AllocFailed<Contents<'a>>> = all.push(Contents { path, front, held });
+    let _: Result<(), AllocFailed<Contents<'a>>> = all.push(Contents {
+        path,
+        front,
+        held,
+        names_server: None,
+    });
 }
 
 /// The outline of the file at a path, where it gives its octets each time it is read. Where a recorder is given, no

@@ -3,7 +3,7 @@
 //!
 //! Reading order, what may be wrong with a file first: `format` (its format), `hint` (the note on a file without a
 //! record of its peer), `cut` (where it ends within a record). Then the notes: `note` (their texts), `contents` (what
-//! files hold), `notes`.
+//! files hold), `notes`. What files hold, made while they are read: `outline`, `noting`, `outlines`.
 #![tactic(auto)]
 
 mod contents;
@@ -12,10 +12,15 @@ mod format;
 mod hint;
 mod note;
 mod notes;
+mod noting;
+mod outline;
+mod outlines;
 
-pub use contents::{Contents, contents_at, contents_of, format_at};
+pub use contents::{Contents, contents_of, format_at};
 pub use cut::Cut;
 pub use format::Format;
 pub use hint::{Hint, hint_on};
 pub use note::{cut_line, note_line};
 pub use notes::{Close, Ending, Notes, Subject, notes_of, notes_on, print_notes, print_texts};
+pub use noting::Noting;
+pub use outlines::Outlines;

@@ -187,6 +187,8 @@ fn add_hint<R: AllocGlobal + Files>(
     // A file isn't wrong where its records are only later.
     let hint = match bounds.until {
         None => hint_on(&contents.held, front, peer),
+        // A record of the peer is known already.
+        Some(_) if has_records(&contents.held, peer) => None,
         Some(_) => match outline_at(rt, path, Bounds::none(), None) {
             Some(held) => hint_on(&held, front, peer),
             None => None,
@@ -197,6 +199,14 @@ fn add_hint<R: AllocGlobal + Files>(
     };
     notes.add(note_line(rt.alloc(), &spec.name, path, peer, hint));
     true
+}
+
+// Whether some record is the peer's.
+fn has_records(held: &Inventory, peer: Peer) -> bool {
+    match held.peers().get(&peer) {
+        Some(records) => records.records() > 0,
+        None => false,
+    }
 }
 
 // Adds a note on the file at a path, where it ends within a record.
@@ -256,7 +266,7 @@ fn add_server<R: AllocGlobal + Files>(
         return;
     }
     for contents in all {
-        if names(rt, contents.path, subject.bounds, server) {
+        if names(rt, contents, subject.bounds, server) {
             return;
         }
     }
@@ -273,9 +283,17 @@ fn first_recorder<'a>(all: &[Contents<'a>]) -> Option<(&'a str, Peer)> {
     None
 }
 
-// Whether a message of the file at a path names a recorder.
-fn names<R: AllocGlobal + Files>(rt: &R, path: &str, bounds: Bounds, recorder: Peer) -> bool {
-    match outline_at(rt, path, bounds, Some(recorder)) {
+// Whether a message of a file names the server as its recorder.
+fn names<R: AllocGlobal + Files>(
+    rt: &R,
+    contents: &Contents<'_>,
+    bounds: Bounds,
+    server: Peer,
+) -> bool {
+    if let Some(names_server) = contents.names_server {
+        return names_server;
+    }
+    match outline_at(rt, contents.path, bounds, Some(server)) {
         Some(held) => held.recorder().is_some(),
         None => true,
     }

@@ -1,0 +1,120 @@
+//! The outlines of the recorded files of an exchange, made while the files are read for something else.
+//!
+//! Our choices: a file that several peers name has one outline, which the first of them makes. The outline of a file
+//! that wasn't read to its end isn't known.
+
+use crate::contents::{Contents, add_contents, contents_of, is_file};
+use crate::noting::Noting;
+use crate::outline::{Outline, Outlined};
+use rs_inventory::Peer;
+use rs_mrt::{Bounds, Tail};
+use rs_setup::Setup;
+use std::alloc::Global;
+use std::fs::Files;
+use std::sync::Mutex;
+use std::sync::atomic::{AtomicUsize, Ordering};
+
+/// The outlines of the recorded files of an exchange.
+#[derive(Drop)]
+pub struct Outlines {
+    until: Option<u32>,
+    // One for each path of the exchange, in their order; none for a path that stands there before.
+    files: Vec<Option<Mutex<Outline>>>,
+    // How many of the files were opened.
+    opened: AtomicUsize,
+}
+
+impl Outlines {
+    /// Outlines of no file, of which records are read up to a time, in seconds since 1970.
+    pub fn none(alloc: Global, until: Option<u32>) -> Outlines {
+        Outlines {
+            until,
+            files: Vec::new(alloc),
+            opened: AtomicUsize::new(0),
+        }
+    }
+
+    /// Outlines of the files of a setup, of which records are read up to a time, in seconds since 1970. No file is read
+    /// yet. Where memory is refused, they are those of the first files.
+    pub fn new(alloc: Global, setup: &Setup, until: Option<u32>) -> Outlines {
+        let local = setup.plan.local();
+        let server = Peer {
+            address: local.address,
+            asn: local.asn,
+        };
+        let mut outlines = Outlines::none(alloc, until);
+        for (peer, path) in setup.files.iter().enumerate() {
+            let outline = if setup.files[..peer].contains(path) {
+                None
+            } else {
+                Some(Mutex::new(Outline::new(alloc, until, server)))
+            };
+            if outlines.files.push(outline).is_err() {
+                break;
+            }
+        }
+        outlines
+    }
+
+    /// How much is read of each file.
+    pub fn bounds(&self) -> Bounds {
+        Bounds {
+            until: self.until,
+            tail: Tail::Strict,
+        }
+    }
+
+    /// A reader of the next file, in the order of the peers. What passes through it makes the outline of the file.
+    pub fn noting<F>(&self, file: F) -> Noting<'_, F> {
+        let place = self.opened.fetch_add(1, Ordering::SeqCst);
+        match self.files.get(place) {
+            Some(Some(outline)) => Noting::new(file, Some(outline)),
+            _ => Noting::new(file, None),
+        }
+    }
+
+    /// What the files at these paths of the setup hold, without those that cannot be read again. A file whose outline
+    /// isn't known is read for that.
+    pub fn contents<'a, R: AllocGlobal + Files>(
+        self,
+        rt: &R,
+        paths: &'a [String],
+    ) -> Vec<Contents<'a>> {
+        let bounds = self.bounds();
+        let mut files = self.files.into_iter();
+        let mut all = Vec::new(rt.alloc());
+        for path in paths {
+            let outlined = outlined(files.next());
+            if contents_of(&all, path).is_none() {
+                add_known(rt, &mut all, path, bounds, outlined);
+            }
+        }
+        all
+    }
+}
+
+// What is known by the outline of a path, if there is one.
+fn outlined(outline: Option<Option<Mutex<Outline>>>) -> Option<Outlined> {
+    outline??.into_inner().outlined()
+}
+
+// Adds what the file at a path holds, where it can be read again; it is read where that isn't known yet.
+fn add_known<'a, R: AllocGlobal + Files>(
+    rt: &R,
+    all: &mut Vec<Contents<'a>>,
+    path: &'a str,
+    bounds: Bounds,
+    outlined: Option<Outlined>,
+) {
+    match outlined {
+        Some(outlined) if is_file(rt, path) => {
+            let _ = all.push(Contents {
+                path,
+                front: outlined.front,
+                held: outlined.held,
+                names_server: Some(outlined.names_server),
+            });
+        }
+        _ => add_contents(rt, all, path, bounds),
+    }
+}
