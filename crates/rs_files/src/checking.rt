@@ -1,25 +1,25 @@
-//! What a run over a configuration would meet: why it would be refused, which files can't be opened, what files have of
+//! What a run over a configuration would meet: why it would be refused, which files can't be read, what files hold of
 //! each peer, where sessions close, and the notes.
+//!
+//! Our choices: each file is read once, however many peers name it, and once more for each of its sessions that closes
+//! before its end. The notes are those of a run, made of what the first reading tells.
 
-use crate::closing::{Closing, closing_of};
-use crate::recorded_file::RecordedFile;
-use crate::recordings::recorded_file;
+use crate::early_close::early_close_at;
+use crate::found::{Found, add_line};
+use crate::recordings::inventory_at;
 use crate::refused::refusal_text;
+use crate::unreadable::unreadable_text;
 use rs_choice::PeerSpec;
 use rs_glass_shell::{Noted, Reply, Unanswered, close_text};
-use rs_host::{
-    FAILED, NOT_CLEAN, REFUSED, Unready, Utc, first_unreadable, found_at, on_one_line, open_file,
-    read_file,
-};
-use rs_inventory::{Kind, Peer};
+use rs_host::{DONE, FAILED, NOT_CLEAN, REFUSED, Unready, found_at, on_one_line, read_file};
+use rs_inventory::{Inventory, Kind, Peer};
 use rs_mrt::Bounds;
-use rs_notes::{Close, Ending, Subject, notes_on};
+use rs_notes::{Close, Contents, Ending, Subject, contents_of, front_at, notes_of};
+use rs_session::PeerId;
 use rs_setup::{Setup, SetupFault, read_setup};
 use std::alloc::{AllocError, Global};
-use std::env;
 use std::env::Env;
-use std::fs::{File, Files};
-use std::io::ErrorKind;
+use std::fs::Files;
 
 // How many changes are taken for granted of a peer of which a note may be told.
 const CLOSE_ALONE: u64 = 1;
@@ -49,129 +49,29 @@ fn told(text: String, status: u8) -> Reply {
     }
 }
 
-// Tells what the files of a setup hold.
+// Tells which files of a setup can't be read, or what they hold.
 fn check_files<R: AllocGlobal + Files + Env>(rt: &R, setup: &Setup) -> Result<Reply, Unanswered> {
-    let mut text = String::new(rt.alloc());
-    for peer in 0..setup.plan.count().min(setup.files.len()) {
-        add_unopened(
-            rt,
-            &mut text,
-            &setup.plan.peer(peer).name,
-            &setup.files[peer],
-        )?;
-    }
-    if text.is_empty() {
-        if let Some(peer) = first_unreadable(rt, &setup.files)? {
-            add_read_twice(rt.alloc(), &mut text, setup, peer)?;
-        }
-    }
+    let text = unreadable_text(rt, setup)?;
     if !text.is_empty() {
         return Ok(told(text, FAILED));
     }
-    check_records(rt, setup, text)
+    let files = contents_in_full(rt, &setup.files)?;
+    check_contents(rt, setup, &files)
 }
 
-// Adds why a file can't be opened, where it can't. A pipe isn't tried, since that may wait for its writer.
-fn add_unopened<R: AllocGlobal + Files + Env>(
+// What the files of these paths hold, without those that may give their octets only once.
+fn contents_in_full<'a, R: AllocGlobal + Files>(
     rt: &R,
-    text: &mut String,
-    name: &str,
-    path: &str,
-) -> Result<(), AllocError> {
-    let why = match found_at(rt, path)? {
-        Some(found) if found.is_dir() => "it is a folder",
-        Some(found) if !found.is_file() => return Ok(()),
-        _ => match File::open(rt, path) {
-            Ok(_) => return Ok(()),
-            Err(error) => match error.kind() {
-                ErrorKind::NotFound => "there is no such file",
-                ErrorKind::PermissionDenied => "permission is denied",
-                _ => "it can't be opened",
-            },
-        },
-    };
-    let alloc = rt.alloc();
-    let shown = on_one_line(alloc, path)?;
-    write!(text, "peer {name}: cannot read {shown}: {why}")?;
-    if path.starts_with("/") {
-        return writeln!(text);
-    }
-    match env::current_dir(rt) {
-        Ok(folder) => {
-            let folder = on_one_line(alloc, folder.as_str())?;
-            writeln!(text, "; the path counts from {folder}")
+    paths: &'a [String],
+) -> Result<Vec<Contents<'a>>, Unanswered> {
+    let mut files = Vec::new(rt.alloc());
+    for path in paths {
+        if contents_of(&files, path).is_none() && is_file(rt, path)? {
+            let contents = contents_at(rt, path)?;
+            files.push(contents).map_err(|_| Unanswered::Memory)?;
         }
-        Err(_) => writeln!(text),
     }
-}
-
-// Adds that a file that gives its octets only once is read by an earlier peer.
-fn add_read_twice(
-    alloc: Global,
-    text: &mut String,
-    setup: &Setup,
-    peer: usize,
-) -> Result<(), AllocError> {
-    if peer >= setup.plan.count() || peer >= setup.files.len() {
-        return Ok(());
-    }
-    let name = &setup.plan.peer(peer).name;
-    let path = on_one_line(alloc, &setup.files[peer])?;
-    writeln!(
-        text,
-        "peer {name}: cannot read {path}: it gives its octets only once, and an earlier peer reads it"
-    )
-}
-
-// Tells what the records of each peer are, and the notes.
-fn check_records<R: AllocGlobal + Files>(
-    rt: &R,
-    setup: &Setup,
-    text: String,
-) -> Result<Reply, Unanswered> {
-    let alloc = rt.alloc();
-    let mut text = text;
-    let mut held = Vec::new(alloc);
-    let mut endings = Vec::new(alloc);
-    for peer in 0..setup.plan.count().min(setup.files.len()) {
-        let path = setup.files[peer].as_str();
-        let close = if is_file(rt, path)? {
-            add_held(rt, &mut held, path)?;
-            add_peer(rt, &mut text, setup.plan.peer(peer), &held, path)?
-        } else {
-            add_unread(alloc, &mut text, &setup.plan.peer(peer).name, path)?;
-            Close::AtEnd
-        };
-        let ending = Ending {
-            changes: CLOSE_ALONE,
-            close,
-        };
-        endings.push(ending).map_err(|_| Unanswered::Memory)?;
-    }
-    let clean = endings.iter().all(|ending| ending.close == Close::AtEnd);
-    let noted = add_notes(rt, &mut text, setup, &endings)?;
-    Ok(told(text, if clean && !noted { 0 } else { NOT_CLEAN }))
-}
-
-// Adds the notes. Answers whether there is any.
-fn add_notes<R: AllocGlobal + Files>(
-    rt: &R,
-    text: &mut String,
-    setup: &Setup,
-    endings: &[Ending],
-) -> Result<bool, AllocError> {
-    let notes = notes_on(
-        rt,
-        Subject {
-            setup,
-            bounds: Bounds::none(),
-            endings: Some(endings),
-        },
-    );
-    for note in &notes.texts {
-        writeln!(text, "{note}")?;
-    }
-    Ok(notes.any)
+    Ok(files)
 }
 
 // Whether the path names a file that gives its octets each time it is read.
@@ -182,71 +82,80 @@ fn is_file<R: Files>(rt: &R, path: &str) -> Result<bool, AllocError> {
     }
 }
 
-// Adds what the file at a path holds, where it isn't known yet.
-fn add_held<R: AllocGlobal + Files>(
+// What the file at a path holds. Where its first octets can't be read again, no other format is noted.
+fn contents_at<'a, R: AllocGlobal + Files>(rt: &R, path: &'a str) -> Result<Contents<'a>, Unready> {
+    let held = inventory_at(rt, path)?;
+    let front = match front_at(rt, path) {
+        Some(front) => front,
+        None => Vec::new(rt.alloc()),
+    };
+    Ok(Contents {
+        path,
+        front,
+        held,
+        names_server: None,
+    })
+}
+
+// Tells what these files hold of each peer of a setup, where its session closes, and the notes.
+fn check_contents<R: AllocGlobal + Files>(
     rt: &R,
-    held: &mut Vec<RecordedFile>,
-    path: &str,
-) -> Result<(), Unanswered> {
-    if held.iter().any(|file| file.path.as_str() == path) {
-        return Ok(());
+    setup: &Setup,
+    files: &[Contents<'_>],
+) -> Result<Reply, Unanswered> {
+    let mut text = String::new(rt.alloc());
+    let mut endings = Vec::new(rt.alloc());
+    for peer in 0..setup.plan.count().min(setup.files.len()) {
+        let (spec, path) = (setup.plan.peer(peer), setup.files[peer].as_str());
+        let ending = Ending {
+            changes: CLOSE_ALONE,
+            close: add_peer(rt, &mut text, spec, path, contents_of(files, path))?,
+        };
+        endings.push(ending).map_err(|_| Unanswered::Memory)?;
     }
-    let file = recorded_file(rt, String::from_str(rt.alloc(), path)?)?;
-    held.push(file).map_err(|_| Unanswered::Memory)
+    let clean = endings.iter().all(|ending| ending.close == Close::AtEnd);
+    let noted = add_notes(rt, &mut text, setup, &endings, files)?;
+    Ok(told(text, if clean && !noted { DONE } else { NOT_CLEAN }))
 }
 
-// Adds that what a peer's file holds isn't looked at, since it is none.
-fn add_unread(alloc: Global, text: &mut String, name: &str, path: &str) -> Result<(), AllocError> {
-    let path = on_one_line(alloc, path)?;
-    writeln!(
-        text,
-        "peer {name}: {path} is no regular file, and is not read here"
-    )
+// Adds the notes. Answers whether there is any.
+fn add_notes<R: AllocGlobal + Files>(
+    rt: &R,
+    text: &mut String,
+    setup: &Setup,
+    endings: &[Ending],
+    files: &[Contents<'_>],
+) -> Result<bool, AllocError> {
+    let subject = Subject {
+        setup,
+        bounds: Bounds::none(),
+        endings: Some(endings),
+    };
+    let notes = notes_of(rt, subject, files);
+    for note in &notes.texts {
+        writeln!(text, "{note}")?;
+    }
+    Ok(notes.any)
 }
 
-// Adds the lines of a peer, whose file is one of those that are held. Answers where its session closes.
+// Adds the lines of a peer, of whose file it is known what it holds, unless it may give its octets only once. Answers
+// where its session closes.
 fn add_peer<R: AllocGlobal + Files>(
     rt: &R,
     text: &mut String,
     spec: &PeerSpec,
-    held: &[RecordedFile],
     path: &str,
+    contents: Option<&Contents<'_>>,
 ) -> Result<Close, Unanswered> {
-    let alloc = rt.alloc();
     let peer = Peer {
         address: spec.address,
         asn: spec.asn,
     };
-    let Some(file) = held.iter().find(|file| file.path.as_str() == path) else {
-        return Ok(Close::AtEnd);
-    };
-    add_records(alloc, text, &spec.name, file, peer)?;
-    if !may_close(file, peer) {
-        return Ok(Close::AtEnd);
-    }
-    let reader = match open_file(rt, path) {
-        Ok(reader) => reader,
-        Err(fault) => return Err(Unanswered::from(Unready::by_file(alloc, fault, path))),
-    };
-    let Some(closing) = closing_of(alloc, reader, peer, path)? else {
-        return Ok(Close::AtEnd);
-    };
-    add_closing(alloc, text, &spec.name, closing)?;
-    Ok(if closing.is_cut {
-        Close::WithinRecord
-    } else {
-        Close::AtFault
-    })
-}
-
-// Whether the session of a peer may close before the end of its file.
-fn may_close(file: &RecordedFile, peer: Peer) -> bool {
-    if file.inventory.end().is_some() || file.inventory.count_of(Kind::CutShort) > 0 {
-        return true;
-    }
-    match file.inventory.peers().get(&peer) {
-        Some(records) => records.faulty() > 0,
-        None => false,
+    let held = contents.map(|contents| &contents.held);
+    add_records(rt.alloc(), text, &spec.name, path, held, peer)?;
+    match held {
+        Some(held) if may_close(held, peer) => add_close(rt, text, spec, path),
+        _ => Ok(Close::AtEnd),
     }
 }
 
@@ -255,38 +164,51 @@ fn add_records(
     alloc: Global,
     text: &mut String,
     name: &str,
-    file: &RecordedFile,
+    path: &str,
+    held: Option<&Inventory>,
     peer: Peer,
 ) -> Result<(), AllocError> {
-    let path = on_one_line(alloc, &file.path)?;
-    let Some(records) = file.inventory.peers().get(&peer) else {
-        return writeln!(text, "peer {name}: {path}: records 0");
+    let path = on_one_line(alloc, path)?;
+    let found = match held {
+        Some(held) => match held.peers().get(&peer) {
+            Some(records) => Found::Records(&path, records),
+            None => Found::NoRecord(&path),
+        },
+        None => Found::Unread(&path),
     };
-    let (count, sessions, faulty) = (
-        records.records(),
-        records.sessions().len(),
-        records.faulty(),
-    );
-    write!(text, "peer {name}: {path}: records {count}")?;
-    let course = records.course();
-    if let (Some(first), Some(last)) = (course.first, course.last) {
-        let (first, last) = (Utc(first), Utc(last));
-        write!(text, ", {first} to {last} UTC")?;
-    }
-    writeln!(text, ", sessions {sessions}, faulty {faulty}")
+    add_line(text, name, found)
 }
 
-// Adds the line of a session that closes before the end of its file.
-fn add_closing(
-    alloc: Global,
-    text: &mut String,
-    name: &str,
-    closing: Closing,
-) -> Result<(), AllocError> {
-    let reason = close_text(alloc, closing.reason)?;
-    write!(text, "peer {name}: the session closes by {reason}")?;
-    match closing.octet {
-        Some(octet) => writeln!(text, ", in the record at octet {octet}"),
-        None => writeln!(text),
+// Whether the session of a peer may close before the end of its file.
+fn may_close(held: &Inventory, peer: Peer) -> bool {
+    if held.end().is_some() || held.count_of(Kind::CutShort) > 0 {
+        return true;
     }
+    match held.peers().get(&peer) {
+        Some(records) => records.faulty() > 0,
+        None => false,
+    }
+}
+
+// Adds the line of a peer's session, where it closes before the end of its file. Answers where it closes.
+fn add_close<R: AllocGlobal + Files>(
+    rt: &R,
+    text: &mut String,
+    spec: &PeerSpec,
+    path: &str,
+) -> Result<Close, Unanswered> {
+    let peer = PeerId {
+        address: spec.address,
+        asn: spec.asn,
+    };
+    let Some(close) = early_close_at(rt, path, peer)? else {
+        return Ok(Close::AtEnd);
+    };
+    let reason = close_text(rt.alloc(), close.reason)?;
+    add_line(text, &spec.name, Found::Closes(&reason, close.octet))?;
+    Ok(if close.is_cut {
+        Close::WithinRecord
+    } else {
+        Close::AtFault
+    })
 }

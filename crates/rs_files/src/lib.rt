@@ -2,21 +2,24 @@
 //! sessions that a collector's table gives.
 //! All of it is our choice, but for JSON (RFC 8259) and TOML 1.0.
 //!
-//! Reading order: `recordings` (the whole answer), `recorded_file`, `listing_answer`, `listing_pieces`
-//! and `listing_toml` (what recorded files hold, as a text, as JSON and as a configuration). `checking`, `refused` and
-//! `closing` (what a run would meet). Sessions of a table: `starting` (the whole answer), `listed` (which peers get a
+//! Reading order: `recordings` (the whole answer), `recorded_file`, `listing_answer`, `listing_pieces` and `listing_toml`
+//! (what recorded files hold, as a text, as JSON and as a configuration). What a run would meet: `checking` (the whole
+//! answer), `refused`, `unreadable`, `found` (its lines), `early_close` and `placed_records` (where a session closes
+//! before the end of its file). Sessions of a table: `starting` (the whole answer), `listed` (which peers get a
 //! file), `session_files` (the files, which are put in place when all are whole), `sessions` (what is written to them).
 //! Then `peer_lines` and `configuration` (the texts), `table_faults` (why no session is written).
 #![tactic(auto)]
 
 mod checking;
-mod closing;
 mod configuration;
+mod early_close;
+mod found;
 mod listed;
 mod listing_answer;
 mod listing_pieces;
 mod listing_toml;
 mod peer_lines;
+mod placed_records;
 mod recorded_file;
 mod recordings;
 mod refused;
@@ -24,6 +27,7 @@ mod session_files;
 mod sessions;
 mod starting;
 mod table_faults;
+mod unreadable;
 
 pub use checking::check;
 pub use recordings::peers;

@@ -5,7 +5,7 @@ use crate::listing_toml::as_toml;
 use crate::recorded_file::RecordedFile;
 use rs_glass_shell::Unanswered;
 use rs_host::{Unready, first_unreadable, open_file};
-use rs_inventory::{InventoryFault, read_inventory};
+use rs_inventory::{Inventory, InventoryFault, read_inventory};
 use rs_notes::format_at;
 use rs_query::PeersQuery;
 use std::fs::Files;
@@ -41,24 +41,30 @@ fn recorded_files<R: AllocGlobal + Files>(
 }
 
 // What the recorded file at a path holds.
-pub(crate) fn recorded_file<R: AllocGlobal + Files>(
+fn recorded_file<R: AllocGlobal + Files>(rt: &R, path: String) -> Result<RecordedFile, Unready> {
+    let inventory = inventory_at(rt, &path)?;
+    let format = format_at(rt, &path, &inventory);
+    Ok(RecordedFile {
+        path,
+        format,
+        inventory,
+    })
+}
+
+/// The inventory of the recorded file at a path, which is read whole. Fails with `Unread` where the file can't be read,
+/// with `Memory` where memory is refused.
+pub(crate) fn inventory_at<R: AllocGlobal + Files>(
     rt: &R,
-    path: String,
-) -> Result<RecordedFile, Unready> {
-    let reader = match open_file(rt, &path) {
+    path: &str,
+) -> Result<Inventory, Unready> {
+    let alloc = rt.alloc();
+    let reader = match open_file(rt, path) {
         Ok(reader) => reader,
-        Err(fault) => return Err(Unready::by_file(rt.alloc(), fault, &path)),
+        Err(fault) => return Err(Unready::by_file(alloc, fault, path)),
     };
-    match read_inventory(rt.alloc(), reader) {
-        Ok(inventory) => {
-            let format = format_at(rt, &path, &inventory);
-            Ok(RecordedFile {
-                path,
-                format,
-                inventory,
-            })
-        }
+    match read_inventory(alloc, reader) {
+        Ok(inventory) => Ok(inventory),
         Err(InventoryFault::Memory) => Err(Unready::Memory),
-        Err(InventoryFault::Read) => Err(Unready::Unread(path)),
+        Err(InventoryFault::Read) => Err(Unready::by_path(alloc, path)),
     }
 }

@@ -99,8 +99,9 @@ pub fn format_at<R: AllocGlobal + Files>(rt: &R, path: &str, held: &Inventory) -
     Format::of(&front_at(rt, path)?)
 }
 
-// The first octets of the file at a path, where it gives its octets each time it is read.
-fn front_at<R: AllocGlobal + Files>(rt: &R, path: &str) -> Option<Vec<u8>> {
+/// The first octets of the file at a path, at most `FRONT_LEN`: none where it may give its octets only once, or can't be
+/// read.
+pub fn front_at<R: AllocGlobal + Files>(rt: &R, path: &str) -> Option<Vec<u8>> {
     if !is_file(rt, path) {
         return None;
     }

@@ -16,7 +16,7 @@ mod noting;
 mod outline;
 mod outlines;
 
-pub use contents::{Contents, contents_of, format_at};
+pub use contents::{Contents, contents_of, format_at, front_at};
 pub use cut::Cut;
 pub use format::Format;
 pub use hint::{Hint, hint_on};

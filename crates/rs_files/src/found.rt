@@ -1,0 +1,70 @@
+//! What is found of a peer before a run, a line each.
+
+use rs_host::Utc;
+use rs_inventory::PeerRecords;
+use std::alloc::AllocError;
+use std::fmt;
+
+/// What is found of a peer. A path is that of its file, on one line.
+#[derive(Clone, Copy)]
+pub(crate) enum Found<'a> {
+    /// The file at this path can't be read, for this reason.
+    Unreadable(&'a str, &'a str),
+    /// The same of a path that counts from this folder.
+    UnreadableFrom(&'a str, &'a str, &'a str),
+    /// The file at this path may give its octets only once, so it isn't read here.
+    Unread(&'a str),
+    /// The file at this path has no record of the peer.
+    NoRecord(&'a str),
+    /// The file at this path has these records of the peer.
+    Records(&'a str, &'a PeerRecords),
+    /// The session closes before the end of its file, for this reason. Before the record that closes it stand so many
+    /// octets, if that is known.
+    Closes(&'a str, Option<u64>),
+}
+
+impl fmt::Display for Found<'_> {
+    fn fmt<W: fmt::Write>(&self, f: &mut fmt::Formatter<W>) -> fmt::Result {
+        match *self {
+            Found::Unreadable(path, why) => write!(f, "cannot read {path}: {why}"),
+            Found::UnreadableFrom(path, why, folder) => {
+                write!(
+                    f,
+                    "cannot read {path}: {why}; the path counts from {folder}"
+                )
+            }
+            Found::Unread(path) => write!(f, "{path} is no regular file, and is not read here"),
+            Found::NoRecord(path) => write!(f, "{path}: records 0"),
+            Found::Records(path, records) => write_records(f, path, records),
+            Found::Closes(reason, None) => write!(f, "the session closes by {reason}"),
+            Found::Closes(reason, Some(octet)) => {
+                write!(
+                    f,
+                    "the session closes by {reason}, in the record at octet {octet}"
+                )
+            }
+        }
+    }
+}
+
+// Writes which records of a peer the file at a path has.
+fn write_records<W: fmt::Write>(
+    f: &mut fmt::Formatter<W>,
+    path: &str,
+    records: &PeerRecords,
+) -> fmt::Result {
+    let count = records.records();
+    write!(f, "{path}: records {count}")?;
+    let course = records.course();
+    if let (Some(first), Some(last)) = (course.first, course.last) {
+        let (first, last) = (Utc(first), Utc(last));
+        write!(f, ", {first} to {last} UTC")?;
+    }
+    let (sessions, faulty) = (records.sessions().len(), records.faulty());
+    write!(f, ", sessions {sessions}, faulty {faulty}")
+}
+
+/// Adds the line of what is found of the peer of a name. Fails where memory is refused.
+pub(crate) fn add_line(text: &mut String, name: &str, found: Found<'_>) -> Result<(), AllocError> {
+    writeln!(text, "peer {name}: {found}")
+}
