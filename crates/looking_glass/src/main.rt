@@ -13,7 +13,7 @@ use crate::answering::answer;
 use rs_glass_shell::{Noted, PROGRAM, Reply, Unanswered, line};
 use rs_host::end_with;
 use rs_lists::end_status;
-use rs_notes::{Subject, print_notes, print_texts};
+use rs_notes::{Subject, notes_of, print_texts};
 use std::env::Env;
 use std::fs::Files;
 use std::process::ExitCode;
@@ -28,7 +28,7 @@ fn main(rt: HostRuntime) -> ExitCode {
             },
         ) => match print!(&rt; "{text}") {
             Ok(()) => {
-                note(&rt, &noted);
+                note(&rt, noted);
                 return ExitCode::from(status);
             }
             Err(_) => Unanswered::Output,
@@ -39,18 +39,19 @@ fn main(rt: HostRuntime) -> ExitCode {
 }
 
 // Prints the notes on the files that were read.
-fn note<R: AllocGlobal + Files + Eprint>(rt: &R, noted: &Noted) {
+fn note<R: AllocGlobal + Files + Eprint>(rt: &R, noted: Noted) {
     match noted {
         Noted::Nothing => {}
-        Noted::Files(setup, bounds) => {
+        Noted::Files(setup, outlines) => {
             let subject = Subject {
-                setup,
-                bounds: *bounds,
+                setup: &setup,
+                bounds: outlines.bounds(),
                 endings: None,
             };
-            print_notes(rt, PROGRAM, subject);
+            let contents = outlines.contents(rt, &setup.files);
+            print_texts(rt, PROGRAM, &notes_of(rt, subject, &contents).texts);
         }
-        Noted::Texts(texts) => print_texts(rt, PROGRAM, texts),
+        Noted::Texts(texts) => print_texts(rt, PROGRAM, &texts),
     }
 }
 

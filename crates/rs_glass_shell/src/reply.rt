@@ -1,7 +1,7 @@
 //! What a question is answered with.
 
 use rs_host::DONE;
-use rs_mrt::{Bounds, Tail};
+use rs_notes::Outlines;
 use rs_setup::Setup;
 
 /// What a question is answered with.
@@ -20,18 +20,17 @@ pub struct Reply {
 pub enum Noted {
     /// None: the question is about files alone.
     Nothing,
-    /// Those on the files of this exchange, of which so much was read.
-    Files(Setup, Bounds),
+    /// Those on the files of this exchange, of which these outlines were made.
+    Files(Setup, Outlines),
     /// These, which were made for the answer.
     Texts(Vec<String>),
 }
 
-/// An answer for which the files of a setup were read up to a time.
-pub fn answer_until(text: String, setup: Setup, until: Option<u32>) -> Reply {
-    let tail = Tail::Strict;
+/// An answer for which the files of a setup were read, with the outlines that were made of them.
+pub fn answer_with(text: String, setup: Setup, outlines: Outlines) -> Reply {
     Reply {
         text,
         status: DONE,
-        noted: Noted::Files(setup, Bounds { until, tail }),
+        noted: Noted::Files(setup, outlines),
     }
 }

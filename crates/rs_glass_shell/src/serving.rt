@@ -2,9 +2,10 @@
 
 ghost use Rattle.std.specs.Prelude.{◌≡◌, IfOk, length};
 
+use crate::built::Built;
 use crate::unanswered::Unanswered;
 use rs_host::{Unready, WordsFault, open_files};
-use rs_mrt::{Bounds, Tail};
+use rs_notes::Outlines;
 use rs_query::TablesQuery;
 use rs_serve::{FloorRefused, Open, Served, serve_by};
 use rs_setup::Setup;
@@ -22,6 +23,23 @@ pub fn served<R: AllocGlobal + Files + Threads + Wait + Sync>(
     rt: &R,
     setup: &Setup,
     query: &TablesQuery,
+) -> Result<Built, Unanswered>
+where
+    R::File: Send,
+    requires { length setup.now.files.items ≡ length setup.now.plan.value.peers }
+    ensures { IfOk result (λ built. built.tables.plan ≡ setup.now.plan.value) }
+{
+    let outlines = Outlines::new(rt.alloc(), setup, query.until);
+    let served = serve(rt, setup, query, &outlines)?;
+    Ok(Built::new(served, outlines))
+}
+
+// The tables alone. The outlines of the files are made too.
+fn serve<R: AllocGlobal + Files + Threads + Wait + Sync>(
+    rt: &R,
+    setup: &Setup,
+    query: &TablesQuery,
+    outlines: &Outlines,
 ) -> Result<Served, Unanswered>
 where
     R::File: Send,
@@ -29,11 +47,9 @@ where
     ensures { IfOk result (λ served. served.tables.plan ≡ setup.now.plan.value) }
 {
     let alloc = rt.alloc();
-    let bounds = Bounds {
-        until: query.until,
-        tail: Tail::Strict,
-    };
-    let files = open_files(rt, &setup.files, bounds, |file| file)?;
+    let files = open_files(rt, &setup.files, outlines.bounds(), |file| {
+        outlines.noting(file)
+    })?;
     let (shards, errors) = (query.shards, query.errors);
     match serve_by(rt, alloc, &setup.plan, files, RING, shards, errors, &Open) {
         Ok(served) => Ok(served),

@@ -8,7 +8,8 @@ use crate::diff_row::{
 use crate::list_answering::print_rows;
 use rs_choice::Exchange;
 use rs_glass_shell::{
-    PROGRAM, Reply, Unanswered, answer_until, name_at, name_width, peer_named, peer_of_name, served,
+    Built, PROGRAM, Reply, Unanswered, answer_with, name_at, name_width, peer_named, peer_of_name,
+    served,
 };
 use rs_host::{DONE, FAILED, REFUSED, configuration, read_arguments};
 use rs_query::DiffQuery;
@@ -50,19 +51,19 @@ where
 {
     let old = configuration(rt, &query.old.config)?;
     let new = configuration(rt, &query.new.config)?;
-    let (text, differs) = compared(rt, &old, &new, query)?;
-    let mut reply = answer_until(text, new, query.new.until);
+    let (after, text, differs) = compared(rt, &old, &new, query)?;
+    let mut reply = answer_with(text, new, after.into_outlines());
     reply.status = if differs { DIFFERS } else { DONE };
     Ok(reply)
 }
 
-// The last part of the list of two setups, and whether something differs.
+// What the files of the new setup left, the last part of the list of two setups, and whether something differs.
 fn compared<R: AllocGlobal + Files + Threads + Wait + Sync + Print>(
     rt: &R,
     old: &Setup,
     new: &Setup,
     query: &DiffQuery,
-) -> Result<(String, bool), Unanswered>
+) -> Result<(Built, String, bool), Unanswered>
 where
     R::File: Send,
     requires old { length old.now.files.items ≡ length old.now.plan.value.peers }
@@ -71,7 +72,8 @@ where
     let clients = clients(rt, old, new, &query.client)?;
     let before = served(rt, old, &query.old)?;
     let after = served(rt, new, &query.new)?;
-    listed(rt, before.tables(), after.tables(), &clients, query)
+    let (text, differs) = listed(rt, before.tables(), after.tables(), &clients, query)?;
+    Ok((after, text, differs))
 }
 
 // The same, of the tables of both.

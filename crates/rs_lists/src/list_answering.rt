@@ -7,7 +7,7 @@ use crate::missing_list::list_missing;
 use crate::summary_text::summary_answer;
 use crate::table_row::{hand_table_row, table_columns};
 use crate::wanted::Wanted;
-use rs_glass_shell::{Reply, Unanswered, answer_until, name_width, peer_named, served};
+use rs_glass_shell::{Reply, Unanswered, answer_with, name_width, peer_named, served};
 use rs_host::configuration;
 use rs_query::{MissingQuery, SummaryQuery, TableQuery};
 use rs_rows::{Column, Form, RowWriter};
@@ -44,7 +44,7 @@ where
     } else {
         list_table(rt, served.tables(), client, &rows, query.form)?
     };
-    Ok(answer_until(text, setup, query.tables.until))
+    Ok(answer_with(text, setup, served.into_outlines()))
 }
 
 /// Lists the routes that a client does not get, in the same way.
@@ -60,7 +60,7 @@ where
     let from = sender(rt, &setup, &query.from)?;
     let served = served(rt, &setup, &query.tables)?;
     let text = missing_text(rt, served.tables(), client, from, query)?;
-    Ok(answer_until(text, setup, query.tables.until))
+    Ok(answer_with(text, setup, served.into_outlines()))
 }
 
 // The last part of the list, or the counts. `from` is the sender that is asked for.
@@ -99,7 +99,7 @@ where
     let tables = served.tables();
     let tally = summary_on_threads(rt, alloc, tables)?;
     let text = summary_answer(alloc, tables.plan(), query.form, &tally)?;
-    Ok(answer_until(text, setup, query.tables.until))
+    Ok(answer_with(text, setup, served.into_outlines()))
 }
 
 // The number of the sender that is asked for, if one is.

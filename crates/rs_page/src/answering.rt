@@ -12,8 +12,7 @@ use crate::style::STYLE;
 use crate::times::times_of;
 use rs_glass_shell::{Noted, Reply, Unanswered, check_place, served, write_whole};
 use rs_host::{DONE, configuration};
-use rs_mrt::{Bounds, Tail};
-use rs_notes::{Subject, contents_at, notes_of};
+use rs_notes::{Subject, notes_of};
 use rs_picture::PALETTE;
 use rs_query::PageQuery;
 use rs_survey::summary_on_threads;
@@ -36,11 +35,9 @@ where
     check_place(rt, &query.out, &query.tables.config, &setup)?;
     let served = served(rt, &setup, &query.tables)?;
     let tally = summary_on_threads(rt, alloc, served.tables())?;
-    let bounds = Bounds {
-        until: query.tables.until,
-        tail: Tail::Strict,
-    };
-    let contents = contents_at(rt, &setup.files, bounds);
+    let outlines = served.into_outlines();
+    let bounds = outlines.bounds();
+    let contents = outlines.contents(rt, &setup.files);
     let times = times_of(rt, &setup, &contents, bounds, query.tables.errors)?;
     let members = members_of(alloc, &tally, &times)?;
     let subject = Subject {

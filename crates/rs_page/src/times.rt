@@ -1,7 +1,7 @@
 //! What recordings show over time: the sessions of each peer, and how many changes came when.
 //!
-//! Our choices: each file is read once more for that, behind the run that builds the tables and what notes tell of it. So
-//! of a file that gives its octets only once nothing is shown.
+//! Our choices: each file is read once more for that, behind the run that builds the tables. So of a file that gives its
+//! octets only once nothing is shown.
 
 ghost use Rattle.std.specs.Prelude.{◌<◌};
 

@@ -11,9 +11,9 @@ use rs_glass::{
     History, Question, Reading, explain_all, fill_history, longest_announced, read_happenings,
     read_sessions,
 };
-use rs_glass_shell::{Reply, Unanswered, answer_until, check_place, peer_named, write_whole};
+use rs_glass_shell::{Reply, Unanswered, answer_with, check_place, peer_named, write_whole};
 use rs_host::{WordsFault, configuration, first_unreadable, on_one_line, open_files};
-use rs_mrt::{Bounds, Tail};
+use rs_notes::Outlines;
 use rs_query::{Destination, HistoryQuery, Span, WhyQuery};
 use rs_setup::Setup;
 use rs_update::Prefix;
@@ -33,7 +33,8 @@ where
     let setup = configuration(rt, &query.config)?;
     let client = peer_named(rt, &setup, &query.client)?;
     let question = asked(rt, &setup, query.prefix, query.span)?;
-    let reading = read(rt, &setup, &question, query.span)?;
+    let outlines = Outlines::new(alloc, &setup, query.span.until);
+    let reading = read(rt, &setup, &question, &outlines)?;
     let answers = explain_all(alloc, &reading, client, &question)?;
     let starts = starts(rt, &setup, &answers, query.span.until)?;
     let view = WhyView {
@@ -49,7 +50,7 @@ where
     } else {
         why_text(alloc, &view, &answers)?
     };
-    Ok(answer_until(text, setup, query.span.until))
+    Ok(answer_with(text, setup, outlines))
 }
 
 /// What happened on a prefix. A picture over a file that is read is refused, and nothing is written.
@@ -69,7 +70,8 @@ where
         Some(word) => Some(peer_named(rt, &setup, word)?),
         None => None,
     };
-    let mut history = replayed(rt, &setup, client, query)?;
+    let outlines = Outlines::new(alloc, &setup, query.span.until);
+    let mut history = replayed(rt, &setup, client, query, &outlines)?;
     show_from(&mut history, query.from);
     let view = HistoryView {
         plan: &setup.plan,
@@ -87,7 +89,7 @@ where
         let lines = history_text(alloc, &view, &history)?;
         write_whole(rt, path, &history_picture(alloc, &view, &history, &lines)?)?;
     }
-    Ok(answer_until(text, setup, query.span.until))
+    Ok(answer_with(text, setup, outlines))
 }
 
 // What is asked of the recorded sessions: of an address, about the longest prefix with a route that covers it; where
@@ -108,7 +110,8 @@ where
         Destination::Address(address) => {
             refuse_read_once(rt, setup, address)?;
             let prefix = host(address);
-            let reading = read(rt, setup, &Question { prefix, errors }, span)?;
+            let outlines = Outlines::none(rt.alloc(), span.until);
+            let reading = read(rt, setup, &Question { prefix, errors }, &outlines)?;
             longest_announced(&reading.tables, prefix).unwrap_or(prefix)
         }
     };
@@ -149,12 +152,12 @@ fn refuse_read_once<R: AllocGlobal + Files>(
     }
 }
 
-// What the recorded sessions of a configuration say.
+// What the recorded sessions of a configuration say. The outlines of the files are made too.
 fn read<R: AllocGlobal + Files + Threads + Sync>(
     rt: &R,
     setup: &Setup,
     question: &Question,
-    span: Span,
+    outlines: &Outlines,
 ) -> Result<Reading, Unanswered>
 where
     R::File: Send,
@@ -164,27 +167,23 @@ where
         length reading.said.items ≡ length setup.now.plan.value.peers) }
 {
     let alloc = rt.alloc();
-    let files = open_files(rt, &setup.files, bounds(span), |file| file)?;
+    let files = open_files(rt, &setup.files, outlines.bounds(), |file| {
+        outlines.noting(file)
+    })?;
     match read_sessions(rt, alloc, &setup.plan, files, question) {
         Ok(reading) => Ok(reading),
         Err(fault) => Err(by_reading(alloc, fault, setup)),
     }
 }
 
-// How much of each recorded file is read.
-fn bounds(span: Span) -> Bounds {
-    Bounds {
-        until: span.until,
-        tail: Tail::Strict,
-    }
-}
-
-// The history of a configuration: for a picture also what happened before what is shown.
+// The history of a configuration: for a picture also what happened before what is shown. The outlines of the files are
+// made too.
 fn replayed<R: AllocGlobal + Files + Threads + Sync>(
     rt: &R,
     setup: &Setup,
     client: Option<usize>,
     query: &HistoryQuery,
+    outlines: &Outlines,
 ) -> Result<History, Unanswered>
 where
     R::File: Send,
@@ -192,7 +191,9 @@ where
 {
     let alloc = rt.alloc();
     let question = asked(rt, setup, query.prefix, query.span)?;
-    let files = open_files(rt, &setup.files, bounds(query.span), |file| file)?;
+    let files = open_files(rt, &setup.files, outlines.bounds(), |file| {
+        outlines.noting(file)
+    })?;
     match read_happenings(rt, alloc, &setup.plan, files, &question) {
         Ok(happenings) => {
             let from = if query.svg.is_some() {
