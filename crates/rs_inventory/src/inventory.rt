@@ -83,9 +83,9 @@ impl Inventory {
     }
 
     /// Takes the next record as `read_outline` does: of its message no more than the type is read. Answers who recorded
-    /// it, where it is a message of a session with four-octet AS numbers.
+    /// it, if it is a message of a session with four-octet AS numbers.
     ///
-    /// Fails where memory is refused. Then the inventory may count the record or not.
+    /// Fails if memory is refused. Then the inventory may lack a part of the record.
     pub fn take_outline(
         &mut self,
         alloc: Global,
@@ -100,7 +100,7 @@ impl Inventory {
         Ok(finding.recorder)
     }
 
-    /// Takes how the file ends: in which part of a record, or none where it ends after whole records.
+    /// Takes how the file ends: in which part of a record, or none if it ends after whole records.
     pub fn take_end(&mut self, end: Option<MrtFault>)
         ensures { self.new ≡ record self.old { end = end } }
     {

@@ -1,7 +1,7 @@
 //! What recorded files hold, as notes tell of it.
 //!
-//! Our choices: where it isn't known from the reading of the file, the file is read once more, however many peers name
-//! it, and of each message only the type. A pipe gets no note, nor does a file that cannot be read.
+//! Our choices: if nobody made an outline of a file, the file is read once more, however many peers name it, and of each
+//! message only the type. A pipe gets no note, nor does a file that cannot be read.
 
 use crate::format::{FRONT_LEN, Format};
 use crate::hint::is_known;
@@ -21,7 +21,7 @@ pub struct Contents<'a> {
     pub front: Vec<u8>,
     /// What its records hold.
     pub held: Inventory,
-    /// Whether a message names the server as its recorder, where that is known.
+    /// Whether a message names the server as its recorder, if that is known.
     pub names_server: Option<bool>,
 }
 
@@ -45,7 +45,7 @@ pub fn contents_of<'b, 'a>(all: &'b [Contents<'a>], path: &str) -> Option<&'b Co
     all.iter().find(|contents| contents.path == path)
 }
 
-/// Adds what the file at a path holds, where it can be read again.
+/// Adds what the file at a path holds, if it can be read again.
 pub(crate) fn add_contents<'a, R: AllocGlobal + Files>(
     rt: &R,
     all: &mut Vec<Contents<'a>>,

@@ -43,7 +43,7 @@ impl<'a, R: Read> Read for Noting<'a, R> {
     }
 }
 
-// Adds octets to an outline; none where the file ended. No other thread adds to it meanwhile.
+// Adds octets to an outline; none if the file ended. No other thread adds to it meanwhile, so the lock is free.
 fn note(outline: Option<&Mutex<Outline>>, octets: &[u8]) {
     if let Some(outline) = outline {
         if let Some(mut outline) = outline.try_lock() {

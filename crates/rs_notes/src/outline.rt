@@ -1,7 +1,7 @@
 //! The outline of a recorded file whose octets come in pieces (RFC 6396, section 2).
 //!
 //! Our choices: it is what `read_outline` tells of the same octets, up to the first record that is later than a time.
-//! No contract says so, since only notes rest on it. Where memory is refused, nothing is known of the file.
+//! No contract says so, since only notes rest on it. If memory is refused, nothing is known of the file.
 
 use crate::format::FRONT_LEN;
 use byteorder::{BigEndian, ByteOrder};
@@ -58,7 +58,7 @@ pub(crate) struct Outlined {
 }
 
 impl Outline {
-    /// Nothing of a file came yet. Records count up to a time, all of them where none is given.
+    /// Nothing of a file came yet. Records count up to a time, all of them if none is given.
     pub(crate) fn new(alloc: Global, until: Option<u32>, server: Peer) -> Outline {
         Outline {
             alloc,
@@ -73,7 +73,7 @@ impl Outline {
         }
     }
 
-    /// What is known of the file; none where not all of it came, or memory was refused.
+    /// What is known of the file; none if not all of it came, or memory was refused.
     pub(crate) fn outlined(self) -> Option<Outlined> {
         if self.stage != Stage::Whole {
             return None;
@@ -85,7 +85,7 @@ impl Outline {
         })
     }
 
-    /// Takes the next octets; none where the file ended.
+    /// Takes the next octets; none if the file ended.
     pub(crate) fn take(&mut self, octets: &[u8]) {
         if self.stage != Stage::Open {
             return;
@@ -133,7 +133,7 @@ impl Outline {
         Ok(left)
     }
 
-    // Takes octets of a record's header. Behind it nothing counts where the record is later, or the file compressed.
+    // Takes octets of a record's header. Nothing behind it counts if the record is later, or the file compressed.
     fn take_header(&mut self, octets: &[u8]) -> Result<(), AllocError> {
         self.begun.extend_from_slice(octets)?;
         if self.begun.len() < HEADER_LEN {
@@ -187,7 +187,7 @@ impl Outline {
     }
 }
 
-// In which part of a record a file ends of whose last record this came; none where nothing came of it.
+// In which part of a record a file ends, if this came of its last record; none if nothing came of it.
 fn end_behind(begun: &[u8]) -> Option<MrtFault> {
     if begun.is_empty() {
         None
@@ -198,7 +198,7 @@ fn end_behind(begun: &[u8]) -> Option<MrtFault> {
     }
 }
 
-// The record that these octets are; none where they are fewer than a header.
+// The record that these octets are; none if they are fewer than a header.
 fn record_of(octets: &[u8]) -> Option<Record<'_>> {
     if octets.len() < HEADER_LEN {
         return None;

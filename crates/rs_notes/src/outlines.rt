@@ -35,7 +35,7 @@ impl Outlines {
     }
 
     /// Outlines of the files of a setup, of which records are read up to a time, in seconds since 1970. No file is read
-    /// yet. Where memory is refused, they are those of the first files.
+    /// yet. If memory is refused, they are those of the first files.
     pub fn new(alloc: Global, setup: &Setup, until: Option<u32>) -> Outlines {
         let local = setup.plan.local();
         let server = Peer {
@@ -98,7 +98,7 @@ fn outlined(outline: Option<Option<Mutex<Outline>>>) -> Option<Outlined> {
     outline??.into_inner().outlined()
 }
 
-// Adds what the file at a path holds, where it can be read again; it is read where that isn't known yet.
+// Adds what the file at a path holds, if it can be read again. It is read if that isn't known yet.
 fn add_known<'a, R: AllocGlobal + Files>(
     rt: &R,
     all: &mut Vec<Contents<'a>>,
