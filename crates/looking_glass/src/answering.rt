@@ -1,8 +1,8 @@
 //! Answers the question of the command line: reads what it names, and writes what comes of it.
 
 use rs_files::{check, peers, start};
-use rs_glass_shell::{Noted, PROGRAM, Reply, Unanswered};
-use rs_host::{DONE, WordsFault, read_arguments};
+use rs_glass_shell::{NoReply, Noted, PROGRAM, Reply, Unanswered};
+use rs_host::{DONE, read_arguments};
 use rs_lists::{diff, missing, summary, table};
 use rs_page::page;
 use rs_query::{Query, read_query};
@@ -14,14 +14,30 @@ use std::sync::Wait;
 use std::thread::Threads;
 
 // Answers the question of the command line: reads the configuration and the recorded files that it names. Prints all
-// parts of a list but the last, which the reply has. Fails with why there is no answer.
+// parts of a list but the last, which the reply has. Fails with why there is no answer, and the status of that.
 pub(crate) fn answer<R: AllocGlobal + Env + Files + Threads + Wait + Sync + Print>(
     rt: &R,
+) -> Result<Reply, NoReply>
+where
+    R::File: Send,
+{
+    let query = command_line(rt)?;
+    let of_diff = query.is_diff();
+    match answer_to(rt, query) {
+        Ok(reply) => Ok(reply),
+        Err(why) => Err(NoReply::new(why, of_diff)),
+    }
+}
+
+// Answers a question.
+fn answer_to<R: AllocGlobal + Env + Files + Threads + Wait + Sync + Print>(
+    rt: &R,
+    query: Query,
 ) -> Result<Reply, Unanswered>
 where
     R::File: Send,
 {
-    match command_line(rt)? {
+    match query {
         Query::Why(query) => why(rt, &query),
         Query::History(query) => history(rt, &query),
         Query::Peers(query) => Ok(Reply {
@@ -40,6 +56,6 @@ where
 }
 
 // The question of the command line.
-fn command_line<R: AllocGlobal + Env>(rt: &R) -> Result<Query, WordsFault> {
-    read_query(rt.alloc(), read_arguments(rt, PROGRAM)?)
+fn command_line<R: AllocGlobal + Env>(rt: &R) -> Result<Query, NoReply> {
+    Ok(read_query(rt.alloc(), read_arguments(rt, PROGRAM)?)?)
 }

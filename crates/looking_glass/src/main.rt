@@ -10,16 +10,14 @@
 mod answering;
 
 use crate::answering::answer;
-use rs_glass_shell::{Noted, PROGRAM, Reply, Unanswered, line};
+use rs_glass_shell::{NoReply, Noted, PROGRAM, Reply, Unanswered, line};
 use rs_host::end_with;
-use rs_lists::end_status;
 use rs_notes::{Subject, notes_of, print_texts};
-use std::env::Env;
 use std::fs::Files;
 use std::process::ExitCode;
 
 fn main(rt: HostRuntime) -> ExitCode {
-    let unanswered = match answer(&rt) {
+    let no_reply = match answer(&rt) {
         Ok(
             Reply {
                 text,
@@ -31,11 +29,11 @@ fn main(rt: HostRuntime) -> ExitCode {
                 note(&rt, noted);
                 return ExitCode::from(status);
             }
-            Err(_) => Unanswered::Output,
+            Err(_) => NoReply::new(Unanswered::Output, false),
         },
-        Err(unanswered) => unanswered,
+        Err(no_reply) => no_reply,
     };
-    end(&rt, &unanswered)
+    end(&rt, &no_reply)
 }
 
 // Prints the notes on the files that were read.
@@ -56,11 +54,11 @@ fn note<R: AllocGlobal + Files + Eprint>(rt: &R, noted: Noted) {
 }
 
 // Says why there is no answer, and gives the status of that.
-fn end<R: AllocGlobal + Env + Print + Eprint>(rt: &R, unanswered: &Unanswered) -> ExitCode {
-    let words = match unanswered {
+fn end<R: AllocGlobal + Print + Eprint>(rt: &R, no_reply: &NoReply) -> ExitCode {
+    let words = match &no_reply.why {
         Unanswered::Words(fault) => Some(fault),
         _ => None,
     };
-    let text = line(rt.alloc(), unanswered);
-    end_with(rt, PROGRAM, words, text, end_status(rt, unanswered))
+    let text = line(rt.alloc(), &no_reply.why);
+    end_with(rt, PROGRAM, words, text, no_reply.status)
 }

@@ -1,6 +1,6 @@
 -- The statuses with which the program ends where a question isn't answered (docs/LOOKING_GLASS.md, "Statuses and
 -- texts").
-use Rattle.std.specs.Prelude.{ℕ}
+use Rattle.std.specs.Prelude.{ℕ, ◌==◌, Bool, if◌then◌else◌}
 use Rattle.rs_glass_shell.specs.declared.unanswered.Unanswered.{Unanswered}
 use Rattle.rs_glass_shell.specs.declared.unanswered.Unanswered.TheVariants.{Words, Setup, NoPeer, SeveralPeers, Unread}
 use Rattle.rs_glass_shell.specs.declared.unanswered.Unanswered.TheVariants.{AtFault, Unwritten, Unsettled, Output}
@@ -21,6 +21,13 @@ status_of (Unwritten path) = failed
 status_of (Unsettled name) = failed
 status_of Output = failed
 status_of Memory = out_of_memory
+
+-- and of `diff`, where the status of what is refused says that something differs
+abbrev pub diff_status_of : Unanswered → ℕ
+diff_status_of unanswered = if status_of unanswered == refused then failed else status_of unanswered
+
+abbrev pub status_in : Bool → Unanswered → ℕ
+status_in of_diff unanswered = if of_diff then diff_status_of unanswered else status_of unanswered
 
 -- what isn't ready before an answer, as a reason for which there is none
 abbrev pub unanswered_by : Unready → Unanswered

@@ -28,9 +28,7 @@ pub use names::{
 };
 pub use reason_fields::{hand_peer, hand_reason};
 pub use reasons::{
-    Because, NEXT_HOP_OFF_EXCHANGE, REFUSED_BY_COMMUNITY, REFUSED_BY_NAME,
-    SERVER_ADDRESS_AS_NEXT_HOP, SERVER_AS_IN_PATH, STEPS, answer_name, close_text, origin_name,
-    reason_key, step_key, step_name,
+    Because, answer_name, close_text, origin_name, reason_answer, reason_key, step_key, step_name,
 };
 pub use reply::{Noted, Reply, answer_with};
 pub use route_fields::{hand_attributes, hand_route};
@@ -40,5 +38,5 @@ pub use route_text::{
 pub use serving::served;
 pub use setup::{peer_named, peer_of_name};
 pub use toml_text::{PeerNames, quoted};
-pub use unanswered::Unanswered;
+pub use unanswered::{NoReply, Unanswered};
 pub use writing::{check_place, write_whole};

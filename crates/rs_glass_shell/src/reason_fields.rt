@@ -3,7 +3,7 @@
 use crate::names::{asn_at, name_at};
 use crate::reasons::{origin_name, reason_key};
 use rs_choice::{Exchange, Standing, Step};
-use rs_explain::{Condition, Explanation, Refusal, Removal};
+use rs_explain::{Condition, Explanation, MissingReason, Refusal, Removal};
 use rs_rows::{Form, RowWriter};
 use std::net::Ipv4Addr;
 
@@ -13,14 +13,19 @@ pub fn hand_peer(row: &mut RowWriter<'_>, plan: &Exchange, peer: usize) {
     row.number("as", u64::from(asn_at(plan, peer)));
 }
 
-/// Hands over the reason for which a client does not get the route of a peer, and in JSON what belongs to it.
+/// Hands over the reason for which a client does not get the route of a peer, which is empty for another answer, and in
+/// JSON what belongs to it.
 pub fn hand_reason(
     row: &mut RowWriter<'_>,
     plan: &Exchange,
     peer: usize,
     explanation: &Explanation,
 ) {
-    row.text("reason", reason_key(explanation));
+    let key = match MissingReason::of(explanation) {
+        Some(reason) => reason_key(reason),
+        None => "",
+    };
+    row.text("reason", key);
     if row.form() == Form::Json {
         hand_values(row, plan, peer, explanation);
     }

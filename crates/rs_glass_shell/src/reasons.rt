@@ -2,72 +2,61 @@
 
 use crate::names::{PrefixText, name_at};
 use rs_choice::{Exchange, Standing, Step};
-use rs_explain::{Condition, Explanation, Refusal, Removal};
+use rs_explain::{Condition, ConditionKind, Explanation, MissingReason, Refusal, Removal};
+use rs_query::reason_names::{
+    ADDRESS, IDENTIFIER, INELIGIBLE, LOST, MED, NEXT_HOP_OFF_EXCHANGE, ORIGIN, PATH_LENGTH,
+    PREFERENCE, REFUSED, REFUSED_BY_COMMUNITY, REFUSED_BY_NAME, SERVER_ADDRESS_AS_NEXT_HOP,
+    SERVER_AS_IN_PATH,
+};
 use rs_session::Reason;
 use rs_update::Origin;
 use std::alloc::{AllocError, Global};
 use std::fmt;
 use std::net::Ipv4Addr;
 
-/// The key of a route that is not eligible, since AS_PATH has the server's AS.
-pub const SERVER_AS_IN_PATH: &str = "server_as_in_path";
-
-/// The key of a route that is not eligible, since NEXT_HOP is the server's address.
-pub const SERVER_ADDRESS_AS_NEXT_HOP: &str = "server_address_as_next_hop";
-
-/// The key of a route that is not eligible, since NEXT_HOP is off the subnet of the exchange.
-pub const NEXT_HOP_OFF_EXCHANGE: &str = "next_hop_off_exchange";
-
-/// The key of a route that the client refuses by the name of its sender.
-pub const REFUSED_BY_NAME: &str = "name";
-
-/// The key of a route that a community refuses.
-pub const REFUSED_BY_COMMUNITY: &str = "community";
-
 /// The name of an answer.
 pub fn answer_name(explanation: &Explanation) -> &'static str {
     match explanation {
         Explanation::Own => "own",
         Explanation::Absent => "absent",
-        Explanation::Ineligible(_) => "ineligible",
-        Explanation::Refused(_) => "refused",
+        Explanation::Ineligible(_) => INELIGIBLE,
+        Explanation::Refused(_) => REFUSED,
         Explanation::Best(_) => "best",
-        Explanation::Lost(_) => "lost",
+        Explanation::Lost(_) => LOST,
     }
 }
 
-/// The key of the reason for which a client does not get a route; empty for another answer.
-pub fn reason_key(explanation: &Explanation) -> &'static str {
-    match explanation {
-        Explanation::Ineligible(Condition::OwnAs(_)) => SERVER_AS_IN_PATH,
-        Explanation::Ineligible(Condition::ServerAsNextHop(_)) => SERVER_ADDRESS_AS_NEXT_HOP,
-        Explanation::Ineligible(Condition::NextHopOffExchange(_)) => NEXT_HOP_OFF_EXCHANGE,
-        Explanation::Refused(Refusal::ByName) => REFUSED_BY_NAME,
-        Explanation::Refused(_) => REFUSED_BY_COMMUNITY,
-        Explanation::Lost(removal) => step_key(removal.step),
-        _ => "",
+/// The name of the answer that has a reason.
+pub fn reason_answer(reason: MissingReason) -> &'static str {
+    match reason {
+        MissingReason::Ineligible(_) => INELIGIBLE,
+        MissingReason::RefusedByName => REFUSED,
+        MissingReason::RefusedByCommunity => REFUSED,
+        MissingReason::Lost(_) => LOST,
     }
 }
 
-/// The steps of the decision process, in their order.
-pub const STEPS: [Step; 6] = [
-    Step::Preference,
-    Step::PathLength,
-    Step::Origin,
-    Step::Med,
-    Step::Identifier,
-    Step::Address,
-];
+/// The key of the reason for which a client does not get a route.
+pub fn reason_key(reason: MissingReason) -> &'static str {
+    match reason {
+        MissingReason::Ineligible(ConditionKind::OwnAs) => SERVER_AS_IN_PATH,
+        MissingReason::Ineligible(ConditionKind::ServerAsNextHop) => SERVER_ADDRESS_AS_NEXT_HOP,
+        MissingReason::Ineligible(ConditionKind::NextHopOffExchange) => NEXT_HOP_OFF_EXCHANGE,
+        MissingReason::RefusedByName => REFUSED_BY_NAME,
+        MissingReason::RefusedByCommunity => REFUSED_BY_COMMUNITY,
+        MissingReason::Lost(step) => step_key(step),
+    }
+}
 
 /// The key of a step.
 pub fn step_key(step: Step) -> &'static str {
     match step {
-        Step::Preference => "preference",
-        Step::PathLength => "path_length",
-        Step::Origin => "origin",
-        Step::Med => "med",
-        Step::Identifier => "identifier",
-        Step::Address => "address",
+        Step::Preference => PREFERENCE,
+        Step::PathLength => PATH_LENGTH,
+        Step::Origin => ORIGIN,
+        Step::Med => MED,
+        Step::Identifier => IDENTIFIER,
+        Step::Address => ADDRESS,
     }
 }
 

@@ -1,9 +1,10 @@
 //! Why a question isn't answered, and with which status the program ends then.
 
 ghost use Rattle.std.specs.Prelude.{◌≡◌};
-ghost use Rattle.rs_glass_shell.specs.Status.{status_of, unanswered_by};
+ghost use Rattle.rs_glass_shell.specs.Status.{diff_status_of, status_in, status_of, unanswered_by};
 
 use rs_host::{FAILED, OUT_OF_MEMORY, REFUSED, Unready, WordsFault, setup_status, words_status};
+use rs_query::QueryFault;
 use rs_setup::SetupFault;
 use std::alloc::AllocError;
 
@@ -51,17 +52,57 @@ impl Unanswered {
             Unanswered::Memory => OUT_OF_MEMORY,
         }
     }
+
+    // The status where `diff` isn't answered: 2 where the command line or a configuration is refused, since 1 says there
+    // that something differs.
+    fn diff_status(&self) -> u8
+        ensures { result ≡ diff_status_of self.now }
+    {
+        let status = self.status();
+        if status == REFUSED { FAILED } else { status }
+    }
+}
+
+/// That a question isn't answered, and how the program ends.
+#[derive(Drop)]
+pub struct NoReply {
+    /// Why it isn't answered.
+    pub why: Unanswered,
+    /// The status with which the program ends.
+    pub status: u8,
+}
+
+impl NoReply {
+    /// Of a question that isn't answered, which is `diff` or another one. The status is that of `Unanswered::status`. Of
+    /// `diff` it is 2 where the command line or a configuration is refused, since 1 says there that something differs.
+    pub fn new(why: Unanswered, of_diff: bool) -> NoReply
+        ensures why { result.why ≡ why }
+        ensures status { result.status ≡ status_in of_diff why }
+    {
+        let status = if of_diff {
+            why.diff_status()
+        } else {
+            why.status()
+        };
+        NoReply { why, status }
+    }
+}
+
+impl From<WordsFault> for NoReply {
+    fn from(fault: WordsFault) -> NoReply {
+        NoReply::new(Unanswered::Words(fault), false)
+    }
+}
+
+impl From<QueryFault> for NoReply {
+    fn from(refused: QueryFault) -> NoReply {
+        NoReply::new(Unanswered::Words(refused.fault), refused.of_diff)
+    }
 }
 
 impl From<AllocError> for Unanswered {
     fn from(_refused: AllocError) -> Unanswered {
         Unanswered::Memory
-    }
-}
-
-impl From<WordsFault> for Unanswered {
-    fn from(fault: WordsFault) -> Unanswered {
-        Unanswered::Words(fault)
     }
 }
 

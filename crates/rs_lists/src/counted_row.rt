@@ -5,12 +5,10 @@ ghost use Rattle.std.specs.Prelude.{◌<◌};
 use crate::layout::{ANSWER_WIDTH, AS_WIDTH};
 use crate::wanted::Wanted;
 use rs_choice::{Exchange, Step};
-use rs_glass_shell::{
-    NEXT_HOP_OFF_EXCHANGE, REFUSED_BY_COMMUNITY, REFUSED_BY_NAME, SERVER_ADDRESS_AS_NEXT_HOP,
-    SERVER_AS_IN_PATH, hand_peer, name_width, step_key,
-};
+use rs_explain::{ConditionKind, MissingReason};
+use rs_glass_shell::{hand_peer, name_width, reason_answer, reason_key};
 use rs_rows::{Column, Form, RowWriter};
-use rs_survey::{Finding, Flaw, MissingReason, Tally};
+use rs_survey::{Finding, Tally};
 use std::alloc::{AllocError, Global};
 
 // How wide the column of reasons is.
@@ -29,9 +27,9 @@ fn count_columns(names: usize) -> [Column; 5] {
 
 // The reasons, in the order in which they are listed.
 const REASONS: [MissingReason; 11] = [
-    MissingReason::Ineligible(Flaw::OwnAs),
-    MissingReason::Ineligible(Flaw::ServerAsNextHop),
-    MissingReason::Ineligible(Flaw::NextHopOffExchange),
+    MissingReason::Ineligible(ConditionKind::OwnAs),
+    MissingReason::Ineligible(ConditionKind::ServerAsNextHop),
+    MissingReason::Ineligible(ConditionKind::NextHopOffExchange),
     MissingReason::RefusedByName,
     MissingReason::RefusedByCommunity,
     MissingReason::Lost(Step::Preference),
@@ -42,28 +40,12 @@ const REASONS: [MissingReason; 11] = [
     MissingReason::Lost(Step::Address),
 ];
 
-// The name of a reason's answer, and the key of the reason.
-fn names_of(reason: MissingReason) -> (&'static str, &'static str) {
-    match reason {
-        MissingReason::Ineligible(Flaw::OwnAs) => ("ineligible", SERVER_AS_IN_PATH),
-        MissingReason::Ineligible(Flaw::ServerAsNextHop) => {
-            ("ineligible", SERVER_ADDRESS_AS_NEXT_HOP)
-        }
-        MissingReason::Ineligible(Flaw::NextHopOffExchange) => {
-            ("ineligible", NEXT_HOP_OFF_EXCHANGE)
-        }
-        MissingReason::RefusedByName => ("refused", REFUSED_BY_NAME),
-        MissingReason::RefusedByCommunity => ("refused", REFUSED_BY_COMMUNITY),
-        MissingReason::Lost(step) => ("lost", step_key(step)),
-    }
-}
-
 // The counts, a row for each sender and reason that are wanted and of which there are routes.
 pub(crate) fn counts_text(
     alloc: Global,
     plan: &Exchange,
     form: Form,
-    wanted: Wanted<'_>,
+    wanted: Wanted,
     counts: &Tally,
 ) -> Result<String, AllocError> {
     let columns = count_columns(name_width(plan, "peer"));
@@ -79,7 +61,7 @@ pub(crate) fn counts_text(
 fn hand_sender(
     rows: &mut RowWriter<'_>,
     plan: &Exchange,
-    wanted: Wanted<'_>,
+    wanted: Wanted,
     counts: &Tally,
     peer: usize,
 )
@@ -87,11 +69,10 @@ fn hand_sender(
 {
     for reason in REASONS {
         let count = counts.count(Finding::Missing(peer, reason));
-        let (answer, key) = names_of(reason);
-        if count > 0 && wanted.asks_for(peer, answer, key) {
+        if count > 0 && wanted.asks_for(reason) {
             hand_peer(rows, plan, peer);
-            rows.text("answer", answer);
-            rows.text("reason", key);
+            rows.text("answer", reason_answer(reason));
+            rows.text("reason", reason_key(reason));
             rows.number("routes", count);
             rows.end_row();
         }

@@ -8,17 +8,15 @@ use crate::diff_row::{
 use crate::list_answering::print_rows;
 use rs_choice::Exchange;
 use rs_glass_shell::{
-    Built, PROGRAM, Reply, Unanswered, answer_with, name_at, name_width, peer_named, peer_of_name,
-    served,
+    Built, Reply, Unanswered, answer_with, name_at, name_width, peer_named, peer_of_name, served,
 };
-use rs_host::{DONE, FAILED, REFUSED, configuration, read_arguments};
+use rs_host::{DONE, configuration};
 use rs_query::DiffQuery;
 use rs_rows::{Column, RowWriter};
 use rs_setup::Setup;
 use rs_survey::Differences;
 use rs_table::Tables;
 use std::alloc::{AllocError, Global};
-use std::env::Env;
 use std::fs::Files;
 use std::io::Print;
 use std::sync::Wait;
@@ -30,15 +28,12 @@ const DIFFERS: u8 = 1;
 // How wide the column of clients is at least.
 const CLIENT_WIDTH: usize = 8;
 
-// The number of no peer: an exchange has 256 at most.
-const NO_PEER: usize = 65_536;
-
-// A client by its name, and by its numbers in both tables; a number that no peer has where it is in one alone.
+// A client by its name, and by its numbers in both tables; none in the one from which it is absent.
 #[derive(Clone, Copy)]
 struct Client<'a> {
     name: &'a str,
-    old: usize,
-    new: usize,
+    old: Option<usize>,
+    new: Option<usize>,
 }
 
 /// Lists where the tables of clients differ; what is answered is the last part of the list, which isn't printed yet.
@@ -226,29 +221,7 @@ fn name_asked<'a, R: AllocGlobal>(
 fn client_named<'a>(old: &Exchange, new: &Exchange, name: &'a str) -> Client<'a> {
     Client {
         name,
-        old: peer_of_name(old, name).unwrap_or(NO_PEER),
-        new: peer_of_name(new, name).unwrap_or(NO_PEER),
-    }
-}
-
-/// The status with which the program ends where a question isn't answered. That of `diff` is `FAILED` where the command
-/// line or a configuration is refused, since 1 says there that something differs.
-pub fn end_status<R: AllocGlobal + Env>(rt: &R, unanswered: &Unanswered) -> u8 {
-    let status = unanswered.status();
-    if status == REFUSED && is_diff(rt) {
-        FAILED
-    } else {
-        status
-    }
-}
-
-// Whether the command line asks for differences.
-fn is_diff<R: AllocGlobal + Env>(rt: &R) -> bool {
-    match read_arguments(rt, PROGRAM) {
-        Ok(words) => match words.get(1) {
-            Some(word) => word.as_str() == "diff",
-            None => false,
-        },
-        Err(_) => false,
+        old: peer_of_name(old, name),
+        new: peer_of_name(new, name),
     }
 }

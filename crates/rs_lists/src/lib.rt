@@ -19,5 +19,5 @@ mod summary_text;
 mod table_row;
 mod wanted;
 
-pub use diff_answering::{diff, end_status};
+pub use diff_answering::diff;
 pub use list_answering::{missing, summary, table};

@@ -73,13 +73,12 @@ fn missing_text<R: AllocGlobal + Threads + Sync + Print>(
 ) -> Result<String, Unanswered>
     requires { client < length tables.now.plan.peers }
 {
-    let because = match &query.because {
-        Some(because) => Some(because.as_str()),
-        None => None,
+    let wanted = Wanted {
+        from,
+        because: query.because,
     };
-    let wanted = Wanted { from, because };
     if query.count {
-        let counts = count_missing(rt, rt.alloc(), tables, client)?;
+        let counts = count_missing(rt, rt.alloc(), tables, client, from)?;
         return Ok(counts_text(rt.alloc(), tables.plan(), query.form, wanted, &counts)?);
     }
     list_missing(rt, tables, client, query.form, wanted)

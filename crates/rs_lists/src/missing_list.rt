@@ -10,7 +10,8 @@ ghost use Rattle.rs_table.specs.PrefixRoutes.{AreRoutesOf, entry_of};
 use crate::list_answering::print_page;
 use crate::missing_row::{hand_missing, missing_columns};
 use crate::wanted::Wanted;
-use rs_glass_shell::{Unanswered, answer_name, name_width, reason_key};
+use rs_explain::MissingReason;
+use rs_glass_shell::{Unanswered, name_width};
 use rs_rows::{Column, Form, RowWriter};
 use rs_survey::{MissingOn, every_prefix, missing_on};
 use rs_table::{PrefixRoutes, Tables};
@@ -32,7 +33,7 @@ struct Listing<'a> {
     client: usize,
     form: Form,
     columns: &'a [Column],
-    wanted: Wanted<'a>,
+    wanted: Wanted,
     // On how many prefixes a thread lays out the rows at a time.
     prefixes: usize,
 }
@@ -43,7 +44,7 @@ pub(crate) fn list_missing<R: AllocGlobal + Print + Threads + Sync>(
     tables: &Tables,
     client: usize,
     form: Form,
-    wanted: Wanted<'_>,
+    wanted: Wanted,
 ) -> Result<String, Unanswered>
     requires { client < length tables.now.plan.peers }
 {
@@ -122,16 +123,18 @@ fn hand_rows(
     requires client { listing.now.client < length listing.now.tables.now.plan.peers }
     requires routes { AreRoutesOf listing.now.tables.now (entry_of on.now) }
 {
-    let missing = missing_on(listing.alloc, listing.tables, listing.client, on)?;
+    let from = listing.wanted.from;
+    let missing = missing_on(listing.alloc, listing.tables, listing.client, from, on)?;
     hand_wanted(rows, listing, &missing);
     Ok(())
 }
 
-// Hands over those of them that are wanted.
+// Hands over those of the routes of the sender that are wanted.
 fn hand_wanted(rows: &mut RowWriter<'_>, listing: &Listing<'_>, on: &MissingOn<'_>) {
     for one in &on.routes {
-        let (answer, reason) = (answer_name(&one.explanation), reason_key(&one.explanation));
-        if listing.wanted.asks_for(one.route.peer, answer, reason) {
+        if let Some(reason) = MissingReason::of(&one.explanation)
+            && listing.wanted.asks_for(reason)
+        {
             hand_missing(rows, listing.tables.plan(), listing.client, on, one);
         }
     }

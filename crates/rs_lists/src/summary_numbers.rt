@@ -2,8 +2,11 @@
 
 ghost use Rattle.std.specs.Prelude.{◌<◌};
 
-use rs_glass_shell::{NEXT_HOP_OFF_EXCHANGE, SERVER_ADDRESS_AS_NEXT_HOP, SERVER_AS_IN_PATH};
-use rs_survey::{Finding, Flaw, Tally};
+use rs_explain::ConditionKind;
+use rs_query::reason_names::{
+    NEXT_HOP_OFF_EXCHANGE, SERVER_ADDRESS_AS_NEXT_HOP, SERVER_AS_IN_PATH,
+};
+use rs_survey::{Finding, Tally};
 
 // A number by its key.
 pub(crate) type Number = (&'static str, u64);
@@ -18,14 +21,17 @@ pub(crate) fn of_peer(tally: &Tally, peer: usize) -> [Number; 7]
     }
     [
         ("left", tally.count(Finding::Left(peer))),
-        (SERVER_AS_IN_PATH, ineligible(tally, peer, Flaw::OwnAs)),
+        (
+            SERVER_AS_IN_PATH,
+            ineligible(tally, peer, ConditionKind::OwnAs),
+        ),
         (
             SERVER_ADDRESS_AS_NEXT_HOP,
-            ineligible(tally, peer, Flaw::ServerAsNextHop),
+            ineligible(tally, peer, ConditionKind::ServerAsNextHop),
         ),
         (
             NEXT_HOP_OFF_EXCHANGE,
-            ineligible(tally, peer, Flaw::NextHopOffExchange),
+            ineligible(tally, peer, ConditionKind::NextHopOffExchange),
         ),
         ("refused", at_clients[0]),
         ("lost", at_clients[1]),
@@ -34,10 +40,10 @@ pub(crate) fn of_peer(tally: &Tally, peer: usize) -> [Number; 7]
 }
 
 // How many routes of a peer fail a condition.
-fn ineligible(tally: &Tally, peer: usize, flaw: Flaw) -> u64
+fn ineligible(tally: &Tally, peer: usize, condition: ConditionKind) -> u64
     requires { peer < tally.now.peers }
 {
-    tally.count(Finding::Ineligible(peer, flaw))
+    tally.count(Finding::Ineligible(peer, condition))
 }
 
 // Adds the numbers of a client and a sender to sums.

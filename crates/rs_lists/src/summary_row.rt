@@ -5,9 +5,9 @@ ghost use Rattle.std.specs.Prelude.{◌<◌};
 use crate::layout::AS_WIDTH;
 use crate::summary_numbers::{of_pair, of_peer};
 use rs_choice::{Exchange, Step};
-use rs_glass_shell::{
-    NEXT_HOP_OFF_EXCHANGE, SERVER_ADDRESS_AS_NEXT_HOP, SERVER_AS_IN_PATH, hand_peer, name_at,
-    step_key,
+use rs_glass_shell::{hand_peer, name_at, step_key};
+use rs_query::reason_names::{
+    NEXT_HOP_OFF_EXCHANGE, SERVER_ADDRESS_AS_NEXT_HOP, SERVER_AS_IN_PATH,
 };
 use rs_rows::{Column, RowWriter};
 use rs_survey::{Finding, Tally};

@@ -6,7 +6,8 @@ use crate::summary_row::{
     NUMBER_WIDTH, hand_hidden, hand_pair, hand_sender, hand_step, summary_columns,
 };
 use rs_choice::Exchange;
-use rs_glass_shell::{STEPS, name_at, name_width, step_name};
+use rs_explain::STEPS;
+use rs_glass_shell::{name_at, name_width, step_name};
 use rs_rows::{Form, RowWriter, add_cell, fill_cell};
 use rs_survey::{Finding, Tally};
 use std::alloc::{AllocError, Global};

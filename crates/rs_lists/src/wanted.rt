@@ -1,25 +1,51 @@
 //! Which of the routes that a client does not get are listed or counted.
 
+use rs_choice::Step;
+use rs_explain::{ConditionKind, MissingReason};
+use rs_query::AskedReason;
+
 // Which of them: of which sender, and for which answer or reason.
 #[derive(Clone, Copy, Debug, PartialEq, Eq)]
-pub(crate) struct Wanted<'a> {
+pub(crate) struct Wanted {
     // The number of the sender; none for all senders.
     pub(crate) from: Option<usize>,
     // The answer or the reason; none for all of them.
-    pub(crate) because: Option<&'a str>,
+    pub(crate) because: Option<AskedReason>,
 }
 
-impl<'a> Wanted<'a> {
-    // Whether the routes of a sender for an answer and a reason are among them.
-    pub(crate) fn asks_for(&self, peer: usize, answer: &str, reason: &str) -> bool {
-        if let Some(from) = self.from
-            && from != peer
-        {
-            return false;
-        }
+impl Wanted {
+    // Whether the routes of the sender that have a reason are among them.
+    pub(crate) fn asks_for(&self, reason: MissingReason) -> bool {
         match self.because {
-            Some(because) => because == answer || because == reason,
+            Some(asked) => is_of(reason, asked),
             None => true,
         }
+    }
+}
+
+// Whether a reason is the one that is asked for, or one of the answer that is asked for.
+fn is_of(reason: MissingReason, asked: AskedReason) -> bool {
+    match asked {
+        AskedReason::Ineligible => matches!(reason, MissingReason::Ineligible(_)),
+        AskedReason::ServerAsInPath => reason == MissingReason::Ineligible(ConditionKind::OwnAs),
+        AskedReason::ServerAddressAsNextHop => {
+            reason == MissingReason::Ineligible(ConditionKind::ServerAsNextHop)
+        }
+        AskedReason::NextHopOffExchange => {
+            reason == MissingReason::Ineligible(ConditionKind::NextHopOffExchange)
+        }
+        AskedReason::Refused => matches!(
+            reason,
+            MissingReason::RefusedByName | MissingReason::RefusedByCommunity
+        ),
+        AskedReason::RefusedByName => reason == MissingReason::RefusedByName,
+        AskedReason::RefusedByCommunity => reason == MissingReason::RefusedByCommunity,
+        AskedReason::Lost => matches!(reason, MissingReason::Lost(_)),
+        AskedReason::Preference => reason == MissingReason::Lost(Step::Preference),
+        AskedReason::PathLength => reason == MissingReason::Lost(Step::PathLength),
+        AskedReason::Origin => reason == MissingReason::Lost(Step::Origin),
+        AskedReason::Med => reason == MissingReason::Lost(Step::Med),
+        AskedReason::Identifier => reason == MissingReason::Lost(Step::Identifier),
+        AskedReason::Address => reason == MissingReason::Lost(Step::Address),
     }
 }

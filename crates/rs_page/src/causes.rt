@@ -6,7 +6,8 @@ use crate::elements::{
 };
 use crate::members::Member;
 use crate::shown::Shown;
-use rs_glass_shell::{STEPS, step_name};
+use rs_explain::STEPS;
+use rs_glass_shell::step_name;
 use rs_survey::Finding;
 use std::alloc::AllocError;
 

@@ -1,6 +1,7 @@
 //! The program's command, as `clap` knows it: a table of commands, each with a table of its options.
 
 use crate::argument::{FLAG, Given, Row, Takes, Tie};
+use crate::reasons::REASONS;
 use clap::Command;
 use rs_host::VERSION;
 use std::alloc::{AllocError, Global};
@@ -126,24 +127,6 @@ fn subcommand<'a>(alloc: Global, entry: &Entry) -> Result<Command<'a>, AllocErro
     }
     Ok(command)
 }
-
-// What routes are listed for: an answer, or a reason.
-const REASONS: [&str; 14] = [
-    "ineligible",
-    "server_as_in_path",
-    "server_address_as_next_hop",
-    "next_hop_off_exchange",
-    "refused",
-    "name",
-    "community",
-    "lost",
-    "preference",
-    "path_length",
-    "origin",
-    "med",
-    "identifier",
-    "address",
-];
 
 const CONFIG: Row = Row {
     name: "config",

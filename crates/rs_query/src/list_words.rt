@@ -1,7 +1,8 @@
 //! The questions about whole tables that the words of the command line ask.
 
 use crate::query::{MissingQuery, PageQuery, SummaryQuery, TableQuery, TablesQuery};
-use crate::words::{errors, prefix, text, time};
+use crate::reasons::AskedReason;
+use crate::words::{errors, not_a, prefix, text, time};
 use clap::ArgMatches;
 use rs_host::WordsFault;
 use rs_rows::Form;
@@ -32,7 +33,7 @@ pub(crate) fn missing_of(
         tables: tables_of(alloc, matches)?,
         client: text(alloc, matches, "client")?,
         from: optional(alloc, matches, "from")?,
-        because: optional(alloc, matches, "because")?,
+        because: because(alloc, matches)?,
         count: matches.get_flag("count"),
         form: form_of(matches),
     })
@@ -55,6 +56,17 @@ pub(crate) fn summary_of(
         tables: tables_of(alloc, matches)?,
         form: form_of(matches),
     })
+}
+
+// The answer or the reason for which routes are listed, if one is asked for.
+fn because(alloc: Global, matches: &ArgMatches<'_>) -> Result<Option<AskedReason>, WordsFault> {
+    let Some(name) = matches.get_str("because") else {
+        return Ok(None);
+    };
+    match AskedReason::of(name) {
+        Some(reason) => Ok(Some(reason)),
+        None => Err(not_a(alloc, "because", name, "an answer or a reason")),
+    }
 }
 
 // Of which exchange the tables are built, and how.

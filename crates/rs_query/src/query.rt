@@ -1,5 +1,6 @@
 //! What the command line asks.
 
+use crate::reasons::AskedReason;
 use rs_rows::Form;
 use rs_update::{Errors, Prefix};
 
@@ -26,6 +27,13 @@ pub enum Query {
     Summary(SummaryQuery),
     /// The exchange, in pictures.
     Page(PageQuery),
+}
+
+impl Query {
+    /// Whether it is `diff`.
+    pub fn is_diff(&self) -> bool {
+        matches!(self, Query::Diff(_))
+    }
 }
 
 /// What is asked about: a prefix, or an address.
@@ -149,7 +157,7 @@ pub struct MissingQuery {
     /// The word that names the sender whose routes are listed; all of them where it isn't given.
     pub from: Option<String>,
     /// The answer or the reason for which routes are listed; all of them where it isn't given.
-    pub because: Option<String>,
+    pub because: Option<AskedReason>,
     /// Whether the routes are counted, not listed.
     pub count: bool,
     /// How the list is written.

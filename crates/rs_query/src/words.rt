@@ -19,13 +19,41 @@ use std::alloc::{AllocError, Global};
 // The text where `clap` gives less than it promises.
 const INCOMPLETE: &str = "error: an option has no value\n";
 
+/// Why the words of the command line ask no question.
+#[derive(Drop)]
+pub struct QueryFault {
+    /// They ask for help or the version, they are refused, or memory is.
+    pub fault: WordsFault,
+    /// Whether the command is `diff`, as the first word behind the program's name says.
+    pub of_diff: bool,
+}
+
 /// Reads the words of the command line, which begin with the program's own name. Fails with `Help` where they ask for
 /// help or the version, with `Refused` where they ask no question, with `Memory` where memory is refused. Control
 /// characters of a word are escaped in the text that tells why.
-pub fn read_query(alloc: Global, words: Vec<String>) -> Result<Query, WordsFault> {
-    match program(alloc)?.try_get_matches_from(words.as_slice()) {
+pub fn read_query(alloc: Global, words: Vec<String>) -> Result<Query, QueryFault> {
+    match query_in(alloc, &words) {
+        Ok(query) => Ok(query),
+        Err(fault) => Err(QueryFault {
+            fault,
+            of_diff: is_of_diff(&words),
+        }),
+    }
+}
+
+// Whether the command of some words is `diff`.
+fn is_of_diff(words: &[String]) -> bool {
+    match words.get(1) {
+        Some(command) => command.as_str() == "diff",
+        None => false,
+    }
+}
+
+// The question that some words ask.
+fn query_in(alloc: Global, words: &[String]) -> Result<Query, WordsFault> {
+    match program(alloc)?.try_get_matches_from(words) {
         Ok(matches) => query_of(alloc, &matches),
-        Err(error) => Err(fault_on_one_line(alloc, &words, &error)?),
+        Err(error) => Err(fault_on_one_line(alloc, words, &error)?),
     }
 }
 
@@ -200,7 +228,7 @@ pub(crate) fn errors_in(alloc: Global, value: &str) -> Result<Errors, WordsFault
 }
 
 // The text that refuses a value.
-fn not_a(alloc: Global, name: &str, value: &str, form: &str) -> WordsFault {
+pub(crate) fn not_a(alloc: Global, name: &str, value: &str, form: &str) -> WordsFault {
     match format!(in alloc; "looking_glass: --{name} {value:?} is not {form}\n") {
         Ok(text) => WordsFault::Refused(text),
         Err(_) => WordsFault::Memory,
