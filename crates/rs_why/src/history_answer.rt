@@ -35,7 +35,7 @@ pub struct HistoryView<'a> {
 
 impl HistoryView<'_> {
     // Whether a thing that happened is shown.
-    fn shows(&self, one: &Gets) -> bool {
+    pub(crate) fn shows(&self, one: &Gets) -> bool {
         let is_early = match self.from {
             Some(from) => one.time < from,
             None => false,
