@@ -67,7 +67,7 @@ fn contents_in_full<'a, R: AllocGlobal + Files>(
     let mut files = Vec::new(rt.alloc());
     for path in paths {
         if contents_of(&files, path).is_none() && is_file(rt, path)? {
-            let contents = contents_at(rt, path)?;
+            let contents = read_contents(rt, path)?;
             files.push(contents).map_err(|_| Unanswered::Memory)?;
         }
     }
@@ -83,7 +83,10 @@ fn is_file<R: Files>(rt: &R, path: &str) -> Result<bool, AllocError> {
 }
 
 // What the file at a path holds. Where its first octets can't be read again, no other format is noted.
-fn contents_at<'a, R: AllocGlobal + Files>(rt: &R, path: &'a str) -> Result<Contents<'a>, Unready> {
+fn read_contents<'a, R: AllocGlobal + Files>(
+    rt: &R,
+    path: &'a str,
+) -> Result<Contents<'a>, Unready> {
     let held = inventory_at(rt, path)?;
     let front = match front_at(rt, path) {
         Some(front) => front,
