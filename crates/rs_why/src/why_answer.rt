@@ -155,7 +155,7 @@ fn attributes_value(alloc: Global, route: &Option<Route<'_>>) -> Result<Value, A
 
 // Hands over the answers about all peers but the client, the one whose route it gets first.
 fn hand_others(rows: &mut RowWriter<'_>, view: &WhyView<'_>, answers: &Answers, clock: Clock) {
-    let silent = silent(view, answers);
+    let silent = silent_peers(view, answers);
     if let Some(best) = answers.best {
         hand_answer(rows, view, answers, best, clock);
     }
@@ -186,7 +186,7 @@ impl Silent {
 }
 
 // Those peers; none if they would be less than two.
-fn silent(view: &WhyView<'_>, answers: &Answers) -> Option<Silent> {
+fn silent_peers(view: &WhyView<'_>, answers: &Answers) -> Option<Silent> {
     let mut silent = Silent { count: 0, since: 0 };
     for peer in 0..answers.peers.len() {
         if let Some(Start::InTime(time)) = view.start(peer) {
