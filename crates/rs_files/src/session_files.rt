@@ -2,7 +2,7 @@
 //!
 //! Our choice: a session is written beside its place, to a part file. The part files take their places once all
 //! sessions are whole, so that a reader never finds a part of one. If something else than a file stands in a place, such
-//! as a link or a device, nothing is written; nor if the table stands there, or in the place of a part file.
+//! as a link or a device, nothing is written. The same holds if the table stands there, or in the place of a part file.
 
 use crate::table_faults::unwritten;
 use rs_glass_shell::Unanswered;

@@ -4,10 +4,10 @@
 //! Reading order: `fault` (why a file can't be read), `whole` (a file that is read whole), `recorded` (a recorded
 //! file, which is read in pieces). `file_identity` (which file a path names), `read_once` (what is seen before any is
 //! opened). `unready` (why what a program needs can't be read), `setup_file` (the configuration), `files` (opening the
-//! recorded files), `part_file` (files that are written whole or not at all), `overwritten` (none of them over a file that
-//! is read). `escaped` (texts whose control characters
-//! are escaped), `times` (times of records as texts, RFC 6396, section 2). `arguments` (the words of the command line).
-//! `refusal` (why a command line or a configuration is refused), `line` and `status` (how a program ends).
+//! recorded files). `part_file` (files that are written whole or not at all), `overwritten` (that none of them is
+//! written over a file that is read). `escaped` (texts whose control characters are escaped), `times` (times of records
+//! as texts, RFC 6396, section 2). `arguments` (the words of the command line). `refusal` (why a command line or a
+//! configuration is refused), `line` and `status` (how a program ends).
 #![tactic(auto)]
 
 mod arguments;
