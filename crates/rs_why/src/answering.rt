@@ -29,14 +29,29 @@ pub fn why<R: AllocGlobal + Files + Threads + Sync>(
 where
     R::File: Send,
 {
-    let alloc = rt.alloc();
     let setup = configuration(rt, &query.config)?;
-    let client = peer_named(rt, &setup, &query.client)?;
-    let question = asked(rt, &setup, query.prefix, query.span)?;
-    let outlines = Outlines::new(alloc, &setup, query.span.until);
-    let reading = read(rt, &setup, &question, &outlines)?;
+    let outlines = Outlines::new(rt.alloc(), &setup, query.span.until);
+    let text = explained(rt, query, &setup, &outlines)?;
+    Ok(answer_with(text, setup, outlines))
+}
+
+// The text of that. The outlines of the files are made too.
+fn explained<R: AllocGlobal + Files + Threads + Sync>(
+    rt: &R,
+    query: &WhyQuery,
+    setup: &Setup,
+    outlines: &Outlines,
+) -> Result<String, Unanswered>
+where
+    R::File: Send,
+    requires { length setup.now.files.items ≡ length setup.now.plan.value.peers }
+{
+    let alloc = rt.alloc();
+    let client = peer_named(rt, setup, &query.client)?;
+    let question = asked(rt, setup, query.prefix, query.span)?;
+    let reading = read(rt, setup, &question, outlines)?;
     let answers = explain_all(alloc, &reading, client, &question)?;
-    let starts = starts(rt, &setup, &answers, query.span.until)?;
+    let starts = starts(rt, setup, &answers, query.span.until)?;
     let view = WhyView {
         plan: &setup.plan,
         tables: &reading.tables,
@@ -45,12 +60,11 @@ where
         all: query.all,
         attributes: query.attributes,
     };
-    let text = if query.json {
-        why_json(alloc, &view, &answers)?
+    if query.json {
+        Ok(why_json(alloc, &view, &answers)?)
     } else {
-        why_text(alloc, &view, &answers)?
-    };
-    Ok(answer_with(text, setup, outlines))
+        Ok(why_text(alloc, &view, &answers)?)
+    }
 }
 
 /// What happened on a prefix. A picture over a file that is read is refused, and nothing is written.
@@ -61,18 +75,42 @@ pub fn history<R: AllocGlobal + Files + Threads + Sync>(
 where
     R::File: Send,
 {
-    let alloc = rt.alloc();
     let setup = configuration(rt, &query.config)?;
+    let outlines = Outlines::new(rt.alloc(), &setup, query.span.until);
+    let text = happened(rt, query, &setup, &outlines)?;
+    Ok(answer_with(text, setup, outlines))
+}
+
+// The text of that. The outlines of the files are made too.
+fn happened<R: AllocGlobal + Files + Threads + Sync>(
+    rt: &R,
+    query: &HistoryQuery,
+    setup: &Setup,
+    outlines: &Outlines,
+) -> Result<String, Unanswered>
+where
+    R::File: Send,
+    requires { length setup.now.files.items ≡ length setup.now.plan.value.peers }
+{
     if let Some(place) = &query.svg {
-        check_place(rt, place, &query.config, &setup)?;
+        check_place(rt, place, &query.config, setup)?;
     }
     let client = match &query.client {
-        Some(word) => Some(peer_named(rt, &setup, word)?),
+        Some(word) => Some(peer_named(rt, setup, word)?),
         None => None,
     };
-    let outlines = Outlines::new(alloc, &setup, query.span.until);
-    let mut history = replayed(rt, &setup, client, query, &outlines)?;
+    let mut history = replayed(rt, setup, client, query, outlines)?;
     show_from(&mut history, query.from);
+    shown(rt, query, setup, &history)
+}
+
+// A history as it is asked for. Its picture is written, if one is asked for.
+fn shown<R: AllocGlobal + Files>(
+    rt: &R,
+    query: &HistoryQuery,
+    setup: &Setup,
+    history: &History,
+) -> Result<String, Unanswered> {
     let view = HistoryView {
         plan: &setup.plan,
         from: query.from,
@@ -80,16 +118,26 @@ where
         ends: query.ends,
         attributes: query.attributes,
     };
-    let text = if query.json {
-        history_json(alloc, &view, &history)?
-    } else {
-        history_text(alloc, &view, &history)?
-    };
     if let Some(path) = &query.svg {
-        let lines = history_text(alloc, &view, &history)?;
-        write_whole(rt, path, &history_picture(alloc, &view, &history, &lines)?)?;
+        write_picture(rt, path, &view, history)?;
     }
-    Ok(answer_with(text, setup, outlines))
+    if query.json {
+        Ok(history_json(rt.alloc(), &view, history)?)
+    } else {
+        Ok(history_text(rt.alloc(), &view, history)?)
+    }
+}
+
+// Writes the picture of a history to the file at a path.
+fn write_picture<R: AllocGlobal + Files>(
+    rt: &R,
+    path: &str,
+    view: &HistoryView<'_>,
+    history: &History,
+) -> Result<(), Unanswered> {
+    let lines = history_text(rt.alloc(), view, history)?;
+    let picture = history_picture(rt.alloc(), view, history, &lines)?;
+    write_whole(rt, path, &picture)
 }
 
 // What is asked of the recorded sessions: of an address, about the longest prefix with a route that covers it; where
