@@ -23,9 +23,7 @@ mod writing;
 
 pub use built::Built;
 pub use lines::{PROGRAM, line};
-pub use names::{
-    PrefixText, add_gets, asn_at, name_at, name_width, names_text, peer_name,
-};
+pub use names::{PrefixText, add_gets, asn_at, name_at, name_width, names_text, peer_name};
 pub use reason_fields::{hand_peer, hand_reason};
 pub use reasons::{
     Because, answer_name, close_text, origin_name, reason_answer, reason_key, step_key, step_name,
