@@ -65,22 +65,22 @@ impl Course {
 }
 
 impl News {
-    // Whether a session begins with it.
-    fn begins(self) -> bool
+    /// Whether a session begins with it: with an OPEN or a change to Established (RFC 4271, section 8.2.2).
+    pub fn begins(self) -> bool
         ensures { result ≡ begins self }
     {
         matches!(self, News::Open(_) | News::TwoOctetOpen(_) | News::Up)
     }
 
-    // Whether it shows that the session is up.
-    fn shows_up(self) -> bool
+    /// Whether it shows that the session is up: an UPDATE or a change to Established (RFC 4271, section 8.2.2).
+    pub fn shows_up(self) -> bool
         ensures { result ≡ shows_up self }
     {
         matches!(self, News::Update { .. } | News::Up)
     }
 
-    // Whether the session is lost with it.
-    fn is_loss(self) -> bool
+    /// Whether the session is lost with it: a NOTIFICATION or a change from Established (RFC 4271, section 6.4).
+    pub fn is_loss(self) -> bool
         ensures { result ≡ is_loss self }
     {
         matches!(self, News::Notification | News::Down)

@@ -38,7 +38,7 @@ pub(crate) struct Finding {
 
 /// What a record says of a peer.
 #[derive(Clone, Copy, Debug, PartialEq, Eq)]
-pub(crate) struct Note {
+pub struct Note {
     /// Of whom.
     pub peer: Peer,
     /// What.
@@ -47,7 +47,7 @@ pub(crate) struct Note {
 
 /// What a record can say of a peer.
 #[derive(Clone, Copy, Debug, PartialEq, Eq)]
-pub(crate) enum News {
+pub enum News {
     /// It sent an UPDATE that lists so many prefixes.
     Update {
         /// As routes that it announces.
@@ -152,7 +152,7 @@ impl Finding {
 
 impl Note {
     // News of a peer.
-    fn of(address: u32, asn: u32, news: News) -> Note
+    pub(crate) fn of(address: u32, asn: u32, news: News) -> Note
         ensures { result ≡ note_of address asn news }
     {
         Note {
@@ -173,8 +173,9 @@ fn octets_of(record: &Record<'_>) -> Option<u64>
     }
 }
 
-// Who recorded a message of a session with four-octet AS numbers.
-fn recorder(record: &Record<'_>) -> Option<Peer>
+/// Who recorded a session with four-octet AS numbers: the Local IP Address and the Local AS of its record (RFC 6396,
+/// sections 4.4.3 and 4.4.4). None where the record is of no session or is shorter than these fields.
+pub fn recorder(record: &Record<'_>) -> Option<Peer>
     ensures { result ≡ recorder_in (fields_of (record_of «record».now)) }
 {
     let fields = session_fields(record)?;
@@ -234,7 +235,7 @@ fn news_at(alloc: Global, octets: &[u8], depth: Depth) -> Result<(Kind, News), A
 }
 
 // What a message is by its type alone.
-fn kind_of_type(octets: &[u8]) -> Kind
+pub(crate) fn kind_of_type(octets: &[u8]) -> Kind
     ensures { result ≡ kind_of_type (type_in octets.now) }
 {
     match octets.get(TYPE_AT).copied() {
@@ -248,7 +249,7 @@ fn kind_of_type(octets: &[u8]) -> Kind
 }
 
 // What a message says of its sender, of which no more than its type is read.
-fn news_of_kind(octets: &[u8], kind: Kind) -> News
+pub(crate) fn news_of_kind(octets: &[u8], kind: Kind) -> News
     ensures { result ≡ news_of_kind octets.now kind }
 {
     match kind {
@@ -298,7 +299,7 @@ fn update_news(update: Update) -> News
 }
 
 // What a change of state says of the peer.
-fn state_news(old: u16, new: u16) -> News
+pub(crate) fn state_news(old: u16, new: u16) -> News
     ensures { result ≡ news_of_states old new }
 {
     if new == ESTABLISHED && old != ESTABLISHED {
@@ -313,7 +314,7 @@ fn state_news(old: u16, new: u16) -> News
 // What a record of a session with two-octet AS numbers says of a peer: only an OPEN is read, since some recorders
 // write each OPEN so. However deep messages are read, it is one by its type, and so the peer's course is the same.
 #[tactic(auto, unfolding(crate::specs::Finding::two_octet_note))]
-fn two_octet_note(record: &Record<'_>) -> Option<Note>
+pub(crate) fn two_octet_note(record: &Record<'_>) -> Option<Note>
     ensures { result ≡ two_octet_note (record_of «record».now) }
 {
     if record.subtype != MESSAGE {

@@ -2,7 +2,7 @@
 //! 4271).
 //!
 //! Reading order, files and records first: `compression` (a file that isn't records), `kind` (what a record is),
-//! `opening` (what an OPEN tells). Then what one record adds: `depth` and `finding`. Then what is known of one peer:
+//! `opening` (what an OPEN tells). Then what one record adds: `depth`, `finding` and `outline`. Then what is known of one peer:
 //! `sessions`, `course` and `peer`. Then what is known of one file: `inventory`. Last how a file is read: `front` and
 //! `reading`.
 #![tactic(auto)]
@@ -15,14 +15,17 @@ mod front;
 mod inventory;
 mod kind;
 mod opening;
+mod outline;
 mod peer;
 mod reading;
 mod sessions;
 
 pub use compression::Compression;
 pub use course::Course;
+pub use finding::{News, Note, recorder};
 pub use inventory::Inventory;
 pub use kind::Kind;
+pub use outline::outlined;
 pub use peer::{Peer, PeerRecords};
 pub use reading::{InventoryFault, read_inventory, read_outline};
 pub use sessions::SessionTimes;
