@@ -5,6 +5,7 @@ pub mod Sessions  -- when sessions came up and went down
 pub mod Course  -- how they begin and go on
 pub mod Peer  -- what one peer says
 pub mod Finding  -- what one record adds
+pub mod Outline  -- what it says of a peer
 pub mod Inventory  -- what all of them hold
 pub mod Compression  -- how a compressed file begins
 -- How it is read:

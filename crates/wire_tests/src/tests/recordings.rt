@@ -13,10 +13,12 @@
 //! - `whole inventory`: what the file holds; the lines are all of it.
 //!
 //! Of the file there may be just some `octets`. A reader gives at most a piece at a time, of each of these `pieces`.
-//! A read `fails` after so many octets.
+//! A read `fails` after so many octets. With `losses` the reader puts
+//! losses in: those `inferred`, or none. The peer is alone with its AS number, or `beside another`.
 
 mod attributes;
 mod inventories;
+mod losses;
 mod records;
 mod refusals;
 mod sessions;
@@ -25,6 +27,7 @@ mod told;
 
 use super::said::Said;
 use super::words::Octets;
+use rs_losses::{LossReader, Losses, Sought};
 use rs_mrt::{
     Entry, MemoryReader, MrtFault, ReadLimits, Record, RecordReader, Records, Source, SourceFault,
     entry,
@@ -318,6 +321,21 @@ fn limits_of(way: &str, piece: usize) -> ReadLimits {
     }
 }
 
+// Which losses are read, and whose.
+fn losses_of(way: &str) -> (Losses, Sought) {
+    let losses = if way.contains("inferred") {
+        Losses::Inferred
+    } else {
+        Losses::Recorded
+    };
+    let peer = Sought {
+        address: PEER.address,
+        asn: PEER.asn,
+        alone: !way.contains("beside another"),
+    };
+    (losses, peer)
+}
+
 // What a file says to the one who reads it so, in pieces of at most so many octets, or at hand where they are none.
 fn read(alloc: Global, file: &[u8], way: &str, piece: usize) -> Said {
     let mut said = Said::new(alloc);
@@ -328,6 +346,11 @@ fn read(alloc: Global, file: &[u8], way: &str, piece: usize) -> Said {
     };
     if way.contains("inventory") {
         add_told(&mut said, alloc, file, limits_of(way, piece));
+    } else if way.contains("losses") {
+        let (losses, peer) = losses_of(way);
+        let reader = MemoryReader::new(file, limits_of(way, piece));
+        let reader = LossReader::new(alloc, reader, losses, peer);
+        add_said_by(&mut said, alloc, RecordReader::new(reader), way);
     } else if piece == 0 {
         add_said_by(&mut said, alloc, Records::new(file), way);
     } else {

@@ -1,0 +1,5 @@
+mod RecordLemmas
+mod OctetLemmas
+mod HeldLemmas
+mod GoesOnLemmas
+mod LawLemmas

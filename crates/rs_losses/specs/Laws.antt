@@ -1,0 +1,46 @@
+-- What holds of the definitions.
+use Rattle.std.specs.Prelude.{◌≡◌, ℕ, ◌^◌, ◌<◌, List, All}
+use Rattle.rs_mrt.specs.Record.{end_of, records_of}
+use Rattle.rs_mrt.specs.Source.{source_end}
+use Rattle.rs_session.specs.Effect.{effect_of, loss}
+use Rattle.rs_session.specs.FileChanges.{changes_in_by, changes_of}
+use Rattle.rs_session.specs.declared.peer.PeerId.{PeerId}
+use Rattle.rs_update.specs.declared.errors.Errors.{Errors}
+use Rattle.rs_losses.specs.Inserting.{from_the_first, octets_with}
+use Rattle.rs_losses.specs.Losses.{file_with_losses, loss_record, with_losses}
+use Rattle.rs_losses.specs.declared.losses.Sought.{Sought}
+
+-- the address and the AS number of a peer have four octets each
+abbrev pub IsSought : Sought → Type 0
+IsSought who = (who.address < 2 ^ 32) × (who.asn < 2 ^ 32)
+
+-- the octets that a reader gives are the records with the losses put in, and the rest
+abbrev pub OctetsAreThose : Type 0
+OctetsAreThose = (who : Sought) (file : List ℕ) → IsSought who → All (λ octet. octet < 256) file
+    → octets_with (from_the_first who) file ≡ file_with_losses who file
+
+-- they are a file of these records
+abbrev pub RecordsAreThose : Type 0
+RecordsAreThose = (who : Sought) (file : List ℕ) → IsSought who → All (λ octet. octet < 256) file
+    → records_of (file_with_losses who file) ≡ with_losses who (records_of file)
+
+-- which ends as the file does
+abbrev pub EndStays : Type 0
+EndStays = (who : Sought) (file : List ℕ) → IsSought who → All (λ octet. octet < 256) file
+    → end_of (file_with_losses who file) ≡ end_of file
+
+-- the peer, as a session names it
+abbrev pub session_of : Sought → PeerId
+session_of who = record { asn = who.asn; address = who.address }
+
+-- a record that is put in says just that the session is lost
+abbrev pub LossIsJustALoss : Type 0
+LossIsJustALoss = (errors : Errors) (who : Sought) (time : ℕ) → IsSought who
+    → effect_of errors (session_of who) (loss_record who time) ≡ loss time
+
+-- So what a session says of the file is what it says of the records with the losses put in.
+abbrev pub ChangesAreThose : Type 0
+ChangesAreThose = (errors : Errors) (peer : PeerId) (who : Sought) (file : List ℕ) → IsSought who
+    → All (λ octet. octet < 256) file
+    → changes_in_by errors peer (file_with_losses who file)
+    ≡ changes_of errors peer (with_losses who (records_of file)) (source_end (end_of file))

@@ -1,0 +1,8 @@
+-- Losses that a recording doesn't have:
+pub mod Losses  -- which records show one, and the records with the losses put in
+pub mod Inserting  -- what a reader gives, and how
+pub mod Laws  -- what holds of these
+-- What the contracts name of the crates below:
+pub use Rattle.rs_mrt.specs.Inflow
+pub use Rattle.rs_mrt.specs.Reader
+pub use Rattle.rs_mrt.specs.Record

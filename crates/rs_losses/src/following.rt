@@ -1,0 +1,131 @@
+//! How a session is followed, record by record: whether it is up, and before which record a loss is put in (RFC 4271,
+//! section 8.2.2).
+//!
+//! Our choices: what shows that a session begins, is up or is lost is what the crate `rs_inventory` takes for it. A
+//! loss is recorded under another address if the Peer IP Address is 0.0.0.0, as where a connection has gone, or if the
+//! two addresses are swapped.
+
+ghost use Rattle.std.specs.Prelude.{◌≡◌, ◌+◌, ◌≤◌, None, length};
+ghost use Rattle.std.specs.Option.{option_map};
+ghost use Rattle.rs_mrt.specs.Record.{record_of};
+ghost use Rattle.rs_inventory.specs.declared.finding.Note.{Note};
+ghost use Rattle.rs_losses.specs.Losses.{is_begun, is_misplaced, is_recorder, news_of, peer_of, tells_of_loss};
+ghost use Rattle.rs_losses.specs.Inserting.{Passes, first_record, pass_at, up_with};
+
+use crate::losses::Sought;
+use rs_inventory::{News, Note, Peer, outlined, recorder};
+use rs_mrt::{HEADER_LEN, Record, Records};
+
+/// The session that is followed.
+#[derive(Clone, Copy, Debug, PartialEq, Eq, Drop)]
+pub(crate) struct Followed {
+    /// Whose it is.
+    pub peer: Sought,
+    /// Whether it is up, by the records so far.
+    pub up: bool,
+}
+
+impl Followed {
+    // The same behind a record that says this of the peer.
+    fn behind(self, news: Option<News>) -> Followed
+        ensures { result ≡ record self { up = up_with self.up news } }
+    {
+        Followed {
+            peer: self.peer,
+            up: match news {
+                Some(news) => !news.is_loss() && (news.shows_up() || self.up),
+                None => self.up,
+            },
+        }
+    }
+
+    // How many octets the record at the front takes, and the session behind it; none if no whole record stands there, or
+    // a loss comes before it.
+    fn pass(self, octets: &[u8]) -> Option<(usize, Followed)>
+        ensures { result ≡ pass_at self octets.now }
+    {
+        let recorded = first_record(octets)?;
+        if self.up && tells_of_loss(&recorded, self.peer) {
+            return None;
+        }
+        let news = news_of(outlined(&recorded), self.peer);
+        Some((HEADER_LEN + recorded.body.len(), self.behind(news)))
+    }
+
+    /// How many octets the whole records at the front take that come before the first loss, and the session behind them.
+    pub(crate) fn pass_all(self, octets: &[u8]) -> (usize, Followed)
+        ensures passes { Passes self octets.now result.0 result.1 }
+        ensures none { result.0 ≡ 0 → pass_at self octets.now ≡ None }
+    {
+        let mut len = 0;
+        let mut now = self;
+        while let Some((record, after)) = now.pass(&octets[len..]) {
+            len += record;
+            now = after;
+        }
+        (len, now)
+    }
+}
+
+// The record at the front, if a whole one stands there.
+fn first_record(octets: &[u8]) -> Option<Record<'_>>
+    ensures { option_map record_of result ≡ first_record octets.now }
+{
+    match Records::new(octets).next() {
+        Ok(found) => found,
+        Err(_) => None,
+    }
+}
+
+// What a note says of the peer itself.
+fn news_of(note: Option<Note>, peer: Sought) -> Option<News>
+    ensures { result ≡ news_of (peer_of peer) note }
+{
+    let note = note?;
+    if note.peer.address == peer.address && note.peer.asn == peer.asn {
+        Some(note.news)
+    } else {
+        None
+    }
+}
+
+// Whether a record tells that a session which is up was lost before it.
+fn tells_of_loss(recorded: &Record<'_>, peer: Sought) -> bool
+    ensures { result ≡ tells_of_loss peer (record_of recorded.now) }
+{
+    let note = outlined(recorded);
+    is_begun(news_of(note, peer)) || is_misplaced(note, recorder(recorded), peer)
+}
+
+// Whether a session begins with what is said.
+fn is_begun(news: Option<News>) -> bool
+    ensures { result ≡ is_begun news }
+{
+    match news {
+        Some(news) => news.begins(),
+        None => false,
+    }
+}
+
+// Whether a note is of the peer's loss, under another address than the peer's.
+fn is_misplaced(note: Option<Note>, recorder: Option<Peer>, peer: Sought) -> bool
+    ensures { result ≡ is_misplaced peer note recorder }
+{
+    let Some(note) = note else {
+        return false;
+    };
+    note.news.is_loss()
+        && note.peer.asn == peer.asn
+        && note.peer.address != peer.address
+        && ((note.peer.address == 0 && peer.alone) || is_recorder(recorder, peer.address))
+}
+
+// Whether the recorder has this address.
+fn is_recorder(recorder: Option<Peer>, address: u32) -> bool
+    ensures { result ≡ is_recorder recorder address }
+{
+    match recorder {
+        Some(recorder) => recorder.address == address,
+        None => false,
+    }
+}

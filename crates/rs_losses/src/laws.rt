@@ -1,0 +1,23 @@
+//! What holds of the definitions. Each law is the contract of a function that does nothing.
+
+ghost use Rattle.rs_losses.specs.Laws.{ChangesAreThose, EndStays, LossIsJustALoss, OctetsAreThose, RecordsAreThose};
+
+use rs_mrt::file_splits_in_one_way;
+
+/// The octets that a reader gives of a file are its records with the losses put in, and then the rest of the file, each
+/// octet a number below 256. So they are a file of just these records, and it ends as the file does. A
+/// session says of them what it says of these records.
+pub fn what_the_octets_with_losses_are()
+    ensures octets { OctetsAreThose }
+    ensures records { RecordsAreThose }
+    ensures end { EndStays }
+    ensures changes { ChangesAreThose }
+{
+    // For the prover: each file is records, which fit their fields, and a rest.
+    file_splits_in_one_way();
+}
+
+/// A record that is put in says to the session of the peer just that it is lost, at the record's time.
+pub fn a_loss_that_is_put_in_says_just_a_loss()
+    ensures { LossIsJustALoss }
+{}

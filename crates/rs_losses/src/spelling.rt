@@ -1,0 +1,54 @@
+//! The record that is put in for a loss (RFC 6396, sections 2 and 4.4.4).
+
+ghost use Rattle.std.specs.Prelude.{◌≡◌};
+ghost use Rattle.rs_mrt.specs.Record.{record_spelling};
+ghost use Rattle.rs_losses.specs.Losses.{loss_record};
+
+use crate::losses::Sought;
+use byteorder::{BigEndian, ByteOrder};
+use rs_mrt::{AFI_IPV4, BGP4MP, HEADER_LEN, STATE_CHANGE_AS4};
+
+/// How many octets the record has: its header and 24 octets of fields.
+pub(crate) const LOSS_LEN: usize = HEADER_LEN + FIELDS_LEN;
+
+const FIELDS_LEN: usize = 24;
+
+// Where the fields of the header begin, behind the Timestamp (RFC 6396, section 2).
+const KIND_AT: usize = 4;
+
+const SUBTYPE_AT: usize = 6;
+
+const LENGTH_AT: usize = 8;
+
+// Where the fields of BGP4MP_STATE_CHANGE_AS4 begin that are not zero (RFC 6396, section 4.4.4).
+const PEER_AS_AT: usize = 12;
+
+const FAMILY_AT: usize = 22;
+
+const PEER_AT: usize = 24;
+
+const OLD_STATE_AT: usize = 32;
+
+const NEW_STATE_AT: usize = 34;
+
+// The states Established and Idle (RFC 6396, section 4.4.1).
+const ESTABLISHED: u16 = 6;
+
+const IDLE: u16 = 1;
+
+/// The octets of a record that says that the session was lost at this time, in seconds since 1970.
+pub(crate) fn loss_octets(peer: Sought, time: u32) -> [u8; LOSS_LEN]
+    ensures { result ≡ record_spelling (loss_record peer time) }
+{
+    let mut octets = [0; LOSS_LEN];
+    BigEndian::write_u32(&mut octets, time);
+    BigEndian::write_u16(&mut octets[KIND_AT..], BGP4MP);
+    BigEndian::write_u16(&mut octets[SUBTYPE_AT..], STATE_CHANGE_AS4);
+    BigEndian::write_u32(&mut octets[LENGTH_AT..], FIELDS_LEN as u32);
+    BigEndian::write_u32(&mut octets[PEER_AS_AT..], peer.asn);
+    BigEndian::write_u16(&mut octets[FAMILY_AT..], AFI_IPV4);
+    BigEndian::write_u32(&mut octets[PEER_AT..], peer.address);
+    BigEndian::write_u16(&mut octets[OLD_STATE_AT..], ESTABLISHED);
+    BigEndian::write_u16(&mut octets[NEW_STATE_AT..], IDLE);
+    octets
+}
