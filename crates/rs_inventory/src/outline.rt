@@ -20,11 +20,7 @@ pub fn outlined(recorded: &Record<'_>) -> Option<Note>
                 peer,
                 message,
             },
-        ) => Some(Note::of(
-            peer,
-            peer_as,
-            news_of_kind(message, kind_of_type(message)),
-        )),
+        ) => Some(Note::of(peer, peer_as, news_of_kind(message, kind_of_type(message)))),
         Ok(
             Entry::State {
                 peer_as,

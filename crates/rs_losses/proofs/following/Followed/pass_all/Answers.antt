@@ -36,5 +36,5 @@ returns-clause-none c =
     let len = c.loop-record.len in
     let now = c.loop-record.now in
     λ none.
-        let found : pass_at now (drop len octets) ≡ None = ap (pass_at now) (sym (take_rest octets len)) ∙ sym c.in_default.ensures in
-        ap (λ f. pass_at f octets) (sym (c.loop-record.invariant.none none)) ∙ ap (λ k. pass_at now (drop k octets)) (sym none) ∙ found
+    let found : pass_at now (drop len octets) ≡ None = ap (pass_at now) (sym (take_rest octets len)) ∙ sym c.in_default.ensures in
+    ap (λ f. pass_at f octets) (sym (c.loop-record.invariant.none none)) ∙ ap (λ k. pass_at now (drop k octets)) (sym none) ∙ found

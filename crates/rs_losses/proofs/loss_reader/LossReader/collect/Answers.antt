@@ -17,7 +17,8 @@ returns-in-Ok-clause-collects g c =
     let old : Inserting g.row.R.Denot =
     record {
       reader = b.reader;
-      losses = b.losses; followed = b.followed;
+      losses = b.losses;
+      followed = b.followed;
       ready = take (b.cleared - b.given) (drop b.given held);
       behind = drop b.cleared held;
       ended = b.ended;
@@ -26,7 +27,8 @@ returns-in-Ok-clause-collects g c =
     let new : Inserting g.row.R.Denot =
     record {
       reader = c.read.new.self;
-      losses = b.losses; followed = b.followed;
+      losses = b.losses;
+      followed = b.followed;
       ready = take (b.cleared - b.given) (drop b.given after);
       behind =
           drop b.cleared after;

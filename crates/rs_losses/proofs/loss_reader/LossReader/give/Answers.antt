@@ -12,7 +12,8 @@ returns-clause-left g c =
     let moved : Inserting g.row.R.Denot → Inserting g.row.R.Denot = λ v. record v { ready = drop n v.ready } in
     (λ i. record {
       reader = b.reader;
-      losses = b.losses; followed = b.followed;
+      losses = b.losses;
+      followed = b.followed;
       ready = ready i;
       behind = drop b.cleared b.held.items;
       ended = b.ended;
