@@ -11,8 +11,8 @@ mod answering;
 
 use crate::answering::answer;
 use rs_glass_shell::{NoReply, Noted, PROGRAM, Reply, Unanswered, line};
-use rs_host::end_with;
-use rs_notes::{Subject, notes_of, print_texts};
+use rs_host::{DONE, end_with};
+use rs_notes::{Subject, Telling, notes_of, print_texts};
 use std::fs::Files;
 use std::process::ExitCode;
 
@@ -26,7 +26,9 @@ fn main(rt: HostRuntime) -> ExitCode {
             },
         ) => match print!(&rt; "{text}") {
             Ok(()) => {
-                note(&rt, noted);
+                if status == DONE {
+                    note(&rt, noted);
+                }
                 return ExitCode::from(status);
             }
             Err(_) => NoReply::new(Unanswered::Output, false),
@@ -36,7 +38,7 @@ fn main(rt: HostRuntime) -> ExitCode {
     end(&rt, &no_reply)
 }
 
-// Prints the notes on the files that were read.
+// Prints the notes on likely mistakes in the files that were read, or those that were made for the answer.
 fn note<R: AllocGlobal + Files + Eprint>(rt: &R, noted: Noted) {
     match noted {
         Noted::Nothing => {}
@@ -45,6 +47,8 @@ fn note<R: AllocGlobal + Files + Eprint>(rt: &R, noted: Noted) {
                 setup: &setup,
                 bounds: outlines.bounds(),
                 endings: None,
+                telling: Telling::Mistakes,
+                inferred: false,
             };
             let contents = outlines.contents(rt, &setup.files);
             print_texts(rt, PROGRAM, &notes_of(rt, subject, &contents).texts);

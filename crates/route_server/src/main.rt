@@ -10,8 +10,8 @@ ghost use Rattle.std.specs.Prelude.{◌≡◌, ◌<◌, ◌≤◌, All, Some, If
 ghost use Rattle.rs_program.specs.Texts.{CanTell};
 
 use rs_host::{Options, configuration};
-use rs_mrt::{Bounds, IoWriter, Read};
-use rs_notes::{Close, Ending, Subject, print_notes};
+use rs_mrt::{IoWriter, Read};
+use rs_notes::{Close, Ending, Subject, Telling, print_notes};
 use rs_program::{
     Cleared, Ended, FolderOutlet, Progress, command_line, end, progress_on, ready_files, run_status,
 };
@@ -71,7 +71,7 @@ where
     let files = ready_files(rt, setup, options, &progress)?;
     let ends = run_over(rt, setup, options, files, &progress)?;
     let noted = match endings_of(rt.alloc(), &ends) {
-        Ok(endings) => note(rt, setup, options.bounds, &endings),
+        Ok(endings) => note(rt, setup, options, &endings),
         Err(_) => false,
     };
     Ok(!noted && all_close_at_end(&ends))
@@ -81,13 +81,19 @@ where
 fn note<'a, R: AllocGlobal + Files + Eprint>(
     rt: &R,
     setup: &'a Setup,
-    bounds: Bounds,
+    options: &Options,
     endings: &'a [Ending],
 ) -> bool {
     let subject = Subject {
         setup,
-        bounds,
+        bounds: options.bounds,
         endings: Some(endings),
+        telling: if options.strict {
+            Telling::All
+        } else {
+            Telling::Mistakes
+        },
+        inferred: false,
     };
     print_notes(rt, "route_server", subject)
 }

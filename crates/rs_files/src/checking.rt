@@ -14,7 +14,7 @@ use rs_glass_shell::{Noted, Reply, Unanswered, close_text};
 use rs_host::{DONE, FAILED, NOT_CLEAN, REFUSED, Unready, found_at, on_one_line, read_file};
 use rs_inventory::{Inventory, Kind, Peer};
 use rs_mrt::Bounds;
-use rs_notes::{Close, Contents, Ending, Subject, contents_of, front_at, notes_of};
+use rs_notes::{Close, Contents, Ending, Subject, Telling, contents_of, front_at, notes_of};
 use rs_session::PeerId;
 use rs_setup::{Setup, SetupFault, read_setup};
 use std::alloc::{AllocError, Global};
@@ -92,12 +92,7 @@ fn read_contents<'a, R: AllocGlobal + Files>(
         Some(front) => front,
         None => Vec::new(rt.alloc()),
     };
-    Ok(Contents {
-        path,
-        front,
-        held,
-        names_server: None,
-    })
+    Ok(Contents::new(path, front, held))
 }
 
 // Tells what these files hold of each peer of a setup, where its session closes, and the notes.
@@ -133,6 +128,8 @@ fn add_notes<R: AllocGlobal + Files>(
         setup,
         bounds: Bounds::none(),
         endings: Some(endings),
+        telling: Telling::All,
+        inferred: false,
     };
     let notes = notes_of(rt, subject, files);
     for note in &notes.texts {

@@ -1,14 +1,14 @@
-//! What recorded files hold, as notes tell of it.
+//! What recorded files hold, and where they end, as notes tell of it.
 //!
 //! Our choices: if nobody made an outline of a file, the file is read once more, however many peers name it, and of each
 //! message only the type. A pipe gets no note, nor does a file that cannot be read.
 
+use crate::cut::{Cut, cut_of};
 use crate::format::{FRONT_LEN, Format};
 use crate::hint::is_known;
 use rs_host::{found_at, open_file};
 use rs_inventory::{Inventory, Peer, read_outline};
 use rs_mrt::{BoundedReader, Bounds};
-use std::alloc::AllocFailed;
 use std::fs::{File, Files};
 use std::io::Read;
 
@@ -21,8 +21,43 @@ pub struct Contents<'a> {
     pub front: Vec<u8>,
     /// What its records hold.
     pub held: Inventory,
-    /// Whether a message names the server as its recorder, if that is known.
-    pub names_server: Option<bool>,
+    // Whether a message names the server as its recorder, if that is known.
+    pub(crate) names_server: Option<bool>,
+    // Where it ends within a record, if it is known whether it does.
+    pub(crate) end: FileEnd,
+}
+
+// Where a recorded file ends.
+#[derive(Clone, Copy, Debug, PartialEq, Eq)]
+pub(crate) enum FileEnd {
+    // That isn't known.
+    Unknown,
+    // Behind a whole record.
+    Whole,
+    // Within a record.
+    Within(Cut),
+}
+
+impl<'a> Contents<'a> {
+    /// What the recorded file at a path holds, with its first octets, if no more is known of it.
+    pub fn new(path: &'a str, front: Vec<u8>, held: Inventory) -> Contents<'a> {
+        Contents {
+            path,
+            front,
+            held,
+            names_server: None,
+            end: FileEnd::Unknown,
+        }
+    }
+
+    /// Where the file ends within a record, if it is read up to a time. It is read once more if that isn't known.
+    pub(crate) fn cut<R: AllocGlobal + Files>(&self, rt: &R, until: Option<u32>) -> Option<Cut> {
+        match self.end {
+            FileEnd::Unknown => cut_at(rt, self.path, until),
+            FileEnd::Whole => None,
+            FileEnd::Within(cut) => Some(cut),
+        }
+    }
 }
 
 /// What the files of these paths hold, each within bounds, without those that cannot be read again.
@@ -58,12 +93,17 @@ pub(crate) fn add_contents<'a, R: AllocGlobal + Files>(
     let Some(held) = outline_at(rt, path, bounds, None) else {
         return;
     };
-    let _: Result<(), AllocFailed<Contents<'a>>> = all.push(Contents {
-        path,
-        front,
-        held,
-        names_server: None,
-    });
+    let _ = all.push(Contents::new(path, front, held));
+}
+
+// Where the file at a path ends within a record, where it gives its octets each time it is read.
+fn cut_at<R: AllocGlobal + Files>(rt: &R, path: &str, until: Option<u32>) -> Option<Cut> {
+    if !is_file(rt, path) {
+        return None;
+    }
+    let whole = open_file(rt, path).ok()?;
+    let all = open_file(rt, path).ok()?;
+    cut_of(rt.alloc(), until, whole, all)
 }
 
 /// The outline of the file at a path, where it gives its octets each time it is read. Where a recorder is given, no

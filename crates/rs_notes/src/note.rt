@@ -25,7 +25,7 @@ pub fn note_line(
 ) -> Result<String, AllocError>
     ensures { IfOk result (λ line. string_bytes line ≡ note_of name.now path.now peer hint) }
 {
-    let text = text_of(alloc, path, peer, hint)?;
+    let text = hint_text(alloc, path, peer, hint)?;
     format!(in alloc; "peer {name}: {text}")
 }
 
@@ -41,6 +41,22 @@ pub fn cut_line(alloc: Global, path: &str, cut: Cut, tail: Tail) -> Result<Strin
     )
 }
 
+/// The text of the note on several recorded files that end within a record: on the first one, and so many more. Fails
+/// where memory is refused.
+pub(crate) fn cut_lines(
+    alloc: Global,
+    path: &str,
+    more: usize,
+    cut: Cut,
+    tail: Tail,
+) -> Result<String, AllocError> {
+    let path = on_one_line(alloc, path)?;
+    let (octet, len, loss) = (cut.octet, cut.len, loss_text(tail));
+    format!(in alloc;
+        "{path} and {more} more end within their last records; that of {path} begins at octet {octet} (octets {loss}: {len})"
+    )
+}
+
 // What becomes of the octets of a record that is cut short.
 fn loss_text(tail: Tail) -> &'static str
     ensures { result.now ≡ loss_text tail }
@@ -51,8 +67,13 @@ fn loss_text(tail: Tail) -> &'static str
     }
 }
 
-// What is noted.
-fn text_of(alloc: Global, path: &str, peer: Peer, hint: Hint) -> Result<String, AllocError>
+/// What is noted of a peer's recorded file. Fails where memory is refused.
+pub(crate) fn hint_text(
+    alloc: Global,
+    path: &str,
+    peer: Peer,
+    hint: Hint,
+) -> Result<String, AllocError>
     ensures { IfOk result (λ text. string_bytes text ≡ text_of path.now peer hint) }
 {
     match hint {
@@ -131,6 +152,12 @@ pub(crate) fn again_line(alloc: Global, name: &str, time: u32) -> Result<String,
     format!(in alloc;
         "peer {name}: a session began again at {time} UTC without a recorded loss; its earlier routes stay"
     )
+}
+
+/// At which time a session of a peer began again, behind a text on several peers. Fails where memory is refused.
+pub(crate) fn at_text(alloc: Global, time: u32) -> Result<String, AllocError> {
+    let time = Utc(time);
+    format!(in alloc; "at {time} UTC")
 }
 
 /// The text of the note on files of which no record names the server as their recorder; the first message of the file

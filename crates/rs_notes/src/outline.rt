@@ -1,12 +1,14 @@
 //! The outline of a recorded file whose octets come in pieces (RFC 6396, section 2).
 //!
-//! Our choices: it is what `read_outline` tells of the same octets, up to the first record that is later than a time.
+//! Our choices: it is what `read_outline` tells of the same octets within bounds.
 //! No contract says so, since only notes rest on it. If memory is refused, nothing is known of the file.
 
+use crate::contents::FileEnd;
+use crate::cut::Cut;
 use crate::format::FRONT_LEN;
 use byteorder::{BigEndian, ByteOrder};
 use rs_inventory::{Compression, Inventory, Peer};
-use rs_mrt::{HEADER_LEN, MrtFault, Record};
+use rs_mrt::{Bounds, HEADER_LEN, MrtFault, Record, Tail};
 use std::alloc::{AllocError, Global};
 
 // Where the fields of a record's header begin, behind its Timestamp (RFC 6396, section 2).
@@ -35,15 +37,21 @@ enum Stage {
 pub(crate) struct Outline {
     alloc: Global,
     stage: Stage,
-    // The time up to which records count, in seconds since 1970.
-    until: Option<u32>,
+    // How much of the file counts.
+    bounds: Bounds,
     server: Peer,
     front: Vec<u8>,
     held: Inventory,
     names_server: bool,
-    // What came of a record that isn't whole yet, and how many octets of its body are missing.
+    // How many octets came of whole records.
+    octets: u64,
+    // What came of a record that isn't whole yet, no more than `KEPT_LEN` octets. How many octets came of it, and how
+    // many of its body are missing.
     begun: Vec<u8>,
+    came: u64,
     missing: usize,
+    // Where the file ends, once all that counts came.
+    file_end: FileEnd,
 }
 
 /// What is known of a file of which all came.
@@ -55,21 +63,26 @@ pub(crate) struct Outlined {
     pub(crate) held: Inventory,
     /// Whether a message names the server as its recorder.
     pub(crate) names_server: bool,
+    /// Where it ends.
+    pub(crate) end: FileEnd,
 }
 
 impl Outline {
-    /// Nothing of a file came yet. Records count up to a time, all of them if none is given.
-    pub(crate) fn new(alloc: Global, until: Option<u32>, server: Peer) -> Outline {
+    /// Nothing of a file came yet, of which so much counts.
+    pub(crate) fn new(alloc: Global, bounds: Bounds, server: Peer) -> Outline {
         Outline {
             alloc,
             stage: Stage::Open,
-            until,
+            bounds,
             server,
             front: Vec::new(alloc),
             held: Inventory::none(alloc, None),
             names_server: false,
+            octets: 0,
             begun: Vec::new(alloc),
+            came: 0,
             missing: 0,
+            file_end: FileEnd::Whole,
         }
     }
 
@@ -82,6 +95,7 @@ impl Outline {
             front: self.front,
             held: self.held,
             names_server: self.names_server,
+            end: self.file_end,
         })
     }
 
@@ -100,7 +114,16 @@ impl Outline {
     // The file ended.
     fn end(&mut self) {
         self.stage = Stage::Whole;
-        if !self.take_compression() {
+        if self.take_compression() {
+            return;
+        }
+        if self.came > 0 {
+            self.file_end = FileEnd::Within(Cut {
+                octet: self.octets,
+                len: self.came,
+            });
+        }
+        if self.bounds.tail == Tail::Strict {
             self.held.take_end(end_behind(&self.begun));
         }
     }
@@ -136,6 +159,7 @@ impl Outline {
     // Takes octets of a record's header. Nothing behind it counts if the record is later, or the file compressed.
     fn take_header(&mut self, octets: &[u8]) -> Result<(), AllocError> {
         self.begun.extend_from_slice(octets)?;
+        self.came = self.came.saturating_add(octets.len() as u64);
         if self.begun.len() < HEADER_LEN {
             return Ok(());
         }
@@ -154,6 +178,7 @@ impl Outline {
         let room = KEPT_LEN.saturating_sub(self.begun.len());
         self.begun
             .extend_from_slice(&octets[..room.min(octets.len())])?;
+        self.came = self.came.saturating_add(octets.len() as u64);
         self.missing = self.missing.saturating_sub(octets.len());
         if self.missing > 0 {
             return Ok(());
@@ -162,13 +187,15 @@ impl Outline {
             let recorder = self.held.take_outline(self.alloc, &record)?;
             self.names_server = self.names_server || recorder == Some(self.server);
         }
+        self.octets = self.octets.saturating_add(self.came);
         self.begun.clear();
+        self.came = 0;
         Ok(())
     }
 
     // Whether a Timestamp is later than the time up to which records count.
     fn is_later(&self, time: u32) -> bool {
-        match self.until {
+        match self.bounds.until {
             Some(until) => time > until,
             None => false,
         }

@@ -17,7 +17,7 @@ use std::sync::atomic::{AtomicUsize, Ordering};
 /// The outlines of the recorded files of an exchange.
 #[derive(Drop)]
 pub struct Outlines {
-    until: Option<u32>,
+    bounds: Bounds,
     // One for each path of the exchange, in their order; none for a path that stands there before.
     files: Vec<Option<Mutex<Outline>>>,
     // How many of the files were opened.
@@ -28,7 +28,7 @@ impl Outlines {
     /// Outlines of no file, of which records are read up to a time, in seconds since 1970.
     pub fn none(alloc: Global, until: Option<u32>) -> Outlines {
         Outlines {
-            until,
+            bounds: up_to(until),
             files: Vec::new(alloc),
             opened: AtomicUsize::new(0),
         }
@@ -37,17 +37,26 @@ impl Outlines {
     /// Outlines of the files of a setup, of which records are read up to a time, in seconds since 1970. No file is read
     /// yet. If memory is refused, they are those of the first files.
     pub fn new(alloc: Global, setup: &Setup, until: Option<u32>) -> Outlines {
+        Outlines::within(alloc, setup, up_to(until))
+    }
+
+    /// The same, if so much is read of each file.
+    pub fn within(alloc: Global, setup: &Setup, bounds: Bounds) -> Outlines {
         let local = setup.plan.local();
         let server = Peer {
             address: local.address,
             asn: local.asn,
         };
-        let mut outlines = Outlines::none(alloc, until);
+        let mut outlines = Outlines {
+            bounds,
+            files: Vec::new(alloc),
+            opened: AtomicUsize::new(0),
+        };
         for (peer, path) in setup.files.iter().enumerate() {
             let outline = if setup.files[..peer].contains(path) {
                 None
             } else {
-                Some(Mutex::new(Outline::new(alloc, until, server)))
+                Some(Mutex::new(Outline::new(alloc, bounds, server)))
             };
             if outlines.files.push(outline).is_err() {
                 break;
@@ -58,10 +67,7 @@ impl Outlines {
 
     /// How much is read of each file.
     pub fn bounds(&self) -> Bounds {
-        Bounds {
-            until: self.until,
-            tail: Tail::Strict,
-        }
+        self.bounds
     }
 
     /// A reader of the next file, in the order of the peers. What passes through it makes the outline of the file.
@@ -80,7 +86,7 @@ impl Outlines {
         rt: &R,
         paths: &'a [String],
     ) -> Vec<Contents<'a>> {
-        let bounds = self.bounds();
+        let bounds = self.bounds;
         let mut files = self.files.into_iter();
         let mut all = Vec::new(rt.alloc());
         for path in paths {
@@ -90,6 +96,14 @@ impl Outlines {
             }
         }
         all
+    }
+}
+
+// Bounds within which the records up to a time are read, and what isn't a whole record.
+fn up_to(until: Option<u32>) -> Bounds {
+    Bounds {
+        until,
+        tail: Tail::Strict,
     }
 }
 
@@ -113,6 +127,7 @@ fn add_known<'a, R: AllocGlobal + Files>(
                 front: outlined.front,
                 held: outlined.held,
                 names_server: Some(outlined.names_server),
+                end: outlined.end,
             });
         }
         _ => add_contents(rt, all, path, bounds),

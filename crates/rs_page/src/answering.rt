@@ -12,7 +12,7 @@ use crate::style::STYLE;
 use crate::times::times_of;
 use rs_glass_shell::{Noted, Reply, Unanswered, check_place, served, write_whole};
 use rs_host::{DONE, configuration};
-use rs_notes::{Subject, notes_of};
+use rs_notes::{Subject, Telling, notes_of};
 use rs_picture::PALETTE;
 use rs_query::PageQuery;
 use rs_survey::summary_on_threads;
@@ -44,6 +44,8 @@ where
         setup: &setup,
         bounds,
         endings: None,
+        telling: Telling::All,
+        inferred: false,
     };
     let notes = notes_of(rt, subject, &contents);
     let text = page_text(
