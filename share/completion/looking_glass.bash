@@ -8,6 +8,7 @@ _looking_glass() {
     case $before in
         --config | --table | --out | --svg) compopt -o filenames; mapfile -t COMPREPLY < <(compgen -f -- "$word"); return ;;
         --errors) mapfile -t COMPREPLY < <(compgen -W "rfc4271 rfc7606" -- "$word"); return ;;
+        --tail) mapfile -t COMPREPLY < <(compgen -W "strict lenient" -- "$word"); return ;;
         --because) mapfile -t COMPREPLY < <(compgen -W "ineligible server_as_in_path server_address_as_next_hop next_hop_off_exchange refused name community lost preference path_length origin med identifier address" -- "$word"); return ;;
         --client | --peer | --shards | --prefix | --from | --until) COMPREPLY=(); return ;;
     esac
@@ -20,7 +21,7 @@ _looking_glass() {
         page) options="--config --out --until --shards --errors --help" ;;
         diff) options="--config --client --until --errors --count --shards --csv --json --help" ;;
         peers) options="--json --toml --help" ;;
-        check) options="--config --help" ;;
+        check) options="--config --until --tail --errors --help" ;;
         start) options="--table --out --peer --toml --help" ;;
     esac
     if [ "${COMP_WORDS[1]}" = peers ] && [[ $word != -* ]]; then

@@ -45,7 +45,7 @@ where
             status: DONE,
             noted: Noted::Nothing,
         }),
-        Query::Check(query) => check(rt, &query.config),
+        Query::Check(query) => check(rt, &query),
         Query::Start(query) => start(rt, &query),
         Query::Table(query) => table(rt, &query),
         Query::Missing(query) => missing(rt, &query),

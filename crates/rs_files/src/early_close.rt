@@ -1,12 +1,13 @@
-//! Where the recorded session of a peer closes before the end of its file, by RFC 4271 (docs/MANUAL.md, "Report and
-//! dumps").
+//! Where the recorded session of a peer closes before the end of its file, by RFC 4271 or RFC 7606 (docs/MANUAL.md,
+//! "Report and dumps").
 
 ghost use Rattle.std.specs.Prelude.{◌<◌};
 
 use crate::placed_records::PlacedRecords;
 use rs_host::{Unready, open_file};
-use rs_mrt::{Read, RecordReader, Source};
+use rs_mrt::{BoundedReader, Bounds, Read, RecordReader, Source};
 use rs_session::{Body, PeerId, Reason, Session};
+use rs_update::Errors;
 use std::alloc::{AllocError, Global};
 use std::cell::Cell;
 use std::fs::Files;
@@ -23,16 +24,18 @@ pub(crate) struct EarlyClose {
     pub(crate) is_cut: bool,
 }
 
-/// Where the session of a peer closes before the end of the file at a path; none where it doesn't. Fails with `Unread`
-/// where the file can't be read, with `Memory` where memory is refused.
+/// Where the session of a peer closes before the end of the file at a path, which is read within bounds; none where it
+/// doesn't. Faults in path attributes are handled by the standard that is named. Fails with `Unread` where the file can't
+/// be read, with `Memory` where memory is refused.
 pub(crate) fn early_close_at<R: AllocGlobal + Files>(
     rt: &R,
     path: &str,
     peer: PeerId,
+    (bounds, errors): (Bounds, Errors),
 ) -> Result<Option<EarlyClose>, Unready> {
     let alloc = rt.alloc();
     let close = match open_file(rt, path) {
-        Ok(reader) => close_of(alloc, reader, peer)?,
+        Ok(file) => close_of(alloc, BoundedReader::new(alloc, file, bounds), peer, errors)?,
         Err(fault) => return Err(Unready::by_file(alloc, fault, path)),
     };
     match close.reason {
@@ -47,6 +50,7 @@ fn close_of<R: Read + Drop>(
     alloc: Global,
     reader: R,
     peer: PeerId,
+    errors: Errors,
 ) -> Result<EarlyClose, AllocError>
     requires { R.failures reader < u64.MAX }
 {
@@ -55,7 +59,7 @@ fn close_of<R: Read + Drop>(
         records: RecordReader::new(reader),
         octet: &octet,
     };
-    let mut session = Session::over(alloc, records, peer);
+    let mut session = Session::over_by(alloc, records, peer, errors);
     let reason = reason_of(&mut session)?;
     Ok(EarlyClose {
         octet: octet.get(),

@@ -16,8 +16,9 @@ pub(crate) enum Found<'a> {
     Unread(&'a str),
     /// The file at this path has no record of the peer.
     NoRecord(&'a str),
-    /// The file at this path has these records of the peer.
-    Records(&'a str, &'a PeerRecords),
+    /// The file at this path has these records of the peer. So many of its UPDATEs are treated as withdrawn, if the
+    /// standard treats any so.
+    Records(&'a str, &'a PeerRecords, Option<u64>),
     /// The session closes before the end of its file, for this reason. Before the record that closes it stand so many
     /// octets, if that is known.
     Closes(&'a str, Option<u64>),
@@ -35,7 +36,7 @@ impl fmt::Display for Found<'_> {
             }
             Found::Unread(path) => write!(f, "{path} is no regular file, and is not read here"),
             Found::NoRecord(path) => write!(f, "{path}: records 0"),
-            Found::Records(path, records) => write_records(f, path, records),
+            Found::Records(path, records, treated) => write_records(f, path, records, treated),
             Found::Closes(reason, None) => write!(f, "the session closes by {reason}"),
             Found::Closes(reason, Some(octet)) => {
                 write!(
@@ -47,11 +48,12 @@ impl fmt::Display for Found<'_> {
     }
 }
 
-// Writes which records of a peer the file at a path has.
+// Writes which records of a peer the file at a path has, and how many UPDATEs are treated as withdrawn.
 fn write_records<W: fmt::Write>(
     f: &mut fmt::Formatter<W>,
     path: &str,
     records: &PeerRecords,
+    treated: Option<u64>,
 ) -> fmt::Result {
     let count = records.records();
     write!(f, "{path}: records {count}")?;
@@ -61,7 +63,11 @@ fn write_records<W: fmt::Write>(
         write!(f, ", {first} to {last} UTC")?;
     }
     let (sessions, faulty) = (records.sessions().len(), records.faulty());
-    write!(f, ", sessions {sessions}, faulty {faulty}")
+    write!(f, ", sessions {sessions}, faulty {faulty}")?;
+    if let Some(treated) = treated {
+        write!(f, ", treated as withdrawn {treated}")?;
+    }
+    Ok(())
 }
 
 /// Adds the line of what is found of the peer of a name. Fails where memory is refused.

@@ -4,12 +4,15 @@
 //!
 //! Reading order: `recordings` (the whole answer), `recorded_file`, `listing_answer`, `listing_pieces` and `listing_toml`
 //! (what recorded files hold, as a text, as JSON and as a configuration). What a run would meet: `checking` (the whole
-//! answer), `refused`, `unreadable`, `found` (its lines), `early_close` and `placed_records` (where a session closes
-//! before the end of its file). Sessions of a table: `starting` (the whole answer), `listed` (which peers get a
-//! file), `session_files` (the files, which are put in place when all are whole), `sessions` (what is written to them).
-//! Then `peer_lines` and `configuration` (the texts), `table_faults` (why no session is written).
+//! answer), `refused`, `unreadable`. Its lines: `found`, `checked_peer` (those of a
+//! peer), `treated` (how many UPDATEs are treated as withdrawn). Where a session closes before the end of its file:
+//! `early_close` and `placed_records`.
+//! Sessions of a table: `starting` (the whole answer), `listed` (which peers get a file), `session_files` (the files,
+//! which are put in place when all are whole), `sessions` (what is written to them). Then `peer_lines` and
+//! `configuration` (the texts), `table_faults` (why no session is written).
 #![tactic(auto)]
 
+mod checked_peer;
 mod checking;
 mod configuration;
 mod early_close;
@@ -27,6 +30,7 @@ mod session_files;
 mod sessions;
 mod starting;
 mod table_faults;
+mod treated;
 mod unreadable;
 
 pub use checking::check;

@@ -6,6 +6,7 @@ use crate::recorded_file::RecordedFile;
 use rs_glass_shell::Unanswered;
 use rs_host::{Unready, first_unreadable, open_file};
 use rs_inventory::{Inventory, InventoryFault, read_inventory};
+use rs_mrt::{BoundedReader, Bounds};
 use rs_notes::format_at;
 use rs_query::PeersQuery;
 use std::fs::Files;
@@ -42,7 +43,7 @@ fn recorded_files<R: AllocGlobal + Files>(
 
 // What the recorded file at a path holds.
 fn recorded_file<R: AllocGlobal + Files>(rt: &R, path: String) -> Result<RecordedFile, Unready> {
-    let inventory = inventory_at(rt, &path)?;
+    let inventory = inventory_at(rt, &path, Bounds::none())?;
     let format = format_at(rt, &path, &inventory);
     Ok(RecordedFile {
         path,
@@ -51,18 +52,19 @@ fn recorded_file<R: AllocGlobal + Files>(rt: &R, path: String) -> Result<Recorde
     })
 }
 
-/// The inventory of the recorded file at a path, which is read whole. Fails with `Unread` where the file can't be read,
-/// with `Memory` where memory is refused.
+/// The inventory of the recorded file at a path, of as much as is read within bounds. Fails with `Unread` where the file
+/// can't be read, with `Memory` where memory is refused.
 pub(crate) fn inventory_at<R: AllocGlobal + Files>(
     rt: &R,
     path: &str,
+    bounds: Bounds,
 ) -> Result<Inventory, Unready> {
     let alloc = rt.alloc();
-    let reader = match open_file(rt, path) {
-        Ok(reader) => reader,
+    let file = match open_file(rt, path) {
+        Ok(file) => file,
         Err(fault) => return Err(Unready::by_file(alloc, fault, path)),
     };
-    match read_inventory(alloc, reader) {
+    match read_inventory(alloc, BoundedReader::new(alloc, file, bounds)) {
         Ok(inventory) => Ok(inventory),
         Err(InventoryFault::Memory) => Err(Unready::Memory),
         Err(InventoryFault::Read) => Err(Unready::by_path(alloc, path)),

@@ -19,7 +19,8 @@ Status:
   1  the command line or the configuration is refused
   2  a file or a device failed
   3  memory was refused
-  5  by check: a session closes before the end of its file, or there is a note";
+  5  by check: a session closes before the end of its file, or there is a note on more than a
+     tail that is left out";
 
 // A command: its name, what help says of it, and its options in the order of its help.
 type Entry = (&'static str, &'static str, &'static [Row]);
@@ -64,7 +65,7 @@ const COMMANDS: [Entry; 10] = [
     (
         "check",
         "What would a run of route_server over a configuration meet?",
-        &[CONFIG],
+        &[CONFIG, UNTIL, TAIL, ERRORS],
     ),
     (
         "start",
@@ -203,6 +204,13 @@ const UNTIL: Row = Row {
 const UNTILS: Row = Row {
     given: Given::Often,
     ..UNTIL
+};
+
+const TAIL: Row = Row {
+    name: "tail",
+    takes: Takes::Choice("TAIL", &["strict", "lenient"]),
+    help: "What becomes of a record that the end of its file cuts short: a fault, or left out",
+    ..FLAG
 };
 
 const ERRORS: Row = Row {

@@ -1,6 +1,7 @@
 //! What the command line asks.
 
 use crate::reasons::AskedReason;
+use rs_mrt::Bounds;
 use rs_rows::Form;
 use rs_update::{Errors, Prefix};
 
@@ -113,6 +114,10 @@ pub struct PeersQuery {
 pub struct CheckQuery {
     /// The path of the configuration.
     pub config: String,
+    /// How much of each file the run reads.
+    pub bounds: Bounds,
+    /// The standard by which faults in path attributes are handled.
+    pub errors: Errors,
 }
 
 /// The beginning of each peer's session, of a table.

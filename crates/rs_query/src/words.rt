@@ -13,6 +13,7 @@ use crate::values::{
 use clap::error::ErrorKind;
 use clap::{ArgMatches, Error};
 use rs_host::{WordsFault, each_on_one_line, standard_of};
+use rs_mrt::{Bounds, Tail};
 use rs_update::{Errors, Prefix};
 use std::alloc::{AllocError, Global};
 
@@ -77,9 +78,7 @@ fn query_of(alloc: Global, matches: &ArgMatches<'_>) -> Result<Query, WordsFault
         Some(("why", matches)) => Ok(Query::Why(why_of(alloc, matches)?)),
         Some(("history", matches)) => Ok(Query::History(history_of(alloc, matches)?)),
         Some(("peers", matches)) => Ok(Query::Peers(peers_of(alloc, matches)?)),
-        Some(("check", matches)) => Ok(Query::Check(CheckQuery {
-            config: text(alloc, matches, "config")?,
-        })),
+        Some(("check", matches)) => Ok(Query::Check(check_of(alloc, matches)?)),
         Some(("start", matches)) => Ok(Query::Start(start_of(alloc, matches)?)),
         Some(("table", matches)) => Ok(Query::Table(table_of(alloc, matches)?)),
         Some(("missing", matches)) => Ok(Query::Missing(missing_of(alloc, matches)?)),
@@ -130,6 +129,25 @@ fn peers_of(alloc: Global, matches: &ArgMatches<'_>) -> Result<PeersQuery, Words
         json: matches.get_flag("json"),
         toml: matches.get_flag("toml"),
     })
+}
+
+fn check_of(alloc: Global, matches: &ArgMatches<'_>) -> Result<CheckQuery, WordsFault> {
+    Ok(CheckQuery {
+        config: text(alloc, matches, "config")?,
+        bounds: Bounds {
+            until: time(alloc, matches, "until")?,
+            tail: tail_of(matches),
+        },
+        errors: errors(alloc, matches)?,
+    })
+}
+
+// What becomes of a record that is cut short. `clap` takes no other word than these two.
+fn tail_of(matches: &ArgMatches<'_>) -> Tail {
+    match matches.get_str("tail") {
+        Some("lenient") => Tail::Lenient,
+        _ => Tail::Strict,
+    }
 }
 
 fn start_of(alloc: Global, matches: &ArgMatches<'_>) -> Result<StartQuery, WordsFault> {

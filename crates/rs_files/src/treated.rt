@@ -1,0 +1,105 @@
+//! How many UPDATEs of a peer a run treats as withdrawn (RFC 7606, section 2).
+//!
+//! Our choice: those behind the close of the session don't count, since a run doesn't read them.
+
+ghost use Rattle.std.specs.Prelude.{◌<◌};
+
+use rs_host::{Unready, open_file};
+use rs_mrt::{
+    BoundedReader, Bounds, Entry, Read, Record, RecordReader, Source, SourceFault, entry,
+};
+use rs_session::PeerId;
+use rs_update::{Errors, Message, MessageFault, read_message_by};
+use std::alloc::{AllocError, Global};
+use std::fs::Files;
+
+// What a record is to the session of a peer, if its faults are handled by RFC 7606.
+#[derive(Clone, Copy, PartialEq, Eq)]
+enum Told {
+    // An UPDATE that is treated as withdrawn.
+    Treated,
+    // Something else after which the session goes on.
+    Other,
+    // The last that is read: the session closes, or the records end.
+    Last,
+    // Nothing: a read failed.
+    Unread,
+}
+
+/// How many UPDATEs of a peer are treated as withdrawn by RFC 7606, in the file at a path, which is read within bounds.
+/// Fails with `Unread` where the file can't be read, with `Memory` where memory is refused.
+pub(crate) fn treated_at<R: AllocGlobal + Files>(
+    rt: &R,
+    path: &str,
+    peer: PeerId,
+    bounds: Bounds,
+) -> Result<u64, Unready> {
+    let alloc = rt.alloc();
+    let counted = match open_file(rt, path) {
+        Ok(file) => count_treated(alloc, BoundedReader::new(alloc, file, bounds), peer)?,
+        Err(fault) => return Err(Unready::by_file(alloc, fault, path)),
+    };
+    match counted {
+        Some(count) => Ok(count),
+        None => Err(Unready::by_path(alloc, path)),
+    }
+}
+
+// How many UPDATEs of a peer are treated as withdrawn, of those that a reader gives; none where a read fails.
+fn count_treated<R: Read + Drop>(
+    alloc: Global,
+    reader: R,
+    peer: PeerId,
+) -> Result<Option<u64>, AllocError>
+    requires { R.failures reader < u64.MAX }
+{
+    let mut records = RecordReader::new(reader);
+    let mut count: u64 = 0;
+    for _ in 0..u64::MAX {
+        match told_next(alloc, &mut records, peer)? {
+            Told::Treated => count = count.saturating_add(1),
+            Told::Other => {}
+            Told::Last => break,
+            Told::Unread => return Ok(None),
+        }
+    }
+    Ok(Some(count))
+}
+
+// Goes to the next record, and tells what it is to the session of a peer.
+fn told_next<S: Source>(alloc: Global, records: &mut S, peer: PeerId) -> Result<Told, AllocError> {
+    match records.advance() {
+        Ok(true) => {}
+        Ok(false) | Err(SourceFault::Mrt(_)) => return Ok(Told::Last),
+        Err(SourceFault::Read) => return Ok(Told::Unread),
+    }
+    match records.shown() {
+        Some(record) => told_by(alloc, &record, peer),
+        None => Ok(Told::Last),
+    }
+}
+
+// What a record is to the session of a peer.
+fn told_by(alloc: Global, record: &Record<'_>, peer: PeerId) -> Result<Told, AllocError> {
+    match entry(record) {
+        Ok(
+            Entry::Message {
+                peer_as,
+                peer: address,
+                message,
+            },
+        ) if peer_as == peer.asn && address == peer.address => told_in(alloc, message),
+        Ok(_) => Ok(Told::Other),
+        Err(_) => Ok(Told::Last),
+    }
+}
+
+// What a message is to the session of its peer.
+fn told_in(alloc: Global, message: &[u8]) -> Result<Told, AllocError> {
+    match read_message_by(alloc, Errors::Rfc7606, message) {
+        Ok(Message::Treated { .. }) => Ok(Told::Treated),
+        Ok(_) => Ok(Told::Other),
+        Err(MessageFault::Bgp { .. }) => Ok(Told::Last),
+        Err(MessageFault::Memory) => Err(AllocError),
+    }
+}
