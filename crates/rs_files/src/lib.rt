@@ -4,7 +4,7 @@
 //!
 //! Reading order: `recordings` (the whole answer), `recorded_file`, `listing_answer`, `listing_pieces` and `listing_toml`
 //! (what recorded files hold, as a text, as JSON and as a configuration). What a run would meet: `checking` (the whole
-//! answer), `refused`, `unreadable`. Its lines: `found`, `checked_peer` (those of a
+//! answer), `refused` and `plan_words` (why it is refused), `unreadable`. Its lines: `found`, `checked_peer` (those of a
 //! peer), `treated` (how many UPDATEs are treated as withdrawn). Where a session closes before the end of its file:
 //! `early_close` and `placed_records`.
 //! Sessions of a table: `starting` (the whole answer), `listed` (which peers get a file), `session_files` (the files,
@@ -23,6 +23,7 @@ mod listing_pieces;
 mod listing_toml;
 mod peer_lines;
 mod placed_records;
+mod plan_words;
 mod recorded_file;
 mod recordings;
 mod refused;

@@ -1,13 +1,12 @@
 //! Why a configuration would be refused: the line of a run, and what helps to find the place.
 
-use rs_choice::PlanFault;
+use crate::plan_words::add_plan_fault;
 use rs_host::{on_one_line, setup_line};
 use rs_setup::SetupFault;
 use std::alloc::{AllocError, Global};
-use toml::{Table, Value};
 
 /// The line that tells why the configuration at a path, which is these octets, would be refused: with line and column
-/// where it isn't TOML, and with the names that no peer has. Fails where memory is refused.
+/// if it isn't TOML, and with the fault of its plan in words. Fails if memory is refused.
 pub(crate) fn refusal_text(
     alloc: Global,
     path: &str,
@@ -18,9 +17,7 @@ pub(crate) fn refusal_text(
     let mut text = setup_line(alloc, &path, fault)?;
     match fault {
         SetupFault::NotToml => add_place(alloc, &mut text, octets)?,
-        SetupFault::Plan(PlanFault::UnknownName(peer)) => {
-            add_unknown(alloc, &mut text, octets, *peer)?
-        }
+        SetupFault::Plan(fault) => add_plan_fault(alloc, &mut text, octets, *fault)?,
         _ => {}
     }
     text.push('\n')?;
@@ -52,59 +49,4 @@ fn place_behind(octets: &[u8]) -> (usize, usize) {
         }
     }
     (line, column)
-}
-
-// Adds the names in a peer's `refuse_from` that no peer has.
-fn add_unknown(
-    alloc: Global,
-    text: &mut String,
-    octets: &[u8],
-    peer: usize,
-) -> Result<(), AllocError> {
-    let Ok(table) = toml::table_from_slice(alloc, octets) else {
-        return Ok(());
-    };
-    let peers = peers_of(&table);
-    let Some(refusing) = peers.get(peer) else {
-        return Ok(());
-    };
-    for name in names_refused(refusing) {
-        add_unless_known(alloc, text, peers, name)?;
-    }
-    Ok(())
-}
-
-// Adds a name, unless a peer has it.
-fn add_unless_known(
-    alloc: Global,
-    text: &mut String,
-    peers: &[Value],
-    name: &Value,
-) -> Result<(), AllocError> {
-    let Some(name) = name.as_str() else {
-        return Ok(());
-    };
-    for peer in peers {
-        if peer.get("name").and_then(Value::as_str) == Some(name) {
-            return Ok(());
-        }
-    }
-    let name = on_one_line(alloc, name)?;
-    write!(text, ": no peer is named {name}")
-}
-
-// The peers of a configuration.
-fn peers_of(table: &Table) -> &[Value] {
-    match table.get("peer") {
-        Some(Value::Array(peers)) => peers,
-        _ => &[],
-    }
-}
-
-// The names that a peer refuses.
-fn names_refused(peer: &Value) -> &[Value] {
-    match peer.get("refuse_from") {
-        Some(Value::Array(names)) => names,
-        _ => &[],
-    }
 }
