@@ -1,5 +1,5 @@
 -- Which peer a word of a command line names (docs/LOOKING_GLASS.md, "Names of peers"); ours.
-use Rattle.std.specs.Prelude.{◌≡◌, ◌⊎◌, ◌+◌, ◌<◌, ◌≤◌, ℕ, List, Some, length, slice_get}
+use Rattle.std.specs.Prelude.{◌≡◌, ◌⊎◌, ◌+◌, ◌++◌, ◌<◌, ◌≤◌, ℕ, List, Some, codes, length, slice_get}
 use Rattle.std.specs.Fmt.{decimal}
 use Rattle.std.specs.Int.{w32, to_be_bytes}
 use Rattle.std.specs.Net.Text.{ipv4_text}
@@ -17,11 +17,15 @@ IsFirstFrom Holds from number = Holds number × NoneFrom Holds from number
 abbrev pub IsNameOf : List ℕ → List Peer → ℕ → Type 0
 IsNameOf word peers number = (peer : Peer) × (slice_get peers number ≡ Some peer) × (peer.name ≡ word)
 
+-- a word writes an AS number in decimal digits, behind `AS` or `as` or alone
+abbrev pub WritesAs : List ℕ → ℕ → Type 0
+WritesAs word asn = (word ≡ decimal asn) ⊎ (word ≡ codes "AS" ++ decimal asn) ⊎ (word ≡ codes "as" ++ decimal asn)
+
 -- a word is the address of the peer of a number, or its AS number
 abbrev pub IsOf : List ℕ → List Peer → ℕ → Type 0
 IsOf word peers number =
     (peer : Peer) × (slice_get peers number ≡ Some peer)
-    × ((word ≡ ipv4_text (to_be_bytes w32 peer.address)) ⊎ (word ≡ decimal peer.asn))
+    × ((word ≡ ipv4_text (to_be_bytes w32 peer.address)) ⊎ WritesAs word peer.asn)
 
 -- a word is the address or the AS number of the peer of a number, and of no other
 abbrev pub IsOfJust : List ℕ → List Peer → ℕ → Type 0

@@ -3,17 +3,18 @@
 ghost use Rattle.std.specs.Prelude.{◌≡◌, ◌↔◌, ◌<◌, true, IfNone, IfOk, IfSome, length};
 ghost use Rattle.std.specs.Int.{to_be_bytes, w32};
 ghost use Rattle.std.specs.Net.Addr.{ipv4_octets};
-ghost use Rattle.rs_glass_shell.specs.Named.{IsFirstFrom, IsNameOf, IsOf, Names, NoneFrom};
+ghost use Rattle.rs_glass_shell.specs.Named.{IsFirstFrom, IsNameOf, IsOf, Names, NoneFrom, WritesAs};
 
+use crate::names::names_text;
 use crate::unanswered::Unanswered;
 use rs_choice::Exchange;
 use rs_setup::Setup;
 use std::alloc::{AllocError, Global};
 use std::net::Ipv4Addr;
 
-/// Finds the number of the peer that a word names: the first one of that name, or, where no peer has that name, the one
-/// that has the address or the AS number that the word is. A word that names no peer is refused, and one that is the
-/// address or the AS number of several. Fails where memory is refused.
+/// Finds the number of the peer that a word names: the first one of that name, or, if no peer has that name, the one
+/// that has the address or the AS number that the word is. An AS number may stand behind `AS` or `as`. A word that names
+/// no peer is refused, and one that is the AS number of several. Fails if memory is refused.
 pub fn peer_named<R: AllocGlobal>(rt: &R, setup: &Setup, word: &str) -> Result<usize, Unanswered>
     ensures known { IfOk result (λ number. number < length setup.now.plan.value.peers) }
     ensures named { IfOk result (Names word.now setup.now.plan.value.peers) }
@@ -36,8 +37,20 @@ fn named_in(alloc: Global, plan: &Exchange, word: &str) -> Result<usize, Unanswe
     };
     match first_of(alloc, plan, word, number + 1)? {
         None => Ok(number),
-        Some(_) => Err(Unanswered::SeveralPeers(String::from_str(alloc, word)?)),
+        Some(_) => Err(several(alloc, plan, plan.peer(number).asn)?),
     }
+}
+
+// That an AS number is that of several peers, with their names.
+fn several(alloc: Global, plan: &Exchange, asn: u32) -> Result<Unanswered, AllocError> {
+    let mut peers = Vec::new(alloc);
+    for number in 0..plan.count() {
+        if plan.peer(number).asn == asn {
+            peers.push(number)?;
+        }
+    }
+    let names = names_text(alloc, plan, &peers)?;
+    Ok(Unanswered::SeveralPeers(asn, names))
 }
 
 /// The first peer of a name.
@@ -89,10 +102,23 @@ fn is_of(alloc: Global, plan: &Exchange, number: usize, word: &str) -> Result<bo
     ensures { IfOk result (λ is. (is ≡ true) ↔ IsOf word.now plan.now.peers number) }
 {
     let peer = plan.peer(number);
-    let (address, asn) = (address_of(peer.address), peer.asn);
+    let address = address_of(peer.address);
     let address = format!(in alloc; "{address}")?;
-    let asn = format!(in alloc; "{asn}")?;
-    Ok(word == address.as_str() || word == asn.as_str())
+    Ok(word == address.as_str() || writes_as(alloc, word, peer.asn)?)
+}
+
+// Whether a word writes an AS number, behind `AS` or `as` or alone.
+fn writes_as(alloc: Global, word: &str, asn: u32) -> Result<bool, AllocError>
+    ensures { IfOk result (λ writes. (writes ≡ true) ↔ WritesAs word.now asn) }
+{
+    let alone = format!(in alloc; "{asn}")?;
+    let behind_capitals = format!(in alloc; "AS{asn}")?;
+    let behind_small_letters = format!(in alloc; "as{asn}")?;
+    Ok(
+        word == alone.as_str()
+            || word == behind_capitals.as_str()
+            || word == behind_small_letters.as_str(),
+    )
 }
 
 // An address as std has it.
