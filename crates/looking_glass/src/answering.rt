@@ -2,7 +2,7 @@
 
 use rs_files::{check, peers, start};
 use rs_glass_shell::{NoReply, Noted, PROGRAM, Reply, Unanswered};
-use rs_host::{DONE, read_arguments};
+use rs_host::{DONE, WordsFault, read_arguments};
 use rs_lists::{diff, missing, summary, table};
 use rs_page::page;
 use rs_query::{Query, read_query};
@@ -21,7 +21,10 @@ pub(crate) fn answer<R: AllocGlobal + Env + Files + Threads + Wait + Sync + Prin
 where
     R::File: Send,
 {
-    let query = command_line(rt)?;
+    let query = match command_line(rt) {
+        Ok(query) => query,
+        Err(no_reply) => return help(no_reply),
+    };
     let of_diff = query.is_diff();
     match answer_to(rt, query) {
         Ok(reply) => Ok(reply),
@@ -52,6 +55,21 @@ where
         Query::Summary(query) => summary(rt, &query),
         Query::Page(query) => page(rt, &query),
         Query::Diff(query) => diff(rt, &query),
+    }
+}
+
+// The text of help or the version, if the command line asks for it.
+fn help(no_reply: NoReply) -> Result<Reply, NoReply> {
+    match no_reply.why {
+        Unanswered::Words(WordsFault::Help(text)) => Ok(Reply {
+            text,
+            status: no_reply.status,
+            noted: Noted::Nothing,
+        }),
+        why => Err(NoReply {
+            why,
+            status: no_reply.status,
+        }),
     }
 }
 

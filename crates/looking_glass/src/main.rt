@@ -31,7 +31,7 @@ fn main(rt: HostRuntime) -> ExitCode {
                 }
                 return ExitCode::from(status);
             }
-            Err(_) => NoReply::new(Unanswered::Output, false),
+            Err(error) => NoReply::new(Unanswered::from(error), false),
         },
         Err(no_reply) => no_reply,
     };
@@ -57,9 +57,10 @@ fn note<R: AllocGlobal + Files + Eprint>(rt: &R, noted: Noted) {
     }
 }
 
-// Says why there is no answer, and gives the status of that.
+// Says why there is no answer, and gives the status of that. A reader who wants no more is told nothing.
 fn end<R: AllocGlobal + Print + Eprint>(rt: &R, no_reply: &NoReply) -> ExitCode {
     let words = match &no_reply.why {
+        Unanswered::Closed => return ExitCode::from(no_reply.status),
         Unanswered::Words(fault) => Some(fault),
         _ => None,
     };

@@ -3,7 +3,7 @@ use Rattle.std.specs.Prelude.{[], ◌++◌, codes, string_bytes}
 use Rattle.std.specs.Fmt.{decimal}
 use Rattle.rs_glass_shell.specs.declared.unanswered.Unanswered.{Unanswered}
 use Rattle.rs_glass_shell.specs.declared.unanswered.Unanswered.TheVariants.{Words, Setup, NoPeer, SeveralPeers, Unread}
-use Rattle.rs_glass_shell.specs.declared.unanswered.Unanswered.TheVariants.{AtFault, Unwritten, Unsettled, Output}
+use Rattle.rs_glass_shell.specs.declared.unanswered.Unanswered.TheVariants.{AtFault, Unwritten, Unsettled, Closed, Output}
 use Rattle.rs_glass_shell.specs.declared.unanswered.Unanswered.TheVariants.{Memory}
 use Rattle.rs_host.specs.Line.{Text, named as named_by, one_line, out_of_memory, unread_line}
 use Rattle.rs_host.specs.Refusal.{setup_line, words_text}
@@ -15,7 +15,8 @@ program = codes "looking_glass"
 abbrev pub named : Text → Text
 named text = named_by program text
 
--- the line of each reason; of help, the version and a refused command line the text of `clap`
+-- the line of each reason; of help, the version and a refused command line the text of `clap`; none if a reader closed
+-- its pipe
 abbrev pub line_of : Unanswered → Text
 line_of (Words fault) = words_text program fault
 line_of (Setup fault) = setup_line program fault
@@ -26,5 +27,6 @@ line_of (Unread path) = unread_line program (string_bytes path)
 line_of (AtFault what) = named (one_line (string_bytes what))
 line_of (Unwritten path) = named (codes "cannot write " ++ one_line (string_bytes path))
 line_of (Unsettled name) = named (codes "peer " ++ (one_line (string_bytes name) ++ codes " unsettled"))
+line_of Closed = []
 line_of Output = named (codes "cannot write standard output")
 line_of Memory = named out_of_memory

@@ -3,9 +3,9 @@
 use Rattle.std.specs.Prelude.{ℕ, ◌==◌, Bool, if◌then◌else◌}
 use Rattle.rs_glass_shell.specs.declared.unanswered.Unanswered.{Unanswered}
 use Rattle.rs_glass_shell.specs.declared.unanswered.Unanswered.TheVariants.{Words, Setup, NoPeer, SeveralPeers, Unread}
-use Rattle.rs_glass_shell.specs.declared.unanswered.Unanswered.TheVariants.{AtFault, Unwritten, Unsettled, Output}
+use Rattle.rs_glass_shell.specs.declared.unanswered.Unanswered.TheVariants.{AtFault, Unwritten, Unsettled, Closed, Output}
 use Rattle.rs_glass_shell.specs.declared.unanswered.Unanswered.TheVariants.{Memory}
-use Rattle.rs_host.specs.Status.{failed, out_of_memory, refused, setup_status, words_status}
+use Rattle.rs_host.specs.Status.{done, failed, out_of_memory, refused, setup_status, words_status}
 use Rattle.rs_host.specs.declared.unready.Unready.{Unready}
 use Rattle.rs_host.specs.declared.unready.Unready.TheVariants as unready
 
@@ -19,6 +19,7 @@ status_of (Unread path) = failed
 status_of (AtFault what) = failed
 status_of (Unwritten path) = failed
 status_of (Unsettled name) = failed
+status_of Closed = done
 status_of Output = failed
 status_of Memory = out_of_memory
 

@@ -13,8 +13,8 @@ use std::alloc::{AllocError, Global};
 pub const PROGRAM: &str = "looking_glass";
 
 /// The line that says why a question isn't answered, without a line break at its end; for help and a refused command
-/// line the whole text. Control characters in a key, a name or a path are escaped, so that the line stays one. Fails
-/// where memory is refused.
+/// line the whole text. If a reader closed its pipe, it is empty. Control characters in a key, a name or a path are
+/// escaped, so that the line stays one. Fails if memory is refused.
 pub fn line(alloc: Global, unanswered: &Unanswered) -> Result<String, AllocError>
     ensures { IfOk result (λ line. string_bytes line ≡ line_of unanswered.now) }
 {
@@ -42,6 +42,7 @@ pub fn line(alloc: Global, unanswered: &Unanswered) -> Result<String, AllocError
             let name = on_one_line(alloc, name)?;
             format!(in alloc; "looking_glass: peer {name} unsettled")
         }
+        Unanswered::Closed => Ok(String::new(alloc)),
         Unanswered::Output => program_line(alloc, PROGRAM, OUTPUT_TEXT),
         Unanswered::Memory => program_line(alloc, PROGRAM, MEMORY_TEXT),
     }

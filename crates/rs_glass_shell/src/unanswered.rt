@@ -3,10 +3,14 @@
 ghost use Rattle.std.specs.Prelude.{◌≡◌};
 ghost use Rattle.rs_glass_shell.specs.Status.{diff_status_of, status_in, status_of, unanswered_by};
 
-use rs_host::{FAILED, OUT_OF_MEMORY, REFUSED, Unready, WordsFault, setup_status, words_status};
+use rs_host::{
+    DONE, FAILED, OUT_OF_MEMORY, REFUSED, Unready, WordsFault, setup_status, words_status,
+};
 use rs_query::QueryFault;
 use rs_setup::SetupFault;
 use std::alloc::AllocError;
+use std::io;
+use std::io::ErrorKind;
 
 /// Why a question isn't answered.
 #[derive(Drop)]
@@ -27,6 +31,8 @@ pub enum Unanswered {
     Unwritten(String),
     /// Not all changes of the peer of this name are known to be in the tables.
     Unsettled(String),
+    /// Whoever reads the answer closed its pipe, and so wants no more of it.
+    Closed,
     /// Standard output can't be written.
     Output,
     /// Memory was refused.
@@ -34,7 +40,7 @@ pub enum Unanswered {
 }
 
 impl Unanswered {
-    /// The status with which the program ends. 0: help or the version was asked for. 1: the command line or the
+    /// The status with which the program ends. 0: help or the version was asked for, or a reader wants no more. 1: the command line or the
     /// configuration is refused. 2: a file or a device failed. 3: memory was refused.
     pub fn status(&self) -> u8
         ensures { result ≡ status_of self.now }
@@ -48,6 +54,7 @@ impl Unanswered {
             Unanswered::AtFault(_) => FAILED,
             Unanswered::Unwritten(_) => FAILED,
             Unanswered::Unsettled(_) => FAILED,
+            Unanswered::Closed => DONE,
             Unanswered::Output => FAILED,
             Unanswered::Memory => OUT_OF_MEMORY,
         }
@@ -103,6 +110,16 @@ impl From<QueryFault> for NoReply {
 impl From<AllocError> for Unanswered {
     fn from(_refused: AllocError) -> Unanswered {
         Unanswered::Memory
+    }
+}
+
+/// Why standard output takes no more.
+impl From<io::Error> for Unanswered {
+    fn from(error: io::Error) -> Unanswered {
+        match error.kind() {
+            ErrorKind::BrokenPipe => Unanswered::Closed,
+            _ => Unanswered::Output,
+        }
     }
 }
 

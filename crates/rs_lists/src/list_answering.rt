@@ -118,13 +118,9 @@ pub(crate) fn print_page<R: Print>(rt: &R, page: &mut String) -> Result<(), Unan
     if page.len() < PAGE {
         return Ok(());
     }
-    match rt.write_all(page.as_bytes()) {
-        Ok(()) => {
-            page.clear();
-            Ok(())
-        }
-        Err(_) => Err(Unanswered::Output),
-    }
+    rt.write_all(page.as_bytes())?;
+    page.clear();
+    Ok(())
 }
 
 // Prints the rows that were written, where they are many.
