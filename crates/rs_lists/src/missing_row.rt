@@ -1,14 +1,16 @@
-//! A route that a client does not get, as a row of a list.
+//! A route that a client does not get, as a row of a list. As a text it is short: the path attributes are in CSV and JSON.
 
 use crate::layout::{ANSWER_WIDTH, AS_WIDTH, PREFIX_WIDTH};
 use rs_choice::Exchange;
-use rs_glass_shell::{Because, PrefixText, answer_name, hand_peer, hand_reason, peer_name};
-use rs_rows::{Column, RowWriter};
+use rs_glass_shell::{
+    Because, PrefixText, answer_name, hand_attributes, hand_peer, hand_reason, peer_name,
+};
+use rs_rows::{Column, Form, RowWriter};
 use rs_survey::{MissingOn, MissingRoute};
 use rs_table::Route;
 
 // The columns, with those of peers so wide.
-pub(crate) fn missing_columns(names: usize) -> [Column; 8] {
+pub(crate) fn missing_columns(names: usize) -> [Column; 14] {
     [
         Column::new("prefix", "prefix", PREFIX_WIDTH),
         Column::new("peer", "peer", names),
@@ -18,6 +20,12 @@ pub(crate) fn missing_columns(names: usize) -> [Column; 8] {
         Column::new("answer", "answer", ANSWER_WIDTH),
         Column::of_csv("reason"),
         Column::new("because", "because", 0),
+        Column::of_csv("next_hop"),
+        Column::of_csv("path"),
+        Column::of_csv("origin"),
+        Column::of_csv("med"),
+        Column::of_csv("communities"),
+        Column::of_csv("large_communities"),
     ]
 }
 
@@ -43,6 +51,9 @@ pub(crate) fn hand_missing(
         explanation,
     };
     rows.shown_words("because", &because);
+    if rows.form() != Form::Text {
+        hand_attributes(rows, one.route.attributes);
+    }
     rows.end_row();
 }
 
