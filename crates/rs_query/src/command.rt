@@ -15,9 +15,9 @@ const AFTER_HELP: &str = "Example:
   looking_glass why --config exchange.toml --client b --prefix 192.0.2.0/24
 
 Status:
-  0  the question is answered, or help or the version was asked for
-  1  the command line or the configuration is refused
-  2  a file or a device failed
+  0  the question is answered, or help or the version was asked for; by diff: nothing differs
+  1  the command line or the configuration is refused; by diff: something differs
+  2  a file or a device failed; by diff also: the command line or a configuration is refused
   3  memory was refused
   5  by check: a session closes before the end of its file, or there is a note on more than a
      tail that is left out";
