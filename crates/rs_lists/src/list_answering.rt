@@ -12,7 +12,7 @@ use rs_host::configuration;
 use rs_query::{MissingQuery, SummaryQuery, TableQuery};
 use rs_rows::{Column, Form, RowWriter};
 use rs_setup::Setup;
-use rs_survey::{AskedRows, count_missing, count_rows, summary_on_threads};
+use rs_survey::{AskedRows, count_missing, count_rows, count_unserved, summary_on_threads};
 use rs_table::Tables;
 use std::alloc::{AllocError, Global};
 use std::fs::Files;
@@ -76,9 +76,14 @@ fn missing_text<R: AllocGlobal + Threads + Sync + Print>(
     let wanted = Wanted {
         from,
         because: query.because,
+        gets_none: query.gets_none,
     };
     if query.count {
-        let counts = count_missing(rt, rt.alloc(), tables, client, from)?;
+        let counts = if query.gets_none {
+            count_unserved(rt, rt.alloc(), tables, client, from)?
+        } else {
+            count_missing(rt, rt.alloc(), tables, client, from)?
+        };
         return Ok(counts_text(rt.alloc(), tables.plan(), query.form, wanted, &counts)?);
     }
     list_missing(rt, tables, client, query.form, wanted)

@@ -114,7 +114,7 @@ fn rows_from(
     rows.take()
 }
 
-// Hands over the rows on a prefix.
+// Hands over the rows on a prefix, if it is one of those that are asked for.
 fn hand_rows(
     rows: &mut RowWriter<'_>,
     listing: &Listing<'_>,
@@ -123,8 +123,17 @@ fn hand_rows(
     requires client { listing.now.client < length listing.now.tables.now.plan.peers }
     requires routes { AreRoutesOf listing.now.tables.now (entry_of on.now) }
 {
-    let from = listing.wanted.from;
-    let missing = missing_on(listing.alloc, listing.tables, listing.client, from, on)?;
+    let wanted = listing.wanted;
+    if wanted.gets_none && on.best(listing.client).is_some() {
+        return Ok(());
+    }
+    let missing = missing_on(
+        listing.alloc,
+        listing.tables,
+        listing.client,
+        wanted.from,
+        on,
+    )?;
     hand_wanted(rows, listing, &missing);
     Ok(())
 }

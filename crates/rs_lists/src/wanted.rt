@@ -4,13 +4,15 @@ use rs_choice::Step;
 use rs_explain::{ConditionKind, MissingReason};
 use rs_query::AskedReason;
 
-// Which of them: of which sender, and for which answer or reason.
+// Which of them: of which sender, for which answer or reason, and to which prefixes.
 #[derive(Clone, Copy, Debug, PartialEq, Eq)]
 pub(crate) struct Wanted {
     // The number of the sender; none for all senders.
     pub(crate) from: Option<usize>,
     // The answer or the reason; none for all of them.
     pub(crate) because: Option<AskedReason>,
+    // Whether only those to prefixes for which the client gets no route at all.
+    pub(crate) gets_none: bool,
 }
 
 impl Wanted {

@@ -83,7 +83,7 @@ const COMMANDS: [Entry; 10] = [
         "missing",
         "Which routes of other peers does a client not get, and why?",
         &[
-            CONFIG, CLIENT, FROM, BECAUSE, COUNT, UNTIL, ERRORS, SHARDS, CSV, JSON,
+            CONFIG, CLIENT, FROM, BECAUSE, GETS, COUNT, UNTIL, ERRORS, SHARDS, CSV, JSON,
         ],
     ),
     (
@@ -314,6 +314,13 @@ const BECAUSE: Row = Row {
     name: "because",
     takes: Takes::OneOf("REASON", &REASONS),
     help: "Answer or reason for which routes are listed",
+    ..FLAG
+};
+
+const GETS: Row = Row {
+    name: "gets",
+    takes: Takes::OneOf("WHAT", &["none"]),
+    help: "Lists only routes to prefixes for which the client gets no route at all",
     ..FLAG
 };
 

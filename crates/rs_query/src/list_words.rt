@@ -34,6 +34,7 @@ pub(crate) fn missing_of(
         client: text(alloc, matches, "client")?,
         from: optional(alloc, matches, "from")?,
         because: because(alloc, matches)?,
+        gets_none: matches.get_str("gets") == Some("none"),
         count: matches.get_flag("count"),
         form: form_of(matches),
     })

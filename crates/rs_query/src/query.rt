@@ -163,6 +163,8 @@ pub struct MissingQuery {
     pub from: Option<String>,
     /// The answer or the reason for which routes are listed; all of them where it isn't given.
     pub because: Option<AskedReason>,
+    /// Whether only routes to prefixes are listed for which the client gets no route at all.
+    pub gets_none: bool,
     /// Whether the routes are counted, not listed.
     pub count: bool,
     /// How the list is written.

@@ -5,8 +5,8 @@ use Rattle.rs_update.specs.IpPrefix.{IpPrefix}
 use Rattle.rs_table.specs.Content.{TablesContent}
 use Rattle.rs_survey.specs.declared.finding.Finding.{Finding}
 use Rattle.rs_survey.specs.declared.on_threads.Counted.{Counted}
-use Rattle.rs_survey.specs.declared.on_threads.Counted.TheVariants.{Summary, Missing}
-use Rattle.rs_survey.specs.MissingCounts.{missing_findings_on}
+use Rattle.rs_survey.specs.declared.on_threads.Counted.TheVariants.{Summary, Missing, Unserved}
+use Rattle.rs_survey.specs.MissingCounts.{missing_findings_on, unserved_findings_on}
 use Rattle.rs_survey.specs.Summary.{findings_on}
 use Rattle.rs_survey.specs.Tally.{IsTally, TallyContent}
 
@@ -14,11 +14,13 @@ use Rattle.rs_survey.specs.Tally.{IsTally, TallyContent}
 abbrev pub IsOfPeer : TablesContent → Counted → Type 0
 IsOfPeer tables Summary = Unit {0}
 IsOfPeer tables (Missing client from) = client < length tables.plan.peers
+IsOfPeer tables (Unserved client from) = client < length tables.plan.peers
 
 -- what is counted on a prefix
 abbrev pub counted_on : TablesContent → Counted → IpPrefix → List Finding
 counted_on tables Summary prefix = findings_on tables prefix
 counted_on tables (Missing client from) prefix = missing_findings_on tables client from prefix
+counted_on tables (Unserved client from) prefix = unserved_findings_on tables client from prefix
 
 -- it is counted on some prefixes
 pub record CountsOn (tables : TablesContent) (what : Counted) (some : List IpPrefix) (tally : TallyContent) : Type 0

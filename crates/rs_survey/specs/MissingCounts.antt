@@ -1,11 +1,11 @@
 -- How many routes of each sender a client does not get, for each reason (RFC 4271, section 9.1; RFC 7947, section 2.3).
-use Rattle.std.specs.Prelude.{ℕ, List, Option, None, Some, map}
-use Rattle.std.specs.List.{filter_map}
+use Rattle.std.specs.Prelude.{ℕ, if◌then◌else◌, List, [], Option, None, Some, is_none, map}
+use Rattle.std.specs.List.{filter_map, flat_map}
 use Rattle.std.specs.Option.{option_map, option_or}
 use Rattle.rs_update.specs.IpPrefix.{IpPrefix}
 use Rattle.rs_choice.specs.Decision.{decision_steps, standing_of}
 use Rattle.rs_table.specs.Content.{TablesContent}
-use Rattle.rs_table.specs.Table.{TableRow, candidates_of}
+use Rattle.rs_table.specs.Table.{TableRow, best_of, candidates_of, prefixes_held}
 use Rattle.rs_explain.specs.declared.missing_reason.MissingReason.{MissingReason}
 use Rattle.rs_explain.specs.declared.missing_reason.MissingReason.TheVariants.{Ineligible, Lost}
 use Rattle.rs_explain.specs.MissingReasons.{reason_in, reason_of_refusal}
@@ -39,6 +39,15 @@ missing_findings_on tables client from prefix =
 -- and of the whole list of these routes
 abbrev pub missing_findings : TablesContent → ℕ → Option ℕ → List Finding
 missing_findings tables client from = filter_map (missing_finding tables client) (missing_of tables client from)
+
+-- those on a prefix, if the client gets no route to it at all
+abbrev pub unserved_findings_on : TablesContent → ℕ → Option ℕ → IpPrefix → List Finding
+unserved_findings_on tables client from prefix =
+    if is_none (best_of tables client prefix) then missing_findings_on tables client from prefix else []
+
+-- and those on all prefixes to which the client gets no route
+abbrev pub unserved_findings : TablesContent → ℕ → Option ℕ → List Finding
+unserved_findings tables client from = flat_map (unserved_findings_on tables client from) (prefixes_held tables.ribs)
 
 -- ---- the same by an explanation
 

@@ -35,7 +35,7 @@ pub use differences::Differences;
 pub use finding::Finding;
 pub use laws::the_step_that_is_counted_is_explained;
 pub use on_prefix::{MissingOn, MissingRoute, missing_on};
-pub use on_threads::{count_missing, summary_on_threads};
+pub use on_threads::{count_missing, count_unserved, summary_on_threads};
 pub use prefix_list::every_prefix;
 pub use rs_explain::{ConditionKind, MissingReason};
 pub use tally::Tally;

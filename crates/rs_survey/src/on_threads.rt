@@ -9,12 +9,12 @@ ghost use Rattle.rs_table.specs.PrefixRoutes.{AreRoutesOf, entry_of};
 ghost use Rattle.rs_table.specs.Table.{prefixes_held};
 ghost use Rattle.rs_survey.specs.Counted.{CountsOn, IsOfPeer, counted_on};
 ghost use Rattle.rs_survey.specs.Grows.{Grows};
-ghost use Rattle.rs_survey.specs.MissingCounts.{missing_findings};
+ghost use Rattle.rs_survey.specs.MissingCounts.{missing_findings, unserved_findings};
 ghost use Rattle.rs_survey.specs.Summary.{findings_of};
 ghost use Rattle.rs_survey.specs.Tally.{IsTally};
 
 use crate::counting::count_on;
-use crate::missing_counts::count_missing_on;
+use crate::missing_counts::{count_missing_on, count_unserved_on};
 use crate::prefix_list::every_prefix;
 use crate::tally::Tally;
 use rs_table::{PrefixRoutes, Tables};
@@ -31,6 +31,8 @@ enum Counted {
     Summary,
     // The routes that the client of this number does not get: of the sender of this number, or of all senders.
     Missing(usize, Option<usize>),
+    // Those of them to prefixes for which the client gets no route at all.
+    Unserved(usize, Option<usize>),
 }
 
 /// Counts what is found on every prefix of some tables, on four threads: which routes are left and why they are not
@@ -66,6 +68,21 @@ pub fn count_missing<T: Threads + Sync>(
     ensures counts { IfOk result (λ tally. IsTally tally (missing_findings tables.now client from)) }
 {
     count_on_threads(rt, alloc, tables, Counted::Missing(client, from))
+}
+
+/// Counts those of these routes that are to prefixes for which the client gets no route at all, in the same way.
+pub fn count_unserved<T: Threads + Sync>(
+    rt: &T,
+    alloc: Global,
+    tables: &Tables,
+    client: usize,
+    from: Option<usize>,
+) -> Result<Tally, AllocError>
+    requires { client < length tables.now.plan.peers }
+    ensures peers { IfOk result (λ tally. tally.peers ≡ length tables.now.plan.peers) }
+    ensures counts { IfOk result (λ tally. IsTally tally (unserved_findings tables.now client from)) }
+{
+    count_on_threads(rt, alloc, tables, Counted::Unserved(client, from))
 }
 
 // Counts on every prefix.
@@ -128,6 +145,9 @@ impl Counted {
             Counted::Summary => count_on(alloc, tables, on, tally),
             Counted::Missing(client, from) => {
                 count_missing_on(alloc, tables, client, from, on, tally)
+            },
+            Counted::Unserved(client, from) => {
+                count_unserved_on(alloc, tables, client, from, on, tally)
             },
         }
     }
