@@ -12,13 +12,17 @@ use Rattle.std.proofs.lemmas.List.Sums.{sum_by_push}
 use Rattle.rs_inventory.specs.Kind.{is_kind, place_of}
 use Rattle.rs_inventory.specs.Opening.{first_found}
 use Rattle.rs_inventory.specs.Peer.{PeerContent, TellsMore, Told, counted, peer_content}
-use Rattle.rs_inventory.specs.Inventory.{Content, Holds, IsEarliest, IsLatest, TakesNote, WithCounts, earlier_of, first_of, known_of}
-use Rattle.rs_inventory.specs.Inventory.{known_sum, later_of, peer_at, peer_cmp, same_peer, sum_of, told_in, told_of}
+use Rattle.rs_inventory.specs.Back.{TellsBack, back_behind, first_back}
+use Rattle.rs_inventory.specs.Inventory.{Content, Holds, TakesNote, WithCounts, earlier_of, first_of, known_of}
+use Rattle.rs_inventory.specs.Inventory.{later_of, peer_at, peer_cmp, same_peer, sum_of, told_in, told_of}
+use Rattle.rs_inventory.specs.Times.{IsEarliest, IsLatest, known_sum}
+use Rattle.rs_inventory.specs.declared.back.Back.{Back}
 use Rattle.rs_inventory.specs.declared.finding.Finding.{Finding}
 use Rattle.rs_inventory.specs.declared.finding.News.{News}
 use Rattle.rs_inventory.specs.declared.finding.Note.{Note}
 use Rattle.rs_inventory.specs.declared.kind.Kind.{Kind}
 use Rattle.rs_inventory.specs.declared.peer.Peer.{Peer}
+use Rattle.rs_inventory.proofs.BackLemmas.{back-push}
 use Rattle.rs_inventory.proofs.PeerLemmas.{counted-more}
 
 -- ---- times
@@ -149,6 +153,11 @@ holds-more findings one old mid new holds same takes counts = record {
   octets = counts.octets ∙ ap (λ (c : Content). sum_of c.octets one.octets) same ∙ ap (λ o. sum_of o one.octets) holds.octets
       ∙ sym (known_sum-push (map (λ f. f.octets) findings) one.octets)
       ∙ ap (λ l. option_map counted (known_sum l)) (sym (map_push (λ (f : Finding). f.octets) findings one));
+  back = subst (λ (b : Option Back). TellsBack (findings ++ one ∷ []) b)
+      (sym (counts.back ∙ ap (λ (c : Content). first_back c.back (back_behind c.last one.time c.records c.octets)) same
+      ∙ ap (λ (n : ℕ). first_back old.back (back_behind old.last one.time n old.octets)) holds.records
+      ∙ ap (λ (o : Option ℕ). first_back old.back (back_behind old.last one.time (counted (length findings)) o)) holds.octets))
+      (back-push findings one old.back old.last holds.back holds.last);
   recorder = counts.recorder ∙ ap (λ (c : Content). first_of c.recorder one.recorder) same
       ∙ ap (λ o. first_of o one.recorder) holds.recorder
       ∙ sym (first_found-push (λ (f : Finding). f.recorder) findings one);

@@ -1,6 +1,7 @@
 mod SessionLemmas
 mod PeerLemmas
 mod InventoryLemmas
+mod BackLemmas
 mod ItemLemmas
 mod CourseLemmas
 mod FrontLemmas

@@ -8,9 +8,12 @@ use Rattle.std.specs.Option.{option_map}
 use Rattle.std.specs.Ordering.{eq_by_cmp, nat_cmp, ordering_then}
 use Rattle.std.specs.declared.cmp.Ordering.{Ordering}
 use Rattle.rs_mrt.specs.declared.fault.MrtFault.{MrtFault}
+use Rattle.rs_inventory.specs.Back.{TellsBack, back_behind, first_back}
 use Rattle.rs_inventory.specs.Kind.{is_kind, place_of}
 use Rattle.rs_inventory.specs.Opening.{first_found}
 use Rattle.rs_inventory.specs.Peer.{PeerContent, Told, counted, peer_content}
+use Rattle.rs_inventory.specs.Times.{IsEarliest, IsLatest, known_sum}
+use Rattle.rs_inventory.specs.declared.back.Back.{Back}
 use Rattle.rs_inventory.specs.declared.compression.Compression.{Compression}
 use Rattle.rs_inventory.specs.declared.finding.Finding.{Finding}
 use Rattle.rs_inventory.specs.declared.finding.Note.{Note}
@@ -30,20 +33,9 @@ pub record Content : Type 0 where
   pub first : Option ℕ
   pub last : Option ℕ
   pub octets : Option ℕ
+  pub back : Option Back
   pub recorder : Option Peer
   pub peers : List (Peer × PeerContent)
-
--- ---- times
-
--- the earliest of these times, where there are any
-abbrev pub IsEarliest : List ℕ → Option ℕ → Type 0
-IsEarliest times None = times ≡ []
-IsEarliest times (Some time) = Contains times time × All (λ other. time ≤ other) times
-
--- the latest of these times, where there are any
-abbrev pub IsLatest : List ℕ → Option ℕ → Type 0
-IsLatest times None = times ≡ []
-IsLatest times (Some time) = Contains times time × All (λ other. other ≤ time) times
 
 -- ---- peers
 
@@ -69,18 +61,10 @@ known_of (one ∷ later) = Some (peer_content (one ∷ later))
 abbrev pub peer_at : List (Peer × PeerContent) → Peer → Option PeerContent
 peer_at peers peer = lookup (is_at (peer_cmp peer)) peers
 
--- ---- octets
-
--- the sum of numbers, where each is known
-abbrev pub known_sum : List (Option ℕ) → Option ℕ
-known_sum [] = Some 0
-known_sum (None ∷ later) = None
-known_sum (Some n ∷ later) = option_map (λ m. n + m) (known_sum later)
-
 -- ---- all records
 
 -- what these records hold is this: as many records, as many of each kind, their earliest and latest times,
--- their octets, the first recorder that is named, and of each peer what its records say
+-- their octets, where times go back, the first recorder that is named, and of each peer what its records say
 pub record Holds (findings : List Finding) (content : Content) : Type 0 where
   pub records : content.records ≡ counted (length findings)
   pub kinds : (kind : Kind)
@@ -88,6 +72,7 @@ pub record Holds (findings : List Finding) (content : Content) : Type 0 where
   pub first : IsEarliest (map (λ f. f.time) findings) content.first
   pub last : IsLatest (map (λ f. f.time) findings) content.last
   pub octets : content.octets ≡ option_map counted (known_sum (map (λ f. f.octets) findings))
+  pub back : TellsBack findings content.back
   pub recorder : content.recorder ≡ first_found (λ f. f.recorder) findings
   pub peers : (peer : Peer) → peer_at content.peers peer ≡ known_of (told_of peer findings)
 
@@ -137,5 +122,6 @@ pub record WithCounts (one : Finding) (old new : Content) : Type 0 where
   pub first : new.first ≡ Some (earlier_of old.first one.time)
   pub last : new.last ≡ Some (later_of old.last one.time)
   pub octets : new.octets ≡ sum_of old.octets one.octets
+  pub back : new.back ≡ first_back old.back (back_behind old.last one.time old.records old.octets)
   pub recorder : new.recorder ≡ first_of old.recorder one.recorder
   pub peers : new.peers ≡ old.peers

@@ -6,6 +6,8 @@ pub mod Course  -- how they begin and go on
 pub mod Peer  -- what one peer says
 pub mod Finding  -- what one record adds
 pub mod Outline  -- what it says of a peer
+pub mod Times  -- the times and octets of records
+pub mod Back  -- where times go back
 pub mod Inventory  -- what all of them hold
 pub mod Compression  -- how a compressed file begins
 -- How it is read:

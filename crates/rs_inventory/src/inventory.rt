@@ -9,6 +9,7 @@ ghost use Rattle.rs_inventory.specs.Kind.{place_of};
 ghost use Rattle.rs_inventory.specs.Peer.{TellsMore, peer_content};
 ghost use Rattle.rs_inventory.specs.declared.depth.Depth.TheVariants.{Outline};
 
+use crate::back::{Back, back_with};
 use crate::compression::Compression;
 use crate::depth::Depth;
 use crate::finding::{Finding, News, Note};
@@ -31,6 +32,7 @@ pub struct Inventory {
     last: Option<u32>,
     // How many octets the whole records have, where that is known.
     octets: Option<u64>,
+    back: Option<Back>,
     recorder: Option<Peer>,
     peers: BTreeMap<Peer, PeerRecords>,
 }
@@ -48,6 +50,7 @@ impl Model for Inventory {
       first = i.first;
       last = i.last;
       octets = i.octets;
+      back = i.back;
       recorder = i.recorder;
       peers = i.peers.entries;
     } };
@@ -67,6 +70,7 @@ impl Inventory {
             first: None,
             last: None,
             octets: Some(0),
+            back: None,
             recorder: None,
             peers: BTreeMap::new(alloc),
         }
@@ -122,6 +126,13 @@ impl Inventory {
     fn count(&mut self, finding: &Finding)
         ensures { WithCounts finding.now self.old self.new }
     {
+        self.back = back_with(
+            self.back,
+            self.last,
+            finding.time,
+            self.records,
+            self.octets,
+        );
         let place = finding.kind.place();
         self.kinds[place] = self.kinds[place].saturating_add(1);
         self.records = self.records.saturating_add(1);
@@ -179,6 +190,13 @@ impl Inventory {
         ensures { result ≡ self.now.octets }
     {
         self.octets
+    }
+
+    /// Where times go back by more than a minute the first time; none where they don't.
+    pub fn back(&self) -> Option<Back>
+        ensures { result ≡ self.now.back }
+    {
+        self.back
     }
 
     /// The AS number and the address of the recorder, as the first message of a session with four-octet AS numbers

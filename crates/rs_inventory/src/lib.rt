@@ -2,11 +2,12 @@
 //! 4271).
 //!
 //! Reading order, files and records first: `compression` (a file that isn't records), `kind` (what a record is),
-//! `opening` (what an OPEN tells). Then what one record adds: `depth`, `finding` and `outline`. Then what is known of one peer:
-//! `sessions`, `course` and `peer`. Then what is known of one file: `inventory`. Last how a file is read: `front` and
-//! `reading`.
+//! `opening` (what an OPEN tells). Then what one record adds: `depth`, `finding` and `outline`. Then what is known of one
+//! peer: `sessions`, `course` and `peer`. Then what is known of one file: `back` (where its times go back) and
+//! `inventory`. Last how a file is read: `front` and `reading`.
 #![tactic(auto)]
 
+mod back;
 mod compression;
 mod course;
 mod depth;
@@ -20,6 +21,7 @@ mod peer;
 mod reading;
 mod sessions;
 
+pub use back::Back;
 pub use compression::Compression;
 pub use course::Course;
 pub use finding::{News, Note, recorder};
