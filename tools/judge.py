@@ -46,8 +46,10 @@ class Bench:
         line = [self.program, "--config", "exchange.toml", "--out", "tables", "--time", str(time), *words]
         ran = subprocess.run(line, cwd=self.folder.name, capture_output=True)
         report, dumps = slow_reading.outcome(server, peers, [octets for _, octets in files], time, errors)
-        if ran.returncode or wrong_notes(server, peers, report, files, ran.stderr.decode(errors="replace")):
-            return f"status {ran.returncode}: {ran.stderr.decode(errors='replace')}"
+        told, strict = ran.stderr.decode(errors="replace"), "--strict" in words
+        clean = not strict or not told and all(line.endswith(" close end") for line in report.splitlines() if line.startswith("peer "))
+        if ran.returncode != (0 if clean else 5) or wrong_notes(server, peers, report, files, told, strict):
+            return f"status {ran.returncode}: {told}"
         if ran.stdout.decode() != report:
             return f"the report is\n{ran.stdout.decode()}and not\n{report}"
         for name, octets in dumps.items():
@@ -57,44 +59,72 @@ class Bench:
         return None
 
 
-def wrong_notes(server, peers, report, files, told):
-    """The lines that may not be told, and those that must be: a run notes nothing but, once for each, of a peer whose file gave only the close, of a file in which
-    the session of a peer closed within a record that the end of the file cuts short, and what `session_notes` and `server_note` say."""
+# What a strict run may tell beside what is judged here.
+DOUBTS = r"(\S+ is empty|their files are empty|a loss at .*|losses are recorded .*|.* not read.*)"
+
+
+def wrong_notes(server, peers, report, files, told, strict):
+    """The lines that may not be told, and those that must be: a run notes nothing but peers whose files gave only the close, files in which the session of a peer
+    closed within a record that the end of the file cuts short, and, if it is strict, what `session_notes` and `server_note` say."""
     silent = set(re.findall(r"^peer (\S+) changes 1 ", report, re.M))
     ends = re.findall(r"^peer .* close (.*)$", report, re.M)
-    cut = {cut_note(name, octets) for (name, octets), end in zip(files, ends) if end in ("mrt M1", "mrt M2")}
-    must = session_notes(peers, ends, files) + server_note(server, files)
-    wrong = [line for line in must if told.splitlines().count(line) != 1]
-    for line in told.splitlines():
-        note = re.match(r"route_server: note: peer (\S+): ", line)
-        if line in must:
+    cut = {note: name for (name, octets), end in zip(files, ends) if end in ("mrt M1", "mrt M2") for note in cut_notes(name, octets, len(files), strict)}
+    must = session_notes(peers, ends, files) + server_note(server, files) if strict else []
+    lines = told.splitlines()
+    wrong = [line for line in must if lines.count(line) != 1]
+    for line in lines:
+        note = re.match(r"route_server: note: peers? ([\w, ]+): (.*)", line)
+        whose = set(re.split(", | and ", note[1])) if note else set()
+        if line in must or strict and note and re.fullmatch(DOUBTS, note[2]) or strict and re.match(r"route_server: note: (\S+.*: times go back|subnet )", line):
             continue
-        if note and note[1] in silent:
-            silent.remove(note[1])
+        if note and whose <= silent:
+            silent -= whose
         elif line in cut:
-            cut.remove(line)
+            cut = {}
         else:
             wrong.append(line)
     return wrong
 
 
-def cut_note(name, octets):
-    """The note on a file that ends within a record."""
+def cut_notes(name, octets, count, strict):
+    """The lines that may tell that a file ends within a record, of one file or of several of `count`."""
     whole = sum(12 + len(record.body) for record in slow_reading.records(octets)[0])
-    return f"route_server: note: {name} ends within its last record, which begins at octet {whole} (octets lost: {len(octets) - whole})"
+    lost = f"octets lost: {len(octets) - whole}"
+    advised = f"{lost}; head -c {whole} cuts it there" if strict and whole else lost
+    lines = [f"{name} ends within its last record, which begins at octet {whole} ({advised})"]
+    lines += [f"{name} and {more} more end within their last records; that of {name} begins at octet {whole} ({lost})" for more in range(1, count)]
+    return [f"route_server: note: {line}" for line in lines]
 
 
 def session_notes(peers, ends, files):
     """The notes on sessions that went on to the end of their files."""
-    lines = []
+    begun, again = [], []
     for peer, end, (_, octets) in zip(peers, ends, files):
-        inside, again = slow_reading.notes(octets, peer) if end == "end" else (False, None)
+        inside, time = slow_reading.notes(octets, peer) if end == "end" else (False, None)
         if inside:
-            lines.append(f"peer {peer.name}: the recording begins in mid-session; routes announced before are missing")
-        if again is not None:
-            shown = datetime.datetime.fromtimestamp(again, datetime.timezone.utc).strftime("%Y-%m-%d %H:%M:%S")
-            lines.append(f"peer {peer.name}: a session began again at {shown} UTC without a recorded loss; its earlier routes stay")
+            begun.append(peer.name)
+        if time is not None:
+            shown = datetime.datetime.fromtimestamp(time, datetime.timezone.utc).strftime("%Y-%m-%d %H:%M:%S")
+            again.append((peer.name, f"at {shown} UTC"))
+    lines = []
+    if len(begun) == 1:
+        lines.append(f"peer {begun[0]}: the recording begins in mid-session; routes announced before are missing")
+    elif begun:
+        lines.append(f"peers {names_text(begun)}: their recordings begin in mid-session; routes announced before are missing")
+    if len(again) == 1:
+        lines.append(f"peer {again[0][0]}: a session began again {again[0][1]} without a recorded loss; its earlier routes stay")
+    elif again:
+        names = names_text([name for name, _ in again])
+        text = "a session of each began again without a recorded loss; their earlier routes stay"
+        lines.append(f"peers {names}: {text}; of {again[0][0]}: {again[0][1]}")
     return [f"route_server: note: {line}" for line in lines]
+
+
+def names_text(names):
+    """Names as a note lists them: at most eight."""
+    if len(names) > 8:
+        return ", ".join(names[:8]) + f" and {len(names) - 8} more"
+    return ", ".join(names[:-1]) + " and " + names[-1]
 
 
 def server_note(server, files):

@@ -50,6 +50,11 @@ impl<'a> Contents<'a> {
         }
     }
 
+    /// Whether the file has no octet.
+    pub(crate) fn is_empty(&self) -> bool {
+        self.front.is_empty() && self.held.records() == 0 && self.held.end().is_none()
+    }
+
     /// Where the file ends within a record, if it is read up to a time. It is read once more if that isn't known.
     pub(crate) fn cut<R: AllocGlobal + Files>(&self, rt: &R, until: Option<u32>) -> Option<Cut> {
         match self.end {

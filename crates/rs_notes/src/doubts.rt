@@ -1,14 +1,18 @@
-//! The notes on what is lawful and yet suspicious in the records of peers: a recording that begins in mid-session, and
-//! a session that began again without a recorded loss.
+//! The notes on what is lawful and yet suspicious in the records of peers. An empty file, and records that are all later
+//! than what is read. A recording that begins in mid-session, and a session that began again without a recorded loss. A
+//! loss that is recorded with the address of no peer.
 //!
 //! Our choice: a session gets such a note only if it did not close before the end of its file. If it did, its routes are
 //! gone.
 
 use crate::contents::Contents;
 use crate::group::{Detail, Group, Told};
-use crate::mistakes::peer_of;
-use crate::note::{again_line, at_text, inside_line};
+use crate::lost::{Lost, lost_of};
+use crate::note::{
+    again_line, at_text, empty_text, first_text, inside_line, lost_text, up_to_text,
+};
 use crate::notes::Notes;
+use crate::peers::peer_of;
 use crate::subject::{Close, Ending, Subject};
 use rs_choice::PeerSpec;
 use std::alloc::{AllocError, Global};
@@ -16,22 +20,50 @@ use std::alloc::{AllocError, Global};
 /// The notes on what is suspicious.
 #[derive(Drop)]
 pub(crate) struct Doubts<'a> {
-    // Peers whose recordings begin in mid-session, and peers of which a session began again without a recorded loss.
+    // Peers whose files are empty, and peers whose records are all later than what is read.
+    empty: Group<'a>,
+    later: Group<'a>,
+    // Peers whose recordings begin in mid-session, peers of which a session began again without a recorded loss, and
+    // peers of which a loss is recorded with the address of no peer.
     inside: Group<'a>,
     again: Group<'a>,
+    lost: Group<'a>,
 }
 
 impl<'a> Doubts<'a> {
     /// No note yet.
     pub(crate) fn none(alloc: Global) -> Doubts<'a> {
         Doubts {
+            empty: Group::none(alloc),
+            later: Group::none(alloc),
             inside: Group::none(alloc),
             again: Group::none(alloc),
+            lost: Group::none(alloc),
         }
     }
 
-    /// Takes what is suspicious of a peer.
-    pub(crate) fn take(
+    /// Takes a peer whose file, at a path, is empty.
+    pub(crate) fn take_empty(&mut self, alloc: Global, spec: &'a PeerSpec, path: &str) {
+        self.empty
+            .add(&spec.name, empty_told(alloc, &spec.name, path));
+    }
+
+    /// Takes a peer whose records are all later than what is read, which is up to a time: its first one has this time.
+    pub(crate) fn take_later(
+        &mut self,
+        alloc: Global,
+        spec: &'a PeerSpec,
+        until: Option<u32>,
+        first: u32,
+    ) {
+        if let Some(until) = until {
+            self.later
+                .add(&spec.name, later_told(alloc, &spec.name, until, first));
+        }
+    }
+
+    /// Takes what is suspicious of the sessions of a peer.
+    pub(crate) fn take_sessions(
         &mut self,
         alloc: Global,
         subject: Subject<'a>,
@@ -45,20 +77,29 @@ impl<'a> Doubts<'a> {
         let Some(records) = contents.held.peers().get(&peer_of(spec)) else {
             return;
         };
-        let course = records.course();
+        let (name, course) = (&spec.name, records.course());
         if course.inside {
-            self.inside.add(&spec.name, inside_told(alloc, &spec.name));
+            self.inside.add(name, inside_told(alloc, name));
+        }
+        if subject.inferred {
+            return;
         }
         if let Some(time) = course.again {
-            if !subject.inferred {
-                self.again
-                    .add(&spec.name, again_told(alloc, &spec.name, time));
-            }
+            self.again.add(name, again_told(alloc, name, time));
+        }
+        if let Some(lost) = lost_of(subject.setup, &contents.held, records, peer_of(spec)) {
+            self.lost.add(name, lost_told(alloc, name, lost));
         }
     }
 
     /// Adds the notes.
-    pub(crate) fn add_to(&self, alloc: Global, notes: &mut Notes) {
+    pub(crate) fn add_to(&self, alloc: Global, subject: Subject<'_>, notes: &mut Notes) {
+        notes.add_group(alloc, &self.empty, "their files are empty");
+        if let Some(until) = subject.bounds.until {
+            if let Ok(several) = up_to_text(alloc, "them", until) {
+                notes.add_group(alloc, &self.later, &several);
+            }
+        }
         notes.add_group(
             alloc,
             &self.inside,
@@ -69,7 +110,30 @@ impl<'a> Doubts<'a> {
             &self.again,
             "a session of each began again without a recorded loss; their earlier routes stay",
         );
+        notes.add_group(
+            alloc,
+            &self.lost,
+            "losses are recorded without their addresses; --losses inferred counts them",
+        );
     }
+}
+
+// What is told of a peer whose file is empty.
+fn empty_told(alloc: Global, name: &str, path: &str) -> Result<Told, AllocError> {
+    let text = empty_text(alloc, path)?;
+    Ok(Told {
+        line: format!(in alloc; "peer {name}: {text}")?,
+        detail: Detail::Whole(text),
+    })
+}
+
+// What is told of a peer whose records are all later than a time.
+fn later_told(alloc: Global, name: &str, until: u32, first: u32) -> Result<Told, AllocError> {
+    let (until, first) = (up_to_text(alloc, "it", until)?, first_text(alloc, first)?);
+    Ok(Told {
+        line: format!(in alloc; "peer {name}: {until}; {first}")?,
+        detail: Detail::Part(first),
+    })
 }
 
 // What is told of a peer whose recording begins in mid-session.
@@ -85,5 +149,14 @@ fn again_told(alloc: Global, name: &str, time: u32) -> Result<Told, AllocError> 
     Ok(Told {
         line: again_line(alloc, name, time)?,
         detail: Detail::Part(at_text(alloc, time)?),
+    })
+}
+
+// What is told of a peer of which a loss is recorded with the address of no peer.
+fn lost_told(alloc: Global, name: &str, lost: Lost) -> Result<Told, AllocError> {
+    let text = lost_text(alloc, lost)?;
+    Ok(Told {
+        line: format!(in alloc; "peer {name}: {text}")?,
+        detail: Detail::Part(at_text(alloc, lost.time)?),
     })
 }

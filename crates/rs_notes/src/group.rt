@@ -1,19 +1,19 @@
 //! Peers of which one kind of note tells, all in one line.
 //!
 //! Our choices: a line names the first eight peers, and says how many more there are. Of several peers it has a text on
-//! all of them, and behind it what is told of the first one.
+//! all of them, and behind it the detail of the first one.
 
 use std::alloc::{AllocError, Global};
 
 // How many peers a line names.
 const NAMED: usize = 8;
 
-/// What is told of one peer.
+/// The texts on one peer.
 #[derive(Drop)]
 pub(crate) struct Told {
     /// The line if no other peer has such a note.
     pub line: String,
-    /// What is told of it in a line on several peers.
+    /// Its detail in a line on several peers.
     pub detail: Detail,
 }
 
@@ -24,7 +24,7 @@ pub(crate) enum Detail {
     Nothing,
     /// What the text on all of them doesn't say.
     Part(String),
-    /// All. It is told alone if it is the same of each peer.
+    /// All. It stands alone if it is the same of each peer.
     Whole(String),
 }
 
@@ -44,9 +44,9 @@ pub(crate) struct Group<'a> {
     // The names of the first ones, at most `NAMED`.
     names: Vec<&'a str>,
     count: usize,
-    // What is told of the first one; none if memory for it was refused.
+    // The texts on the first one; none if memory for them was refused.
     first: Option<Told>,
-    // Whether the same is told of all.
+    // Whether the detail of each says all, and is the same.
     same: bool,
 }
 
@@ -61,7 +61,7 @@ impl<'a> Group<'a> {
         }
     }
 
-    /// Adds a peer of this name. If memory was refused for what is told of the first one, there will be no line.
+    /// Adds a peer of this name. If memory for the text on the first one was refused, there will be no line.
     pub(crate) fn add(&mut self, name: &'a str, told: Result<Told, AllocError>) {
         if self.count == 0 {
             self.first = told.ok();
@@ -87,8 +87,8 @@ impl<'a> Group<'a> {
         self.count == 0
     }
 
-    /// The line on these peers, with a text on several of them. None if memory was refused for what is told of the
-    /// first one. Fails if memory is refused.
+    /// The line on these peers, with a text on several of them. None if memory for the text on the first one was
+    /// refused. Fails if memory is refused.
     pub(crate) fn line(&self, alloc: Global, several: &str) -> Result<Option<String>, AllocError> {
         let Some(first) = &self.first else {
             return Ok(None);

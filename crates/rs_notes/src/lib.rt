@@ -2,24 +2,30 @@
 //! choice.
 //!
 //! Reading order, what may be wrong with a file first: `format` (its format), `hint` (the note on a file without a
-//! record of its peer), `cut` (where it ends within a record). Then the notes: `subject` (what they are about), `note`
-//! (their texts), `group` (one line on several peers), `contents` (what files hold), `mistakes`, `doubts`, `server`,
-//! `notes`. What files hold, made while they are read: `outline`, `noting`, `outlines`.
+//! record of its peer), `near` (which peer is meant then), `cut` (where a file ends within a record). `lost` finds a loss
+//! with the address of no peer. Then what notes are about: `subject`, `peers`, `contents` (what files hold), `look`
+//! (what a file shows of which nothing was kept). Then the notes: `note` (their texts), `group` (one line on several
+//! peers), `mistakes`, `doubts`, `exchange`, `notes`. What files hold, made while they are read: `outline`, `noting`,
+//! `outlines`.
 #![tactic(auto)]
 
 mod contents;
 mod cut;
 mod doubts;
+mod exchange;
 mod format;
 mod group;
 mod hint;
+mod look;
+mod lost;
 mod mistakes;
+mod near;
 mod note;
 mod notes;
 mod noting;
 mod outline;
 mod outlines;
-mod server;
+mod peers;
 mod subject;
 
 pub use contents::{Contents, contents_of, format_at, front_at};

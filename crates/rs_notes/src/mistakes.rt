@@ -1,19 +1,20 @@
 //! The notes on likely mistakes: a file of which nothing was kept, because it is of another format or has no record of
 //! its peer; and a file that ends within a record.
 //!
-//! Our choices: a file isn't wrong if its records are only later than what is read. A file that ends within a record is
-//! told once, however many peers name it.
+//! Our choice: a file that ends within a record counts once, however many peers name it.
 
-use crate::contents::{Contents, outline_at};
+use crate::contents::Contents;
 use crate::cut::Cut;
 use crate::group::{Detail, Group, Told};
-use crate::hint::{Hint, hint_on};
-use crate::note::{cut_line, cut_lines, hint_text, note_line};
-use crate::notes::{CLOSE_ALONE, Notes};
-use crate::subject::{Close, Ending, Subject};
+use crate::hint::Hint;
+use crate::near::Near;
+use crate::note::{advised_line, cut_line, cut_lines, hint_text, near_text, note_line};
+use crate::notes::Notes;
+use crate::peers::peer_of;
+use crate::subject::{Close, Ending, Subject, Telling};
 use rs_choice::PeerSpec;
-use rs_inventory::{Inventory, Peer};
-use rs_mrt::{Bounds, Tail};
+use rs_inventory::Peer;
+use rs_mrt::Tail;
 use std::alloc::{AllocError, Global};
 use std::fs::Files;
 
@@ -39,45 +40,32 @@ impl<'a> Mistakes<'a> {
         }
     }
 
-    /// Takes what is told of a peer. Answers whether its file is probably the wrong one: then there is no more to tell.
-    pub(crate) fn take<R: AllocGlobal + Files>(
+    /// Takes what is probably wrong with the file of a peer. A peer of it may be meant.
+    pub(crate) fn take_hint(
         &mut self,
-        rt: &R,
-        subject: Subject<'a>,
+        alloc: Global,
         spec: &'a PeerSpec,
-        contents: &Contents<'a>,
-        ending: Ending,
-    ) -> bool {
-        let bounds = subject.bounds;
-        if ending.changes == CLOSE_ALONE {
-            if let Some(hint) = hint_within(rt, bounds, peer_of(spec), contents) {
-                self.take_hint(rt.alloc(), spec, contents.path, hint);
-                return true;
-            }
-        }
-        if may_be_cut(bounds.tail, ending.close) {
-            self.take_cut(rt, bounds, contents);
-        }
-        false
-    }
-
-    // Takes what is probably wrong with the file of a peer.
-    fn take_hint(&mut self, alloc: Global, spec: &'a PeerSpec, path: &str, hint: Hint) {
-        let told = told_by(alloc, &spec.name, path, peer_of(spec), hint);
+        path: &str,
+        hint: Hint,
+        near: Option<Near>,
+    ) {
+        let told = told_by(alloc, &spec.name, path, peer_of(spec), hint, near);
         match hint {
             Hint::NotMrt(_) => self.formats.add(&spec.name, told),
             Hint::NoRecord { .. } => self.strangers.add(&spec.name, told),
         }
     }
 
-    // Takes where a file ends within a record, if it does, and wasn't taken before.
-    fn take_cut<R: AllocGlobal + Files>(
+    /// Takes where a file ends within a record, if it does, and wasn't taken before. The session of a peer ended so.
+    pub(crate) fn take_cut<R: AllocGlobal + Files>(
         &mut self,
         rt: &R,
-        bounds: Bounds,
+        subject: Subject<'_>,
         contents: &Contents<'a>,
+        ending: Ending,
     ) {
-        if self.cut.contains(&contents.path) {
+        let bounds = subject.bounds;
+        if !may_be_cut(bounds.tail, ending.close) || self.cut.contains(&contents.path) {
             return;
         }
         let Some(cut) = contents.cut(rt, bounds.until) else {
@@ -89,18 +77,22 @@ impl<'a> Mistakes<'a> {
         let _ = self.cut.push(contents.path);
     }
 
-    /// Adds the notes.
-    pub(crate) fn add_to(&self, alloc: Global, tail: Tail, notes: &mut Notes) {
+    /// Adds the notes. If all notes are wanted, that on a file which ends within a record says how it is cut there.
+    pub(crate) fn add_to(&self, alloc: Global, subject: Subject<'_>, notes: &mut Notes) {
         notes.add_group(alloc, &self.formats, "their files are not uncompressed MRT");
         notes.add_group(alloc, &self.strangers, "no record of them in their files");
-        if let (Some(path), Some(cut)) = (self.cut.first(), self.first) {
-            let more = self.cut.len().saturating_sub(1);
-            notes.add(if more == 0 {
-                cut_line(alloc, path, cut, tail)
-            } else {
-                cut_lines(alloc, path, more, cut, tail)
-            });
-        }
+        let (Some(path), Some(cut)) = (self.cut.first(), self.first) else {
+            return;
+        };
+        let tail = subject.bounds.tail;
+        let more = self.cut.len().saturating_sub(1);
+        notes.add(if more > 0 {
+            cut_lines(alloc, path, more, cut, tail)
+        } else if subject.telling == Telling::All && cut.octet > 0 {
+            advised_line(alloc, path, cut, tail)
+        } else {
+            cut_line(alloc, path, cut, tail)
+        });
     }
 }
 
@@ -111,36 +103,19 @@ fn told_by(
     path: &str,
     peer: Peer,
     hint: Hint,
+    near: Option<Near>,
 ) -> Result<Told, AllocError> {
+    let mut line = note_line(alloc, name, path, peer, hint)?;
+    let mut text = hint_text(alloc, path, peer, hint)?;
+    if let Some(near) = near {
+        let meant = near_text(alloc, near)?;
+        line.push_str(&meant)?;
+        text.push_str(&meant)?;
+    }
     Ok(Told {
-        line: note_line(alloc, name, path, peer, hint)?,
-        detail: Detail::Whole(hint_text(alloc, path, peer, hint)?),
+        line,
+        detail: Detail::Whole(text),
     })
-}
-
-// What is probably wrong with the file of a peer of which nothing was kept.
-fn hint_within<R: AllocGlobal + Files>(
-    rt: &R,
-    bounds: Bounds,
-    peer: Peer,
-    contents: &Contents<'_>,
-) -> Option<Hint> {
-    if bounds.until.is_none() {
-        return hint_on(&contents.held, &contents.front, peer);
-    }
-    if has_records(&contents.held, peer) {
-        return None;
-    }
-    let held = outline_at(rt, contents.path, Bounds::none(), None)?;
-    hint_on(&held, &contents.front, peer)
-}
-
-// Whether some record is the peer's.
-fn has_records(held: &Inventory, peer: Peer) -> bool {
-    match held.peers().get(&peer) {
-        Some(records) => records.records() > 0,
-        None => false,
-    }
 }
 
 // Whether a file may end within a record, where a session closed so that was read with this tail.
@@ -148,13 +123,5 @@ fn may_be_cut(tail: Tail, close: Close) -> bool {
     match tail {
         Tail::Strict => close == Close::WithinRecord,
         Tail::Lenient => close == Close::AtEnd,
-    }
-}
-
-/// The peer as records name it.
-pub(crate) fn peer_of(spec: &PeerSpec) -> Peer {
-    Peer {
-        address: spec.address,
-        asn: spec.asn,
     }
 }

@@ -8,9 +8,12 @@ ghost use Rattle.rs_notes.specs.Note.{loss_text, note_of, others_text, text_of, 
 
 use crate::cut::Cut;
 use crate::hint::Hint;
+use crate::lost::Lost;
+use crate::near::Near;
 use rs_host::{Utc, on_one_line};
-use rs_inventory::{Kind, Peer};
+use rs_inventory::{Back, Kind, Peer};
 use rs_mrt::Tail;
+use rs_types::Prefix;
 use std::alloc::{AllocError, Global};
 use std::net::Ipv4Addr;
 
@@ -38,6 +41,20 @@ pub fn cut_line(alloc: Global, path: &str, cut: Cut, tail: Tail) -> Result<Strin
     let (octet, len, loss) = (cut.octet, cut.len, loss_text(tail));
     format!(in alloc;
         "{path} ends within its last record, which begins at octet {octet} (octets {loss}: {len})"
+    )
+}
+
+/// The same text, which says how the file is cut there. Fails where memory is refused.
+pub(crate) fn advised_line(
+    alloc: Global,
+    path: &str,
+    cut: Cut,
+    tail: Tail,
+) -> Result<String, AllocError> {
+    let path = on_one_line(alloc, path)?;
+    let (octet, len, loss) = (cut.octet, cut.len, loss_text(tail));
+    format!(in alloc;
+        "{path} ends within its last record, which begins at octet {octet} (octets {loss}: {len}; head -c {octet} cuts it there)"
     )
 }
 
@@ -154,7 +171,82 @@ pub(crate) fn again_line(alloc: Global, name: &str, time: u32) -> Result<String,
     )
 }
 
-/// At which time a session of a peer began again, behind a text on several peers. Fails where memory is refused.
+/// Which peer of a file is probably meant, behind the text that the file has no record of its peer. Fails where memory
+/// is refused.
+pub(crate) fn near_text(alloc: Global, near: Near) -> Result<String, AllocError> {
+    let (whose, records) = (whose_text(alloc, near.peer)?, near.records);
+    let what = if near.by_address {
+        "address"
+    } else {
+        "AS number"
+    };
+    format!(in alloc; "; {whose} has {records}: is its {what} meant?")
+}
+
+/// The text on an empty file. Fails where memory is refused.
+pub(crate) fn empty_text(alloc: Global, path: &str) -> Result<String, AllocError> {
+    let path = on_one_line(alloc, path)?;
+    format!(in alloc; "{path} is empty")
+}
+
+/// The text on peers, named by a pronoun, of which no record is read up to a time. Fails where memory is refused.
+pub(crate) fn up_to_text(alloc: Global, whom: &str, until: u32) -> Result<String, AllocError> {
+    let until = Utc(until);
+    format!(in alloc; "no record of {whom} up to {until} UTC")
+}
+
+/// Of which time the first record of such a peer is. Fails where memory is refused.
+pub(crate) fn first_text(alloc: Global, first: u32) -> Result<String, AllocError> {
+    let first = Utc(first);
+    format!(in alloc; "its first is of {first} UTC")
+}
+
+/// The text on a loss that is recorded with the address of no peer. Fails where memory is refused.
+pub(crate) fn lost_text(alloc: Global, lost: Lost) -> Result<String, AllocError> {
+    let time = Utc(lost.time);
+    let address = if lost.is_swapped {
+        "with the server's address in place of the peer's"
+    } else {
+        "without the peer's address"
+    };
+    format!(in alloc; "a loss at {time} UTC is recorded {address}; --losses inferred counts it")
+}
+
+/// The text of the note on a recorded file in which times go back. Fails where memory is refused.
+pub(crate) fn back_line(alloc: Global, path: &str, back: Back) -> Result<String, AllocError> {
+    let (path, text) = (on_one_line(alloc, path)?, back_text(alloc, back)?);
+    format!(in alloc; "{path}: times go back {text} (pieces joined in the wrong order?)")
+}
+
+/// The text of the note on several such files: on the first one, and so many more. Fails where memory is refused.
+pub(crate) fn back_lines(
+    alloc: Global,
+    path: &str,
+    more: usize,
+    back: Back,
+) -> Result<String, AllocError> {
+    let (path, text) = (on_one_line(alloc, path)?, back_text(alloc, back)?);
+    format!(in alloc;
+        "{path} and {more} more: times go back; in {path} {text} (pieces joined in the wrong order?)"
+    )
+}
+
+// By how much times go back, and where.
+fn back_text(alloc: Global, back: Back) -> Result<String, AllocError> {
+    let seconds = back.seconds;
+    match back.octet {
+        Some(octet) => format!(in alloc; "by {seconds} s at octet {octet}"),
+        None => format!(in alloc; "by {seconds} s behind {} records", back.records),
+    }
+}
+
+/// The text of the note on a subnet in which nobody is. Fails where memory is refused.
+pub(crate) fn subnet_line(alloc: Global, subnet: Prefix) -> Result<String, AllocError> {
+    let (address, len) = (address_of(subnet.address()), subnet.len());
+    format!(in alloc; "subnet {address}/{len} has neither the server nor any peer")
+}
+
+/// At which time something happened, behind a text on several peers. Fails where memory is refused.
 pub(crate) fn at_text(alloc: Global, time: u32) -> Result<String, AllocError> {
     let time = Utc(time);
     format!(in alloc; "at {time} UTC")

@@ -1,14 +1,17 @@
 //! Notes on the recorded files of an exchange, at most one line for each kind. Likely mistakes come first: a file of
-//! which nothing was kept, and one that ends within a record. What is lawful and yet suspicious is told only on demand.
+//! which nothing was kept, and one that ends within a record. Notes on what is lawful and yet suspicious come only on
+//! demand.
 //!
 //! Our choice: a note that can't be made or written is left out.
 
 use crate::contents::{Contents, contents_at, contents_of};
 use crate::doubts::Doubts;
+use crate::exchange::add_exchange;
 use crate::group::Group;
+use crate::look::{Look, look_at};
 use crate::mistakes::Mistakes;
-use crate::server::server_note;
 use crate::subject::{Close, Ending, Subject, Telling};
+use rs_choice::PeerSpec;
 use rs_inventory::Inventory;
 use std::alloc::{AllocError, Global};
 use std::fs::Files;
@@ -86,29 +89,65 @@ pub fn notes_of<R: AllocGlobal + Files>(
 ) -> Notes {
     let alloc = rt.alloc();
     let setup = subject.setup;
-    let mut mistakes = Mistakes::none(alloc);
-    let mut doubts = Doubts::none(alloc);
+    let mut told = ByPeer {
+        mistakes: Mistakes::none(alloc),
+        doubts: Doubts::none(alloc),
+    };
     for peer in 0..setup.plan.count().min(setup.files.len()) {
-        let Some(contents) = contents_of(all, &setup.files[peer]) else {
-            continue;
-        };
-        let Some(ending) = ending_of(subject.endings, peer, &contents.held) else {
-            continue;
-        };
-        let spec = setup.plan.peer(peer);
-        if !mistakes.take(rt, subject, spec, contents, ending) {
-            doubts.take(alloc, subject, spec, contents, ending);
+        if let Some(contents) = contents_of(all, &setup.files[peer]) {
+            if let Some(ending) = ending_of(subject.endings, peer, &contents.held) {
+                told.take(rt, subject, setup.plan.peer(peer), contents, ending);
+            }
         }
     }
     let mut notes = Notes::none(alloc);
-    mistakes.add_to(alloc, subject.bounds.tail, &mut notes);
+    told.mistakes.add_to(alloc, subject, &mut notes);
     if subject.telling == Telling::All {
-        doubts.add_to(alloc, &mut notes);
-        if let Some(text) = server_note(rt, subject, all) {
-            notes.add(text);
-        }
+        told.doubts.add_to(alloc, subject, &mut notes);
+        add_exchange(rt, subject, all, &mut notes);
     }
     notes
+}
+
+// What is told of peers.
+#[derive(Drop)]
+struct ByPeer<'a> {
+    mistakes: Mistakes<'a>,
+    doubts: Doubts<'a>,
+}
+
+impl<'a> ByPeer<'a> {
+    // Takes what is told of a peer, whose session ended so.
+    fn take<R: AllocGlobal + Files>(
+        &mut self,
+        rt: &R,
+        subject: Subject<'a>,
+        spec: &'a PeerSpec,
+        contents: &Contents<'a>,
+        ending: Ending,
+    ) {
+        let (alloc, path) = (rt.alloc(), contents.path);
+        let look = if ending.changes == CLOSE_ALONE {
+            look_at(rt, subject, spec, contents)
+        } else {
+            Look::Plain
+        };
+        match look {
+            Look::Wrong(hint, near) => {
+                self.mistakes.take_hint(alloc, spec, path, hint, near);
+                return;
+            }
+            Look::Empty => self.doubts.take_empty(alloc, spec, path),
+            Look::Later(first) => {
+                self.doubts
+                    .take_later(alloc, spec, subject.bounds.until, first)
+            }
+            Look::Plain => {}
+        }
+        self.mistakes.take_cut(rt, subject, contents, ending);
+        self.doubts
+            .take_sessions(alloc, subject, spec, contents, ending);
+    }
 }
 
 // How the session of a peer ended, where something may be noted of it.

@@ -1,4 +1,4 @@
-//! What notes are about, and which of them are told.
+//! What notes are about, and which of them are wanted.
 
 use rs_mrt::Bounds;
 use rs_setup::Setup;
@@ -23,7 +23,7 @@ pub struct Ending {
     pub close: Close,
 }
 
-/// Which notes are told.
+/// Which notes are wanted.
 #[derive(Clone, Copy, Debug, PartialEq, Eq)]
 pub enum Telling {
     /// Those on likely mistakes: a file of which nothing was kept, and one that ends within a record.
@@ -42,7 +42,7 @@ pub struct Subject<'a> {
     /// How the session of each peer ended. A peer without an ending here gets no note. Where no endings are given, the
     /// ends of the files decide them.
     pub endings: Option<&'a [Ending]>,
-    /// Which notes are told.
+    /// Which notes are wanted.
     pub telling: Telling,
     /// Whether losses are counted that no record names as the peer's. Then no note tells of a loss that is missing.
     pub inferred: bool,

@@ -1,0 +1,77 @@
+//! What the recorded file of a peer shows if nothing of it was kept.
+//!
+//! Our choices: a file isn't wrong if its records are only later than what is read. It is read once more to see that.
+
+use crate::contents::{Contents, outline_at};
+use crate::hint::{Hint, hint_on};
+use crate::near::{Near, near_of};
+use crate::peers::peer_of;
+use crate::subject::Subject;
+use rs_choice::PeerSpec;
+use rs_inventory::{Inventory, Peer};
+use rs_mrt::Bounds;
+use std::fs::Files;
+
+/// What the recorded file of a peer shows.
+#[derive(Clone, Copy, Debug, PartialEq, Eq)]
+pub(crate) enum Look {
+    /// It is probably the wrong one. A peer of it may be meant.
+    Wrong(Hint, Option<Near>),
+    /// No record of the peer is read. The first one has this time, in seconds since 1970.
+    Later(u32),
+    /// It is empty.
+    Empty,
+    /// There is nothing to tell.
+    Plain,
+}
+
+/// What the file of a peer shows, of which nothing was kept.
+pub(crate) fn look_at<R: AllocGlobal + Files>(
+    rt: &R,
+    subject: Subject<'_>,
+    spec: &PeerSpec,
+    contents: &Contents<'_>,
+) -> Look {
+    let peer = peer_of(spec);
+    if contents.is_empty() {
+        return Look::Empty;
+    }
+    if subject.bounds.until.is_none() {
+        return look_into(subject, contents, &contents.held, peer);
+    }
+    if has_records(&contents.held, peer) {
+        return Look::Plain;
+    }
+    let Some(held) = outline_at(rt, contents.path, Bounds::none(), None) else {
+        return Look::Plain;
+    };
+    match first_of(&held, peer) {
+        Some(first) => Look::Later(first),
+        None => look_into(subject, contents, &held, peer),
+    }
+}
+
+// What a file shows that holds this.
+fn look_into(subject: Subject<'_>, contents: &Contents<'_>, held: &Inventory, peer: Peer) -> Look {
+    match hint_on(held, &contents.front, peer) {
+        Some(hint) => Look::Wrong(hint, near_of(subject.setup, held, peer)),
+        None => Look::Plain,
+    }
+}
+
+// Whether some record is the peer's.
+fn has_records(held: &Inventory, peer: Peer) -> bool {
+    match held.peers().get(&peer) {
+        Some(records) => records.records() > 0,
+        None => false,
+    }
+}
+
+// The time of the peer's first record, if some record is the peer's.
+fn first_of(held: &Inventory, peer: Peer) -> Option<u32> {
+    let records = held.peers().get(&peer)?;
+    if records.records() == 0 {
+        return None;
+    }
+    records.course().first
+}

@@ -1,0 +1,49 @@
+//! A peer of a recorded file that is probably meant by one of which the file has no record: its AS number is the same
+//! and its address another one, or the other way round.
+//!
+//! Our choice: the file must have records of exactly one such peer, and the exchange none of that address and AS number.
+
+use crate::peers::{is_configured, peer_of_server};
+use rs_inventory::{Inventory, Peer};
+use rs_setup::Setup;
+
+/// A peer of a recorded file that is probably meant.
+#[derive(Clone, Copy, Debug, PartialEq, Eq)]
+pub(crate) struct Near {
+    /// The peer as the records name it.
+    pub peer: Peer,
+    /// How many records the file has of it.
+    pub records: u64,
+    /// Whether it is its address that differs; else it is its AS number.
+    pub by_address: bool,
+}
+
+/// Which peer of a file is probably meant by a peer of which the file has no record; none if none is, or several are.
+pub(crate) fn near_of(setup: &Setup, held: &Inventory, wanted: Peer) -> Option<Near> {
+    let mut found = None;
+    for (peer, records) in held.peers() {
+        let peer = *peer;
+        if records.records() == 0 || !is_near(peer, wanted) || is_other(setup, peer) {
+            continue;
+        }
+        if found.is_some() {
+            return None;
+        }
+        found = Some(Near {
+            peer,
+            records: records.records(),
+            by_address: peer.asn == wanted.asn,
+        });
+    }
+    found
+}
+
+// Whether just one of address and AS number is the same.
+fn is_near(peer: Peer, wanted: Peer) -> bool {
+    (peer.asn == wanted.asn) != (peer.address == wanted.address)
+}
+
+// Whether a peer can't be meant: the exchange has it, its records have no address, or that of the server.
+fn is_other(setup: &Setup, peer: Peer) -> bool {
+    peer.address == 0 || peer.address == peer_of_server(setup).address || is_configured(setup, peer)
+}
