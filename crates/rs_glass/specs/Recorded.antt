@@ -1,11 +1,14 @@
 -- What the recorded session of a peer says of a prefix.
-use Rattle.std.specs.Prelude.{◌≡◌, ◌↔◌, ◌<◌, ℕ, Bool, true, false, List, reverse, Option, None, Some, slice_get}
+use Rattle.std.specs.Prelude.{◌≡◌, ◌↔◌, ◌<◌, ◌==◌, ◌||◌, ℕ, Bool, true, false, if◌then◌else◌, List, reverse}
+use Rattle.std.specs.Prelude.{Option, None, Some, slice_get}
 use Rattle.std.specs.FinMap.{get}
 use Rattle.std.specs.List.{find}
 use Rattle.std.specs.Option.{option_and_then, option_map_or}
 use Rattle.rs_update.specs.Covering.{covers}
 use Rattle.rs_update.specs.IpPrefix.{IpPrefix}
+use Rattle.rs_mrt.specs.Fault.{number_of}
 use Rattle.rs_mrt.specs.Reader.{ReadEnd}
+use Rattle.rs_mrt.specs.declared.fault.MrtFault.TheVariants.{HeaderCutShort, BodyCutShort}
 use Rattle.rs_session.specs.Change.{Change, ChangeBody, Announced, Withdrawn, Lost, Closed, is_read, is_close}
 use Rattle.rs_session.specs.Given.{IsRead}
 use Rattle.rs_session.specs.declared.peer.PeerId.{PeerId}
@@ -52,10 +55,14 @@ close_after before (Closed reason) = Some reason
 abbrev pub is_failed_read : Option Reason → Bool
 is_failed_read close = option_map_or is_read close false
 
--- when a route was announced, where it is there, or when it was taken away: a close for a fault of the file has
--- no time, and a route that was never announced has none
+-- a fault is that of a record which is cut short by the end of its file (RFC 6396, section 2): there is no whole record
+abbrev pub is_cut : ℕ → Bool
+is_cut number = (number == number_of HeaderCutShort) || (number == number_of BodyCutShort)
+
+-- when a route was announced, where it is there, or when it was taken away: a close for a record at fault has the time
+-- of the record; one for a record that is cut short has no time, and a route that was never announced has none
 abbrev pub ended_at : ℕ → EndedBy → Option ℕ
-ended_at time (ended.Close (reasons.Mrt number)) = None
+ended_at time (ended.Close (reasons.Mrt number)) = if is_cut number then None else Some time
 ended_at time by = Some time
 
 abbrev pub time_of : LastSaid → Option ℕ

@@ -3,10 +3,11 @@
 ghost use Rattle.std.specs.Prelude.{◌≡◌, ◌++◌, ◌∷◌, [], List};
 ghost use Rattle.rs_update.specs.IpPrefix.{IpPrefix};
 ghost use Rattle.rs_session.specs.Change.{change_of, Change};
-ghost use Rattle.rs_glass.specs.Recorded.{IsSaid, close_after, is_failed_read, time_of};
+ghost use Rattle.rs_glass.specs.Recorded.{IsSaid, close_after, is_cut, is_failed_read, time_of};
 
 use crate::loss::Loss;
 use rs_explain::{EndedBy, LastSaid};
+use rs_mrt::MrtFault;
 use rs_session::{Body, Reason, Word};
 use rs_update::Prefix;
 
@@ -47,7 +48,8 @@ impl Said {
     }
 
     /// When the peer's route on the prefix was announced, where it is there, or taken away: in seconds since
-    /// 1970; none where that isn't known.
+    /// 1970; none where that isn't known. A close for a record at fault has the record's time. A close for a record that
+    /// is cut short by the end of its file has none.
     pub fn time(&self) -> Option<u32>
         ensures { result ≡ time_of self.now.last }
     {
@@ -55,11 +57,18 @@ impl Said {
             LastSaid::NeverAnnounced => None,
             LastSaid::Announced(time) => Some(time),
             LastSaid::Ended(_, ending) => match ending.by {
-                EndedBy::Close(Reason::Mrt(_)) => None,
+                EndedBy::Close(Reason::Mrt(number)) if is_cut(number) => None,
                 _ => Some(ending.time),
             },
         }
     }
+}
+
+// Whether the number of a fault of the recording is that of a record which is cut short by the end of its file.
+fn is_cut(number: u8) -> bool
+    ensures { result ≡ is_cut number }
+{
+    number == MrtFault::HeaderCutShort.number() || number == MrtFault::BodyCutShort.number()
 }
 
 // How the session was lost: anew where the route was there before a change and not after it.
