@@ -3,21 +3,20 @@ use Rattle.std.proofs.Common.{◌≡◌, ◌∙◌, sym, ap, subst, refl, ℕ, �
 use Rattle.std.proofs.Common.{append_assoc, length, length-append, arith, inl, inr}
 use Rattle.std.specs.Prelude.{slice_get}
 use Rattle.std.proofs.lemmas.List.{append-nil, map-append}
-use Rattle.rs_update.specs.IpPrefix.{IpPrefix}
 use Rattle.rs_mrt.specs.Reader.{ReadEnd}
 use Rattle.rs_mrt.specs.Record.{MrtRecord}
 use Rattle.rs_choice.specs.Plan.{Plan}
 use Rattle.rs_session.specs.Change.{Change}
 use Rattle.rs_session.specs.declared.peer.PeerId.{PeerId}
-use Rattle.rs_glass.specs.FileSaid.{SaidChange, all_said_by, counts_at, loss_in, moment_of}
+use Rattle.rs_glass.specs.FileSaid.{SaidChange, all_said_by, cause_in, counts_at, moment_of}
 use Rattle.rs_glass.specs.Happened.{AreHappeningsOf, AreWhole, HappeningContent, IsSaidWhole, contents_of, happened_among, happened_in}
 use Rattle.rs_glass.specs.Happened.{happens_at, happens_behind, happens_on}
 use Rattle.rs_glass.specs.Heard.{IsRecording}
 use Rattle.rs_glass.specs.Listed.{IsListing, Lists}
 use Rattle.rs_glass.specs.Moments.{later_of}
+use Rattle.rs_glass.specs.declared.cause.Cause.{Cause}
 use Rattle.rs_glass.specs.declared.happened.Happening.{Happening}
 use Rattle.rs_glass.specs.declared.listing.Listing.{Listing}
-use Rattle.rs_glass.specs.declared.loss.Loss.{Loss}
 use Rattle.rs_glass.specs.declared.moment.Moment.{Moment}
 use Rattle.rs_glass.specs.declared.question.Question.{Question}
 use Rattle.rs_glass.specs.declared.recording.Recording.{Recording}
@@ -28,47 +27,47 @@ use Rattle.rs_glass.proofs.MomentLemmas.{counts_at-more}
 
 -- nothing more is listed
 pub lists-none : (listing : Listing) → Lists listing [] listing
-lists-none listing prefix peer said is =
-    subst (λ (all : List SaidChange). IsListing prefix peer all listing) (sym (append-nil said)) is
+lists-none listing question peer said is =
+    subst (λ (all : List SaidChange). IsListing question peer all listing) (sym (append-nil said)) is
 
 -- some changes, and then others
 pub lists-both : (old between new : Listing) (some more : List SaidChange) → Lists old some between → Lists between more new
     → Lists old (some ++ more) new
-lists-both old between new some more first next prefix peer said is =
-    subst (λ (all : List SaidChange). IsListing prefix peer all new) (append_assoc said some more)
-    (next prefix peer (said ++ some) (first prefix peer said is))
+lists-both old between new some more first next question peer said is =
+    subst (λ (all : List SaidChange). IsListing question peer all new) (append_assoc said some more)
+    (next question peer (said ++ some) (first question peer said is))
 
 -- one change more
-pub lists-one : (old new : Listing) (one : SaidChange) → new.prefix ≡ old.prefix → new.peer ≡ old.peer
+pub lists-one : (old new : Listing) (one : SaidChange) → new.question ≡ old.question → new.peer ≡ old.peer
     → new.latest ≡ later_of old.latest (moment_of one)
-    → contents_of new.all.items ≡ contents_of old.all.items ++ happens_at old.prefix old.peer new.latest one
+    → contents_of new.all.items ≡ contents_of old.all.items ++ happens_at old.question old.peer new.latest one
     → Lists old (one ∷ []) new
-lists-one old new one same_prefix same_peer latest adds prefix peer said is =
+lists-one old new one same_question same_peer latest adds question peer said is =
     let at : new.latest ≡ counts_at said one = latest ∙ sym (is.latest one) in
     record {
-      prefix_is = same_prefix ∙ is.prefix_is;
+      question_is = same_question ∙ is.question_is;
       peer_is = same_peer ∙ is.peer_is;
       latest = λ next. counts_at-more said one next ∙ ap (λ (moment : Moment). later_of moment (moment_of next)) (sym at);
       lists = adds
-          ∙ ap (λ (p : IpPrefix). contents_of old.all.items ++ happens_at p old.peer new.latest one) is.prefix_is
-          ∙ ap (λ (p : ℕ). contents_of old.all.items ++ happens_at prefix p new.latest one) is.peer_is
-          ∙ ap (λ (moment : Moment). contents_of old.all.items ++ happens_at prefix peer moment one) at
-          ∙ ap (λ (all : List HappeningContent). all ++ happens_behind prefix peer said one) is.lists
-          ∙ sym (each_behind-more (happens_behind prefix peer) [] said one);
+          ∙ ap (λ (q : Question). contents_of old.all.items ++ happens_at q old.peer new.latest one) is.question_is
+          ∙ ap (λ (p : ℕ). contents_of old.all.items ++ happens_at question p new.latest one) is.peer_is
+          ∙ ap (λ (moment : Moment). contents_of old.all.items ++ happens_at question peer moment one) at
+          ∙ ap (λ (all : List HappeningContent). all ++ happens_behind question peer said one) is.lists
+          ∙ sym (each_behind-more (happens_behind question peer) [] said one);
     }
 
 -- what a change adds, where it happens on the prefix, and where it doesn't
-pub adds-here : (prefix : IpPrefix) (peer : ℕ) (moment : Moment) (one : SaidChange) (loss : Option Loss)
-    → happens_on prefix one.change ≡ true → loss ≡ loss_in one
-    → record { peer = peer; moment = moment; change = one.change; loss = loss } ∷ [] ≡ happens_at prefix peer moment one
-adds-here prefix peer moment one loss happens is =
-    ap (λ (l : Option Loss). record { peer = peer; moment = moment; change = one.change; loss = l } ∷ []) is
-    ∙ sym (ap (λ (b : Bool). cond b (record { peer = peer; moment = moment; change = one.change; loss = loss_in one } ∷ []) []) happens)
+pub adds-here : (question : Question) (peer : ℕ) (moment : Moment) (one : SaidChange) (cause : Option Cause)
+    → happens_on question.prefix one.change ≡ true → cause ≡ cause_in question.errors one
+    → record { peer = peer; moment = moment; change = one.change; cause = cause } ∷ [] ≡ happens_at question peer moment one
+adds-here question peer moment one cause happens is =
+    ap (λ (l : Option Cause). record { peer = peer; moment = moment; change = one.change; cause = l } ∷ []) is
+    ∙ sym (ap (λ (b : Bool). cond b (record { peer = peer; moment = moment; change = one.change; cause = cause_in question.errors one } ∷ []) []) happens)
 
-pub adds-nothing : (prefix : IpPrefix) (peer : ℕ) (moment : Moment) (one : SaidChange) → happens_on prefix one.change ≡ false
-    → [] ≡ happens_at prefix peer moment one
-adds-nothing prefix peer moment one happens =
-    sym (ap (λ (b : Bool). cond b (record { peer = peer; moment = moment; change = one.change; loss = loss_in one } ∷ []) []) happens)
+pub adds-nothing : (question : Question) (peer : ℕ) (moment : Moment) (one : SaidChange) → happens_on question.prefix one.change ≡ false
+    → [] ≡ happens_at question peer moment one
+adds-nothing question peer moment one happens =
+    sym (ap (λ (b : Bool). cond b (record { peer = peer; moment = moment; change = one.change; cause = cause_in question.errors one } ∷ []) []) happens)
 
 -- of the changes of a record some were taken, and others are left
 pub record AreTaken (r : MrtRecord) (changes left : List Change) (old new : Listing) : Type 0 where
@@ -105,17 +104,17 @@ taken-all r changes left old new taken none =
 
 -- ---- one file after another
 
-happened_among-more : (prefix : IpPrefix) (number : ℕ) (files : List (List SaidChange)) (said : List SaidChange)
-    → happened_among prefix number (files ++ said ∷ []) ≡ happened_among prefix number files
-    ++ happened_in prefix (number + length files) said
-happened_among-more prefix number [] said =
-    append-nil (happened_in prefix number said) ∙ ap (λ (n : ℕ). happened_in prefix n said) (omega arith)
-happened_among-more prefix number (first ∷ later) said =
-    ap (λ (all : List HappeningContent). happened_in prefix number first ++ all)
-    (happened_among-more prefix (number + 1) later said
-    ∙ ap (λ (n : ℕ). happened_among prefix (number + 1) later ++ happened_in prefix n said) (omega arith))
-    ∙ sym (append_assoc (happened_in prefix number first) (happened_among prefix (number + 1) later)
-    (happened_in prefix (number + length (first ∷ later)) said))
+happened_among-more : (question : Question) (number : ℕ) (files : List (List SaidChange)) (said : List SaidChange)
+    → happened_among question number (files ++ said ∷ []) ≡ happened_among question number files
+    ++ happened_in question (number + length files) said
+happened_among-more question number [] said =
+    append-nil (happened_in question number said) ∙ ap (λ (n : ℕ). happened_in question n said) (omega arith)
+happened_among-more question number (first ∷ later) said =
+    ap (λ (all : List HappeningContent). happened_in question number first ++ all)
+    (happened_among-more question (number + 1) later said
+    ∙ ap (λ (n : ℕ). happened_among question (number + 1) later ++ happened_in question n said) (omega arith))
+    ∙ sym (append_assoc (happened_in question number first) (happened_among question (number + 1) later)
+    (happened_in question (number + length (first ∷ later)) said))
 
 module _ {R : Type 0} (gives : R → List ℕ → ReadEnd → Type 0) (question : Question) (plan : Plan) (readers : List R) where
   -- what happens by the files of so many peers
@@ -124,7 +123,7 @@ module _ {R : Type 0} (gives : R → List ℕ → ReadEnd → Type 0) (question 
     pub as_many : length files ≡ count
     pub each : (number : ℕ) (said : List SaidChange) → slice_get files number ≡ Some said
         → AreWhole gives question plan readers number said
-    pub says : listed ≡ happened_among question.prefix 0 files
+    pub says : listed ≡ happened_among question 0 files
 
   pub listed-none : AreListed 0 []
   listed-none = record {
@@ -135,7 +134,7 @@ module _ {R : Type 0} (gives : R → List ℕ → ReadEnd → Type 0) (question 
   }
 
   pub listed-file : (count : ℕ) (said : List SaidChange) (before listed : List HappeningContent) → AreListed count before
-      → AreWhole gives question plan readers count said → listed ≡ before ++ happened_in question.prefix count said
+      → AreWhole gives question plan readers count said → listed ≡ before ++ happened_in question count said
       → AreListed (count + 1) listed
   listed-file count said before listed so_far whole adds = record {
     files = so_far.files ++ said ∷ [];
@@ -147,10 +146,10 @@ module _ {R : Type 0} (gives : R → List ℕ → ReadEnd → Type 0) (question 
           subst (λ (n : ℕ). AreWhole gives question plan readers n one) place
           (subst (AreWhole gives question plan readers count) last.1 whole)
     ];
-    says = adds ∙ ap (λ (all : List HappeningContent). all ++ happened_in question.prefix count said) so_far.says
-        ∙ ap (λ (n : ℕ). happened_among question.prefix 0 so_far.files ++ happened_in question.prefix n said)
+    says = adds ∙ ap (λ (all : List HappeningContent). all ++ happened_in question count said) so_far.says
+        ∙ ap (λ (n : ℕ). happened_among question 0 so_far.files ++ happened_in question n said)
         (omega (arith, so_far.as_many))
-        ∙ sym (happened_among-more question.prefix 0 so_far.files said);
+        ∙ sym (happened_among-more question 0 so_far.files said);
   }
 
   -- what happens by the recorded session of a peer is listed at its place
@@ -168,4 +167,4 @@ module _ {R : Type 0} (gives : R → List ℕ → ReadEnd → Type 0) (question 
         whole = subst (λ (id : PeerId). IsSaidWhole gives question id one.reader says.0) is.id_is says.1;
       })
       (adds ∙ ap (λ (more : List HappeningContent). before ++ more)
-      (says.2 ∙ ap (λ (n : ℕ). happened_in question.prefix n says.0) is.number_is))
+      (says.2 ∙ ap (λ (n : ℕ). happened_in question n says.0) is.number_is))

@@ -11,3 +11,4 @@ pub mod ReadingLemmas
 pub mod RecordingLemmas
 pub mod RoutesLeftLemmas
 pub mod SaidLemmas
+pub mod TreatedLemmas

@@ -76,9 +76,9 @@ module _ {R : Type 0} (gives : R → List ℕ → ReadEnd → Type 0) (question 
   pub record IsListed (reading : RecordReading R) (listing : Listing) : Type 0 where
     pub said : List SaidChange
     pub has_said : HasSaid question.errors id (MayCome gives) (unread reader) said reading
-    pub is_listing : IsListing question.prefix peer said listing
+    pub is_listing : IsListing question peer said listing
 
-  pub listed-nothing : (listing : Listing) → IsListing question.prefix peer [] listing → IsListed (unread reader) listing
+  pub listed-nothing : (listing : Listing) → IsListing question peer [] listing → IsListed (unread reader) listing
   listed-nothing listing is = record {
     said = [];
     has_said = has_said-none question.errors id (MayCome gives) (unread reader);
@@ -91,7 +91,7 @@ module _ {R : Type 0} (gives : R → List ℕ → ReadEnd → Type 0) (question 
     said = so_far.said ++ said_of question.errors id takes.next;
     has_said = has_said-more question.errors id (MayCome gives) (unread reader) so_far.said old new takes.next so_far.has_said
         takes.come takes.goes_on;
-    is_listing = takes.lists question.prefix peer so_far.said so_far.is_listing;
+    is_listing = takes.lists question peer so_far.said so_far.is_listing;
   }
 
   module _ (read : GivesFileOrFails gives reader) where
@@ -102,7 +102,7 @@ module _ {R : Type 0} (gives : R → List ℕ → ReadEnd → Type 0) (question 
       so_far.said ++ takes.close ∷ [],
       said-whole gives question id reader read so_far.said old so_far.has_said takes.records takes.end takes.close takes.reason
           takes.come takes.says takes.is_close takes.readable,
-      (takes.lists question.prefix peer so_far.said so_far.is_listing).lists,
+      (takes.lists question peer so_far.said so_far.is_listing).lists,
     )
 
     pub listed-fault : (reading : RecordReading R) (listing : Listing) → IsListed reading listing → (fault : GlassFault)

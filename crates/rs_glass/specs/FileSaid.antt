@@ -10,10 +10,10 @@ use Rattle.rs_session.specs.FileChanges.{changes_by, close_at, ends, open_record
 use Rattle.rs_session.specs.declared.peer.PeerId.{PeerId}
 use Rattle.rs_change.specs.declared.word.Reason.{Reason}
 use Rattle.rs_update.specs.declared.errors.Errors.{Errors}
-use Rattle.rs_glass.specs.Losses.{loss_behind}
+use Rattle.rs_glass.specs.Causes.{cause_behind}
 use Rattle.rs_glass.specs.Microseconds.{microseconds_in}
 use Rattle.rs_glass.specs.Moments.{later_of}
-use Rattle.rs_glass.specs.declared.loss.Loss.{Loss}
+use Rattle.rs_glass.specs.declared.cause.Cause.{Cause}
 use Rattle.rs_glass.specs.declared.moment.Moment.{Moment}
 
 -- a change, and the record that says it; none where the session closes for how its file ends
@@ -47,9 +47,9 @@ said_in errors peer records end =
 
 -- ---- one change
 
--- how the session was lost, where that is the change
-abbrev pub loss_in : SaidChange → Option Loss
-loss_in one = loss_behind one.said_by one.change
+-- why it came, faults being handled by one of the standards
+abbrev pub cause_in : Errors → SaidChange → Option Cause
+cause_in errors one = cause_behind errors one.said_by one.change
 
 -- when its record came
 abbrev pub moment_of : SaidChange → Moment

@@ -15,11 +15,11 @@ use Rattle.rs_session.specs.Change.{Change, ChangeBody, Announced, Withdrawn, Lo
 use Rattle.rs_choice.specs.Plan.{Peer, Plan}
 use Rattle.rs_table.specs.Left.{same_prefix}
 use Rattle.rs_glass.specs.Behind.{each_behind}
-use Rattle.rs_glass.specs.FileSaid.{SaidChange, counts_at, loss_in, said_in}
+use Rattle.rs_glass.specs.FileSaid.{SaidChange, cause_in, counts_at, said_in}
 use Rattle.rs_glass.specs.Moments.{in_microseconds}
 use Rattle.rs_glass.specs.Recorded.{AreChangesOf, close_in, id_of, is_failed_read}
+use Rattle.rs_glass.specs.declared.cause.Cause.{Cause}
 use Rattle.rs_glass.specs.declared.happened.Happening.{Happening}
-use Rattle.rs_glass.specs.declared.loss.Loss.{Loss}
 use Rattle.rs_glass.specs.declared.moment.Moment.{Moment}
 use Rattle.rs_glass.specs.declared.question.Question.{Question}
 
@@ -33,40 +33,40 @@ body_happens prefix (Closed reason) = true
 abbrev pub happens_on : IpPrefix → Change → Bool
 happens_on prefix change = body_happens prefix change.body
 
--- what happened, of whom, when it counts, what changed, and how the session was lost where that is the change
+-- what happened, of whom, when it counts, what changed, and why
 pub record HappeningContent : Type 0 where
   pub peer : ℕ
   pub moment : Moment
   pub change : Change
-  pub loss : Option Loss
+  pub cause : Option Cause
 
 abbrev pub happened_at : Happening → Moment
 happened_at one = record { seconds = one.time; microseconds = one.microseconds }
 
 abbrev pub happening_content : Happening → HappeningContent
 happening_content one =
-    record { peer = one.peer; moment = happened_at one; change = change_of one.word; loss = one.loss }
+    record { peer = one.peer; moment = happened_at one; change = change_of one.word; cause = one.cause }
 
 abbrev pub contents_of : List Happening → List HappeningContent
 contents_of = map happening_content
 
--- what happens on a prefix in the file of a peer
-abbrev pub happens_at : IpPrefix → ℕ → Moment → SaidChange → List HappeningContent
-happens_at prefix peer moment one =
-    if happens_on prefix one.change
-    then record { peer = peer; moment = moment; change = one.change; loss = loss_in one } ∷ [] else []
+-- what happens on the prefix that is asked for in the file of a peer
+abbrev pub happens_at : Question → ℕ → Moment → SaidChange → List HappeningContent
+happens_at question peer moment one =
+    if happens_on question.prefix one.change
+    then record { peer = peer; moment = moment; change = one.change; cause = cause_in question.errors one } ∷ [] else []
 
-abbrev pub happens_behind : IpPrefix → ℕ → List SaidChange → SaidChange → List HappeningContent
-happens_behind prefix peer before one = happens_at prefix peer (counts_at before one) one
+abbrev pub happens_behind : Question → ℕ → List SaidChange → SaidChange → List HappeningContent
+happens_behind question peer before one = happens_at question peer (counts_at before one) one
 
-abbrev pub happened_in : IpPrefix → ℕ → List SaidChange → List HappeningContent
-happened_in prefix peer said = each_behind (happens_behind prefix peer) [] said
+abbrev pub happened_in : Question → ℕ → List SaidChange → List HappeningContent
+happened_in question peer said = each_behind (happens_behind question peer) [] said
 
 -- and in the files of all peers, from a number on, file after file
-abbrev pub happened_among : IpPrefix → ℕ → List (List SaidChange) → List HappeningContent
-happened_among prefix number [] = []
-happened_among prefix number (said ∷ later) =
-    happened_in prefix number said ++ happened_among prefix (number + 1) later
+abbrev pub happened_among : Question → ℕ → List (List SaidChange) → List HappeningContent
+happened_among question number [] = []
+happened_among question number (said ∷ later) =
+    happened_in question number said ++ happened_among question (number + 1) later
 
 -- what a peer's recorded session says in all, each change with its record, no read having failed: its records may come
 -- of the reader
@@ -93,7 +93,7 @@ abbrev pub AreHappeningsOf : {R : Type 0} → (R → List ℕ → ReadEnd → Ty
     → List Happening → Type 0
 AreHappeningsOf gives question peer reader number all =
     (said : List SaidChange) × IsSaidWhole gives question peer reader said
-    × (contents_of all ≡ happened_in question.prefix number said)
+    × (contents_of all ≡ happened_in question number said)
 
 -- when a thing happened, to be ordered by: in microseconds since 1970
 abbrev pub ordered_by : Happening → ℕ
@@ -108,7 +108,7 @@ pub record AreHappenings {R : Type 0} (gives : R → List ℕ → ReadEnd → Ty
   pub each : (number : ℕ) (said : List SaidChange) → slice_get files number ≡ Some said
       → AreWhole gives question plan readers number said
   pub unsorted : List Happening
-  pub says : contents_of unsorted ≡ happened_among question.prefix 0 files
+  pub says : contents_of unsorted ≡ happened_among question 0 files
   pub permutation : IsPermutation unsorted all
   pub sorted : IsSortedByKey (λ one. ordered_by one) nat_cmp all
   pub stable : IsStableByKey (λ one. ordered_by one) nat_cmp unsorted all

@@ -13,12 +13,16 @@ use Rattle.rs_table.specs.Left.{BecomeBy}
 use Rattle.rs_session.specs.Change.{is_close}
 use Rattle.rs_glass.specs.Behind.{each_behind}
 use Rattle.rs_glass.specs.Explained.{best_from}
+use Rattle.rs_glass.specs.Causes.{loss_of_cause}
+use Rattle.rs_glass.specs.declared.cause.Cause.{Cause}
+use Rattle.rs_glass.specs.declared.cause.Cause.TheVariants as causes
 use Rattle.rs_glass.specs.declared.happened.Happening.{Happening}
 use Rattle.rs_glass.specs.declared.history.Event.{Event}
 use Rattle.rs_glass.specs.declared.history.Event.TheVariants as events
 use Rattle.rs_glass.specs.declared.history.Gets.{Gets}
 use Rattle.rs_glass.specs.declared.history.History.{History}
 use Rattle.rs_glass.specs.declared.loss.Loss.{Loss}
+use Rattle.rs_glass.specs.declared.treated.Treated.{Treated}
 
 -- ---- the tables after what happened
 
@@ -46,21 +50,29 @@ tables_after plan happenings =
 pub data EventContent : Type 0 where
   Announcement : PathAttributes → EventContent
   Withdrawal : EventContent
+  TreatmentFor : Treated → EventContent
   LossOf : Option Loss → EventContent
   CloseFor : Reason → EventContent
 
 abbrev pub event_content : Event → EventContent
 event_content (events.Announced attributes) = Announcement attributes.value
 event_content events.Withdrawn = Withdrawal
+event_content (events.Treated fault) = TreatmentFor fault
 event_content (events.Lost loss) = LossOf loss
 event_content (events.Closed reason) = CloseFor reason
 
--- the event of a change, where the session was lost so
-abbrev pub event_of : ChangeBody → Option Loss → EventContent
-event_of (Announced prefix attributes) loss = Announcement attributes
-event_of (Withdrawn prefix) loss = Withdrawal
-event_of Lost loss = LossOf loss
-event_of (Closed reason) loss = CloseFor reason
+-- a withdrawal by the peer, or an UPDATE at fault that is treated so
+abbrev pub withdrawal_by : Option Cause → EventContent
+withdrawal_by None = Withdrawal
+withdrawal_by (Some (causes.Lost loss)) = Withdrawal
+withdrawal_by (Some (causes.Treated fault)) = TreatmentFor fault
+
+-- the event of a change that came for this cause
+abbrev pub event_of : ChangeBody → Option Cause → EventContent
+event_of (Announced prefix attributes) cause = Announcement attributes
+event_of (Withdrawn prefix) cause = withdrawal_by cause
+event_of Lost cause = LossOf (loss_of_cause cause)
+event_of (Closed reason) cause = CloseFor reason
 
 -- an event and what the client gets from then on
 pub record GetsContent : Type 0 where
@@ -92,7 +104,7 @@ gets_by true tables client prefix one =
       time = one.time;
       microseconds = one.microseconds;
       peer = one.peer;
-      event = event_of (body_of one.word.body) one.loss;
+      event = event_of (body_of one.word.body) one.cause;
       best = best_for tables client prefix;
     })
 

@@ -1,6 +1,8 @@
 -- What the looking glass answers:
 pub mod Covering  -- the prefixes that cover one
 pub mod Losses  -- how a session was lost
+pub mod Treating  -- why an UPDATE is treated as a withdrawal
+pub mod Causes  -- why a change came
 pub mod Recorded  -- what one file says of a prefix
 pub mod Explained  -- why each route is there or not
 pub mod Microseconds  -- the microseconds of a record

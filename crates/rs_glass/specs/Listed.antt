@@ -1,6 +1,5 @@
 -- What happened on a prefix in the file of a peer, as far as it is read (our choice: record by record).
 use Rattle.std.specs.Prelude.{◌≡◌, ℕ, Bool, true, false, List, [], ◌∷◌, ◌++◌, Option, Some}
-use Rattle.rs_update.specs.IpPrefix.{IpPrefix}
 use Rattle.rs_update.specs.declared.errors.Errors.{Errors}
 use Rattle.rs_mrt.specs.Record.{MrtRecord}
 use Rattle.rs_mrt.specs.declared.fault.SourceFault.{SourceFault}
@@ -17,19 +16,20 @@ use Rattle.rs_glass.specs.Moments.{later_of}
 use Rattle.rs_glass.specs.declared.fault.GlassFault.{GlassFault}
 use Rattle.rs_glass.specs.declared.fault.GlassFault.TheVariants.{Memory, Read}
 use Rattle.rs_glass.specs.declared.listing.Listing.{Listing}
+use Rattle.rs_glass.specs.declared.question.Question.{Question}
 
 -- what happened by these changes is listed, and a change behind them counts no earlier than the latest moment
-pub record IsListing (prefix : IpPrefix) (peer : ℕ) (said : List SaidChange) (listing : Listing) : Type 0 where
-  pub prefix_is : listing.prefix ≡ prefix
+pub record IsListing (question : Question) (peer : ℕ) (said : List SaidChange) (listing : Listing) : Type 0 where
+  pub question_is : listing.question ≡ question
   pub peer_is : listing.peer ≡ peer
   pub latest : (next : SaidChange) → counts_at said next ≡ later_of listing.latest (moment_of next)
-  pub lists : contents_of listing.all.items ≡ happened_in prefix peer said
+  pub lists : contents_of listing.all.items ≡ happened_in question peer said
 
 -- a listing takes these changes behind all before
 abbrev pub Lists : Listing → List SaidChange → Listing → Type 0
 Lists old more new =
-    (prefix : IpPrefix) (peer : ℕ) (said : List SaidChange) → IsListing prefix peer said old
-    → IsListing prefix peer (said ++ more) new
+    (question : Question) (peer : ℕ) (said : List SaidChange) → IsListing question peer said old
+    → IsListing question peer (said ++ more) new
 
 -- a session goes on after a record, unless that ends it; no record says by itself that records can't be read
 abbrev pub GoesOnBy : RecordEffect → Bool → Type 0

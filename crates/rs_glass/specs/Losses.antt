@@ -1,12 +1,8 @@
 -- How a session was lost: the record that says so (RFC 4271, sections 4.5 and 8.2.2; RFC 6396, section 4.4).
 use Rattle.std.specs.Prelude.{ℕ, List, [], ◌∷◌, drop, Option, None, Some, Result, Ok, Err}
-use Rattle.std.specs.Prelude.{if◌then◌else◌}
-use Rattle.std.specs.Option.{option_and_then}
 use Rattle.rs_mrt.specs.Entry.{Meaning, Message, State, Other, entry_of}
 use Rattle.rs_mrt.specs.Record.{MrtRecord}
 use Rattle.rs_mrt.specs.declared.fault.MrtFault.{MrtFault}
-use Rattle.rs_session.specs.Change.{Change}
-use Rattle.rs_table.specs.Left.{is_loss}
 use Rattle.rs_glass.specs.declared.loss.Loss.{Loss}
 use Rattle.rs_glass.specs.declared.loss.Loss.TheVariants as losses
 
@@ -29,7 +25,3 @@ loss_told (Err fault) = None
 
 abbrev pub loss_by : MrtRecord → Option Loss
 loss_by recorded = loss_told (entry_of recorded)
-
--- how the session was lost by a change, where it is a loss, and the record that gave it is there
-abbrev pub loss_behind : Option MrtRecord → Change → Option Loss
-loss_behind shown change = if is_loss change then option_and_then loss_by shown else None

@@ -7,9 +7,9 @@ ghost use Rattle.rs_glass.specs.Happened.{AreHappenings, AreHappeningsOf, happen
 ghost use Rattle.rs_glass.specs.Listed.{FailsNext, TakesNext};
 ghost use Rattle.rs_glass.specs.Recorded.{IsFaultAmong, IsFaultOf};
 
+use crate::cause::Cause;
 use crate::fault::GlassFault;
 use crate::listing::Listing;
-use crate::loss::Loss;
 use crate::moment::Moment;
 use crate::question::Question;
 use crate::recording::{Recording, recordings};
@@ -33,8 +33,8 @@ pub struct Happening {
     pub microseconds: Option<u32>,
     /// What changed.
     pub word: Word,
-    /// How the session was lost, where that is what changed.
-    pub loss: Option<Loss>,
+    /// Why it changed, if the record says more than that.
+    pub cause: Option<Cause>,
 }
 
 impl Happening {
@@ -96,7 +96,7 @@ fn happenings_of<R: Read + Drop>(
     let Recording { peer, id, reader } = recording;
     a_reader_gives_a_file_or_fails(&reader);
     let mut records = RecordReader::new(reader);
-    let mut listing = Listing::of_nothing(alloc, peer, question.prefix);
+    let mut listing = Listing::of_nothing(alloc, peer, *question);
     while take_next(alloc, &mut listing, &mut records, id, question.errors)? {}
     Ok(listing.all)
 }
@@ -117,11 +117,11 @@ fn take_next<S: Source>(
     match source.advance() {
         Ok(true) => {}
         Ok(false) => {
-            listing.take_end(Reason::EndOfFile)?;
+            listing.take_end(alloc, Reason::EndOfFile)?;
             return Ok(false);
         }
         Err(SourceFault::Mrt(fault)) => {
-            listing.take_end(Reason::Mrt(fault.number()))?;
+            listing.take_end(alloc, Reason::Mrt(fault.number()))?;
             return Ok(false);
         }
         Err(SourceFault::Read) => return Err(GlassFault::Read(listing.peer)),

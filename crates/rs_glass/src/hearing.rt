@@ -1,21 +1,23 @@
 //! What the recorded session of one peer says of a prefix.
 
-ghost use Rattle.std.specs.Prelude.{◌≡◌, ◌<◌, IfErr, IfOk, OnOk, if◌then◌else◌};
+ghost use Rattle.std.specs.Prelude.{◌≡◌, ◌<◌, IfErr, IfOk, OnOk, if◌then◌else◌, true};
 ghost use Rattle.rs_session.specs.Change.{change_of};
 ghost use Rattle.rs_session.specs.Concerning.{concerns};
 ghost use Rattle.rs_table.specs.Left.{after};
-ghost use Rattle.rs_glass.specs.Losses.{loss_behind};
+ghost use Rattle.rs_glass.specs.Causes.{cause_behind};
+ghost use Rattle.rs_glass.specs.Happened.{happens_on};
 ghost use Rattle.rs_glass.specs.Recorded.{IsFaultOf, IsSaidBefore, IsSaidOf};
 
+use crate::cause::{Cause, cause_of};
 use crate::covering::concerns;
 use crate::fault::GlassFault;
-use crate::loss::{Loss, loss_of};
+use crate::listing::happens_on;
 use crate::question::Question;
 use crate::recording::Recording;
 use crate::routes_left::RoutesLeft;
 use crate::said::{Said, is_failed_read};
 use rs_mrt::{Read, RecordReader};
-use rs_session::{Body, PeerId, Session, Word, a_reader_gives_a_file_or_fails};
+use rs_session::{PeerId, Session, Word, a_reader_gives_a_file_or_fails};
 use rs_table::{left_after_one_more, left_by_last_changes, left_by_part};
 use rs_update::{Prefix, a_prefix_covers_itself};
 use std::alloc::{AllocError, Global};
@@ -68,19 +70,29 @@ fn hear_changes<R: Read + Drop>(
     let mut said = Said::nothing();
     let mut routes = RoutesLeft::none(alloc);
     while let Some(word) = session.next_word_on(question.prefix, None)? {
-        said = said.after(question.prefix, &word, loss_behind(&session, &word));
+        let cause = cause_shown(alloc, &session, question, &word)?;
+        said = said.after(question.prefix, &word, cause);
         take_change(&mut routes, question.prefix, word)?;
     }
     Ok(Heard { said, routes })
 }
 
-// How the session was lost, where that is the change that it gave last.
-fn loss_behind<R: Read>(session: &Session<RecordReader<R>>, word: &Word) -> Option<Loss>
-    ensures { result ≡ loss_behind session.now.source.shown (change_of word.now) }
+// Why the change came that a session gave last, if it is one on the prefix. No message is read again for the others.
+fn cause_shown<R: Read>(
+    alloc: Global,
+    session: &Session<RecordReader<R>>,
+    question: &Question,
+    word: &Word,
+) -> Result<Option<Cause>, AllocError>
+    ensures { IfOk result (λ cause. happens_on question.now.prefix (change_of word.now) ≡ true
+        → cause ≡ cause_behind question.now.errors session.now.source.shown (change_of word.now)) }
 {
-    match word.body {
-        Body::Down => loss_of(&session.shown()?),
-        _ => None,
+    if !happens_on(word, question.prefix) {
+        return Ok(None);
+    }
+    match session.shown() {
+        Some(recorded) => cause_of(alloc, question.errors, word, &recorded),
+        None => Ok(None),
     }
 }
 

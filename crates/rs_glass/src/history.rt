@@ -7,9 +7,11 @@ ghost use Rattle.rs_glass.specs.Histories.{IsHistory, Notes, TakesIf, best_for, 
 ghost use Rattle.rs_glass.specs.Histories.{gets_by, gets_content, is_before, is_open};
 
 use crate::answers::best_from;
+use crate::cause::Cause;
 use crate::happened::Happening;
 use crate::loss::Loss;
 use crate::question::Question;
+use crate::treated::Treated;
 use rs_choice::Exchange;
 use rs_session::{Body, Reason};
 use rs_table::Tables;
@@ -24,6 +26,9 @@ pub enum Event {
     Announced(Arc<Attributes>),
     /// The peer withdrew the prefix.
     Withdrawn,
+    /// The peer announced the prefix in an UPDATE with this fault, which is treated as a withdrawal of its routes (RFC
+    /// 7606, section 2).
+    Treated(Treated),
     /// The session was lost, in this way; none where the record says nothing of it.
     Lost(Option<Loss>),
     /// The session closed, for this reason.
@@ -138,9 +143,9 @@ fn take(
         time,
         microseconds,
         word,
-        loss,
+        cause,
     } = happening;
-    let event = event_of(&word.body, loss)?;
+    let event = event_of(&word.body, cause)?;
     tables.apply(peer, word)?;
     Ok(Some(Gets {
         time,
@@ -190,14 +195,20 @@ fn is_before(time: u32, from: Option<u32>) -> bool
     }
 }
 
-// What happened, by a change and how the session was lost.
-fn event_of(body: &Body, loss: Option<Loss>) -> Result<Event, AllocError>
-    ensures { IfOk result (λ event. event_content event ≡ event_of (body_of body.now) loss) }
+// What happened, by a change and why it came.
+fn event_of(body: &Body, cause: Option<Cause>) -> Result<Event, AllocError>
+    ensures { IfOk result (λ event. event_content event ≡ event_of (body_of body.now) cause) }
 {
     match body {
         Body::Announce(_, attributes) => Ok(Event::Announced(attributes.clone()?)),
-        Body::Withdraw(_) => Ok(Event::Withdrawn),
-        Body::Down => Ok(Event::Lost(loss)),
+        Body::Withdraw(_) => match cause {
+            Some(Cause::Treated(fault)) => Ok(Event::Treated(fault)),
+            _ => Ok(Event::Withdrawn),
+        },
+        Body::Down => match cause {
+            Some(Cause::Lost(loss)) => Ok(Event::Lost(Some(loss))),
+            _ => Ok(Event::Lost(None)),
+        },
         Body::Close(reason) => Ok(Event::Closed(*reason)),
     }
 }

@@ -4,10 +4,11 @@
 //! It keeps only what the prefix needs of the recorded files: the changes on it and on the prefixes that cover it, the
 //! losses and the closes.
 //!
-//! Standards: RFC 4271, section 9.1; RFC 7947, section 2.3.
+//! Standards: RFC 4271, section 9.1; RFC 7606, section 2; RFC 7947, section 2.3.
 //!
-//! Reading order, the question first: `question`, `covering` (the prefixes that count). One peer: `loss` (how its
-//! session was lost), `said` (what its changes say last of the prefix), `routes_left` (the routes that they leave).
+//! Reading order, the question first: `question`, `covering` (the prefixes that count). Why a change came: `loss` (how a
+//! session was lost), `treated` (the fault of an UPDATE that is treated as a withdrawal), `cause` (either of them). One
+//! peer: `said` (what its changes say last of the prefix), `routes_left` (the routes that they leave).
 //! The recorded sessions: `recording` (one for each peer), `hearing` (what one says), `reading` (what all say). The
 //! answers: `answers`. Time: `microseconds` (of a record), `moment` (which one is later). The history: `listing` (what
 //! happened by one file), `happened` (by all, in the order of time), `history` (what a client gets after each event).
@@ -15,6 +16,7 @@
 #![tactic(auto)]
 
 mod answers;
+mod cause;
 mod covering;
 mod fault;
 mod happened;
@@ -29,8 +31,10 @@ mod reading;
 mod recording;
 mod routes_left;
 mod said;
+mod treated;
 
 pub use answers::{Answer, Answers, LessSpecific, explain_all, longest_announced};
+pub use cause::Cause;
 pub use fault::GlassFault;
 pub use happened::{Happening, read_happenings};
 pub use history::{Event, Gets, History, fill_history};
@@ -39,3 +43,4 @@ pub use microseconds::microseconds_of;
 pub use question::Question;
 pub use reading::{Reading, read_sessions};
 pub use said::Said;
+pub use treated::{Treated, a_treated_update_is_at_fault};

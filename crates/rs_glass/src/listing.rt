@@ -6,15 +6,16 @@ ghost use Rattle.rs_mrt.specs.Record.{record_of};
 ghost use Rattle.rs_session.specs.Change.{change_of};
 ghost use Rattle.rs_session.specs.Effect.{effect_of};
 ghost use Rattle.rs_session.specs.FileChanges.{close_at};
+ghost use Rattle.rs_glass.specs.Causes.{cause_behind};
 ghost use Rattle.rs_glass.specs.FileSaid.{all_said_by, closing_at_end, moment_of, said_of};
 ghost use Rattle.rs_glass.specs.Happened.{happens_on};
 ghost use Rattle.rs_glass.specs.Listed.{GoesOnBy, IsListing, Lists};
-ghost use Rattle.rs_glass.specs.Losses.{loss_behind};
 
+use crate::cause::{Cause, cause_of};
 use crate::happened::Happening;
-use crate::loss::{Loss, loss_of};
 use crate::microseconds::microseconds_of;
 use crate::moment::Moment;
+use crate::question::Question;
 use rs_mrt::Record;
 use rs_session::{Body, Effect, PeerId, Pending, Reason, Word, read_record};
 use rs_update::{Errors, Prefix};
@@ -25,8 +26,8 @@ use std::alloc::{AllocError, Global};
 pub(crate) struct Listing {
     /// The number of the peer.
     pub(crate) peer: usize,
-    /// The prefix.
-    pub(crate) prefix: Prefix,
+    /// What is asked.
+    pub(crate) question: Question,
     /// The latest moment of all changes so far, of those beside the prefix too.
     pub(crate) latest: Moment,
     /// What happened, in the order of the file.
@@ -35,12 +36,12 @@ pub(crate) struct Listing {
 
 impl Listing {
     // Of nothing that was read.
-    pub(crate) fn of_nothing(alloc: Global, peer: usize, prefix: Prefix) -> Listing
-        ensures { IsListing prefix peer [] result }
+    pub(crate) fn of_nothing(alloc: Global, peer: usize, question: Question) -> Listing
+        ensures { IsListing question peer [] result }
     {
         Listing {
             peer,
-            prefix,
+            question,
             latest: Moment::first(),
             all: Vec::new(alloc),
         }
@@ -60,50 +61,60 @@ impl Listing {
         match read_record(alloc, errors, id, recorded)? {
             Effect::PassesOver => Ok(true),
             Effect::Gives(changes) => {
-                self.take_changes(changes, recorded)?;
+                self.take_changes(alloc, changes, recorded)?;
                 Ok(true)
             }
             Effect::Ends(reason) => {
-                self.take(close_at(recorded.time, reason), Some(recorded))?;
+                self.take(alloc, close_at(recorded.time, reason), Some(recorded))?;
                 Ok(false)
             }
         }
     }
 
     // Takes the close of the session for how its file ends.
-    pub(crate) fn take_end(&mut self, reason: Reason) -> Result<(), AllocError>
+    pub(crate) fn take_end(&mut self, alloc: Global, reason: Reason) -> Result<(), AllocError>
         ensures { OnOk result
             (Lists self.old (closing_at_end reason ∷ []) self.new) }
     {
-        self.take(close_at(0, reason), None)
+        self.take(alloc, close_at(0, reason), None)
     }
 
     // Takes the changes that a record gives.
-    fn take_changes(&mut self, changes: Pending, recorded: &Record<'_>) -> Result<(), AllocError>
+    fn take_changes(
+        &mut self,
+        alloc: Global,
+        changes: Pending,
+        recorded: &Record<'_>,
+    ) -> Result<(), AllocError>
         ensures { OnOk result (Lists self.old (all_said_by (record_of recorded.now) changes) self.new) }
     {
         let mut left = changes;
         while let Some(word) = left.next()? {
-            self.take(word, Some(recorded))?;
+            self.take(alloc, word, Some(recorded))?;
         }
         Ok(())
     }
 
     // Takes one change, and lists it where it happens on the prefix.
-    fn take(&mut self, word: Word, said_by: Option<&Record<'_>>) -> Result<(), AllocError>
+    fn take(
+        &mut self,
+        alloc: Global,
+        word: Word,
+        said_by: Option<&Record<'_>>,
+    ) -> Result<(), AllocError>
         ensures { OnOk result (Lists self.old
             (record { change = change_of word; said_by = option_map (λ r. record_of r.now) said_by.entry } ∷ [])
             self.new) }
     {
         self.latest = self.latest.or_later(moment_of(&word, said_by));
-        if happens_on(&word, self.prefix) {
-            let loss = loss_behind(said_by, &word);
+        if happens_on(&word, self.question.prefix) {
+            let cause = cause_behind(alloc, self.question.errors, said_by, &word)?;
             self.all.push(Happening {
                 peer: self.peer,
                 time: self.latest.seconds,
                 microseconds: self.latest.microseconds,
                 word,
-                loss,
+                cause,
             })?;
         }
         Ok(())
@@ -137,18 +148,24 @@ fn moment_of(word: &Word, said_by: Option<&Record<'_>>) -> Moment
     }
 }
 
-// How the session was lost, where that is the change.
-fn loss_behind(said_by: Option<&Record<'_>>, word: &Word) -> Option<Loss>
-    ensures { result ≡ loss_behind (option_map (λ r. record_of r.now) said_by.entry) (change_of word.now) }
+// Why a change came, by the record that gave it, if a record did.
+fn cause_behind(
+    alloc: Global,
+    errors: Errors,
+    said_by: Option<&Record<'_>>,
+    word: &Word,
+) -> Result<Option<Cause>, AllocError>
+    ensures { IfOk result (λ cause. cause
+        ≡ cause_behind errors (option_map (λ r. record_of r.now) said_by.entry) (change_of word.now)) }
 {
-    match word.body {
-        Body::Down => loss_of(said_by?),
-        _ => None,
+    match said_by {
+        Some(recorded) => cause_of(alloc, errors, word, recorded),
+        None => Ok(None),
     }
 }
 
-// Whether a change announces or withdraws a prefix, or is a loss or a close.
-fn happens_on(word: &Word, prefix: Prefix) -> bool
+/// Whether a change announces or withdraws a prefix, or is a loss or a close.
+pub(crate) fn happens_on(word: &Word, prefix: Prefix) -> bool
     ensures { result ≡ happens_on prefix (change_of word.now) }
 {
     match &word.body {

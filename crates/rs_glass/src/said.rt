@@ -1,23 +1,23 @@
-//! What a peer's changes say last of a prefix, and how its session was lost or closed.
+//! What a peer's changes say last of a prefix, and why its route was taken away or its session closed.
 
 ghost use Rattle.std.specs.Prelude.{◌≡◌, ◌++◌, ◌∷◌, [], List};
 ghost use Rattle.rs_update.specs.IpPrefix.{IpPrefix};
 ghost use Rattle.rs_session.specs.Change.{change_of, Change};
 ghost use Rattle.rs_glass.specs.Recorded.{IsSaid, close_after, is_cut, is_failed_read, time_of};
 
-use crate::loss::Loss;
+use crate::cause::Cause;
 use rs_explain::{EndedBy, LastSaid};
 use rs_mrt::MrtFault;
 use rs_session::{Body, Reason, Word};
 use rs_update::Prefix;
 
-/// What a peer's changes say last of a prefix, and how its session was lost or closed.
+/// What a peer's changes say last of a prefix, and why its route was taken away or its session closed.
 #[derive(Clone, Copy, Debug, PartialEq, Eq, Drop)]
 pub struct Said {
     /// What they say last of the prefix.
     pub last: LastSaid,
-    /// Where a loss of the session took the route away: how it was lost.
-    pub loss: Option<Loss>,
+    /// Why the route was taken away, if the record that says so says more than that.
+    pub cause: Option<Cause>,
     /// Why the session closed, where it did.
     pub close: Option<Reason>,
 }
@@ -29,20 +29,20 @@ impl Said {
     {
         Said {
             last: LastSaid::nothing(),
-            loss: None,
+            cause: None,
             close: None,
         }
     }
 
-    // With one change more, and how the session was lost where that is the change.
-    pub(crate) fn after(self, prefix: Prefix, word: &Word, loss: Option<Loss>) -> Said
+    // With one change more, and why that came.
+    pub(crate) fn after(self, prefix: Prefix, word: &Word, cause: Option<Cause>) -> Said
         ensures { (changes : List Change) → IsSaid prefix changes self
             → IsSaid prefix (changes ++ change_of word.now ∷ []) result }
     {
         let last = self.last.after(prefix, word);
         Said {
             last,
-            loss: loss_after(self.last, last, self.loss, loss),
+            cause: cause_after(self.last, last, self.cause, cause),
             close: close_after(self.close, word),
         }
     }
@@ -71,13 +71,13 @@ fn is_cut(number: u8) -> bool
     number == MrtFault::HeaderCutShort.number() || number == MrtFault::BodyCutShort.number()
 }
 
-// How the session was lost: anew where the route was there before a change and not after it.
-fn loss_after(
+// Why the route was taken away: anew where the route was there before a change and not after it.
+fn cause_after(
     before: LastSaid,
     after: LastSaid,
-    old: Option<Loss>,
-    new: Option<Loss>,
-) -> Option<Loss> {
+    old: Option<Cause>,
+    new: Option<Cause>,
+) -> Option<Cause> {
     match (before, after) {
         (LastSaid::Announced(_), LastSaid::Ended(..)) => new,
         (_, LastSaid::Announced(_)) => None,

@@ -2,9 +2,10 @@
 
 use crate::clock::Clock;
 use crate::starts::{Start, never_announced};
+use crate::treatment::{TREATED_AS_WITHDRAW, fault_text, treated_text};
 use rs_choice::Exchange;
 use rs_explain::{EndedBy, Ending, Explanation, LastSaid};
-use rs_glass::{Answer, Said};
+use rs_glass::{Answer, Cause, Said};
 use rs_glass_shell::{Because, close_text, hand_reason, name_at, names_text};
 use rs_rows::{Form, RowWriter};
 use rs_session::Reason;
@@ -91,13 +92,14 @@ fn absent_text(alloc: Global, it: &Answered<'_>) -> Result<String, AllocError> {
     let LastSaid::Ended(announced, ending) = it.answer.said.last else {
         return never_text(alloc, it);
     };
-    match (ending.by, it.answer.said.loss) {
+    match (ending.by, it.answer.said.cause) {
+        (EndedBy::Withdrawal, Some(Cause::Treated(fault))) => treated_text(alloc, fault),
         (EndedBy::Withdrawal, _) => {
             let announced = it.clock.text(alloc, announced)?;
             format!(in alloc; "withdrawn (announced {announced})")
         }
-        (EndedBy::Loss, Some(loss)) => format!(in alloc; "session lost: {loss}"),
-        (EndedBy::Loss, None) => String::from_str(alloc, "session lost"),
+        (EndedBy::Loss, Some(Cause::Lost(loss))) => format!(in alloc; "session lost: {loss}"),
+        (EndedBy::Loss, _) => String::from_str(alloc, "session lost"),
         (EndedBy::Close(reason), _) => {
             let reason = close_text(alloc, reason)?;
             format!(in alloc; "session closed: {reason}")
@@ -132,7 +134,7 @@ fn hand_absence(row: &mut RowWriter<'_>, said: &Said) {
     let alloc = row.alloc();
     match said.last {
         LastSaid::Ended(announced, ending) => {
-            row.text("reason", ending_key(&ending));
+            row.text("reason", ending_key(said, &ending));
             row.number("announced", u64::from(announced));
             row.value("by", ended_by(alloc, said, &ending));
         }
@@ -145,18 +147,22 @@ fn hand_absence(row: &mut RowWriter<'_>, said: &Said) {
 }
 
 // How a route was taken away.
-fn ending_key(ending: &Ending) -> &'static str {
-    match ending.by {
-        EndedBy::Withdrawal => "withdrawn",
-        EndedBy::Loss => "session_lost",
-        EndedBy::Close(_) => "session_closed",
+fn ending_key(said: &Said, ending: &Ending) -> &'static str {
+    match (ending.by, said.cause) {
+        (EndedBy::Withdrawal, Some(Cause::Treated(_))) => TREATED_AS_WITHDRAW,
+        (EndedBy::Withdrawal, _) => "withdrawn",
+        (EndedBy::Loss, _) => "session_lost",
+        (EndedBy::Close(_), _) => "session_closed",
     }
 }
 
-// By what a session was lost or closed that took a route away, or null.
+// By what a session was lost or closed that took a route away, or the fault of an UPDATE that did, or null.
 fn ended_by(alloc: Global, said: &Said, ending: &Ending) -> Result<Value, AllocError> {
-    match (ending.by, said.loss) {
-        (EndedBy::Loss, Some(loss)) => Ok(Value::String(loss.to_string(alloc)?)),
+    match (ending.by, said.cause) {
+        (EndedBy::Withdrawal, Some(Cause::Treated(fault))) => {
+            Ok(Value::String(fault_text(alloc, fault)?))
+        }
+        (EndedBy::Loss, Some(Cause::Lost(loss))) => Ok(Value::String(loss.to_string(alloc)?)),
         (EndedBy::Close(reason), _) => close_value(alloc, Some(reason)),
         _ => Ok(Value::Null),
     }

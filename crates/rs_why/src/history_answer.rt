@@ -3,6 +3,7 @@
 use crate::attribute_fields::hand_rare;
 use crate::attribute_lines::attribute_lines;
 use crate::clock::Clock;
+use crate::treatment::{TREATED_AS_WITHDRAW, fault_text, treated_text};
 use rs_choice::Exchange;
 use rs_glass::{Event, Gets, History};
 use rs_glass_shell::{
@@ -159,6 +160,10 @@ fn hand_event(row: &mut RowWriter<'_>, view: &HistoryView<'_>, event: &Event) {
             }
         }
         Event::Withdrawn => row.text("change", "withdrawn"),
+        Event::Treated(fault) => {
+            row.text("change", TREATED_AS_WITHDRAW);
+            row.made("by", fault_text(alloc, *fault));
+        }
         Event::Lost(loss) => {
             row.text("change", "session_lost");
             match loss {
@@ -186,6 +191,7 @@ pub(crate) fn event_text(
             format!(in alloc; "announced: {route}")
         }
         Event::Withdrawn => String::from_str(alloc, "withdrawn"),
+        Event::Treated(fault) => treated_text(alloc, *fault),
         Event::Lost(Some(loss)) => {
             let loss = *loss;
             format!(in alloc; "session lost: {loss}")

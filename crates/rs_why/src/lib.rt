@@ -3,8 +3,8 @@
 //!
 //! Reading order: `answering` (the whole answer), `unread` (why there is none). `why_answer` and `because` (why a client
 //! has each peer's route, or not). `history_answer` (what happened). The same as a picture: `lives` (how long routes
-//! stood), `picture`, `picture_lanes` and `canvas`. Below them `starts` (since when recordings run), `clock` (times),
-//! `attribute_lines` and `attribute_fields`.
+//! stood), `picture`, `picture_lanes` and `canvas`. Below them `starts` (since when recordings run), `treatment` (a faulty
+//! UPDATE), `clock` (times), `attribute_lines` and `attribute_fields`.
 #![tactic(auto)]
 
 mod answering;
@@ -18,6 +18,7 @@ mod lives;
 mod picture;
 mod picture_lanes;
 mod starts;
+mod treatment;
 mod unread;
 mod why_answer;
 

@@ -79,7 +79,7 @@ fn take_event(all: &mut [PeerLives], place: usize, gets: &Gets) -> Result<(), Al
                 chosen: gets.best == Some(gets.peer),
             })?;
         }
-        Event::Withdrawn => end_life(one, gets.time),
+        Event::Withdrawn | Event::Treated(_) => end_life(one, gets.time),
         Event::Closed(Reason::EndOfFile) => one.ends.push(place)?,
         Event::Lost(_) | Event::Closed(_) => {
             end_life(one, gets.time);

@@ -19,8 +19,8 @@ returns-in_ok-push c =
     lists-one old _ one refl refl (c.or_later-self.ensures ∙ ap (later_of old.latest) c.moment_of.ensures)
     (ap contents_of c.in_ok-push.ensures.items ∙ map-append happening_content old.all.items _
     ∙ ap (λ rest. contents_of old.all.items ++ rest)
-    (adds-here old.prefix old.peer c.or_later-self.result one c.loss_behind-loss.result
-    (sym c.happens_on.ensures ∙ c.if-happens_on.true) c.loss_behind-loss.ensures))
+    (adds-here old.question old.peer c.or_later-self.result one c.in_ok-cause.cause
+    (sym c.happens_on.ensures ∙ c.if-happens_on.true) c.in_ok-cause.ensures))
 
 pub returns-else-happens_on : goal.returns-else-happens_on
 returns-else-happens_on c =
@@ -29,4 +29,4 @@ returns-else-happens_on c =
     record { change = change_of c.args.word; said_by = option_map (λ (r : Bor Record). record_of r.now) c.args.said_by } in
     lists-one old _ one refl refl (c.or_later-self.ensures ∙ ap (later_of old.latest) c.moment_of.ensures)
     (sym (append-nil (contents_of old.all.items)) ∙ ap (λ rest. contents_of old.all.items ++ rest)
-    (adds-nothing old.prefix old.peer c.or_later-self.result one (sym c.happens_on.ensures ∙ c.if-happens_on.false)))
+    (adds-nothing old.question old.peer c.or_later-self.result one (sym c.happens_on.ensures ∙ c.if-happens_on.false)))
