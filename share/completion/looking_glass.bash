@@ -11,7 +11,7 @@ _looking_glass() {
         --tail) mapfile -t COMPREPLY < <(compgen -W "strict lenient" -- "$word"); return ;;
         --gets) mapfile -t COMPREPLY < <(compgen -W "none" -- "$word"); return ;;
         --because) mapfile -t COMPREPLY < <(compgen -W "ineligible server_as_in_path server_address_as_next_hop next_hop_off_exchange refused name community lost preference path_length origin med identifier address" -- "$word"); return ;;
-        --client | --peer | --shards | --prefix | --from | --until) COMPREPLY=(); return ;;
+        --client | --peer | --shards | --prefix | --from | --until | --at) COMPREPLY=(); return ;;
     esac
     case ${COMP_WORDS[1]} in
         why) options="--config --client --prefix --until --errors --all --attributes --json --help" ;;
@@ -23,7 +23,7 @@ _looking_glass() {
         diff) options="--config --client --until --errors --count --shards --csv --json --help" ;;
         peers) options="--json --toml --help" ;;
         check) options="--config --until --tail --errors --help" ;;
-        start) options="--table --out --peer --toml --help" ;;
+        start) options="--table --out --peer --at --toml --help" ;;
     esac
     if [ "${COMP_WORDS[1]}" = peers ] && [[ $word != -* ]]; then
         compopt -o filenames

@@ -1,5 +1,6 @@
 //! A configuration to start from: each peer that gets a file.
 
+use crate::chosen::add_chosen_line;
 use crate::listed::{Listed, Part, Table};
 use crate::peer_lines::{add_peer_line, add_table_line};
 use crate::session_files::session_path;
@@ -21,6 +22,7 @@ pub(crate) fn as_toml(
 ) -> Result<String, AllocError> {
     let mut text = String::new(alloc);
     let mut names = PeerNames::new(alloc);
+    add_chosen_line(&mut text, "# ", table.chosen, table.time)?;
     add_server(&mut text, table.collector)?;
     for (listed, counts) in table.peers.iter().zip(counts) {
         add_listed(alloc, &mut text, &mut names, query, (listed, counts))?;

@@ -7,13 +7,14 @@
 //! answer), `refused` and `plan_words` (why it is refused), `unreadable`. Its lines: `found`, `checked_peer` (those of a
 //! peer), `treated` (how many UPDATEs are treated as withdrawn). Where a session closes before the end of its file:
 //! `early_close` and `placed_records`.
-//! Sessions of a table: `starting` (the whole answer), `listed` (which peers get a file), `session_files` (the files,
-//! which are put in place when all are whole), `sessions` (what is written to them). Then `peer_lines` and
-//! `configuration` (the texts), `table_faults` (why no session is written).
+//! Sessions of a table: `starting` (the whole answer), `chosen` (which table of the file), `listed` (which peers get a
+//! file). Then `session_files` (the files, which are put in place when all are whole) and `sessions` (what is written to
+//! them). Last stand `peer_lines` and `configuration` (the texts), and `table_faults` (why no session is written).
 #![tactic(auto)]
 
 mod checked_peer;
 mod checking;
+mod chosen;
 mod configuration;
 mod early_close;
 mod found;

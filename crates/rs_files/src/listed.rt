@@ -3,6 +3,7 @@
 //! Our choice: sessions are named after the IPv4 addresses of their peers. Of peers at one address, the first gets the
 //! file.
 
+use crate::chosen::Chosen;
 use rs_start::IndexPeer;
 use std::alloc::{AllocError, Global};
 use std::collections::BTreeSet;
@@ -12,6 +13,8 @@ use std::collections::BTreeSet;
 pub(crate) struct Table {
     /// The time of the table, in seconds since 1970.
     pub(crate) time: u32,
+    /// Which table of the file it is.
+    pub(crate) chosen: Chosen,
     /// The BGP Identifier of the collector.
     pub(crate) collector: u32,
     /// The peers, in the order of the index.

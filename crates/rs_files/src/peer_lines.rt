@@ -1,6 +1,7 @@
 //! What was written of a table, a line for each peer.
 
-use crate::listed::{Listed, Part};
+use crate::chosen::add_chosen_line;
+use crate::listed::{Listed, Part, Table};
 use crate::session_files::session_path;
 use rs_host::on_one_line;
 use rs_query::StartQuery;
@@ -8,17 +9,18 @@ use rs_start::{Counts, LeftOut};
 use std::alloc::{AllocError, Global};
 use std::net::Ipv4Addr;
 
-/// A line for each peer that is asked for, and one for what is left out of the table beside. Fails where memory is
-/// refused.
+/// A line for the table that is taken of several, one for each peer that is asked for, and one for what is left out of the
+/// table beside. Fails where memory is refused.
 pub(crate) fn as_text(
     alloc: Global,
     query: &StartQuery,
-    peers: &[Listed],
+    table: &Table,
     counts: &[Counts],
     left_out: &LeftOut,
 ) -> Result<String, AllocError> {
     let mut text = String::new(alloc);
-    for (listed, counts) in peers.iter().zip(counts) {
+    add_chosen_line(&mut text, "", table.chosen, table.time)?;
+    for (listed, counts) in table.peers.iter().zip(counts) {
         add_peer_line(alloc, &mut text, "", query, (listed, counts))?;
     }
     add_table_line(alloc, &mut text, "", left_out)?;

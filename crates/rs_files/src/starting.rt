@@ -1,21 +1,22 @@
 //! Answers with the beginning of each peer's session, in files.
 
+use crate::chosen::{Chosen, take_table};
 use crate::configuration::as_toml;
 use crate::listed::{Listed, Table, first_unknown, listed_peers};
 use crate::peer_lines::as_text;
 use crate::session_files::{SessionFile, put_in_place, remove_parts};
 use crate::sessions::{begin_sessions, counts_of};
-use crate::table_faults::{by_routes, by_table};
+use crate::table_faults::{by_routes, by_table, none_until, second_table};
 use rs_glass_shell::{Noted, Reply, Unanswered};
 use rs_host::{DONE, Unready, open_file};
 use rs_mrt::Read;
 use rs_query::StartQuery;
-use rs_start::{Counts, LeftOut, TableReader};
+use rs_start::{Counts, LeftOut, TableEnd, TableReader};
 use std::fs::Files;
 use std::net::Ipv4Addr;
 
-/// Writes the beginning of the session of each peer of a table to a file, and answers how many routes each has. Where
-/// anything fails, no file is left of those that were begun.
+/// Writes the beginning of the session of each peer of a table to a file, and answers how many routes each has. Of several
+/// tables in a file one is taken. Where anything fails, no file is left of those that were begun.
 pub fn start<R: AllocGlobal + Files>(rt: &R, query: &StartQuery) -> Result<Reply, Unanswered> {
     let mut files = Vec::new(rt.alloc());
     match written(rt, query, &mut files) {
@@ -38,34 +39,39 @@ fn written<R: AllocGlobal + Files>(
     files: &mut Vec<SessionFile>,
 ) -> Result<String, Unanswered> {
     let alloc = rt.alloc();
+    let chosen = take_table(rt, query)?;
     let file = match open_file(rt, &query.table) {
         Ok(file) => file,
         Err(fault) => return Err(Unready::by_file(alloc, fault, &query.table).into()),
     };
     let mut left_out = LeftOut::nothing();
     let mut reader = TableReader::new(alloc, file);
-    let table = table_of(rt, query, &mut reader, &mut left_out)?;
+    let table = table_of(rt, query, chosen, (&mut reader, &mut left_out))?;
     let counts = counted(rt, query, &table, (&mut reader, &mut left_out), files)?;
     put_in_place(rt, files)?;
     if query.toml {
         Ok(as_toml(alloc, query, &table, &counts, &left_out)?)
     } else {
-        Ok(as_text(alloc, query, &table.peers, &counts, &left_out)?)
+        Ok(as_text(alloc, query, &table, &counts, &left_out)?)
     }
 }
 
-// The peers of a table: reads up to its index.
+// The peers of the table that is taken: reads up to its index.
 fn table_of<R: AllocGlobal, F: Read>(
     rt: &R,
     query: &StartQuery,
-    reader: &mut TableReader<F>,
-    left_out: &mut LeftOut,
+    chosen: Chosen,
+    (reader, left_out): (&mut TableReader<F>, &mut LeftOut),
 ) -> Result<Table, Unanswered> {
     let alloc = rt.alloc();
-    let (time, index) = match reader.read_index(left_out) {
+    let (time, index) = match reader.read_index(chosen.place, left_out) {
         Ok(read) => read,
         Err(fault) => return Err(by_table(alloc, &query.table, fault)),
     };
+    let until = query.at.unwrap_or(u32::MAX);
+    if time > until {
+        return Err(none_until(alloc, &query.table, until, time));
+    }
     if let Some(address) = first_unknown(&index.peers, &query.peers) {
         let address = Ipv4Addr::from_bits(address);
         return Err(Unanswered::NoPeer(format!(in alloc; "{address}")?));
@@ -73,6 +79,7 @@ fn table_of<R: AllocGlobal, F: Read>(
     let peers: Vec<Listed> = listed_peers(alloc, &index.peers, &query.peers)?;
     Ok(Table {
         time,
+        chosen,
         collector: index.collector,
         peers,
     })
@@ -88,8 +95,12 @@ fn counted<R: AllocGlobal + Files, F: Read>(
 ) -> Result<Vec<Counts>, Unanswered> {
     let alloc = rt.alloc();
     let mut sessions = begin_sessions(rt, query, table, files)?;
-    if let Err(fault) = reader.write_sessions(&mut sessions, left_out) {
-        return Err(by_routes(alloc, query, table, fault));
+    match reader.write_sessions(&mut sessions, left_out) {
+        Ok(TableEnd::NextIndex(at)) if table.chosen.piped => {
+            return Err(second_table(alloc, &query.table, at));
+        }
+        Ok(_) => {}
+        Err(fault) => return Err(by_routes(alloc, query, table, fault)),
     }
     Ok(counts_of(alloc, &sessions)?)
 }

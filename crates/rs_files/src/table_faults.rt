@@ -3,9 +3,9 @@
 use crate::listed::{Part, Table};
 use crate::session_files::session_path;
 use rs_glass_shell::Unanswered;
-use rs_host::Unready;
+use rs_host::{Unready, Utc};
 use rs_query::StartQuery;
-use rs_start::{RoutesFault, TableFault};
+use rs_start::{Broken, RoutesFault, TableFault};
 use std::alloc::{AllocError, Global};
 
 /// A fault of the table at a path: the text tells at which octet.
@@ -17,6 +17,20 @@ pub(crate) fn by_table(alloc: Global, path: &str, fault: TableFault) -> Unanswer
             at_fault(format!(in alloc; "{path}: octet {at}: {what}"))
         }
     }
+}
+
+/// All tables of the file at a path are later than a time; the first one is of another time.
+pub(crate) fn none_until(alloc: Global, path: &str, until: u32, first: u32) -> Unanswered {
+    let (until, first) = (Utc(until), Utc(first));
+    at_fault(format!(in alloc;
+        "{path}: no table is of {until} UTC or earlier; the first one is of {first} UTC"
+    ))
+}
+
+/// A second table stands behind that of a pipe: the body of its index begins at this octet.
+pub(crate) fn second_table(alloc: Global, path: &str, at: u64) -> Unanswered {
+    let what = Broken::SecondIndex;
+    by_table(alloc, path, TableFault::Broken { at, what })
 }
 
 /// A fault at which the sessions of a table end.

@@ -70,7 +70,7 @@ const COMMANDS: [Entry; 10] = [
     (
         "start",
         "Writes the beginning of each peer's session, of a collector's table.",
-        &[TABLE, FOLDER, PEER, TOML],
+        &[TABLE, FOLDER, PEER, AT, TOML],
     ),
     (
         "table",
@@ -270,6 +270,13 @@ const PEER: Row = Row {
     takes: Takes::Value("ADDRESS"),
     given: Given::Often,
     help: "Address of a peer whose session is written; all peers if left out",
+    ..FLAG
+};
+
+const AT: Row = Row {
+    name: "at",
+    takes: Takes::Value("TIME"),
+    help: "Takes the last table up to this time: seconds since 1970, or as 2026-11-22T06:36:20Z; the last one if left out",
     ..FLAG
 };
 

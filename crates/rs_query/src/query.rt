@@ -129,6 +129,8 @@ pub struct StartQuery {
     pub out: String,
     /// The addresses of the peers whose sessions are written, in host order. None stands for all peers.
     pub peers: Vec<u32>,
+    /// The time, in seconds since 1970, up to which the last table of the file is taken. None stands for the last one.
+    pub at: Option<u32>,
     /// Whether a configuration to start from is written.
     pub toml: bool,
 }

@@ -155,6 +155,7 @@ fn start_of(alloc: Global, matches: &ArgMatches<'_>) -> Result<StartQuery, Words
         table: text(alloc, matches, "table")?,
         out: text(alloc, matches, "out")?,
         peers: peer_addresses(alloc, matches)?,
+        at: time(alloc, matches, "at")?,
         toml: matches.get_flag("toml"),
     })
 }

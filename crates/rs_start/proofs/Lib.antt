@@ -3,6 +3,7 @@ pub mod UpdateLemmas
 pub mod SaidLemmas
 pub mod AddLemmas
 pub mod WritingLemmas
+pub mod FlagsLemmas
 pub mod TableLemmas
 pub mod EntryLemmas
 pub mod ReadingLemmas

@@ -1,15 +1,17 @@
 -- The sessions that a table is read into. Nothing here is of a standard: all of it is our choice.
-use Rattle.std.specs.Prelude.{◌≡◌, ℕ, ◌<◌, List, [], ◌++◌, length, Option, Some, None, slice_index_or, Bool, true}
-use Rattle.std.specs.Prelude.{false}
+use Rattle.std.specs.Prelude.{◌≡◌, ℕ, ◌<◌, List, [], ◌++◌, ◌∷◌, length, Option, Some, None, slice_index_or}
 use Rattle.rs_mrt.specs.Reader.{ReadEnd, FileEnds}
 use Rattle.rs_mrt.specs.Record.{MrtRecord}
 use Rattle.rs_update.specs.IpPrefix.{IpPrefix}
 use Rattle.rs_start.specs.Opening.{TableRoute}
 use Rattle.rs_start.specs.Table.{Leads, TableEntry, entry_at}
-use Rattle.rs_start.specs.TableFile.{AllHave, HasRoutes, IsTable, TableRow, rows_of, told_from}
-use Rattle.rs_start.specs.TableReading.{ReadsIndex, TableReading, Takes}
+use Rattle.rs_start.specs.TableFile.{AllHave, HasRoutes, IsTable, TableRow, part_of, rows_of, told_from}
+use Rattle.rs_start.specs.TableReading.{Came, ReadsIndex, TableReading, Takes}
 use Rattle.rs_start.specs.Writing.{Goes, IsBegun, IsWhole, Writing}
 use Rattle.rs_start.specs.declared.index.IndexPeer.{IndexPeer}
+use Rattle.rs_start.specs.declared.part.Part.TheVariants.{Index}
+use Rattle.rs_start.specs.declared.part.TableEnd.{TableEnd}
+use Rattle.rs_start.specs.declared.part.TableEnd.TheVariants.{EndOfFile, NextIndex}
 use Rattle.rs_start.specs.declared.sessions.PeerSession.{PeerSession}
 
 module _ {W : Type 0} (taken : W → Option (List ℕ)) where
@@ -72,28 +74,44 @@ module _ {R W : Type 0} (gives : R → List ℕ → ReadEnd → Type 0) (taken :
     pub has : AllHave records rows
     pub go : AllGo taken olds news rows
 
-  -- the next record was, or the file could end at once
-  abbrev pub AddsNext : TableReading R → TableReading R → List (PeerSession W) → List (PeerSession W) → Bool → Type 0
-  AddsNext old new olds news true = Adds old new olds news
-  AddsNext old new olds news false = gives old.reader [] FileEnds × (news ≡ olds)
+  -- a table ends: the file could end at once, or the index of another table was read
+  abbrev pub Ends : TableReading R → TableReading R → TableEnd → List MrtRecord → Type 0
+  Ends old new EndOfFile after = gives old.reader [] FileEnds × (after ≡ [])
+  Ends old new (NextIndex at) after =
+      (next : MrtRecord) × (after ≡ next ∷ []) × (part_of next ≡ Index) × Takes (gives old.reader) (gives new.reader) (next ∷ [])
 
-  -- all records were read to the end of the file
-  pub record AddsAll (old : TableReading R) (olds news : List (PeerSession W)) : Type 0 where
+  -- the next record was, or the table ends
+  abbrev pub AddsNext : TableReading R → TableReading R → List (PeerSession W) → List (PeerSession W) → Option TableEnd
+      → Type 0
+  AddsNext old new olds news None = Adds old new olds news
+  AddsNext old new olds news (Some end) = ((after : List MrtRecord) × Ends old new end after) × (news ≡ olds)
+
+  -- all records were read to the end of the table
+  pub record AddsAll (old new : TableReading R) (olds news : List (PeerSession W)) (end : TableEnd) : Type 0 where
     pub now : TableReading R
     pub adds : Adds old now olds news
-    pub ends : gives now.reader [] FileEnds
+    pub after : List MrtRecord
+    pub ends : Ends now new end after
 
-  -- A reader may have given this file, which is a table, and the sessions say what it has of each peer.
-  pub record Written (first : TableReading R) (time collector : ℕ) (peers : List IndexPeer)
-      (olds news : List (PeerSession W)) : Type 0 where
-    pub file : List ℕ
-    pub given : gives first.reader file FileEnds
+  -- A reader may have given a file that is these octets, or that has them at its front, if the index of the next table is
+  -- their last record.
+  abbrev pub Given : TableReading R → TableReading R → List ℕ → TableEnd → List MrtRecord → Type 0
+  Given first last octets EndOfFile after = gives first.reader octets FileEnds × (after ≡ [])
+  Given first last octets (NextIndex at) after =
+      Came (gives first.reader) (gives last.reader) octets × ((next : MrtRecord) × (after ≡ next ∷ []) × (part_of next ≡ Index))
+
+  -- One table stands in what a reader may have given, and the sessions say what it has of each peer.
+  pub record Written (first last : TableReading R) (place time collector : ℕ) (peers : List IndexPeer)
+      (olds news : List (PeerSession W)) (end : TableEnd) : Type 0 where
+    pub octets : List ℕ
+    pub after : List MrtRecord
+    pub given : Given first last octets end after
     pub rows : List TableRow
-    pub is_table : IsTable file time collector peers rows
+    pub is_table : IsTable octets place time collector peers rows after
     pub all_end : AllEnd taken olds news rows
 
   -- wherever the index was read so, before
-  abbrev pub WritesTable : TableReading R → List (PeerSession W) → List (PeerSession W) → Type 0
-  WritesTable old olds news =
-      (first : TableReading R) (time collector : ℕ) (peers : List IndexPeer)
-      → ReadsIndex gives first old time collector peers → Written first time collector peers olds news
+  abbrev pub WritesTable : TableReading R → TableReading R → List (PeerSession W) → List (PeerSession W) → TableEnd → Type 0
+  WritesTable old new olds news end =
+      (first : TableReading R) (place time collector : ℕ) (peers : List IndexPeer)
+      → ReadsIndex gives first old place time collector peers → Written first new place time collector peers olds news end

@@ -1,9 +1,11 @@
--- The table that a file has: its index, and the routes that its records have of each peer (RFC 6396, section 4.3).
-use Rattle.std.specs.Prelude.{◌≡◌, ℕ, ◌==◌, if◌then◌else◌, List, [], ◌∷◌, ◌++◌, map, filter, None}
+-- The tables that a file has: the index of each, and the routes that its records have of each peer (RFC 6396, section 4.3).
+use Rattle.std.specs.Prelude.{◌≡◌, ℕ, ◌==◌, if◌then◌else◌, Bool, true, false, List, [], ◌∷◌, ◌++◌, length, map, filter}
+use Rattle.std.specs.Prelude.{None}
 use Rattle.std.specs.List.{flat_map, AllByRecursion}
 use Rattle.rs_mrt.specs.Record.{MrtRecord, end_of, records_of}
 use Rattle.rs_update.specs.IpPrefix.{IpPrefix}
 use Rattle.rs_start.specs.Opening.{TableRoute, added_of, route_by}
+use Rattle.rs_start.specs.RightFlags.{mended}
 use Rattle.rs_start.specs.Table.{IsIndex, IsRib, TableEntry}
 use Rattle.rs_start.specs.declared.index.IndexPeer.{IndexPeer}
 use Rattle.rs_start.specs.declared.part.Part.{Part}
@@ -54,17 +56,33 @@ AllHave [] rows = rows ≡ []
 AllHave (r ∷ later) rows =
     (first : List TableRow) × (behind : List TableRow) × Has r first × AllHave later behind × (rows ≡ first ++ behind)
 
--- ---- a file
+-- ---- the tables of a file
 
--- The records of a file are an index behind records of other kinds, and then records that have these rows. The last one
--- is whole.
-pub record IsTable (file : List ℕ) (time collector : ℕ) (peers : List IndexPeer) (rows : List TableRow) : Type 0 where
+abbrev pub is_index_part : Part → Bool
+is_index_part Index = true
+is_index_part Routes = false
+is_index_part Other = false
+
+-- the indexes among records: each begins a table
+abbrev pub indexes_of : List MrtRecord → List MrtRecord
+indexes_of records = filter (λ r. is_index_part (part_of r)) records
+
+-- the times of the tables that they begin, in order
+abbrev pub table_times : List MrtRecord → List ℕ
+table_times records = map (λ r. r.time) (indexes_of records)
+
+-- One table among those that may stand in a file: its records are an index behind those of so many other tables, and then
+-- records that have these rows. Behind it nothing stands, or the index of the next table. Of the first table only records of
+-- other kinds stand before the index. Each record is whole.
+pub record IsTable (octets : List ℕ) (place time collector : ℕ) (peers : List IndexPeer) (rows : List TableRow)
+    (after : List MrtRecord) : Type 0 where
   pub before : List MrtRecord
   pub index : MrtRecord
   pub behind : List MrtRecord
-  pub records : records_of file ≡ before ++ index ∷ behind
-  pub whole : end_of file ≡ None
-  pub others : AllByRecursion IsOther before
+  pub records : records_of octets ≡ before ++ index ∷ (behind ++ after)
+  pub whole : end_of octets ≡ None
+  pub place_is : length (indexes_of before) ≡ place
+  pub others : place ≡ 0 → AllByRecursion IsOther before
   pub is_index : part_of index ≡ Index
   pub time_is : index.time ≡ time
   pub says : IsIndex index.body collector peers
@@ -76,9 +94,10 @@ pub record IsTable (file : List ℕ) (time collector : ℕ) (peers : List IndexP
 abbrev pub rows_from : ℕ → List TableRow → List TableRow
 rows_from place rows = filter (λ row. row.entry.peer == place) rows
 
--- the route of a row, unless the row is left out
+-- the route of a row with the right flags, unless the row is left out
 abbrev pub told_by : TableRow → List TableRoute
-told_by row = route_by (added_of row.prefix row.entry.section) row.prefix row.entry.section
+told_by row =
+    route_by (added_of row.prefix (mended row.entry.section)) row.prefix (mended row.entry.section)
 
 -- the routes that a table has from that peer and that are not left out, in order
 abbrev pub told_from : ℕ → List TableRow → List TableRoute

@@ -4,7 +4,7 @@ use Rattle.std.specs.List.{AllByRecursion}
 use Rattle.rs_mrt.specs.Reader.{ReadEnd, FileEnds}
 use Rattle.rs_mrt.specs.Record.{MrtRecord, records_of, rest_of}
 use Rattle.rs_start.specs.Table.{IsIndex}
-use Rattle.rs_start.specs.TableFile.{IsOther, part_of}
+use Rattle.rs_start.specs.TableFile.{IsOther, indexes_of, part_of}
 use Rattle.rs_start.specs.declared.fault.TableFault.{TableFault}
 use Rattle.rs_start.specs.declared.index.IndexPeer.{IndexPeer}
 use Rattle.rs_start.specs.declared.part.Part.TheVariants.{Index}
@@ -43,13 +43,15 @@ Reads gives old new (Ok None) = gives old.reader [] FileEnds
 Reads gives old new (Ok (Some head)) = Takes (gives old.reader) (gives new.reader) (record_at head new.body ∷ [])
 Reads gives old new (Err fault) = Unit {0}
 
--- an index was read, and records of other kinds before it
+-- The index of the table at a place was read, and the records before it: those of so many other tables. Of the first table
+-- only records of other kinds stand before the index.
 pub record ReadsIndex {R : Type 0} (gives : R → List ℕ → ReadEnd → Type 0) (old new : TableReading R)
-    (time collector : ℕ) (peers : List IndexPeer) : Type 0 where
+    (place time collector : ℕ) (peers : List IndexPeer) : Type 0 where
   pub before : List MrtRecord
   pub index : MrtRecord
   pub takes : Takes (gives old.reader) (gives new.reader) (before ++ index ∷ [])
-  pub others : AllByRecursion IsOther before
+  pub place_is : length (indexes_of before) ≡ place
+  pub others : place ≡ 0 → AllByRecursion IsOther before
   pub is_index : part_of index ≡ Index
   pub time_is : index.time ≡ time
   pub says : IsIndex index.body collector peers

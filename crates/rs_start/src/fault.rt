@@ -40,8 +40,8 @@ pub enum Broken {
     /// Routes stand before the index, or the file ends without one.
     #[error("no PEER_INDEX_TABLE stands before it")]
     NoIndex,
-    /// An index stands behind another one.
-    #[error("a second PEER_INDEX_TABLE")]
+    /// An index stands behind another one, and the table before it can't be known as the last one.
+    #[error("a second PEER_INDEX_TABLE: of a pipe one table is read")]
     SecondIndex,
     /// An index ends before its fields or peer entries do.
     #[error("the PEER_INDEX_TABLE ends before its peer entries do")]
@@ -81,6 +81,12 @@ pub enum TableFault {
 
 impl From<AllocError> for TableFault {
     fn from(_refused: AllocError) -> TableFault {
+        TableFault::Memory
+    }
+}
+
+impl<T: Drop> From<AllocFailed<T>> for TableFault {
+    fn from(_refused: AllocFailed<T>) -> TableFault {
         TableFault::Memory
     }
 }

@@ -14,6 +14,15 @@ pub(crate) enum Part {
     Other,
 }
 
+/// How a table ends.
+#[derive(Clone, Copy, Debug, PartialEq, Eq, Drop)]
+pub enum TableEnd {
+    /// With the file.
+    EndOfFile,
+    /// Before the index of another one, the body of which begins at this octet of the file.
+    NextIndex(u64),
+}
+
 // The Type of a table's records.
 pub(crate) const TABLE_DUMP_V2: u16 = 13;
 

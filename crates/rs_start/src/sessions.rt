@@ -4,15 +4,17 @@ ghost use Rattle.std.specs.Prelude.{◌≡◌, [], ◌∷◌, IfOk, OnOk};
 ghost use Rattle.rs_start.specs.Sessions.{AddsAll, AddsEntries, AddsNext, AddsRoutes, AllEnd, AllGo, EndsBy, GoesBy};
 ghost use Rattle.rs_start.specs.Sessions.{WritesTable};
 ghost use Rattle.rs_start.specs.Opening.{added_of, route_by};
+ghost use Rattle.rs_start.specs.RightFlags.{mended};
 ghost use Rattle.rs_start.specs.Table.{IsIndex};
 ghost use Rattle.rs_start.specs.TableFile.{rows_of};
 ghost use Rattle.rs_start.specs.TableReading.{ReadsIndex, record_at};
 ghost use Rattle.rs_start.specs.TableView.{entry_of};
+ghost use Rattle.rs_start.specs.declared.part.Part.TheVariants.{Other};
 
 use crate::counts::{Counts, LeftOut};
 use crate::fault::{Broken, PartFault, RoutesFault, StartFault, TableFault};
 use crate::index::{Index, read_index};
-use crate::part::{Part, part_by};
+use crate::part::{Part, TableEnd, part_by};
 use crate::rib::{Rib, RibEntry, read_rib, split_entry};
 use crate::table_reader::{Head, TableReader};
 use crate::writer::SessionWriter;
@@ -32,7 +34,7 @@ impl<W: Write + Drop> PeerSession<W> {
     // Adds an entry of the peer.
     fn add(&mut self, prefix: Prefix, section: &[u8]) -> Result<(), StartFault>
         ensures { OnOk result (GoesBy W.taken self.old.writer self.new.writer
-            (route_by (added_of prefix section.now) prefix section.now)) }
+            (route_by (added_of prefix (mended section.now)) prefix (mended section.now))) }
     {
         match &mut self.writer {
             Some(writer) => {
@@ -56,28 +58,34 @@ impl<W: Write + Drop> PeerSession<W> {
 }
 
 impl<R: Read> TableReader<R> {
-    /// Reads up to the index, and answers its time, in seconds since 1970, and the index. Records before it that have
-    /// no routes of IPv4 unicast prefixes are counted.
+    /// Reads up to the index of the table at a place of the file, counted from 0, and answers its time, in seconds since
+    /// 1970, and the index. Tables before it are passed over. Records before the first index that have no routes of IPv4
+    /// unicast prefixes are counted, if the first table is read.
     ///
-    /// `Broken` tells what is at fault: a record or the index is cut short, or routes or the end of the file come
-    /// before an index. `Read` comes where a read fails, `Memory` where memory is refused.
-    pub fn read_index(&mut self, left_out: &mut LeftOut) -> Result<(u32, Index), TableFault>
+    /// `Broken` tells what is at fault: a record or the index is cut short, or the end of the file comes before the
+    /// index, or, if the first table is read, routes do. `Read` comes where a read fails, `Memory` where memory is
+    /// refused.
+    pub fn read_index(
+        &mut self,
+        place: usize,
+        left_out: &mut LeftOut,
+    ) -> Result<(u32, Index), TableFault>
         ensures index { IfOk result (λ read.
-            ReadsIndex R.gives self.old self.new read.0 read.1.collector read.1.peers.items) }
+            ReadsIndex R.gives self.old self.new place read.0 read.1.collector read.1.peers.items) }
     {
+        let mut earlier = 0;
         for _record in 0..u64::MAX {
             let Some(head) = self.next()? else {
                 return Err(self.broken(Broken::NoIndex));
             };
             match part_by(head.kind, head.subtype) {
-                Part::Index => return self.index_in(&head),
-                Part::Routes => {
-                    return Err(TableFault::Broken {
-                        at: head.at,
-                        what: Broken::NoIndex,
-                    });
+                Part::Index => {
+                    if earlier == place {
+                        return self.index_in(&head);
+                    }
+                    earlier += 1;
                 }
-                Part::Other => left_out.add(head.kind, head.subtype),
+                part => pass_over(part, &head, place, left_out)?,
             }
         }
         Err(TableFault::Read)
@@ -95,9 +103,9 @@ impl<R: Read> TableReader<R> {
         }
     }
 
-    /// Reads the records behind the index to the end of the file, adds each entry to the session of its peer, and
-    /// writes the sessions whole. Records without routes of IPv4 unicast prefixes, and entries of peers that the index
-    /// does not have, are counted.
+    /// Reads the records behind the index to the end of the table: to the end of the file, or over the index of the next
+    /// table. Adds each entry to the session of its peer, and writes the sessions whole. Records without routes of IPv4
+    /// unicast prefixes, and entries of peers that the index does not have, are counted.
     ///
     /// Afterwards what was taken of each session says just what the table has of its peer, as the peer's session: one
     /// announcement for each route that isn't left out, in order.
@@ -105,12 +113,13 @@ impl<R: Read> TableReader<R> {
         &mut self,
         sessions: &mut [PeerSession<W>],
         left_out: &mut LeftOut,
-    ) -> Result<(), RoutesFault>
-        ensures written { OnOk result (WritesTable R.gives W.taken self.old sessions.old sessions.new) }
+    ) -> Result<TableEnd, RoutesFault>
+        ensures written { IfOk result (λ end.
+            WritesTable R.gives W.taken self.old self.new sessions.old sessions.new end) }
     {
-        self.read_routes(sessions, left_out)?;
+        let end = self.read_routes(sessions, left_out)?;
         finish_all(sessions)?;
-        Ok(())
+        Ok(end)
     }
 
     // Reads the records behind the index, and adds each entry to the session of its peer.
@@ -118,39 +127,59 @@ impl<R: Read> TableReader<R> {
         &mut self,
         sessions: &mut [PeerSession<W>],
         left_out: &mut LeftOut,
-    ) -> Result<(), RoutesFault>
-        ensures { OnOk result (AddsAll R.gives W.taken self.old sessions.old sessions.new) }
+    ) -> Result<TableEnd, RoutesFault>
+        ensures { IfOk result (λ end. AddsAll R.gives W.taken self.old self.new sessions.old sessions.new end) }
     {
         for _record in 0..u64::MAX {
-            if !self.add_next(sessions, left_out)? {
-                return Ok(());
+            if let Some(end) = self.add_next(sessions, left_out)? {
+                return Ok(end);
             }
         }
         Err(RoutesFault::Table(TableFault::Read))
     }
 
-    // Reads the next record, and adds its entries. Answers whether there is one.
+    // Reads the next record, and adds its entries, unless the table ends. Answers how it ends, if it does.
     fn add_next<W: Write + Drop>(
         &mut self,
         sessions: &mut [PeerSession<W>],
         left_out: &mut LeftOut,
-    ) -> Result<bool, RoutesFault>
-        ensures { IfOk result (λ more. AddsNext R.gives W.taken self.old self.new sessions.old sessions.new more) }
+    ) -> Result<Option<TableEnd>, RoutesFault>
+        ensures { IfOk result (λ end. AddsNext R.gives W.taken self.old self.new sessions.old sessions.new end) }
     {
         let Some(head) = self.next()? else {
-            return Ok(false);
+            return Ok(Some(TableEnd::EndOfFile));
         };
         match part_by(head.kind, head.subtype) {
-            Part::Index => {
-                return Err(RoutesFault::Table(TableFault::Broken {
-                    at: head.at,
-                    what: Broken::SecondIndex,
-                }));
-            }
+            Part::Index => return Ok(Some(TableEnd::NextIndex(head.at))),
             Part::Routes => add_record(self.body(&head), head.at, sessions, left_out)?,
             Part::Other => left_out.add(head.kind, head.subtype),
         }
-        Ok(true)
+        Ok(None)
+    }
+}
+
+// Passes over a record before the index of the table at a place: of the first table only records of other kinds stand
+// there, and are counted.
+fn pass_over(
+    part: Part,
+    head: &Head,
+    place: usize,
+    left_out: &mut LeftOut,
+) -> Result<(), TableFault>
+    ensures { OnOk result (place ≡ 0 → part ≡ Other) }
+{
+    if place > 0 {
+        return Ok(());
+    }
+    match part {
+        Part::Index | Part::Routes => Err(TableFault::Broken {
+            at: head.at,
+            what: Broken::NoIndex,
+        }),
+        Part::Other => {
+            left_out.add(head.kind, head.subtype);
+            Ok(())
+        }
     }
 }
 

@@ -5,10 +5,12 @@
 ghost use Rattle.std.specs.Prelude.{◌≡◌, ◌<◌, [], IfOk, IsFalse, IsTrue, OnOk};
 ghost use Rattle.rs_start.specs.declared.added.Added.TheVariants.{Written};
 ghost use Rattle.rs_start.specs.Opening.{IsStart, added_of, route_by};
+ghost use Rattle.rs_start.specs.RightFlags.{mended};
 ghost use Rattle.rs_start.specs.Writing.{Closes, Ends, Flushes, Goes, IsBegun};
 
 use crate::added::Added;
 use crate::fault::StartFault;
+use crate::flags::mended;
 use crate::held::Held;
 use crate::laws::a_session_begins_with_the_routes_of_the_table;
 use crate::spelling::spell_up;
@@ -38,6 +40,7 @@ pub struct SessionWriter<W: Write> {
 impl<W: Write> Model for SessionWriter<W> {
     ghost use Rattle.std.specs.Prelude.{◌<◌, IsFalse};
     ghost use Rattle.rs_start.specs.Opening.{IsStart};
+    ghost use Rattle.rs_start.specs.RightFlags.{mended};
     ghost use Rattle.rs_start.specs.Writing.{Writing};
 
     ghost Value = { Writing W };
@@ -69,11 +72,21 @@ impl<W: Write + Drop> SessionWriter<W> {
     }
 
     /// Announces the route of an entry of the table, or tells why it is left out. `section` has the path attributes of
-    /// the entry as they stand in the table. Prefixes that follow each other with equal octets of path attributes stand
-    /// in one UPDATE, as many as it holds.
+    /// the entry as they stand in the table. The session has them with the flags that their types ask for. Prefixes that
+    /// follow each other with equal octets of path attributes stand in one UPDATE, as many as it holds.
     ///
     /// `Memory` comes where memory is refused, `Write` where a write fails: the session isn't to be kept then.
     pub fn add(&mut self, prefix: Prefix, section: &[u8]) -> Result<Added, StartFault>
+        ensures added { IfOk result (λ added. added ≡ added_of prefix (mended section.now)) }
+        ensures goes { IfOk result (λ added. Goes W.taken self.old self.new (route_by added prefix (mended section.now))) }
+        ensures start { OnOk result (self.new.start ≡ self.old.start) }
+    {
+        let mended = mended(self.alloc, section)?;
+        self.announce(prefix, &mended)
+    }
+
+    // Announces the route of a prefix with these path attributes, or tells why it is left out.
+    fn announce(&mut self, prefix: Prefix, section: &[u8]) -> Result<Added, StartFault>
         ensures added { IfOk result (λ added. added ≡ added_of prefix section.now) }
         ensures goes { IfOk result (λ added. Goes W.taken self.old self.new (route_by added prefix section.now)) }
         ensures start { OnOk result (self.new.start ≡ self.old.start) }

@@ -4,7 +4,7 @@ use Rattle.rs_start.specs.Opening.{route_by}
 use Rattle.rs_start.specs.Writing.{Goes}
 use Rattle.rs_start.specs.declared.added.Added.TheVariants.{Written}
 use Rattle.rs_start.proofs.WritingLemmas.{goes-then, holds-goes}
-use Rattle.rs_start.proofs.writer.SessionWriter.add.Goals as goal
+use Rattle.rs_start.proofs.writer.SessionWriter.announce.Goals as goal
 
 pub returns-in_ok-close-in-Ok-clause-goes : goal.returns-in_ok-close-in-Ok-clause-goes
 returns-in_ok-close-in-Ok-clause-goes g c =

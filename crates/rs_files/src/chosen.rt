@@ -1,0 +1,104 @@
+//! Which table of a file is taken.
+//!
+//! Our choice: the last whole one, or the last whole one up to a time. The file is read twice: first to find its tables. So
+//! it is a file on a disk; of a pipe only one table is read.
+
+use crate::table_faults::{by_table, none_until};
+use rs_glass_shell::Unanswered;
+use rs_host::{Unready, Utc, open_file};
+use rs_query::StartQuery;
+use rs_start::{TableReader, Tables};
+use std::alloc::AllocError;
+use std::fs;
+use std::fs::Files;
+use std::io::ErrorKind;
+
+/// The table of a file that is taken.
+#[derive(Clone, Copy, Debug, PartialEq, Eq, Drop)]
+pub(crate) struct Chosen {
+    /// Its place in the file, from 0 on.
+    pub(crate) place: usize,
+    /// How many tables the file has.
+    pub(crate) count: usize,
+    /// Whether the last one of them is whole.
+    pub(crate) whole: bool,
+    /// Whether the file can be read once alone, so that its tables weren't counted.
+    pub(crate) piped: bool,
+}
+
+// The first table of a file.
+const FIRST: Chosen = Chosen {
+    place: 0,
+    count: 1,
+    whole: true,
+    piped: false,
+};
+
+/// The table that a question takes. Fails if the file can't be read, or if all its tables are later than is asked for.
+pub(crate) fn take_table<R: AllocGlobal + Files>(
+    rt: &R,
+    query: &StartQuery,
+) -> Result<Chosen, Unanswered> {
+    if !is_on_disk(rt, &query.table)? {
+        return Ok(Chosen {
+            piped: true,
+            ..FIRST
+        });
+    }
+    let tables = tables_of(rt, query)?;
+    let Some(first) = tables.times.first() else {
+        return Ok(FIRST);
+    };
+    let until = query.at.unwrap_or(u32::MAX);
+    match tables.last_until(until) {
+        Some(place) => Ok(Chosen {
+            place,
+            count: tables.times.len(),
+            whole: tables.whole,
+            piped: false,
+        }),
+        None => Err(none_until(rt.alloc(), &query.table, until, *first)),
+    }
+}
+
+// Whether a path names a file that can be read twice.
+fn is_on_disk<R: AllocGlobal + Files>(rt: &R, path: &str) -> Result<bool, AllocError> {
+    match fs::metadata(rt, path) {
+        Ok(found) => Ok(found.is_file()),
+        Err(error) if error.kind() == ErrorKind::OutOfMemory => Err(AllocError),
+        Err(_) => Ok(false),
+    }
+}
+
+// The tables of the file.
+fn tables_of<R: AllocGlobal + Files>(rt: &R, query: &StartQuery) -> Result<Tables, Unanswered> {
+    let alloc = rt.alloc();
+    let file = match open_file(rt, &query.table) {
+        Ok(file) => file,
+        Err(fault) => return Err(Unready::by_file(alloc, fault, &query.table).into()),
+    };
+    let mut reader = TableReader::new(alloc, file);
+    match reader.read_tables() {
+        Ok(tables) => Ok(tables),
+        Err(fault) => Err(by_table(alloc, &query.table, fault)),
+    }
+}
+
+/// Adds the line of the table that is taken, behind a mark, if the file has several.
+pub(crate) fn add_chosen_line(
+    text: &mut String,
+    mark: &str,
+    chosen: Chosen,
+    time: u32,
+) -> Result<(), AllocError> {
+    let count = chosen.count;
+    if count < 2 {
+        return Ok(());
+    }
+    let (number, time) = (chosen.place.saturating_add(1), Utc(time));
+    write!(text, "{mark}table {number} of {count}, of {time} UTC")?;
+    if !chosen.whole {
+        write!(text, "; the last one is cut short")?;
+    }
+    writeln!(text)
+}
