@@ -1,6 +1,7 @@
 //! Files as pieces of recordings: in which of them a peer has messages, and how they are joined.
 //!
-//! Our choices: the order of the pieces is that of the command line. A path below `/dev/fd/` or `/proc/self/fd/` names
+//! Our choices: the pieces are in the order of their first times, whatever the order of the command line; of equal times, in
+//! that of the command line. A path below `/dev/fd/` or `/proc/self/fd/` names
 //! a file that is there only while the command runs, as a shell gives it for `<(..)`.
 
 use crate::recorded_file::RecordedFile;
@@ -13,16 +14,18 @@ use std::collections::BTreeMap;
 #[derive(Drop)]
 pub(crate) struct Pieces {
     peers: BTreeMap<Peer, Told>,
+    // The numbers of all files, by their first times.
+    order: Vec<usize>,
 }
 
 // What all files tell of a peer.
 #[derive(Clone, Copy, Drop)]
 struct Told {
-    // The number of the first file in which it has messages.
+    // The number of the first file of the command line in which it has messages.
     first: Option<usize>,
     // In how many files it has messages.
     pieces: usize,
-    // The BGP Identifier of its last OPEN.
+    // The BGP Identifier of its last OPEN, in the order of time.
     identifier: Option<u32>,
 }
 
@@ -33,16 +36,28 @@ const TRANSIENT: [&str; 2] = ["/dev/fd/", "/proc/self/fd/"];
 const PLAIN: &str = "._-/+:,@%";
 
 impl Pieces {
-    /// Those of these files, in the order of the command line.
+    /// Those of these files, which are numbered in the order of the command line.
     pub(crate) fn of(alloc: Global, files: &[RecordedFile]) -> Result<Pieces, AllocError> {
-        let mut peers = BTreeMap::new(alloc);
-        for (number, file) in files.iter().enumerate() {
-            for (peer, records) in file.inventory.peers() {
-                let told = told_with(peers.get(peer).copied(), number, records);
-                peers.insert(*peer, told)?;
+        let mut pieces = Pieces {
+            peers: BTreeMap::new(alloc),
+            order: Vec::new(alloc),
+        };
+        for number in by_first_time(alloc, files)? {
+            if let Some(file) = files.get(number) {
+                pieces.add(number, &file.inventory)?;
             }
         }
-        Ok(Pieces { peers })
+        Ok(pieces)
+    }
+
+    // Adds a file, the times of which don't begin before those of the files so far.
+    fn add(&mut self, number: usize, inventory: &Inventory) -> Result<(), AllocError> {
+        self.order.push(number)?;
+        for (peer, records) in inventory.peers() {
+            let told = told_with(self.peers.get(peer).copied(), number, records);
+            self.peers.insert(*peer, told)?;
+        }
+        Ok(())
     }
 
     /// Whether another file lists this file's peer. An earlier file does, if the peer has messages in it. A later file
@@ -72,8 +87,8 @@ impl Pieces {
         self.peers.get(&peer)?.identifier
     }
 
-    /// The command of a shell that joins those of these files that are pieces to a file of this name; none where none
-    /// is. Where one of them is there only while the command runs, none is named.
+    /// The command of a shell that joins those of these files that are pieces, by their first times, to a file of this name;
+    /// none where none is. Where one of them is there only while the command runs, none is named.
     pub(crate) fn command(
         &self,
         alloc: Global,
@@ -82,7 +97,11 @@ impl Pieces {
     ) -> Result<Option<String>, AllocError> {
         let mut words = String::new(alloc);
         let mut nameless = false;
-        for file in files {
+        for file in self
+            .order
+            .iter()
+            .filter_map(|number: &usize| files.get(*number))
+        {
             if self.has_piece(&file.inventory) {
                 words.push(' ')?;
                 push_word(alloc, &mut words, &file.path)?;
@@ -109,6 +128,20 @@ impl Pieces {
     }
 }
 
+// The numbers of files, by their first times; of equal ones, and of files without a record, in their order.
+fn by_first_time(alloc: Global, files: &[RecordedFile]) -> Result<Vec<usize>, AllocError> {
+    let mut firsts = Vec::with_capacity(alloc, files.len())?;
+    for (number, file) in files.iter().enumerate() {
+        firsts.push((file.inventory.first().unwrap_or(0), number))?;
+    }
+    firsts.sort_by_key(|first: &(u32, usize)| first.0)?;
+    let mut order = Vec::with_capacity(alloc, firsts.len())?;
+    for (_, number) in firsts {
+        order.push(number)?;
+    }
+    Ok(order)
+}
+
 // What files tell of a peer with one file more, of a number.
 fn told_with(told: Option<Told>, number: usize, records: &PeerRecords) -> Told {
     let mut told = told.unwrap_or(Told {
@@ -118,7 +151,7 @@ fn told_with(told: Option<Told>, number: usize, records: &PeerRecords) -> Told {
     });
     if records.messages() > 0 {
         told.pieces = told.pieces.saturating_add(1);
-        told.first = told.first.or(Some(number));
+        told.first = Some(told.first.unwrap_or(number).min(number));
     }
     told.identifier = records.identifiers().last().copied().or(told.identifier);
     told

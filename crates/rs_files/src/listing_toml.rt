@@ -2,7 +2,7 @@
 //!
 //! Our choices: the server is the recorder that the first file with messages names. A peer is named after its AS
 //! number. An address that stands twice is a comment the second time, since no two peers have the same. Files in which
-//! one peer has messages are pieces of one recording, in the order of the command line: the peer stands once, with the
+//! one peer has messages are pieces of one recording, in the order of their first times: the peer stands once, with the
 //! file that they make when they are joined. A file that is there only while the command runs is no peer's file.
 
 use crate::listing_pieces::{Pieces, is_transient};
