@@ -13,7 +13,11 @@ use Rattle.rs_options.specs.Standard.{standard_name}
 use Rattle.rs_mrt.specs.declared.bounds.Bounds.{Bounds}
 use Rattle.rs_mrt.specs.declared.bounds.Tail.{Tail}
 use Rattle.rs_mrt.specs.declared.bounds.Tail.TheVariants.{Strict, Lenient}
+use Rattle.rs_options.specs.declared.options.Losses.{Losses}
+use Rattle.rs_options.specs.declared.options.Losses.TheVariants.{Recorded, Inferred}
 use Rattle.rs_options.specs.declared.options.Options.{Options}
+use Rattle.rs_options.specs.declared.options.Strictness.{Strictness}
+use Rattle.rs_options.specs.declared.options.Strictness.TheVariants.{Off, BeforeWriting, AfterWriting}
 use Rattle.rs_options.specs.declared.options.WordsFault.{WordsFault}
 use Rattle.rs_options.specs.declared.options.WordsFault.TheVariants.{Help, Refused, Memory}
 
@@ -62,9 +66,20 @@ until_rule = free_option (codes "until")
 abbrev pub tail_rule : Rule
 tail_rule = option_or (codes "tail") (codes "strict")
 
--- whether a run that isn't clean has a status of its own (our choice)
+-- which losses count, by their name: those that are recorded if the words don't say (our choice)
+abbrev pub losses_rule : Rule
+losses_rule = option_or (codes "losses") (codes "recorded")
+
+-- an option that is there or not
+abbrev pub flag : Text → Rule
+flag name = record (new_rule name) { long = Some name; action = Some SetTrue }
+
+-- whether a run that isn't clean has a status of its own, and writes nothing, or writes all (our choice)
 abbrev pub strict_rule : Rule
-strict_rule = record (new_rule (codes "strict")) { long = Some (codes "strict"); action = Some SetTrue }
+strict_rule = flag (codes "strict")
+
+abbrev pub strict_after_rule : Rule
+strict_after_rule = flag (codes "strict-after")
 
 -- the three options that every run has
 abbrev pub with_places : App → App
@@ -74,17 +89,21 @@ with_places app = with_rule (with_rule (with_rule app config_rule) out_rule) tim
 abbrev pub with_manner : App → App
 with_manner app = with_rule (with_rule (with_rule app ring_rule) shards_rule) errors_rule
 
--- the three options that say how much of the files is read, and whether that is enough
+-- the three options that say which records are read
 abbrev pub with_bounds : App → App
-with_bounds app = with_rule (with_rule (with_rule app until_rule) tail_rule) strict_rule
+with_bounds app = with_rule (with_rule (with_rule app until_rule) tail_rule) losses_rule
+
+-- the two options for a run that isn't clean
+abbrev pub with_strictness : App → App
+with_strictness app = with_rule (with_rule app strict_rule) strict_after_rule
 
 -- a command that tells its version
 abbrev pub with_version : App → App
 with_version app = on_top (λ shape. record shape { has_version = true }) app
 
--- the program's command, with its nine options
+-- the program's command, with its eleven options
 abbrev pub program : App
-program = with_bounds (with_manner (with_places (with_version (new_app (codes "route_server")))))
+program = with_strictness (with_bounds (with_manner (with_places (with_version (new_app (codes "route_server"))))))
 
 -- the number that a text of decimal digits stands for
 abbrev pub number_of : Text → ℕ
@@ -94,6 +113,11 @@ number_of text = digits_value 10 (without_leading_plus text)
 abbrev pub tail_name : Tail → Text
 tail_name Strict = codes "strict"
 tail_name Lenient = codes "lenient"
+
+-- the names of the losses that count
+abbrev pub losses_name : Losses → Text
+losses_name Recorded = codes "recorded"
+losses_name Inferred = codes "inferred"
 
 -- there is a time just where the words give one
 abbrev pub IsTimeGiven : Option Text → Option ℕ → Type 0
@@ -119,6 +143,20 @@ pub record IsFlag (found : Option Text) (flag : Bool) : Type 0 where
   pub given : found ≡ Some (codes "true") → flag ≡ true
   pub absent : found ≡ Some (codes "false") → flag ≡ false
 
+-- what becomes of a run that isn't clean, by the two flags: if both are given, the first one counts
+abbrev pub strict_by : Bool → Bool → Strictness
+strict_by true after = BeforeWriting
+strict_by false true = AfterWriting
+strict_by false false = Off
+
+-- the two flags that were found ask for this
+pub record HoldStrict (rows : List Row) (strict : Strictness) : Type 0 where
+  pub before : Bool
+  pub after : Bool
+  pub before_found : IsFlag (one_of (codes "strict") rows) before
+  pub after_found : IsFlag (one_of (codes "strict-after") rows) after
+  pub asked : strict ≡ strict_by before after
+
 -- what was found for each argument holds these options, numbers as numbers and the standard by its name
 pub record HoldOptions (rows : List Row) (options : Options) : Type 0 where
   pub config : first_of (codes "config") rows ≡ Some (string_bytes options.config)
@@ -130,7 +168,8 @@ pub record HoldOptions (rows : List Row) (options : Options) : Type 0 where
   pub shards_fit : (1 ≤ options.shards) × (options.shards ≤ 16)
   pub errors : first_of (codes "errors") rows ≡ Some (standard_name options.errors)
   pub bounds : HoldBounds rows options.bounds
-  pub strict : IsFlag (one_of (codes "strict") rows) options.strict
+  pub losses : first_of (codes "losses") rows ≡ Some (losses_name options.losses)
+  pub strict : HoldStrict rows options.strict
 
 -- the options are the values that the command's matches of the words hold, the default included
 abbrev pub AreOptionsOf : List Text → Options → Type 0

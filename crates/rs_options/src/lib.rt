@@ -11,8 +11,8 @@ mod times;
 mod version;
 mod words;
 
-pub use options::{Options, WordsFault};
+pub use options::{Losses, Options, Strictness, WordsFault};
 pub use standard::standard_of;
 pub use times::read_time;
 pub use version::VERSION;
-pub use words::read_words;
+pub use words::{losses_of, read_words};

@@ -26,9 +26,31 @@ pub struct Options {
     pub errors: Errors,
     /// How much of each recorded file is read.
     pub bounds: Bounds,
-    /// Whether a run of which there is a note, or in which a session closed before the end of its file, ends with a
-    /// status of its own.
-    pub strict: bool,
+    /// Which losses of a session count.
+    pub losses: Losses,
+    /// What becomes of a run that is not clean.
+    pub strict: Strictness,
+}
+
+/// Which losses of a recorded session count (RFC 4271, section 8.2.2).
+#[derive(Clone, Copy, Debug, PartialEq, Eq, Drop)]
+pub enum Losses {
+    /// Those that the records of the peer itself tell.
+    Recorded,
+    /// Those too that follow from other records: a loss recorded without the peer's address or with swapped addresses,
+    /// and a session that begins again while it is up.
+    Inferred,
+}
+
+/// What becomes of a run that is not clean: a session closed before the end of its file, or there is a note.
+#[derive(Clone, Copy, Debug, PartialEq, Eq, Drop)]
+pub enum Strictness {
+    /// It is as any other.
+    Off,
+    /// It writes no dump and no report, and ends with a status of its own.
+    BeforeWriting,
+    /// It writes all dumps and the report, and ends with a status of its own.
+    AfterWriting,
 }
 
 /// Why the words of the command line give no options.

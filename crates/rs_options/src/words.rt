@@ -1,13 +1,15 @@
 //! Reads the words of the command line, with `clap`.
 
-ghost use Rattle.std.specs.Prelude.{◌≡◌, [], IfErr, IfOk, IfSome, OnOk, false, map, string_bytes};
-ghost use Rattle.clap.specs.Words.{app_of, found_of, kind_of, rows_of, rule_of, with_rule};
+ghost use Rattle.std.specs.Prelude.{◌≡◌, [], IfErr, IfOk, IfSome, OnOk, Some, codes, false, map, string_bytes};
+ghost use Rattle.clap.specs.Words.{app_of, first_of, found_of, kind_of, rows_of, rule_of, with_rule};
 ghost use Rattle.rs_options.specs.CommandLine.{AreOptionsOf, HoldBounds, HoldOptions, IsTime, IsToldAs, SaysWhy};
-ghost use Rattle.rs_options.specs.CommandLine.{config_rule, errors_rule, faults_in, free_option, out_rule, program};
-ghost use Rattle.rs_options.specs.CommandLine.{ring_rule, shards_rule, strict_rule, tail_name, tail_rule, time_rule};
-ghost use Rattle.rs_options.specs.CommandLine.{until_rule, with_bounds, with_manner, with_places};
+ghost use Rattle.rs_options.specs.CommandLine.{HoldStrict, config_rule, errors_rule, faults_in, flag, free_option};
+ghost use Rattle.rs_options.specs.CommandLine.{losses_name, losses_rule, out_rule, program, ring_rule, shards_rule};
+ghost use Rattle.rs_options.specs.CommandLine.{strict_after_rule, strict_by, strict_rule, tail_name, tail_rule};
+ghost use Rattle.rs_options.specs.CommandLine.{time_rule, until_rule, with_bounds, with_manner, with_places};
+ghost use Rattle.rs_options.specs.CommandLine.{with_strictness};
 
-use crate::options::{Options, WordsFault};
+use crate::options::{Losses, Options, Strictness, WordsFault};
 use crate::standard::standard_of;
 use crate::times::read_time;
 use crate::version::VERSION;
@@ -40,7 +42,7 @@ Status:
   2  a file, a folder or a device failed
   3  memory or a thread was refused
   4  not all changes of a peer are known to have been applied: the fault is the program's own
-  5  with --strict: a session closed before the end of its file, or there is a note";
+  5  with --strict or --strict-after: a session closed before the end of its file, or there is a note";
 
 // What `--config` does, in its help.
 const CONFIG_HELP: &str =
@@ -77,6 +79,18 @@ const TAIL_HELP: &str =
     "What becomes of a record that the end of its file cuts short: strict (the session closes and its \
     routes are gone) or lenient (the record is left out)";
 
+// What `--losses` does, in its help.
+const LOSSES_HELP: &str =
+    "Which losses of a session count: recorded (those that records of the peer tell) or inferred (those \
+    too that are recorded without its address, and before a session that begins again while it is up)";
+
+// What `--strict` does, in its help.
+const STRICT_HELP: &str =
+    "Writes nothing and ends with status 5 if a session closed before the end of its file, or there is a note";
+
+// What `--strict-after` does, in its help.
+const STRICT_AFTER_HELP: &str = "Writes all, and then ends with status 5 as --strict does";
+
 // The text where an option has no value.
 const INCOMPLETE: &str = "error: an option has no value\n";
 
@@ -100,16 +114,24 @@ const NO_TAIL: &str = "error: the value of '--tail <TAIL>' is neither 'strict' n
 For more information, try '--help'.
 ";
 
+// The text where the value of `--losses` names no losses.
+const NO_LOSSES: &str =
+    "error: the value of '--losses <LOSSES>' is neither 'recorded' nor 'inferred'
+
+For more information, try '--help'.
+";
+
 /// Reads the words of the command line, which begin with the program's own name: `--config FILE --out DIR [--time N]
-/// [--ring N] [--shards N] [--errors rfc4271|rfc7606] [--until TIME] [--tail strict|lenient] [--strict]`.
+/// [--ring N] [--shards N] [--errors rfc4271|rfc7606] [--until TIME] [--tail strict|lenient]
+/// [--losses recorded|inferred] [--strict] [--strict-after]`.
 ///
 /// DIR isn't empty. The time is from 0 to 4,294,967,295, the ring from 1 to 65,536, the shards from 1 to 16. TIME is as
 /// `read_time` takes it. Defaults: the time is TIME, or 0 without it; the ring 1,024, the shards 1, the standard RFC
-/// 4271, the tail strict.
+/// 4271, the tail strict, the losses those recorded. If both flags are given, `--strict` counts.
 ///
 /// Answers `Help` where help or the version is asked for, with the text of `clap`. Answers `Refused` where the words
-/// aren't such, with the text of `clap`, or one of our own where `--errors`, `--until` or `--tail` has no such value.
-/// Answers `Memory` where memory is refused.
+/// aren't such, with the text of `clap`, or one of our own where `--errors`, `--until`, `--tail` or `--losses` has no
+/// such value. Answers `Memory` where memory is refused.
 pub fn read_words(alloc: Global, words: Vec<String>) -> Result<Options, WordsFault>
     ensures options { IfOk result (λ options. AreOptionsOf (map string_bytes words.items) options) }
     ensures taken { OnOk result (faults_in (map string_bytes words.items) ≡ []) }
@@ -145,7 +167,8 @@ fn options_of(alloc: Global, matches: &ArgMatches<'_>) -> Result<Options, WordsF
     };
     let bounds = bounds_of(alloc, matches)?;
     let time = time_of(alloc, matches, bounds.until.unwrap_or(0))?;
-    let strict = matches.get_flag("strict");
+    let losses = losses_in(alloc, matches)?;
+    let strict = strict_in(matches);
     let config = String::from_str(alloc, config)?;
     let out = String::from_str(alloc, out)?;
     Ok(Options {
@@ -156,6 +179,7 @@ fn options_of(alloc: Global, matches: &ArgMatches<'_>) -> Result<Options, WordsF
         shards,
         errors,
         bounds,
+        losses,
         strict,
     })
 }
@@ -197,6 +221,52 @@ fn bounds_of(alloc: Global, matches: &ArgMatches<'_>) -> Result<Bounds, WordsFau
     }
 }
 
+// Which losses count.
+fn losses_in(alloc: Global, matches: &ArgMatches<'_>) -> Result<Losses, WordsFault>
+    ensures losses { IfOk result (λ losses.
+        first_of (codes "losses") (rows_of (found_of matches.now)) ≡ Some (losses_name losses)) }
+    ensures refused { IfErr result (SaysWhy []) }
+{
+    let Some(name) = matches.get_str("losses") else {
+        return Err(WordsFault::Refused(String::from_str(alloc, INCOMPLETE)?));
+    };
+    match losses_of(name) {
+        Some(losses) => Ok(losses),
+        None => Err(WordsFault::Refused(String::from_str(alloc, NO_LOSSES)?)),
+    }
+}
+
+/// The losses that a word of a command line names: `recorded` or `inferred`; none where it is another word.
+pub fn losses_of(name: &str) -> Option<Losses>
+    ensures { IfSome result (λ losses. name.now ≡ losses_name losses) }
+{
+    match name {
+        "recorded" => Some(Losses::Recorded),
+        "inferred" => Some(Losses::Inferred),
+        _ => None,
+    }
+}
+
+// What becomes of a run that isn't clean.
+fn strict_in(matches: &ArgMatches<'_>) -> Strictness
+    ensures { HoldStrict (rows_of (found_of matches.now)) result }
+{
+    strict_by(matches.get_flag("strict"), matches.get_flag("strict-after"))
+}
+
+// The same, by the two flags.
+fn strict_by(before: bool, after: bool) -> Strictness
+    ensures { result ≡ strict_by before after }
+{
+    if before {
+        Strictness::BeforeWriting
+    } else if after {
+        Strictness::AfterWriting
+    } else {
+        Strictness::Off
+    }
+}
+
 // What becomes of a record that is cut short, by its name.
 fn tail_of(name: &str) -> Option<Tail>
     ensures { IfSome result (λ tail. name.now ≡ tail_name tail) }
@@ -233,7 +303,8 @@ fn program<'a>(alloc: Global) -> Result<Command<'a>, AllocError>
         .after_help(AFTER_HELP);
     let command = with_places(alloc, command)?;
     let command = with_manner(alloc, command)?;
-    with_bounds(alloc, command)
+    let command = with_bounds(alloc, command)?;
+    with_strictness(alloc, command)
 }
 
 // The command with the three options that every run has.
@@ -254,13 +325,21 @@ fn with_manner<'a>(alloc: Global, command: Command<'a>) -> Result<Command<'a>, A
     with_option(command, errors_argument(alloc))
 }
 
-// The command with the three options that say how much of the files is read, and whether that is enough.
+// The command with the three options that say which records are read.
 fn with_bounds<'a>(alloc: Global, command: Command<'a>) -> Result<Command<'a>, AllocError>
     ensures { IfOk result (λ made. app_of made ≡ with_bounds (app_of command.entry)) }
 {
     let command = with_option(command, until_argument(alloc))?;
     let command = with_option(command, tail_argument(alloc))?;
-    with_option(command, strict_argument(alloc))
+    with_option(command, losses_argument(alloc))
+}
+
+// The command with the two options for a run that isn't clean.
+fn with_strictness<'a>(alloc: Global, command: Command<'a>) -> Result<Command<'a>, AllocError>
+    ensures { IfOk result (λ made. app_of made ≡ with_strictness (app_of command.entry)) }
+{
+    let command = with_option(command, strict_argument(alloc))?;
+    with_option(command, strict_after_argument(alloc))
 }
 
 // The command with one option more. One equation is all that it says, so that the functions that add several are
@@ -354,15 +433,37 @@ fn tail_argument<'a>(alloc: Global) -> Arg<'a>
     free_option(alloc, "tail", "TAIL", TAIL_HELP).default_value("strict")
 }
 
+// `--losses LOSSES`
+fn losses_argument<'a>(alloc: Global) -> Arg<'a>
+    ensures rule { rule_of result ≡ losses_rule }
+    ensures local { result.global ≡ false }
+{
+    free_option(alloc, "losses", "LOSSES", LOSSES_HELP).default_value("recorded")
+}
+
+// An option that is there or not.
+fn flag<'a>(alloc: Global, name: &'a str, help: &'a str) -> Arg<'a>
+    ensures rule { rule_of result ≡ flag name.now }
+    ensures local { result.global ≡ false }
+{
+    Arg::new(alloc, name)
+        .long(name)
+        .action(ArgAction::SetTrue)
+        .help(help)
+}
+
 // `--strict`
 fn strict_argument<'a>(alloc: Global) -> Arg<'a>
     ensures rule { rule_of result ≡ strict_rule }
     ensures local { result.global ≡ false }
 {
-    Arg::new(alloc, "strict")
-        .long("strict")
-        .action(ArgAction::SetTrue)
-        .help(
-            "Ends with status 5 where a session closed before the end of its file, or there is a note",
-        )
+    flag(alloc, "strict", STRICT_HELP)
+}
+
+// `--strict-after`
+fn strict_after_argument<'a>(alloc: Global) -> Arg<'a>
+    ensures rule { rule_of result ≡ strict_after_rule }
+    ensures local { result.global ≡ false }
+{
+    flag(alloc, "strict-after", STRICT_AFTER_HELP)
 }

@@ -18,7 +18,8 @@ use Rattle.rs_update.specs.declared.errors.Errors.{Errors}
 use Rattle.rs_run.specs.Recorded.{OverFiles, tables_of_files}
 use Rattle.rs_run.specs.Report.{report_of, report_of_files}
 use Rattle.rs_run.specs.Run.{dumps_of_files}
-use Rattle.rs_run.specs.RunAnswer.{Done, ReportFailed, RunAnswer}
+use Rattle.rs_run.specs.RunAnswer.{Done, ReportFailed, RunAnswer, RunIfAnswer}
+use Rattle.rs_run.specs.declared.runner.Ran.{Ran}
 use Rattle.rs_run.specs.SessionEnd.{end_in, ends_of_files}
 use Rattle.rs_serve.proofs.ListLemmas.{zip-counted}
 
@@ -102,3 +103,13 @@ module _ {R O W : Type 0} (gives : R → List ℕ → ReadEnd → Type 0)
         no_failure = no_failure;
         failed_write = failed_write;
       }
+
+-- a run that fails answers the same if it asks first whether its dumps are wanted
+module _ {R O W : Type 0} (gives : R → List ℕ → ReadEnd → Type 0)
+    (kept : O → Option (List KeptDump)) (refusals : O → ℕ) (taken : W → Option (List ℕ)) (failures : W → ℕ)
+    (errors : Errors) (plan : Plan) (time : ℕ) (readers : List R) (outlet later_outlet : O) (report later_report : W) where
+  pub if-answers : (result : Result Ran RunFault) (fault : RunFault) → IsErrAnd result (λ found. found ≡ fault)
+      → RunAnswer gives kept refusals taken failures errors plan time readers outlet later_outlet report later_report result
+      → RunIfAnswer gives kept refusals taken failures errors plan time readers outlet later_outlet report later_report result
+  if-answers (Ok ran) fault same answer = absurd same
+  if-answers (Err failed) fault same answer = answer

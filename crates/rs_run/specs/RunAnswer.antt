@@ -1,6 +1,6 @@
 -- What a run answers, by its result, and what its outlet has kept and its report has taken then. Nothing here is
 -- of a standard: all of it is our choice.
-use Rattle.std.specs.Prelude.{◌≡◌, ◌+◌, ◌<◌, ℕ, List, Option, Result, Ok, Err, length, take}
+use Rattle.std.specs.Prelude.{◌≡◌, ◌+◌, ◌<◌, ℕ, Bool, true, false, List, Option, Result, Ok, Err, length, take}
 use Rattle.std.specs.Io.KnownBytes.{Appends}
 use Rattle.rs_choice.specs.Plan.{Plan}
 use Rattle.rs_keep.specs.Kept.{IsDumpFailure}
@@ -11,6 +11,7 @@ use Rattle.rs_outlet.specs.declared.run_fault.RunFault.{RunFault}
 use Rattle.rs_outlet.specs.declared.run_fault.RunFault.TheVariants.{Memory, Unsettled, Dump, Report, Read}
 use Rattle.rs_table.specs.Table.{table_of}
 use Rattle.rs_update.specs.declared.errors.Errors.{Errors}
+use Rattle.rs_run.specs.declared.runner.Ran.{Ran}
 use Rattle.rs_run.specs.Recorded.{FailsAt, OverFiles, tables_of_files}
 use Rattle.rs_run.specs.Report.{report_of_files}
 use Rattle.rs_run.specs.Run.{KeepsBeginning, dumps_of_files}
@@ -78,3 +79,18 @@ module _ {R O W : Type 0} (gives : R → List ℕ → ReadEnd → Type 0)
   RunAnswer (Err Report) = ReportFailed
   RunAnswer (Err (Read peer)) = ReadFailed peer
   RunAnswer (Err (Unsettled peer)) = PeerUnsettled peer
+
+  -- Dumps and report are not wanted: nothing is kept, nothing of the report is out, and nothing failed.
+  pub record Declined : Type 0 where
+    pub keeps_nothing : later_outlet ≡ outlet
+    pub reports_nothing : later_report ≡ report
+
+  -- what a run has done, by whether it has written
+  abbrev pub DoneIf : Bool → Type 0
+  DoneIf true = Done
+  DoneIf false = Declined
+
+  -- what a run answers that asks first whether its dumps and its report are wanted
+  abbrev pub RunIfAnswer : Result Ran RunFault → Type 0
+  RunIfAnswer (Ok ran) = DoneIf ran.is_written
+  RunIfAnswer (Err fault) = RunAnswer {A = Ran} (Err fault)

@@ -9,4 +9,4 @@
 mod report;
 mod runner;
 
-pub use runner::{run, run_with_ends};
+pub use runner::{Ran, run, run_if};

@@ -4,6 +4,7 @@
 //! own. All dumps are kept, in the order of the plan, before the first line of the report is written. The first
 //! failure ends the run.
 
+ghost use Rattle.std.specs.Fn.{FnOnceReturnsAt};
 ghost use Rattle.std.specs.Prelude.{◌≡◌, ◌<◌, ◌≤◌, All, IfOk, IfErr, OnOk, length, string_bytes};
 ghost use Rattle.rs_keep.specs.Kept.{dumps_of, IsStop};
 ghost use Rattle.rs_outlet.specs.Outlet.{Grows};
@@ -12,7 +13,7 @@ ghost use Rattle.rs_run.specs.Recorded.{OverFiles, tables_of_files};
 ghost use Rattle.rs_run.specs.Refusal.{IsFaultOf, IsReadRefusal};
 ghost use Rattle.rs_run.specs.Report.{report_of};
 ghost use Rattle.rs_run.specs.Run.{IsReadStop};
-ghost use Rattle.rs_run.specs.RunAnswer.{RunAnswer};
+ghost use Rattle.rs_run.specs.RunAnswer.{RunAnswer, RunIfAnswer};
 ghost use Rattle.rs_run.specs.SessionEnd.{ends_of_files};
 
 use crate::report::add_peer_lines;
@@ -73,42 +74,80 @@ pub fn run<T: Threads + Wait + Sync, O: Outlet, W: Write, R: Read + Send + Drop>
         outlet.old outlet.new report.old report.new result }
     ensures back { AreSameNames (O.started outlet.old) (O.started outlet.new) }
 {
-    match run_with_ends(rt, alloc, setup, readers, options, outlet, report) {
+    match run_if(
+        rt,
+        alloc,
+        setup,
+        readers,
+        options,
+        |_ends| true,
+        outlet,
+        report,
+    ) {
         Ok(_) => Ok(()),
         Err(fault) => Err(fault),
     }
 }
 
-/// The same run, which answers how the session of each peer ended, in the order of the plan.
-pub fn run_with_ends<T: Threads + Wait + Sync, O: Outlet, W: Write, R: Read + Send + Drop>(
+/// What a run has done that did not fail.
+#[derive(Drop)]
+pub struct Ran {
+    /// How the session of each peer ended, in the order of the plan.
+    pub ends: Vec<PeerEnd>,
+    /// Whether all dumps are kept and the report is out. If not, none is kept, and nothing of the report is out.
+    pub is_written: bool,
+}
+
+/// The same run, which asks `is_wanted` before its first dump: by how the session of each peer ended, in the order of
+/// the plan. If dumps and report are not wanted, nothing is kept, and nothing of the report is out.
+pub fn run_if<
+    T: Threads + Wait + Sync,
+    O: Outlet,
+    W: Write,
+    R: Read + Send + Drop,
+    D: FnOnce(&[PeerEnd]) -> bool,
+>(
     rt: &T,
     alloc: Global,
     setup: &Setup,
     readers: Vec<R>,
     options: &Options,
+    is_wanted: D,
     outlet: &mut O,
     report: &mut W,
-) -> Result<Vec<PeerEnd>, RunFault>
+) -> Result<Ran, RunFault>
     requires one_for_each { length readers.items ≡ length setup.now.plan.value.peers }
     requires reader_failures { All (λ reader. R.failures reader < u64.MAX) readers.items }
     requires outlet_failures { O.failures outlet.old < u64.MAX }
     requires report_failures { W.failures report.old < u64.MAX }
     requires ring { (1 ≤ options.now.ring) × (options.now.ring ≤ 65536) }
     requires shards { (1 ≤ options.now.shards) × (options.now.shards ≤ 16) }
-    ensures answer { RunAnswer R.gives O.kept O.failures W.taken W.failures
+    requires wanted { D.IsAlwaysCallable is_wanted }
+    ensures answer { RunIfAnswer R.gives O.kept O.failures W.taken W.failures
         options.now.errors setup.now.plan.value options.now.time readers.items
         outlet.old outlet.new report.old report.new result }
-    ensures ends { IfOk result (λ ends.
+    ensures ends { IfOk result (λ ran.
         OverFiles R.gives options.now.errors setup.now.plan.value readers.items (λ files.
-        ends.items ≡ ends_of_files options.now.errors setup.now.plan.value files)) }
+        ran.ends.items ≡ ends_of_files options.now.errors setup.now.plan.value files)) }
+    ensures wanted { IfOk result (λ ran. FnOnceReturnsAt D.FnOnce is_wanted ran.ends.items ran.is_written) }
     ensures back { AreSameNames (O.started outlet.old) (O.started outlet.new) }
 {
     let served = serve_files(rt, alloc, &setup.plan, readers, options)?;
     let ends = ends_of(alloc, &setup.plan, &served)?;
+    if !is_wanted(&ends) {
+        free_apart(rt, served);
+        return Ok(Ran {
+            ends,
+            is_written: false,
+        });
+    }
     let text = keep_and_report(rt, alloc, &setup.plan, &served, options.time, outlet)?;
     free_apart(rt, served);
     match write_all(report, text.as_bytes()) {
-        Ok(()) => Ok(ends),
+        Ok(()) => Ok(Ran {
+            ends,
+            is_written: true,
+        }),
         Err(_) => Err(RunFault::Report),
     }
 }

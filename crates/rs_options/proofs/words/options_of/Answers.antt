@@ -25,8 +25,6 @@ returns-clause-options c =
       shards_fit = search rules;
       errors = sym (first_value-rows found (codes "errors")) ∙ (sym c.get_str-3.ensures ∙ search rules);
       bounds = search rules;
-      strict = record {
-        given = λ is. c.get_flag-strict.ensures.value (one_text-rows found (codes "strict") ∙ is);
-        absent = λ is. c.get_flag-strict.ensures.other (one_text-rows found (codes "strict") ∙ is);
-      };
+      losses = search rules;
+      strict = search rules;
     }
