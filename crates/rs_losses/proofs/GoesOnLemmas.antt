@@ -1,5 +1,5 @@
 -- What a call of a reader that puts losses in shows of what may come: for loss_reader.rt.
-use Rattle.std.proofs.Common.{◌≡◌, ℕ, zero, suc, ◌+◌, ◌≤◌, ◌<◌, min, true, false, Bool, List, [], ◌∷◌, ◌++◌, length, take, drop, Ok, refl, ap}
+use Rattle.std.proofs.Common.{◌≡◌, ℕ, zero, suc, ◌+◌, ◌<◌, min, true, false, Bool, List, [], ◌∷◌, ◌++◌, length, take, drop, Ok, refl, ap}
 use Rattle.std.proofs.Common.{subst, sym, ◌∙◌, append_assoc, arith, inl, inr}
 use Rattle.std.specs.Prelude.{nat_lt, ◌⊎◌}
 use Rattle.std.proofs.lemmas.Bool.{lt-ltb}
@@ -9,7 +9,7 @@ use Rattle.rs_mrt.specs.Reader.{ReadEnd, FileEnds, ReadFails, ReadGives, Somethi
 use Rattle.rs_mrt.specs.Record.{has_record, front_record, record_spelling}
 use Rattle.rs_losses.specs.Losses.{loss_record}
 use Rattle.rs_losses.specs.Inserting.{Collects, ComesBehind, ComesOf, ComesUnlessEnded, EndsAtRest, GivenWith, GoesOn, Inserting, MayGive}
-use Rattle.rs_losses.specs.Inserting.{MayGiveBy, Passes, PassesOn, calls_failed, is_lost_before, lost, octets_with}
+use Rattle.rs_losses.specs.Inserting.{MayGiveBy, Passes, PassesOn, is_lost_before, lost, octets_with}
 use Rattle.rs_losses.specs.declared.following.Followed.{Followed}
 use Rattle.rs_losses.specs.declared.losses.Losses.{Losses}
 use Rattle.rs_losses.specs.declared.losses.Losses.TheVariants as losses

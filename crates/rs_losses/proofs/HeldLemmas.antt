@@ -7,7 +7,7 @@ use Rattle.std.proofs.lemmas.List.{drop-drop, drop-take, length-drop, length-tak
 use Rattle.std.proofs.lemmas.List.{length-append}
 use Rattle.std.proofs.Math.Seq.{take-add, take-append-add}
 use Rattle.rs_mrt.specs.declared.stream.Failed.{Failed}
-use Rattle.rs_mrt.specs.Reader.{ReadEnd, FileEnds, ReadFails, ReadGives}
+use Rattle.rs_mrt.specs.Reader.{ReadEnd, FileEnds, ReadGives}
 use Rattle.rs_losses.specs.Inserting.{CameBetween, Collects, Counts, Inserting, calls_failed}
 
 -- ---- octets that are ready

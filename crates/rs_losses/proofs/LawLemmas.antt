@@ -1,7 +1,7 @@
 -- What the octets with losses put in are as a file, and what a loss that is put in says: for laws.rt.
-use Rattle.std.proofs.Common.{◌≡◌, ℕ, ◌+◌, ◌^◌, ◌<◌, true, false, Bool, List, [], ◌∷◌, ◌++◌, length, take, drop, Option, Some, None, Result, Ok}
+use Rattle.std.proofs.Common.{◌≡◌, ℕ, ◌^◌, ◌<◌, false, Bool, List, [], ◌∷◌, ◌++◌, length, take, drop, Option, Some, None, Result, Ok}
 use Rattle.std.proofs.Common.{refl, ap, sym, subst, ◌∙◌, append_assoc, arith, inl, inr}
-use Rattle.std.specs.Prelude.{filter_map, if◌then◌else◌}
+use Rattle.std.specs.Prelude.{filter_map}
 use Rattle.std.specs.List.{All, AllByRecursion, cons_option, flat_map}
 use Rattle.std.specs.Option.{option_map}
 use Rattle.std.proofs.lemmas.Bool.{and_from, cases_Bool, cond-true, cond-false, eq-eqb}
@@ -20,10 +20,9 @@ use Rattle.rs_inventory.specs.declared.finding.News.{News}
 use Rattle.rs_inventory.specs.declared.finding.News.TheVariants as news
 use Rattle.rs_inventory.specs.declared.peer.Peer.{Peer}
 use Rattle.rs_mrt.specs.Source.{source_end}
-use Rattle.rs_session.specs.Effect.{effect_of, effect_of_entry, loss}
+use Rattle.rs_session.specs.Effect.{effect_of, effect_of_entry}
 use Rattle.rs_session.specs.FileChanges.{changes_of}
-use Rattle.rs_session.specs.declared.peer.PeerId.{PeerId}
-use Rattle.rs_losses.specs.Inserting.{behind_record, is_lost_before, lost, octets_along, up_with}
+use Rattle.rs_losses.specs.Inserting.{behind_record, lost, octets_along, up_with}
 use Rattle.rs_losses.specs.Laws.{ChangesAreThose, EndStays, IsSought, LossIsJustALoss, OctetsAreThose, RecordsAreThose, session_of}
 use Rattle.rs_losses.specs.Losses.{file_with_losses, is_session_up, loss_record, news_of, peer_of, shows_loss, told_by, with_losses, with_losses_behind}
 use Rattle.rs_losses.specs.declared.following.Followed.{Followed}
@@ -32,9 +31,9 @@ use Rattle.rs_losses.proofs.RecordLemmas.{records_of-none, rest_of-none}
 
 -- ---- what a loss says
 
--- a change from Established to Idle
+-- a change from Established
 abbrev lost_state : ℕ → ℕ → Result Meaning MrtFault
-lost_state asn address = Ok (State asn address 6 1)
+lost_state asn address = Ok (State asn address 6 0)
 
 loss-says : (who : Sought) (time : ℕ) → IsSought who → entry_of (loss_record who time) ≡ lost_state who.asn who.address
 unfolding entry_of fields_entry

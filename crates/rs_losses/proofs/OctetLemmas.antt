@@ -1,14 +1,13 @@
 -- The octets with losses put in, one record at a time: for HeldLemmas, GoesOnLemmas and LawLemmas.
-use Rattle.std.proofs.Common.{◌≡◌, ℕ, zero, suc, ◌+◌, ◌≤◌, ◌<◌, true, false, Bool, List, [], ◌∷◌, ◌++◌, length, take, drop, Option, Some, None}
+use Rattle.std.proofs.Common.{◌≡◌, ℕ, ◌+◌, ◌≤◌, ◌<◌, true, false, List, ◌∷◌, ◌++◌, length, take, drop, Option, Some, None}
 use Rattle.std.proofs.Common.{refl, ap, sym, ◌∙◌, append_assoc, arith, inl, inr}
-use Rattle.std.specs.Prelude.{◌⊎◌, if◌then◌else◌}
 use Rattle.std.proofs.lemmas.Bool.{cases_Bool, cond-true, cond-false}
 use Rattle.std.proofs.lemmas.List.{drop-drop, length-drop, take-append-le, drop-append-le}
 use Rattle.std.proofs.Math.Seq.{take-add}
 use Rattle.rs_mrt.specs.Record.{MrtRecord, has_record, front_record, after_record, length_field, records_of, octets_of, record_spelling}
 use Rattle.rs_mrt.proofs.FirstRecord.{records_of-first}
 use Rattle.rs_losses.specs.Losses.{loss_record}
-use Rattle.rs_losses.specs.Inserting.{Passes, behind_record, first_record, is_lost_before, lost, octets_along, octets_with, pass_at, pass_record}
+use Rattle.rs_losses.specs.Inserting.{Passes, behind_record, is_lost_before, lost, octets_along, octets_with, pass_at, pass_record}
 use Rattle.rs_losses.specs.declared.following.Followed.{Followed}
 use Rattle.rs_losses.proofs.RecordLemmas.{has_record-long, octets-front, after-front, has_record-append, front_record-append, records_of-none}
 

@@ -68,22 +68,23 @@ shows_loss who given r = is_session_up (peer_of who) given && tells_of_loss who 
 
 -- ---- the records with the losses put in
 
--- the states Established and Idle (RFC 6396, section 4.4.1)
+-- the state Established, and 0, which is no state (RFC 6396, section 4.4.1)
 abbrev pub established : ℕ
 established = 6
 
-abbrev pub idle : ℕ
-idle = 1
+abbrev pub no_state : ℕ
+no_state = 0
 
--- The loss at a time: a BGP4MP_STATE_CHANGE_AS4 of the peer from Established to Idle (RFC 6396, section 4.4.4). Local AS,
--- Interface Index and Local IP Address are 0 (our choice).
+-- The loss at a time: a BGP4MP_STATE_CHANGE_AS4 of the peer from Established (RFC 6396, section 4.4.4). Local AS,
+-- Interface Index and Local IP Address are 0, and so is the new state. By that a loss that was put in is told from a
+-- recorded one (our choice).
 abbrev pub loss_record : Sought → ℕ → MrtRecord
 loss_record who time = record {
   time = time;
   kind = type_bgp4mp;
   subtype = subtype_state_change_as4;
   body = big_bytes 4 who.asn ++ big_bytes 4 0 ++ big_bytes 2 0 ++ big_bytes 2 family_ipv4 ++ big_bytes 4 who.address
-      ++ big_bytes 4 0 ++ big_bytes 2 established ++ big_bytes 2 idle;
+      ++ big_bytes 4 0 ++ big_bytes 2 established ++ big_bytes 2 no_state;
 }
 
 -- Records, and before each that shows a loss the loss at its time. What was given before them stands beside, the last one

@@ -5,11 +5,10 @@
 //! loss is recorded under another address if the Peer IP Address is 0.0.0.0, as where a connection has gone, or if the
 //! two addresses are swapped.
 
-ghost use Rattle.std.specs.Prelude.{◌≡◌, ◌+◌, ◌≤◌, None, length};
+ghost use Rattle.std.specs.Prelude.{◌≡◌, None};
 ghost use Rattle.std.specs.Option.{option_map};
 ghost use Rattle.rs_mrt.specs.Record.{record_of};
-ghost use Rattle.rs_inventory.specs.declared.finding.Note.{Note};
-ghost use Rattle.rs_losses.specs.Losses.{is_begun, is_misplaced, is_recorder, news_of, peer_of, tells_of_loss};
+ghost use Rattle.rs_losses.specs.Losses.{is_begun, is_misplaced, is_recorder, news_of, peer_of};
 ghost use Rattle.rs_losses.specs.Inserting.{Passes, first_record, pass_at, up_with};
 
 use crate::losses::Sought;
@@ -45,10 +44,11 @@ impl Followed {
         ensures { result ≡ pass_at self octets.now }
     {
         let recorded = first_record(octets)?;
-        if self.up && tells_of_loss(&recorded, self.peer) {
+        let note = outlined(&recorded);
+        let news = news_of(note, self.peer);
+        if self.up && (is_begun(news) || is_misplaced(note, recorder(&recorded), self.peer)) {
             return None;
         }
-        let news = news_of(outlined(&recorded), self.peer);
         Some((HEADER_LEN + recorded.body.len(), self.behind(news)))
     }
 
@@ -87,14 +87,6 @@ fn news_of(note: Option<Note>, peer: Sought) -> Option<News>
     } else {
         None
     }
-}
-
-// Whether a record tells that a session which is up was lost before it.
-fn tells_of_loss(recorded: &Record<'_>, peer: Sought) -> bool
-    ensures { result ≡ tells_of_loss peer (record_of recorded.now) }
-{
-    let note = outlined(recorded);
-    is_begun(news_of(note, peer)) || is_misplaced(note, recorder(recorded), peer)
 }
 
 // Whether a session begins with what is said.

@@ -6,7 +6,7 @@ pub enum Losses {
     /// Those that the recording has: the records are read as they are.
     Recorded,
     /// Those too that other records show: before each of these records one more stands, a change of state from
-    /// Established to Idle (RFC 4271, section 8.2.2).
+    /// Established (RFC 4271, section 8.2.2).
     Inferred,
 }
 

@@ -31,10 +31,10 @@ const OLD_STATE_AT: usize = 32;
 
 const NEW_STATE_AT: usize = 34;
 
-// The states Established and Idle (RFC 6396, section 4.4.1).
+// The state Established, and 0, which is no state (RFC 6396, section 4.4.1).
 const ESTABLISHED: u16 = 6;
 
-const IDLE: u16 = 1;
+const NO_STATE: u16 = 0;
 
 /// The octets of a record that says that the session was lost at this time, in seconds since 1970.
 pub(crate) fn loss_octets(peer: Sought, time: u32) -> [u8; LOSS_LEN]
@@ -49,6 +49,6 @@ pub(crate) fn loss_octets(peer: Sought, time: u32) -> [u8; LOSS_LEN]
     BigEndian::write_u16(&mut octets[FAMILY_AT..], AFI_IPV4);
     BigEndian::write_u32(&mut octets[PEER_AT..], peer.address);
     BigEndian::write_u16(&mut octets[OLD_STATE_AT..], ESTABLISHED);
-    BigEndian::write_u16(&mut octets[NEW_STATE_AT..], IDLE);
+    BigEndian::write_u16(&mut octets[NEW_STATE_AT..], NO_STATE);
     octets
 }

@@ -1,6 +1,6 @@
 use Rattle.std.proofs.Common.{ap, ◌∙◌}
 use Rattle.std.specs.Option.{option_map}
-use Rattle.rs_mrt.specs.Record.{Reading, end_of, next_of, record_of, records_of}
+use Rattle.rs_mrt.specs.Record.{Reading, next_of, record_of}
 use Rattle.rs_losses.proofs.RecordLemmas.{first-found, none-found}
 use Rattle.rs_losses.proofs.following.first_record.Goals as goal
 

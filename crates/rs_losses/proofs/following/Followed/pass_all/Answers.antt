@@ -1,4 +1,4 @@
-use Rattle.std.proofs.Common.{◌≡◌, ◌+◌, None, drop, ap, sym, ◌∙◌, arith}
+use Rattle.std.proofs.Common.{◌≡◌, None, drop, ap, sym, ◌∙◌, arith}
 use Rattle.std.proofs.lemmas.List.{take_rest}
 use Rattle.rs_losses.specs.Inserting.{pass_at}
 use Rattle.rs_losses.proofs.OctetLemmas.{Passes-more}
@@ -19,7 +19,7 @@ overflow_add-len c =
     let now = c.loop-record.now in
     let found = ap (pass_at now) (sym (take_rest octets len)) ∙ sym c.in-Some.ensures in
     let more = Passes-more c.args.self now c.in-Some.after octets len c.in-Some.record c.loop-record.invariant found in
-    omega (arith, more.0.fits, c.type_inv.octets)
+    omega (arith, more.0.fits)
 
 pub loop-record-smaller : goal.loop-record-smaller
 loop-record-smaller c =

@@ -1,4 +1,4 @@
-use Rattle.std.proofs.Common.{◌≡◌, ◌<◌, [], length, false, inl, sym, ap, ◌∙◌, ltb-true}
+use Rattle.std.proofs.Common.{◌≡◌, ◌<◌, [], length, inl, sym, ap, ◌∙◌, ltb-true}
 use Rattle.std.proofs.lemmas.Result.{err_from_is_err_and}
 use Rattle.rs_losses.specs.Inserting.{Inserting}
 use Rattle.rs_losses.specs.declared.losses.Losses.TheVariants.{Inferred}
