@@ -4,7 +4,7 @@
 //! there with flags 0.
 //! Our choice: flags of a recognized type aren't judged. The session has the right ones (RFC 4271, section 4.3).
 
-ghost use Rattle.std.specs.Prelude.{◌≡◌, ◌<◌, ◌++◌, true, false, length, IfOk, OnOk};
+ghost use Rattle.std.specs.Prelude.{◌≡◌, ◌<◌, ◌++◌, true, false, length, IfOk, IsTrue, OnOk};
 ghost use Rattle.rs_start.specs.RightFlags.{asked_of, mended, right_flags, with_right_flags};
 ghost use Rattle.rs_types.specs.AttributeType.{is_extended};
 ghost use Rattle.rs_types.specs.Items.{item_of};
@@ -39,6 +39,28 @@ pub(crate) fn mended(alloc: Global, section: &[u8]) -> Result<Vec<u8>, AllocErro
     }
     out.extend_from_slice(rest)?;
     Ok(out)
+}
+
+/// Whether all attributes of a section have the flags that their types ask for. It takes no memory.
+pub(crate) fn has_right_flags(section: &[u8]) -> bool
+    ensures { IsTrue result → mended section.now ≡ section.now }
+{
+    let mut rest = section;
+    while let Some(split) = split_item(rest) {
+        if !is_right(split.0) {
+            return false;
+        }
+        rest = split.1;
+    }
+    true
+}
+
+// Whether an attribute has the flags that its type asks for.
+fn is_right(item: Item<'_>) -> bool
+    ensures { IsTrue result → with_right_flags (item_of item.entry) ≡ item_of item.entry }
+{
+    let wanted = asked_of(AttributeType::of(item.kind));
+    right_flags(wanted, item.flags) == item.flags.octet
 }
 
 // Appends an attribute with the flags that its type asks for.

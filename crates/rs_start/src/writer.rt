@@ -10,7 +10,7 @@ ghost use Rattle.rs_start.specs.Writing.{Closes, Ends, Flushes, Goes, IsBegun};
 
 use crate::added::Added;
 use crate::fault::StartFault;
-use crate::flags::mended;
+use crate::flags::{has_right_flags, mended};
 use crate::held::Held;
 use crate::laws::a_session_begins_with_the_routes_of_the_table;
 use crate::spelling::spell_up;
@@ -81,6 +81,9 @@ impl<W: Write + Drop> SessionWriter<W> {
         ensures goes { IfOk result (λ added. Goes W.taken self.old self.new (route_by added prefix (mended section.now))) }
         ensures start { OnOk result (self.new.start ≡ self.old.start) }
     {
+        if has_right_flags(section) {
+            return self.announce(prefix, section);
+        }
         let mended = mended(self.alloc, section)?;
         self.announce(prefix, &mended)
     }
