@@ -1,8 +1,7 @@
 -- Where times go back with one record more.
-use Rattle.std.proofs.Common.{◌≡◌, ◌<◌, ◌≤◌, ◌∙◌, sym, ap, refl, ℕ, ◌+◌, ◌-◌, nat_lt, true, false, cond, List, [], ◌∷◌, ◌++◌, length, map}
+use Rattle.std.proofs.Common.{◌≡◌, ◌≤◌, ◌∙◌, sym, ap, refl, ℕ, ◌+◌, nat_lt, List, [], ◌∷◌, ◌++◌, length, map}
 use Rattle.std.proofs.Common.{Option, Some, None, option_map, arith, inl, inr, append_assoc, subst, ◌⊎◌, ltb-false, ltb-true}
-use Rattle.std.specs.List.{All, Contains}
-use Rattle.std.proofs.lemmas.Bool.{cases_lt, cases_Bool}
+use Rattle.std.proofs.lemmas.Bool.{cases_Bool}
 use Rattle.std.proofs.lemmas.List.Elements.{All-contains}
 use Rattle.rs_inventory.specs.Back.{GoesBack, NeverGoesBack, TellsBack, back_behind, first_back, tolerated}
 use Rattle.rs_inventory.specs.Peer.{counted}
@@ -15,11 +14,11 @@ abbrev Split : List Finding → Finding → List Finding → Finding → Type 0
 Split findings last before one =
     ((before ≡ findings) × (one ≡ last)) ⊎ ((rest : List Finding) × (findings ≡ before ++ one ∷ rest))
 
-tail_of : List Finding → List Finding
+abbrev tail_of : List Finding → List Finding
 tail_of [] = []
 tail_of (f ∷ fs) = fs
 
-head_or : Finding → List Finding → Finding
+abbrev head_or : Finding → List Finding → Finding
 head_or other [] = other
 head_or other (f ∷ fs) = f
 
@@ -39,6 +38,10 @@ split-push (f ∷ findings) last (b ∷ before) one later e =
       | inr is ↦ inr (is.0, ap (λ x. x ∷ findings) head ∙ ap (λ fs. b ∷ fs) is.1)
     ]
 
+-- among no records times go back nowhere
+pub never_back : NeverGoesBack []
+never_back before one later latest splits is = not-empty before one later splits (latest ≤ one.time + tolerated)
+
 -- times still go back nowhere, where one record more is late enough
 never-push : (findings : List Finding) (last : Finding) → NeverGoesBack findings
     → ((latest : ℕ) → IsLatest (map (λ f. f.time) findings) (Some latest) → latest ≤ last.time + tolerated)
@@ -53,7 +56,7 @@ never-push findings last never late = λ before one later latest splits is.
 
 -- behind no record nothing is late
 none-late : (times : List ℕ) (n : ℕ) → times ≡ [] → (latest : ℕ) → IsLatest times (Some latest) → latest ≤ n
-none-late [] n empty latest is = absurd is.0
+none-late [] n empty latest is = absurd (omega (arith, is.0.1))
 none-late (t ∷ times) n empty latest is = absurd (cc empty)
 
 back-none : (findings : List Finding) (one : Finding) (last : Option ℕ) → NeverGoesBack findings
@@ -83,13 +86,25 @@ back-none findings one (Some last) never is =
           omega (arith, most, ltb-false (one.time + tolerated) last near)))
     ]
 
+-- where times go back they still do
+goes-push : (findings : List Finding) (one : Finding) (back : Back) → GoesBack findings back → GoesBack (findings ++ one ∷ []) back
+goes-push findings one back goes = record {
+  before = goes.before;
+  one = goes.one;
+  later = goes.later ++ one ∷ [];
+  latest = goes.latest;
+  splits = ap (λ fs. fs ++ one ∷ []) goes.splits ∙ append_assoc goes.before (goes.one ∷ goes.later) (one ∷ []);
+  last = goes.last;
+  far = goes.far;
+  seconds = goes.seconds;
+  records = goes.records;
+  octet = goes.octet;
+}
+
 -- what is told of where times go back, with one record more
 pub back-push : (findings : List Finding) (one : Finding) (back : Option Back) (last : Option ℕ) → TellsBack findings back
     → IsLatest (map (λ f. f.time) findings) last
     → TellsBack (findings ++ one ∷ []) (first_back back
     (back_behind last one.time (counted (length findings)) (option_map counted (known_sum (map (λ f. f.octets) findings)))))
 back-push findings one None last never is = back-none findings one last never is
-back-push findings one (Some back) last goes is = record goes {
-  later = goes.later ++ one ∷ [];
-  splits = ap (λ fs. fs ++ one ∷ []) goes.splits ∙ append_assoc goes.before (goes.one ∷ goes.later) (one ∷ []);
-}
+back-push findings one (Some back) last goes is = goes-push findings one back goes

@@ -14,7 +14,7 @@ use Rattle.rs_inventory.specs.Opening.{first_found}
 use Rattle.rs_inventory.specs.Peer.{PeerContent, TellsMore, Told, counted, peer_content}
 use Rattle.rs_inventory.specs.Back.{TellsBack, back_behind, first_back}
 use Rattle.rs_inventory.specs.Inventory.{Content, Holds, TakesNote, WithCounts, earlier_of, first_of, known_of}
-use Rattle.rs_inventory.specs.Inventory.{later_of, peer_at, peer_cmp, same_peer, sum_of, told_in, told_of}
+use Rattle.rs_inventory.specs.Inventory.{later_of, peer_at, peer_cmp, same_peer, sum_of, told_in, told_of, with_back}
 use Rattle.rs_inventory.specs.Times.{IsEarliest, IsLatest, known_sum}
 use Rattle.rs_inventory.specs.declared.back.Back.{Back}
 use Rattle.rs_inventory.specs.declared.finding.Finding.{Finding}
@@ -136,10 +136,10 @@ next-new time one now tells (t ∷ told) none = absurd (cc none)
 
 -- ---- all
 
-pub holds-more : (findings : List Finding) (one : Finding) (old mid new : Content) → Holds findings old
-    → mid ≡ record old { peers = mid.peers } → TakesNote old.peers one.time one.note mid.peers → WithCounts one mid new
+pub holds-more : (findings : List Finding) (one : Finding) (old mid new : Content) (peers : List (Peer × PeerContent)) → Holds findings old
+    → mid ≡ with_back one (record old { peers = peers }) → TakesNote old.peers one.time one.note peers → WithCounts one mid new
     → Holds (findings ++ one ∷ []) new
-holds-more findings one old mid new holds same takes counts = record {
+holds-more findings one old mid new peers holds same takes counts = record {
   records = counts.records ∙ ap (λ (c : Content). counted (c.records + 1)) same ∙ ap (λ n. counted (n + 1)) holds.records
       ∙ sym (counted-more (length findings) 1) ∙ ap counted (sym (length-append findings (one ∷ [])));
   kinds = λ kind. counts.kinds kind ∙ kinds-push kind findings one (slice_index mid.kinds (place_of kind))
@@ -154,13 +154,13 @@ holds-more findings one old mid new holds same takes counts = record {
       ∙ sym (known_sum-push (map (λ f. f.octets) findings) one.octets)
       ∙ ap (λ l. option_map counted (known_sum l)) (sym (map_push (λ (f : Finding). f.octets) findings one));
   back = subst (λ (b : Option Back). TellsBack (findings ++ one ∷ []) b)
-      (sym (counts.back ∙ ap (λ (c : Content). first_back c.back (back_behind c.last one.time c.records c.octets)) same
+      (sym (counts.back ∙ ap (λ (c : Content). c.back) same
       ∙ ap (λ (n : ℕ). first_back old.back (back_behind old.last one.time n old.octets)) holds.records
       ∙ ap (λ (o : Option ℕ). first_back old.back (back_behind old.last one.time (counted (length findings)) o)) holds.octets))
       (back-push findings one old.back old.last holds.back holds.last);
   recorder = counts.recorder ∙ ap (λ (c : Content). first_of c.recorder one.recorder) same
       ∙ ap (λ o. first_of o one.recorder) holds.recorder
       ∙ sym (first_found-push (λ (f : Finding). f.recorder) findings one);
-  peers = λ peer. ap (λ ps. peer_at ps peer) counts.peers ∙ takes peer (told_of peer findings) (holds.peers peer)
+  peers = λ peer. ap (λ ps. peer_at ps peer) counts.peers ∙ ap (λ (c : Content). peer_at c.peers peer) same ∙ takes peer (told_of peer findings) (holds.peers peer)
       ∙ ap known_of (sym (filter_map-append (λ (f : Finding). told_in peer f.time f.note) findings (one ∷ [])));
 }

@@ -1,5 +1,5 @@
 -- What the records of a file hold, all of them.
-use Rattle.std.specs.Prelude.{◌≡◌, ◌≤◌, ℕ, ◌+◌, Bool, if◌then◌else◌, List, [], ◌∷◌, ◌++◌, All, Contains, length, map}
+use Rattle.std.specs.Prelude.{◌≡◌, ℕ, ◌+◌, Bool, if◌then◌else◌, List, [], ◌∷◌, ◌++◌, length, map}
 use Rattle.std.specs.Prelude.{min, max, slice_index, Option, Some, None, count_by, filter_map}
 use Rattle.std.specs.BTreeMap.{is_at}
 use Rattle.std.specs.List.{cons_option}
@@ -111,6 +111,10 @@ abbrev pub first_of : {X : Type 0} → Option X → Option X → Option X
 first_of None other = other
 first_of (Some x) other = Some x
 
+-- where times go back with one record more
+abbrev pub with_back : Finding → Content → Content
+with_back one old = record old { back = first_back old.back (back_behind old.last one.time old.records old.octets) }
+
 -- the counts and times with one record more
 pub record WithCounts (one : Finding) (old new : Content) : Type 0 where
   pub compression : new.compression ≡ old.compression
@@ -122,6 +126,6 @@ pub record WithCounts (one : Finding) (old new : Content) : Type 0 where
   pub first : new.first ≡ Some (earlier_of old.first one.time)
   pub last : new.last ≡ Some (later_of old.last one.time)
   pub octets : new.octets ≡ sum_of old.octets one.octets
-  pub back : new.back ≡ first_back old.back (back_behind old.last one.time old.records old.octets)
+  pub back : new.back ≡ old.back
   pub recorder : new.recorder ≡ first_of old.recorder one.recorder
   pub peers : new.peers ≡ old.peers

@@ -4,7 +4,7 @@ ghost use Rattle.std.specs.Prelude.{◌≡◌, [], IfOk, OnOk, Some, None, slice
 ghost use Rattle.rs_mrt.specs.Record.{record_of};
 ghost use Rattle.rs_inventory.specs.Finding.{finding_of};
 ghost use Rattle.rs_inventory.specs.Inventory.{HoldsNothing, TakesFinding, TakesNote, WithCounts, earlier_of, later_of};
-ghost use Rattle.rs_inventory.specs.Inventory.{first_of, sum_of};
+ghost use Rattle.rs_inventory.specs.Inventory.{first_of, sum_of, with_back};
 ghost use Rattle.rs_inventory.specs.Kind.{place_of};
 ghost use Rattle.rs_inventory.specs.Peer.{TellsMore, peer_content};
 ghost use Rattle.rs_inventory.specs.declared.depth.Depth.TheVariants.{Outline};
@@ -82,6 +82,7 @@ impl Inventory {
         ensures compression { OnOk result (self.new.compression ≡ self.old.compression) }
     {
         self.take_note(alloc, finding.time, finding.note)?;
+        self.take_back(&finding);
         self.count(&finding);
         Ok(())
     }
@@ -122,9 +123,9 @@ impl Inventory {
         }
     }
 
-    // Counts a record, and takes its time.
-    fn count(&mut self, finding: &Finding)
-        ensures { WithCounts finding.now self.old self.new }
+    // Takes where times go back, if they do at a record. Those before it are counted.
+    fn take_back(&mut self, finding: &Finding)
+        ensures { self.new ≡ with_back finding.now self.old }
     {
         self.back = back_with(
             self.back,
@@ -133,6 +134,12 @@ impl Inventory {
             self.records,
             self.octets,
         );
+    }
+
+    // Counts a record, and takes its time.
+    fn count(&mut self, finding: &Finding)
+        ensures { WithCounts finding.now self.old self.new }
+    {
         let place = finding.kind.place();
         self.kinds[place] = self.kinds[place].saturating_add(1);
         self.records = self.records.saturating_add(1);
