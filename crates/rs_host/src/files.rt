@@ -4,50 +4,62 @@ ghost use Rattle.std.specs.Prelude.{◌≡◌, ◌+◌, ◌<◌, All, IfOk, leng
 
 use crate::fault::FileFault;
 use crate::read_once::first_unreadable;
-use crate::recorded::{Bounded, in_pieces, open};
+use crate::recorded::{Replayed, in_pieces, open};
+use crate::sought_peer::sought;
 use crate::unready::Unready;
+use rs_choice::Exchange;
+use rs_losses::{LossReader, Losses, Sought};
 use rs_mrt::{BoundedReader, Bounds};
+use rs_setup::Setup;
 use std::fs::Files;
 use std::io::Read;
 
-/// Opens the files of these paths, in their order, to be read within bounds through what `observed` makes of each, and
-/// reads nothing yet.
+/// Opens the recorded files of the peers of a setup, in their order, and reads nothing yet. They will be read within
+/// bounds, with these losses, and through what `observed` makes of each file.
 ///
 /// Fails with `Unread` and the path of the first that can't be opened. Where each is there, it fails so at the first
 /// that gives its octets only once, as a pipe does, and that an earlier path names too. Fails with `Memory` where
 /// memory is refused.
 pub fn open_files<R: AllocGlobal + Files, F: Read + Drop, O: Fn(R::File) -> F>(
     rt: &R,
-    paths: &[String],
+    setup: &Setup,
     bounds: Bounds,
+    losses: Losses,
     observed: O,
-) -> Result<Vec<Bounded<F>>, Unready>
-    requires { O.IsAlwaysCallable observed }
-    ensures one_for_each { IfOk result (λ files. length files.items ≡ length paths.now) }
+) -> Result<Vec<Replayed<F>>, Unready>
+    requires observed { O.IsAlwaysCallable observed }
+    requires one_for_each { length setup.now.files.items ≡ length setup.now.plan.value.peers }
+    ensures one_for_each { IfOk result (λ files. length files.items ≡ length setup.now.files.items) }
     ensures no_failure { IfOk result (λ files.
-        All (λ file. file.reader.failures + file.refused < u64.MAX) files.items) }
+        All (λ file. file.reader.reader.failures + file.reader.refused + file.refused < u64.MAX) files.items) }
 {
+    let paths = setup.files.as_slice();
     match first_unreadable(rt, paths)? {
         Some(peer) => Err(Unready::by_path(rt.alloc(), &paths[peer])),
-        None => open_each(rt, paths, bounds, &observed),
+        None => open_each(rt, &setup.plan, paths, bounds, losses, &observed),
     }
 }
 
-// Opens the files of these paths, in their order, to be read within bounds through what `observed` makes of each.
+// Opens the files of the peers at these paths, in their order.
 fn open_each<R: AllocGlobal + Files, F: Read + Drop, O: Fn(R::File) -> F>(
     rt: &R,
+    plan: &Exchange,
     paths: &[String],
     bounds: Bounds,
+    losses: Losses,
     observed: &O,
-) -> Result<Vec<Bounded<F>>, Unready>
-    requires { O.IsAlwaysCallable observed.now }
+) -> Result<Vec<Replayed<F>>, Unready>
+    requires observed { O.IsAlwaysCallable observed.now }
+    requires peers { length paths.now ≡ length plan.now.peers }
     ensures one_for_each { IfOk result (λ files. length files.items ≡ length paths.now) }
     ensures no_failure { IfOk result (λ files.
-        All (λ file. file.reader.failures + file.refused < u64.MAX) files.items) }
+        All (λ file. file.reader.reader.failures + file.reader.refused + file.refused < u64.MAX) files.items) }
 {
     let mut files = Vec::with_capacity(rt.alloc(), paths.len())?;
     for path in paths {
-        let file = match open_bounded(rt, path, bounds, observed) {
+        // Each peer before this one has its file open, so their number is its own.
+        let who = sought(plan, files.len());
+        let file = match open_replayed(rt, path, bounds, losses, who, observed) {
             Ok(file) => file,
             Err(fault) => return Err(Unready::by_file(rt.alloc(), fault, path)),
         };
@@ -58,16 +70,20 @@ fn open_each<R: AllocGlobal + Files, F: Read + Drop, O: Fn(R::File) -> F>(
     Ok(files)
 }
 
-// Opens a recorded file, to be read within bounds through what `observed` makes of it, and reads nothing yet.
-fn open_bounded<R: AllocGlobal + Files, F: Read + Drop, O: Fn(R::File) -> F>(
+// Opens a recorded file, to be read within bounds and with these losses of a peer.
+fn open_replayed<R: AllocGlobal + Files, F: Read + Drop, O: Fn(R::File) -> F>(
     rt: &R,
     path: &str,
     bounds: Bounds,
+    losses: Losses,
+    who: Sought,
     observed: &O,
-) -> Result<Bounded<F>, FileFault>
+) -> Result<Replayed<F>, FileFault>
     requires { O.IsAlwaysCallable observed.now }
-    ensures no_failure { IfOk result (λ file. file.reader.failures + file.refused ≡ 0) }
+    ensures no_failure { IfOk result (λ file. file.reader.reader.failures + file.reader.refused + file.refused ≡ 0) }
 {
-    let file = in_pieces(rt.alloc(), observed(open(rt, path)?))?;
-    Ok(BoundedReader::new(rt.alloc(), file, bounds))
+    let alloc = rt.alloc();
+    let file = in_pieces(alloc, observed(open(rt, path)?))?;
+    let reader = BoundedReader::new(alloc, file, bounds);
+    Ok(LossReader::new(alloc, reader, losses, who))
 }

@@ -3,6 +3,7 @@
 ghost use Rattle.std.specs.Prelude.{◌≡◌, IfOk};
 
 use crate::fault::FileFault;
+use rs_losses::LossReader;
 use rs_mrt::{BoundedReader, IoReader};
 use std::alloc::Global;
 use std::fs::{File, Files};
@@ -16,6 +17,9 @@ pub type Recorded<F> = IoReader<BufReader<F>>;
 
 /// A recorded file of which the octets within bounds are read.
 pub type Bounded<F> = BoundedReader<Recorded<F>>;
+
+/// The same with the losses of a peer that its records show, if these are asked for.
+pub type Replayed<F> = LossReader<Bounded<F>>;
 
 /// Opens the recorded file at a path, and reads nothing yet. Fails with `Unread` where it can't be opened, with
 /// `Memory` where memory is refused.

@@ -3,6 +3,7 @@
 ghost use Rattle.std.specs.Prelude.{◌≡◌};
 ghost use Rattle.rs_options.specs.declared.options.WordsFault.TheVariants.{Memory};
 
+use rs_losses::Losses;
 use rs_mrt::Bounds;
 use rs_update::Errors;
 use std::alloc::AllocError;
@@ -30,16 +31,6 @@ pub struct Options {
     pub losses: Losses,
     /// What becomes of a run that is not clean.
     pub strict: Strictness,
-}
-
-/// Which losses of a recorded session count (RFC 4271, section 8.2.2).
-#[derive(Clone, Copy, Debug, PartialEq, Eq, Drop)]
-pub enum Losses {
-    /// Those that the records of the peer itself tell.
-    Recorded,
-    /// Those too that follow from other records: a loss recorded without the peer's address or with swapped addresses,
-    /// and a session that begins again while it is up.
-    Inferred,
 }
 
 /// What becomes of a run that is not clean: a session closed before the end of its file, or there is a note.

@@ -9,13 +9,14 @@ ghost use Rattle.rs_options.specs.CommandLine.{strict_after_rule, strict_by, str
 ghost use Rattle.rs_options.specs.CommandLine.{time_rule, until_rule, with_bounds, with_manner, with_places};
 ghost use Rattle.rs_options.specs.CommandLine.{with_strictness};
 
-use crate::options::{Losses, Options, Strictness, WordsFault};
+use crate::options::{Options, Strictness, WordsFault};
 use crate::standard::standard_of;
 use crate::times::read_time;
 use crate::version::VERSION;
 use clap::builder::ValueParser;
 use clap::error::ErrorKind;
 use clap::{Arg, ArgAction, ArgMatches, Command, Error, value_parser};
+use rs_losses::Losses;
 use rs_mrt::{Bounds, Tail};
 use std::alloc::{AllocError, Global};
 

@@ -5,13 +5,17 @@ use Rattle.rs_program.specs.declared.ended.Ended.TheVariants.{Words, Setup, Unre
 use Rattle.rs_host.specs.Status.{done, failed, not_clean, out_of_memory, setup_status, unsettled, words_status}
 use Rattle.rs_host.specs.declared.unready.Unready.{Unready}
 use Rattle.rs_host.specs.declared.unready.Unready.TheVariants as unready
+use Rattle.rs_options.specs.declared.options.Strictness.{Strictness}
+use Rattle.rs_options.specs.declared.options.Strictness.TheVariants.{Off, BeforeWriting, AfterWriting}
 use Rattle.rs_outlet.specs.declared.run_fault.RunFault.TheVariants as run
 
--- the status of a run that wrote all that it would: whether it must be clean, and whether it is
-abbrev pub run_status : Bool → Bool → ℕ
-run_status true false = not_clean
-run_status true true = done
-run_status false clean = done
+-- the status of a run that did not fail: whether it must be clean, and whether it is
+abbrev pub run_status : Strictness → Bool → ℕ
+run_status Off clean = done
+run_status BeforeWriting true = done
+run_status BeforeWriting false = not_clean
+run_status AfterWriting true = done
+run_status AfterWriting false = not_clean
 
 -- the status of each way to stop short
 abbrev pub status_of : Ended → ℕ

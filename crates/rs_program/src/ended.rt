@@ -5,8 +5,8 @@ ghost use Rattle.rs_program.specs.Status.{ended_of, run_status, status_of};
 ghost use Rattle.rs_program.specs.declared.ended.Ended.TheVariants.{Memory};
 
 use rs_host::{
-    DONE, FAILED, NOT_CLEAN, OUT_OF_MEMORY, UNSETTLED, Unready, WordsFault, setup_status,
-    words_status,
+    DONE, FAILED, NOT_CLEAN, OUT_OF_MEMORY, Strictness, UNSETTLED, Unready, WordsFault,
+    setup_status, words_status,
 };
 use rs_outlet::RunFault;
 use rs_setup::SetupFault;
@@ -33,12 +33,16 @@ pub enum Ended {
     Run(RunFault),
 }
 
-/// The status with which a run ends that wrote all that it would: 5 where it isn't clean and `strict` asks for that,
-/// else 0. It is clean where each session closed at the end of its file, and there is no note.
-pub fn run_status(strict: bool, clean: bool) -> u8
+/// The status with which a run ends that did not fail: 5 if it isn't clean and `strict` asks for that, else 0. It is clean
+/// if each session closed at the end of its file, and there is no note.
+pub fn run_status(strict: Strictness, clean: bool) -> u8
     ensures { result ≡ run_status strict clean }
 {
-    if strict && !clean { NOT_CLEAN } else { DONE }
+    match strict {
+        Strictness::Off => DONE,
+        _ if clean => DONE,
+        _ => NOT_CLEAN,
+    }
 }
 
 /// The status with which the program ends where it fails. 0: help or the version was asked for. 1: the command

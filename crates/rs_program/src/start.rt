@@ -10,8 +10,9 @@ use crate::progress::Progress;
 use crate::texts::{PROGRAM, line};
 use crate::tried::first_unwritable;
 use rs_host::{
-    Bounded, Options, WordsFault, each_on_one_line, end_with, open_files, read_arguments,
+    Options, Replayed, WordsFault, each_on_one_line, end_with, open_files, read_arguments,
 };
+use rs_notes::{Noting, Outlines};
 use rs_options::read_words;
 use rs_outlet::RunFault;
 use rs_setup::Setup;
@@ -61,21 +62,24 @@ pub fn progress_on<R: Files>(
     Progress::new(terminal, total)
 }
 
-/// Opens the recorded files of the peers, to be read within the bounds of the options, once each dump can be written:
-/// where one would take the place of a file that is read, or the folder takes no files, nothing is read or written.
+/// Opens the recorded files of the peers, to be read as the options say, once each dump can be written: where one would
+/// take the place of a file that is read, or the folder takes no files, nothing is read or written. What is read makes
+/// these outlines of the files.
 pub fn ready_files<'a, R: AllocGlobal + Files>(
     rt: &R,
     setup: &Setup,
     options: &Options,
     progress: &'a Progress<Stderr>,
-) -> Result<Vec<Bounded<Counted<'a, R::File, Stderr>>>, Ended>
+    outlines: &'a Outlines,
+) -> Result<Vec<Replayed<Noting<'a, Counted<'a, R::File, Stderr>>>>, Ended>
+    requires { length setup.now.files.items ≡ length setup.now.plan.value.peers }
     ensures one_for_each { IfOk result (λ files. length files.items ≡ length setup.now.files.items) }
     ensures no_failure { IfOk result (λ files.
-        All (λ file. file.reader.failures + file.refused < u64.MAX) files.items) }
+        All (λ file. file.reader.reader.failures + file.reader.refused + file.refused < u64.MAX) files.items) }
     ensures refused { IfErr result (λ ended. CanTell ended (Some setup.entry) (Some options.entry)) }
 {
-    let files = open_files(rt, &setup.files, options.bounds, |file| {
-        Counted::new(file, progress)
+    let files = open_files(rt, setup, options.bounds, options.losses, |file| {
+        outlines.noting(Counted::new(file, progress))
     })?;
     match first_unwritable(rt, setup, options)? {
         Some(client) => Err(Ended::Run(RunFault::Dump(client))),

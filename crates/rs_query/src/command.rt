@@ -36,6 +36,7 @@ const COMMANDS: [Entry; 10] = [
             DESTINATION,
             UNTIL,
             ERRORS,
+            LOSSES,
             ALL,
             ATTRIBUTES,
             JSON,
@@ -51,6 +52,7 @@ const COMMANDS: [Entry; 10] = [
             SINCE,
             UNTIL,
             ERRORS,
+            LOSSES,
             ENDS,
             ATTRIBUTES,
             JSON,
@@ -65,7 +67,7 @@ const COMMANDS: [Entry; 10] = [
     (
         "check",
         "What would a run of route_server over a configuration meet?",
-        &[CONFIG, UNTIL, TAIL, ERRORS],
+        &[CONFIG, UNTIL, TAIL, ERRORS, LOSSES],
     ),
     (
         "start",
@@ -76,32 +78,32 @@ const COMMANDS: [Entry; 10] = [
         "table",
         "Which routes does a client get?",
         &[
-            CONFIG, CLIENT, FROM, PREFIX, LONGER, COUNT, UNTIL, ERRORS, SHARDS, CSV, JSON,
+            CONFIG, CLIENT, FROM, PREFIX, LONGER, COUNT, UNTIL, ERRORS, LOSSES, SHARDS, CSV, JSON,
         ],
     ),
     (
         "missing",
         "Which routes of other peers does a client not get, and why?",
         &[
-            CONFIG, CLIENT, FROM, BECAUSE, GETS, COUNT, UNTIL, ERRORS, SHARDS, CSV, JSON,
+            CONFIG, CLIENT, FROM, BECAUSE, GETS, COUNT, UNTIL, ERRORS, LOSSES, SHARDS, CSV, JSON,
         ],
     ),
     (
         "diff",
-        "Which routes of clients differ between two configurations, times or standards?",
+        "Which routes of clients differ between two configurations, times, standards or losses?",
         &[
-            CONFIGS, ANY_CLIENT, UNTILS, STANDARDS, COUNT, SHARDS, CSV, JSON,
+            CONFIGS, ANY_CLIENT, UNTILS, STANDARDS, ANY_LOSSES, COUNT, SHARDS, CSV, JSON,
         ],
     ),
     (
         "summary",
         "What becomes of the routes of all peers, in numbers?",
-        &[CONFIG, UNTIL, ERRORS, SHARDS, CSV, JSON],
+        &[CONFIG, UNTIL, ERRORS, LOSSES, SHARDS, CSV, JSON],
     ),
     (
         "page",
         "How does the exchange look, in pictures on one page?",
-        &[CONFIG, PAGE, UNTIL, ERRORS, SHARDS],
+        &[CONFIG, PAGE, UNTIL, ERRORS, LOSSES, SHARDS],
     ),
 ];
 
@@ -223,6 +225,18 @@ const ERRORS: Row = Row {
 const STANDARDS: Row = Row {
     given: Given::Often,
     ..ERRORS
+};
+
+const LOSSES: Row = Row {
+    name: "losses",
+    takes: Takes::Choice("LOSSES", &["recorded", "inferred"]),
+    help: "Which losses of a session count",
+    ..FLAG
+};
+
+const ANY_LOSSES: Row = Row {
+    given: Given::Often,
+    ..LOSSES
 };
 
 const JSON: Row = Row {

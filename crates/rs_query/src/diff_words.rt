@@ -2,14 +2,14 @@
 
 use crate::list_words::{form_of, optional};
 use crate::query::{DiffQuery, TablesQuery};
-use crate::words::{errors_in, time_in};
+use crate::words::{errors_in, losses_in, time_in};
 use clap::ArgMatches;
 use rs_host::WordsFault;
 use std::alloc::Global;
 
-// The text where not exactly one of three options is there twice.
+// The text where not exactly one of four options is there twice.
 const NOT_ONE_TWICE: &str =
-    "looking_glass: diff takes one of --config, --until and --errors twice, and the others once\n";
+    "looking_glass: diff takes one of --config, --until, --errors and --losses twice, and the others once\n";
 
 // `diff`
 pub(crate) fn diff_of(alloc: Global, matches: &ArgMatches<'_>) -> Result<DiffQuery, WordsFault> {
@@ -25,15 +25,19 @@ pub(crate) fn diff_of(alloc: Global, matches: &ArgMatches<'_>) -> Result<DiffQue
     })
 }
 
-// Whether just one of the three options is there twice, and none more often.
+// Whether just one of the four options is there twice, and none more often.
 fn is_one_twice(matches: &ArgMatches<'_>) -> bool {
     matches!(
         (
             count_of(matches, "config"),
             count_of(matches, "until"),
             count_of(matches, "errors"),
+            count_of(matches, "losses"),
         ),
-        (2, 0 | 1, 0 | 1) | (1, 2, 0 | 1) | (1, 0 | 1, 2)
+        (2, 0 | 1, 0 | 1, 0 | 1)
+            | (1, 2, 0 | 1, 0 | 1)
+            | (1, 0 | 1, 2, 0 | 1)
+            | (1, 0 | 1, 0 | 1, 2)
     )
 }
 
@@ -55,6 +59,10 @@ fn tables_at(
         config: String::from_str(alloc, value_at(matches, "config", place).unwrap_or(""))?,
         errors: errors_in(alloc, value_at(matches, "errors", place).unwrap_or(""))?,
         until: time_in(alloc, "until", value_at(matches, "until", place))?,
+        losses: losses_in(
+            alloc,
+            value_at(matches, "losses", place).unwrap_or("recorded"),
+        )?,
         shards: matches.get_one::<usize>("shards").unwrap_or(1),
     })
 }

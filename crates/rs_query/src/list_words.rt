@@ -2,7 +2,7 @@
 
 use crate::query::{MissingQuery, PageQuery, SummaryQuery, TableQuery, TablesQuery};
 use crate::reasons::AskedReason;
-use crate::words::{errors, not_a, prefix, text, time};
+use crate::words::{errors, losses, not_a, prefix, text, time};
 use clap::ArgMatches;
 use rs_host::WordsFault;
 use rs_rows::Form;
@@ -76,6 +76,7 @@ fn tables_of(alloc: Global, matches: &ArgMatches<'_>) -> Result<TablesQuery, Wor
         config: text(alloc, matches, "config")?,
         errors: errors(alloc, matches)?,
         until: time(alloc, matches, "until")?,
+        losses: losses(alloc, matches)?,
         shards: matches.get_one::<usize>("shards").unwrap_or(1),
     })
 }

@@ -1,6 +1,7 @@
 //! What the command line asks.
 
 use crate::reasons::AskedReason;
+use rs_losses::Losses;
 use rs_mrt::Bounds;
 use rs_rows::Form;
 use rs_update::{Errors, Prefix};
@@ -54,6 +55,8 @@ pub struct Span {
     pub until: Option<u32>,
     /// The standard by which faults in path attributes are handled.
     pub errors: Errors,
+    /// Which losses of a session count.
+    pub losses: Losses,
 }
 
 /// Why a client has each peer's route on a prefix, or not.
@@ -118,6 +121,8 @@ pub struct CheckQuery {
     pub bounds: Bounds,
     /// The standard by which faults in path attributes are handled.
     pub errors: Errors,
+    /// Which losses of a session count.
+    pub losses: Losses,
 }
 
 /// The beginning of each peer's session, of a table.
@@ -216,6 +221,8 @@ pub struct TablesQuery {
     /// Up to when records are read, in seconds since 1970: each file ends before the first one that is later. All of
     /// them where it isn't given.
     pub until: Option<u32>,
+    /// Which losses of a session count.
+    pub losses: Losses,
     /// How many threads keep the tables, 1 to 16.
     pub shards: usize,
 }

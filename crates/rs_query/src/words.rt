@@ -12,7 +12,8 @@ use crate::values::{
 };
 use clap::error::ErrorKind;
 use clap::{ArgMatches, Error};
-use rs_host::{WordsFault, each_on_one_line, standard_of};
+use rs_host::{WordsFault, each_on_one_line, losses_of, standard_of};
+use rs_losses::Losses;
 use rs_mrt::{Bounds, Tail};
 use rs_update::{Errors, Prefix};
 use std::alloc::{AllocError, Global};
@@ -139,6 +140,7 @@ fn check_of(alloc: Global, matches: &ArgMatches<'_>) -> Result<CheckQuery, Words
             tail: tail_of(matches),
         },
         errors: errors(alloc, matches)?,
+        losses: losses(alloc, matches)?,
     })
 }
 
@@ -208,6 +210,7 @@ fn span(alloc: Global, matches: &ArgMatches<'_>) -> Result<Span, WordsFault> {
     Ok(Span {
         until: time(alloc, matches, "until")?,
         errors: errors(alloc, matches)?,
+        losses: losses(alloc, matches)?,
     })
 }
 
@@ -243,6 +246,18 @@ pub(crate) fn errors_in(alloc: Global, value: &str) -> Result<Errors, WordsFault
     match standard_of(value) {
         Some(errors) => Ok(errors),
         None => Err(not_a(alloc, "errors", value, "rfc4271 or rfc7606")),
+    }
+}
+
+pub(crate) fn losses(alloc: Global, matches: &ArgMatches<'_>) -> Result<Losses, WordsFault> {
+    losses_in(alloc, matches.get_str("losses").unwrap_or(""))
+}
+
+// The losses that the value of an option names.
+pub(crate) fn losses_in(alloc: Global, value: &str) -> Result<Losses, WordsFault> {
+    match losses_of(value) {
+        Some(losses) => Ok(losses),
+        None => Err(not_a(alloc, "losses", value, "recorded or inferred")),
     }
 }
 

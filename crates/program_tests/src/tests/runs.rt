@@ -3,7 +3,8 @@
 
 ghost use Rattle.std.specs.Prelude.{◌≡◌, ◌<◌, ◌≤◌, IfOk, length};
 
-use rs_host::Options;
+use rs_host::{Options, Strictness};
+use rs_losses::Losses;
 use rs_mrt::{Bounds, IoWriter, Limits, MemoryReader, MemoryWriter, ReadLimits, Write};
 use rs_outlet::{Kept, MemoryOutlet, OutletLimits, RunFault};
 use rs_program::{Cleared, Progress};
@@ -145,7 +146,8 @@ pub fn options(alloc: Global, ring: usize, shards: usize) -> Result<Options, Fai
         shards,
         errors: Errors::Rfc4271,
         bounds: Bounds::none(),
-        strict: false,
+        losses: Losses::Recorded,
+        strict: Strictness::Off,
     })
 }
 

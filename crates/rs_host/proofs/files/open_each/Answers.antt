@@ -9,7 +9,7 @@ all-one_more xs x P = All-push P xs x
 pub loop-path-preserved : goal.loop-path-preserved
 loop-path-preserved g c =
     let pushed : c.push.new.self.items ≡ c.loop-path.files.items ++ c.in-Ok.file ∷ [] = search rules in
-    let fresh : c.in-Ok.file.reader.failures + c.in-Ok.file.refused < 2 ^ 64 - 1 = search rules in
+    let fresh : c.in-Ok.file.reader.reader.failures + c.in-Ok.file.reader.refused + c.in-Ok.file.refused < 2 ^ 64 - 1 = search rules in
     record {
       one_for_each = omega (
         arith,
@@ -17,7 +17,7 @@ loop-path-preserved g c =
         length-append c.loop-path.files.items (c.in-Ok.file ∷ []),
         c.loop-path.invariant.one_for_each,
       );
-      no_failure = rw pushed (all-one_more c.loop-path.files.items c.in-Ok.file (λ file. file.reader.failures + file.refused < 2 ^ 64 - 1)
+      no_failure = rw pushed (all-one_more c.loop-path.files.items c.in-Ok.file (λ file. file.reader.reader.failures + file.reader.refused + file.refused < 2 ^ 64 - 1)
           c.loop-path.invariant.no_failure fresh);
     }
 

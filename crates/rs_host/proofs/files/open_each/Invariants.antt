@@ -4,5 +4,5 @@ use Rattle.rs_host.proofs.files.open_each.Given as goal
 abbrev pub invariant-loop-path : goal.invariant-loop-path
 invariant-loop-path g l = record {
   one_for_each : length l.files.items ≡ l.path-index;
-  no_failure : All (λ file. file.reader.failures + file.refused < 2 ^ 64 - 1) l.files.items;
+  no_failure : All (λ file. file.reader.reader.failures + file.reader.refused + file.refused < 2 ^ 64 - 1) l.files.items;
 }
