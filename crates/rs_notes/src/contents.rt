@@ -6,6 +6,7 @@
 use crate::cut::{Cut, cut_of};
 use crate::format::{FRONT_LEN, Format};
 use crate::hint::is_known;
+use crate::unread::UnreadMessages;
 use rs_host::{found_at, open_file};
 use rs_inventory::{Inventory, Peer, read_outline};
 use rs_mrt::{BoundedReader, Bounds};
@@ -23,6 +24,8 @@ pub struct Contents<'a> {
     pub held: Inventory,
     // Whether a message names the server as its recorder, if that is known.
     pub(crate) names_server: Option<bool>,
+    // Which messages aren't read, if that is known.
+    pub(crate) unread: Option<UnreadMessages>,
     // Where it ends within a record, if it is known whether it does.
     pub(crate) end: FileEnd,
 }
@@ -46,6 +49,7 @@ impl<'a> Contents<'a> {
             front,
             held,
             names_server: None,
+            unread: None,
             end: FileEnd::Unknown,
         }
     }
@@ -63,21 +67,6 @@ impl<'a> Contents<'a> {
             FileEnd::Within(cut) => Some(cut),
         }
     }
-}
-
-/// What the files of these paths hold, each within bounds, without those that cannot be read again.
-pub(crate) fn contents_at<'a, R: AllocGlobal + Files>(
-    rt: &R,
-    paths: &'a [String],
-    bounds: Bounds,
-) -> Vec<Contents<'a>> {
-    let mut all = Vec::new(rt.alloc());
-    for path in paths {
-        if contents_of(&all, path).is_none() {
-            add_contents(rt, &mut all, path, bounds);
-        }
-    }
-    all
 }
 
 /// What the file at a path holds, where that is known.

@@ -9,11 +9,12 @@ use crate::contents::Contents;
 use crate::group::{Detail, Group, Told};
 use crate::lost::{Lost, lost_of};
 use crate::note::{
-    again_line, at_text, empty_text, first_text, inside_line, lost_text, up_to_text,
+    again_line, at_text, empty_text, first_text, inside_line, lost_text, unread_text, up_to_text,
 };
 use crate::notes::Notes;
 use crate::peers::peer_of;
 use crate::subject::{Close, Ending, Subject};
+use crate::unread::Unread;
 use rs_choice::PeerSpec;
 use std::alloc::{AllocError, Global};
 
@@ -23,6 +24,8 @@ pub(crate) struct Doubts<'a> {
     // Peers whose files are empty, and peers whose records are all later than what is read.
     empty: Group<'a>,
     later: Group<'a>,
+    // Peers of which messages aren't read.
+    unread: Group<'a>,
     // Peers whose recordings begin in mid-session, peers of which a session began again without a recorded loss, and
     // peers of which a loss is recorded with the address of no peer.
     inside: Group<'a>,
@@ -36,6 +39,7 @@ impl<'a> Doubts<'a> {
         Doubts {
             empty: Group::none(alloc),
             later: Group::none(alloc),
+            unread: Group::none(alloc),
             inside: Group::none(alloc),
             again: Group::none(alloc),
             lost: Group::none(alloc),
@@ -59,6 +63,14 @@ impl<'a> Doubts<'a> {
         if let Some(until) = until {
             self.later
                 .add(&spec.name, later_told(alloc, &spec.name, until, first));
+        }
+    }
+
+    /// Takes how many messages of a peer aren't read.
+    pub(crate) fn take_unread(&mut self, alloc: Global, spec: &'a PeerSpec, unread: Unread) {
+        if !unread.is_none() {
+            self.unread
+                .add(&spec.name, unread_told(alloc, &spec.name, unread));
         }
     }
 
@@ -100,6 +112,7 @@ impl<'a> Doubts<'a> {
                 notes.add_group(alloc, &self.later, &several);
             }
         }
+        notes.add_group(alloc, &self.unread, "messages of them are not read");
         notes.add_group(
             alloc,
             &self.inside,
@@ -133,6 +146,15 @@ fn later_told(alloc: Global, name: &str, until: u32, first: u32) -> Result<Told,
     Ok(Told {
         line: format!(in alloc; "peer {name}: {until}; {first}")?,
         detail: Detail::Part(first),
+    })
+}
+
+// What is told of a peer of which messages aren't read.
+fn unread_told(alloc: Global, name: &str, unread: Unread) -> Result<Told, AllocError> {
+    let detail = unread_text(alloc, unread)?;
+    Ok(Told {
+        line: format!(in alloc; "peer {name}: messages of it are not read: {detail}")?,
+        detail: Detail::Part(detail),
     })
 }
 

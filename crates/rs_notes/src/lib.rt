@@ -27,13 +27,15 @@ mod outline;
 mod outlines;
 mod peers;
 mod subject;
+mod unread;
+mod unread_again;
 
 pub use contents::{Contents, contents_of, format_at, front_at};
 pub use cut::Cut;
 pub use format::Format;
 pub use hint::{Hint, hint_on};
 pub use note::{cut_line, note_line};
-pub use notes::{Notes, notes_of, notes_on, print_notes, print_texts};
+pub use notes::{Notes, notes_of, notes_on, print_texts};
 pub use noting::Noting;
 pub use outlines::Outlines;
 pub use subject::{Close, Ending, Subject, Telling};

@@ -86,13 +86,17 @@ impl<'a> Mistakes<'a> {
         };
         let tail = subject.bounds.tail;
         let more = self.cut.len().saturating_sub(1);
-        notes.add(if more > 0 {
+        let line = if more > 0 {
             cut_lines(alloc, path, more, cut, tail)
         } else if subject.telling == Telling::All && cut.octet > 0 {
             advised_line(alloc, path, cut, tail)
         } else {
             cut_line(alloc, path, cut, tail)
-        });
+        };
+        match tail {
+            Tail::Strict => notes.add(line),
+            Tail::Lenient => notes.add_as_asked(line),
+        }
     }
 }
 
@@ -119,7 +123,7 @@ fn told_by(
 }
 
 // Whether a file may end within a record, where a session closed so that was read with this tail.
-fn may_be_cut(tail: Tail, close: Close) -> bool {
+pub(crate) fn may_be_cut(tail: Tail, close: Close) -> bool {
     match tail {
         Tail::Strict => close == Close::WithinRecord,
         Tail::Lenient => close == Close::AtEnd,

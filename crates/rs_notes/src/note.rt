@@ -10,6 +10,7 @@ use crate::cut::Cut;
 use crate::hint::Hint;
 use crate::lost::Lost;
 use crate::near::Near;
+use crate::unread::Unread;
 use rs_host::{Utc, on_one_line};
 use rs_inventory::{Back, Kind, Peer};
 use rs_mrt::Tail;
@@ -199,6 +200,25 @@ pub(crate) fn up_to_text(alloc: Global, whom: &str, until: u32) -> Result<String
 pub(crate) fn first_text(alloc: Global, first: u32) -> Result<String, AllocError> {
     let first = Utc(first);
     format!(in alloc; "its first is of {first} UTC")
+}
+
+/// How many messages of a peer aren't read, and which. Fails where memory is refused.
+pub(crate) fn unread_text(alloc: Global, unread: Unread) -> Result<String, AllocError> {
+    let mut text = String::new(alloc);
+    add_count(&mut text, unread.add_path, "of ADD-PATH sessions")?;
+    add_count(&mut text, unread.two_octet, "of two-octet sessions")?;
+    add_count(&mut text, unread.ipv6, "with IPv6 routes")?;
+    Ok(text)
+}
+
+// Adds how many messages are of a kind, if there are any.
+fn add_count(text: &mut String, count: u64, kind: &str) -> Result<(), AllocError> {
+    if count == 0 {
+        return Ok(());
+    }
+    let before = if text.is_empty() { "" } else { ", " };
+    write!(text, "{before}{count} {kind}")?;
+    Ok(())
 }
 
 /// The text on a loss that is recorded with the address of no peer. Fails where memory is refused.

@@ -4,15 +4,19 @@
 //!
 //! Our choice: a note that can't be made or written is left out.
 
-use crate::contents::{Contents, contents_at, contents_of};
+use crate::contents::{Contents, add_contents, contents_of};
 use crate::doubts::Doubts;
 use crate::exchange::add_exchange;
 use crate::group::Group;
 use crate::look::{Look, look_at};
-use crate::mistakes::Mistakes;
+use crate::mistakes::{Mistakes, may_be_cut};
+use crate::peers::peer_of;
 use crate::subject::{Close, Ending, Subject, Telling};
+use crate::unread_again::UnreadAgain;
 use rs_choice::PeerSpec;
 use rs_inventory::Inventory;
+use rs_mrt::{Bounds, Tail};
+use rs_setup::Setup;
 use std::alloc::{AllocError, Global};
 use std::fs::Files;
 
@@ -24,13 +28,13 @@ pub(crate) const CLOSE_ALONE: u64 = 1;
 pub struct Notes {
     /// Their texts, without those for which memory was refused.
     pub texts: Vec<String>,
-    /// Whether there is any.
+    /// Whether there is any, but for one on tails that are left out as asked for.
     pub any: bool,
 }
 
 impl Notes {
-    // No note yet.
-    fn none(alloc: Global) -> Notes {
+    /// No note.
+    pub fn none(alloc: Global) -> Notes {
         Notes {
             texts: Vec::new(alloc),
             any: false,
@@ -40,6 +44,11 @@ impl Notes {
     /// Adds one, where memory for its text isn't refused.
     pub(crate) fn add(&mut self, text: Result<String, AllocError>) {
         self.any = true;
+        self.add_as_asked(text);
+    }
+
+    /// Adds one on what was asked for.
+    pub(crate) fn add_as_asked(&mut self, text: Result<String, AllocError>) {
         if let Ok(text) = text {
             let _ = self.texts.push(text);
         }
@@ -57,31 +66,43 @@ impl Notes {
     }
 }
 
-/// Prints the notes, a line each, with the name of the program in front. Answers whether there is any.
-pub fn print_notes<R: AllocGlobal + Files + Eprint>(
-    rt: &R,
-    program: &str,
-    subject: Subject<'_>,
-) -> bool {
-    let notes = notes_on(rt, subject);
-    print_texts(rt, program, &notes.texts);
-    notes.any
-}
-
-/// Prints the texts of notes in the same way.
+/// Prints the texts of notes, a line each, with the name of the program in front.
 pub fn print_texts<R: Eprint>(rt: &R, program: &str, texts: &[String]) {
     for text in texts {
         let _ = eprintln!(rt; "{program}: note: {text}");
     }
 }
 
-/// The notes on the recorded files of an exchange.
-pub fn notes_on<R: AllocGlobal + Files>(rt: &R, subject: Subject<'_>) -> Notes {
-    let all = contents_at(rt, &subject.setup.files, subject.bounds);
+/// The notes on likely mistakes in the recorded files of an exchange, of which no outlines were made. Only the files are
+/// read again that may have one: those of which nothing was kept, and those that may end within a record.
+pub fn notes_on<R: AllocGlobal + Files>(
+    rt: &R,
+    setup: &Setup,
+    bounds: Bounds,
+    endings: &[Ending],
+) -> Notes {
+    let mut all = Vec::new(rt.alloc());
+    for (path, ending) in setup.files.iter().zip(endings) {
+        if may_be_mistaken(bounds.tail, *ending) && contents_of(&all, path).is_none() {
+            add_contents(rt, &mut all, path, bounds);
+        }
+    }
+    let subject = Subject {
+        setup,
+        bounds,
+        endings: Some(endings),
+        telling: Telling::Mistakes,
+        inferred: false,
+    };
     notes_of(rt, subject, &all)
 }
 
-/// The same, where it is known what the files hold within these bounds.
+// Whether a file of which a session ended so may have a note on a likely mistake.
+fn may_be_mistaken(tail: Tail, ending: Ending) -> bool {
+    ending.changes == CLOSE_ALONE || may_be_cut(tail, ending.close)
+}
+
+/// The notes on the recorded files of an exchange, of which it is known what they hold within these bounds.
 pub fn notes_of<R: AllocGlobal + Files>(
     rt: &R,
     subject: Subject<'_>,
@@ -92,6 +113,7 @@ pub fn notes_of<R: AllocGlobal + Files>(
     let mut told = ByPeer {
         mistakes: Mistakes::none(alloc),
         doubts: Doubts::none(alloc),
+        again: UnreadAgain::none(alloc),
     };
     for peer in 0..setup.plan.count().min(setup.files.len()) {
         if let Some(contents) = contents_of(all, &setup.files[peer]) {
@@ -114,6 +136,7 @@ pub fn notes_of<R: AllocGlobal + Files>(
 struct ByPeer<'a> {
     mistakes: Mistakes<'a>,
     doubts: Doubts<'a>,
+    again: UnreadAgain<'a>,
 }
 
 impl<'a> ByPeer<'a> {
@@ -145,6 +168,12 @@ impl<'a> ByPeer<'a> {
             Look::Plain => {}
         }
         self.mistakes.take_cut(rt, subject, contents, ending);
+        if subject.telling == Telling::Mistakes {
+            return;
+        }
+        if let Some(unread) = self.again.of(rt, subject, contents, peer_of(spec)) {
+            self.doubts.take_unread(alloc, spec, unread);
+        }
         self.doubts
             .take_sessions(alloc, subject, spec, contents, ending);
     }

@@ -3,13 +3,17 @@
 //! Our choices: it is what `read_outline` tells of the same octets within bounds.
 //! No contract says so, since only notes rest on it. If memory is refused, nothing is known of the file.
 
-use crate::contents::FileEnd;
+use crate::contents::{FileEnd, is_file};
 use crate::cut::Cut;
 use crate::format::FRONT_LEN;
+use crate::unread::UnreadMessages;
 use byteorder::{BigEndian, ByteOrder};
 use rs_inventory::{Compression, Inventory, Peer};
 use rs_mrt::{Bounds, HEADER_LEN, MrtFault, Record, Tail};
 use std::alloc::{AllocError, Global};
+use std::fs::{File, Files};
+use std::io::Read;
+use std::mem;
 
 // Where the fields of a record's header begin, behind its Timestamp (RFC 6396, section 2).
 const KIND_AT: usize = 4;
@@ -21,6 +25,9 @@ const LENGTH_AT: usize = 8;
 // How many octets of a record are kept: its header, and as much of its body as `read_outline` looks at.
 const KEPT_LEN: usize = HEADER_LEN + rs_mrt::FRONT_LEN;
 
+// How many octets of a file are read at once.
+const PIECE_LEN: usize = 16384;
+
 // How much of a file came.
 #[derive(Clone, Copy, Debug, PartialEq, Eq)]
 enum Stage {
@@ -30,6 +37,8 @@ enum Stage {
     Whole,
     // Memory was refused for what came.
     Refused,
+    // All, and what is known of it was taken.
+    Taken,
 }
 
 /// What is known of a file whose octets come in pieces.
@@ -43,6 +52,7 @@ pub(crate) struct Outline {
     front: Vec<u8>,
     held: Inventory,
     names_server: bool,
+    unread: UnreadMessages,
     // How many octets came of whole records.
     octets: u64,
     // What came of a record that isn't whole yet, no more than `KEPT_LEN` octets. How many octets came of it, and how
@@ -63,6 +73,8 @@ pub(crate) struct Outlined {
     pub(crate) held: Inventory,
     /// Whether a message names the server as its recorder.
     pub(crate) names_server: bool,
+    /// Which messages aren't read.
+    pub(crate) unread: UnreadMessages,
     /// Where it ends.
     pub(crate) end: FileEnd,
 }
@@ -78,6 +90,7 @@ impl Outline {
             front: Vec::new(alloc),
             held: Inventory::none(alloc, None),
             names_server: false,
+            unread: UnreadMessages::none(alloc),
             octets: 0,
             begun: Vec::new(alloc),
             came: 0,
@@ -86,15 +99,17 @@ impl Outline {
         }
     }
 
-    /// What is known of the file; none if not all of it came, or memory was refused.
-    pub(crate) fn outlined(self) -> Option<Outlined> {
+    /// Takes what is known of the file: none if not all of it came, if memory was refused, or if it was taken before.
+    pub(crate) fn take_outlined(&mut self) -> Option<Outlined> {
         if self.stage != Stage::Whole {
             return None;
         }
+        self.stage = Stage::Taken;
         Some(Outlined {
-            front: self.front,
-            held: self.held,
+            front: mem::replace(&mut self.front, Vec::new(self.alloc)),
+            held: mem::replace(&mut self.held, Inventory::none(self.alloc, None)),
             names_server: self.names_server,
+            unread: mem::replace(&mut self.unread, UnreadMessages::none(self.alloc)),
             end: self.file_end,
         })
     }
@@ -186,6 +201,7 @@ impl Outline {
         if let Some(record) = record_of(&self.begun) {
             let recorder = self.held.take_outline(self.alloc, &record)?;
             self.names_server = self.names_server || recorder == Some(self.server);
+            self.unread.take(&record)?;
         }
         self.octets = self.octets.saturating_add(self.came);
         self.begun.clear();
@@ -212,6 +228,29 @@ impl Outline {
         }
         compression.is_some()
     }
+}
+
+/// The outline of the file at a path, where it gives its octets each time it is read.
+pub(crate) fn outlined_at<R: AllocGlobal + Files>(
+    rt: &R,
+    path: &str,
+    bounds: Bounds,
+    server: Peer,
+) -> Option<Outlined> {
+    if !is_file(rt, path) {
+        return None;
+    }
+    let mut outline = Outline::new(rt.alloc(), bounds, server);
+    let mut file = File::open(rt, path).ok()?;
+    let mut piece = [0; PIECE_LEN];
+    for _ in 0..u64::MAX {
+        if outline.stage != Stage::Open {
+            break;
+        }
+        let count = file.read(&mut piece).ok()?;
+        outline.take(&piece[..count]);
+    }
+    outline.take_outlined()
 }
 
 // In which part of a record a file ends, if this came of its last record; none if nothing came of it.

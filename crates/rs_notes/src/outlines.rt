@@ -79,23 +79,31 @@ impl Outlines {
         }
     }
 
-    /// What the files at these paths of the setup hold, without those that cannot be read again. A file whose outline
-    /// isn't known is read for that.
+    /// Takes what the files at these paths of the setup hold, without those that cannot be read again. A file whose
+    /// outline isn't known, or was taken before, is read for that.
     pub fn contents<'a, R: AllocGlobal + Files>(
-        self,
+        &self,
         rt: &R,
         paths: &'a [String],
     ) -> Vec<Contents<'a>> {
         let bounds = self.bounds;
-        let mut files = self.files.into_iter();
         let mut all = Vec::new(rt.alloc());
-        for path in paths {
-            let outlined = outlined(files.next());
+        for (place, path) in paths.iter().enumerate() {
+            let outlined = self.outlined(place);
             if contents_of(&all, path).is_none() {
                 add_known(rt, &mut all, path, bounds, outlined);
             }
         }
         all
+    }
+
+    // Takes what is known by the outline of the path at a place, if there is one. Nobody reads the file meanwhile, so
+    // the lock is free.
+    fn outlined(&self, place: usize) -> Option<Outlined> {
+        let Some(Some(outline)) = self.files.get(place) else {
+            return None;
+        };
+        outline.try_lock()?.take_outlined()
     }
 }
 
@@ -105,11 +113,6 @@ fn up_to(until: Option<u32>) -> Bounds {
         until,
         tail: Tail::Strict,
     }
-}
-
-// What is known by the outline of a path, if there is one.
-fn outlined(outline: Option<Option<Mutex<Outline>>>) -> Option<Outlined> {
-    outline??.into_inner().outlined()
 }
 
 // Adds what the file at a path holds, if it can be read again. It is read if that isn't known yet.
@@ -127,6 +130,7 @@ fn add_known<'a, R: AllocGlobal + Files>(
                 front: outlined.front,
                 held: outlined.held,
                 names_server: Some(outlined.names_server),
+                unread: Some(outlined.unread),
                 end: outlined.end,
             });
         }
