@@ -46,7 +46,7 @@ class Bench:
         line = [self.program, "--config", "exchange.toml", "--out", "tables", "--time", str(time), *words]
         ran = subprocess.run(line, cwd=self.folder.name, capture_output=True)
         report, dumps = slow_reading.outcome(server, peers, [octets for _, octets in files], time, errors)
-        told, strict = ran.stderr.decode(errors="replace"), "--strict" in words
+        told, strict = ran.stderr.decode(errors="replace"), "--strict-after" in words
         clean = not strict or not told and all(line.endswith(" close end") for line in report.splitlines() if line.startswith("peer "))
         if ran.returncode != (0 if clean else 5) or wrong_notes(server, peers, report, files, told, strict):
             return f"status {ran.returncode}: {told}"

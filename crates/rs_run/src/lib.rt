@@ -9,4 +9,5 @@
 mod report;
 mod runner;
 
+pub use report::ReasonText;
 pub use runner::{Ran, run, run_if};

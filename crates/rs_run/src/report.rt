@@ -10,9 +10,9 @@ use std::alloc::AllocError;
 use std::fmt;
 use std::fmt::{Display, Formatter};
 
-// The text of the reason for which a session closed.
+/// The text of the reason for which a session closed, as the report has it.
 #[derive(Clone, Copy)]
-struct ReasonText(Reason);
+pub struct ReasonText(pub Reason);
 
 impl Display for ReasonText {
     ghost output = { λ text. Some (reason_text text.0) };

@@ -1,0 +1,151 @@
+//! What a run finds that is not clean: notes on the recorded files, and sessions that closed before the end of a file.
+
+use rs_host::{Options, Strictness};
+use rs_losses::Losses;
+use rs_mrt::Tail;
+use rs_notes::{Close, Ending, Notes, Outlines, Subject, Telling, notes_of, notes_on, print_texts};
+use rs_run::ReasonText;
+use rs_serve::PeerEnd;
+use rs_session::Reason;
+use rs_setup::Setup;
+use std::alloc::{AllocError, Global};
+use std::fs::Files;
+
+// The program's name, as its lines begin.
+const PROGRAM: &str = "route_server";
+
+// How many peers a line names.
+const NAMED: usize = 8;
+
+/// What a run finds that is not clean.
+#[derive(Drop)]
+pub(crate) struct Findings {
+    notes: Notes,
+    // The line on the sessions that closed before the end of their files: none if there is no such session, or memory
+    // for the line was refused.
+    closes: Option<String>,
+    // How many such sessions there are.
+    closed: usize,
+}
+
+impl Findings {
+    /// What a run finds whose sessions ended so, in the order of the peers. Outlines of the files are used if the options
+    /// ask for more than notes on likely mistakes.
+    pub(crate) fn of<R: AllocGlobal + Files>(
+        rt: &R,
+        setup: &Setup,
+        options: &Options,
+        outlines: &Outlines,
+        ends: &[PeerEnd],
+    ) -> Findings {
+        let alloc = rt.alloc();
+        let notes = match endings_of(alloc, ends) {
+            Ok(endings) => notes(rt, setup, options, outlines, &endings),
+            Err(_) => Notes::none(alloc),
+        };
+        let closed = ends.iter().filter(|end| closes_early(end)).count();
+        let closes = if closed == 0 {
+            None
+        } else {
+            closes_line(alloc, setup, ends, closed).ok()
+        };
+        Findings {
+            notes,
+            closes,
+            closed,
+        }
+    }
+
+    /// Whether each session closed at the end of its file, and there is no note.
+    pub(crate) fn is_clean(&self) -> bool {
+        !self.notes.any && self.closed == 0
+    }
+
+    /// Prints the notes; if nothing was written, also why.
+    pub(crate) fn print<R: Eprint>(&self, rt: &R, is_written: bool) {
+        print_texts(rt, PROGRAM, &self.notes.texts);
+        if is_written {
+            return;
+        }
+        if let Some(closes) = &self.closes {
+            let _ = eprintln!(rt; "{PROGRAM}: {closes}");
+        }
+        let _ = eprintln!(rt; "{PROGRAM}: not clean: no dump and no report is written");
+    }
+}
+
+// The notes. If only likely mistakes count, and no tail is left out, few files or none are read for them.
+fn notes<R: AllocGlobal + Files>(
+    rt: &R,
+    setup: &Setup,
+    options: &Options,
+    outlines: &Outlines,
+    endings: &[Ending],
+) -> Notes {
+    let bounds = options.bounds;
+    let telling = match options.strict {
+        Strictness::Off => Telling::Mistakes,
+        _ => Telling::All,
+    };
+    if telling == Telling::Mistakes && bounds.tail == Tail::Strict {
+        return notes_on(rt, setup, bounds, endings);
+    }
+    let subject = Subject {
+        setup,
+        bounds,
+        endings: Some(endings),
+        telling,
+        inferred: options.losses == Losses::Inferred,
+    };
+    notes_of(rt, subject, &outlines.contents(rt, &setup.files))
+}
+
+// How the session of each peer ended, for the notes.
+fn endings_of(alloc: Global, ends: &[PeerEnd]) -> Result<Vec<Ending>, AllocError> {
+    let mut endings = Vec::with_capacity(alloc, ends.len())?;
+    for end in ends {
+        endings.push(Ending {
+            changes: end.changes,
+            close: close_of(end.reason),
+        })?;
+    }
+    Ok(endings)
+}
+
+// Where a session closed.
+fn close_of(reason: Reason) -> Close {
+    match reason {
+        Reason::EndOfFile => Close::AtEnd,
+        Reason::Mrt(1 | 2) => Close::WithinRecord,
+        _ => Close::AtFault,
+    }
+}
+
+// Whether a session closed before the end of its file.
+fn closes_early(end: &PeerEnd) -> bool {
+    end.reason != Reason::EndOfFile
+}
+
+// The line on the sessions that closed before the end of their files, of which there are so many.
+fn closes_line(
+    alloc: Global,
+    setup: &Setup,
+    ends: &[PeerEnd],
+    closed: usize,
+) -> Result<String, AllocError> {
+    let mut text = String::from_str(alloc, "closed before the end of its file:")?;
+    let mut named: usize = 0;
+    for peer in 0..ends.len().min(setup.plan.count()) {
+        if named < NAMED && closes_early(&ends[peer]) {
+            let separator = if named == 0 { "" } else { "," };
+            let (name, reason) = (&setup.plan.peer(peer).name, ReasonText(ends[peer].reason));
+            write!(text, "{separator} peer {name} by {reason}")?;
+            named += 1;
+        }
+    }
+    if named < closed {
+        let more = closed - named;
+        write!(text, " and {more} more")?;
+    }
+    Ok(text)
+}
