@@ -1,12 +1,13 @@
 //! Answers the question of the command line: reads what it names, and writes what comes of it.
 
 use rs_files::{check, peers, start};
-use rs_glass_shell::{NoReply, Noted, PROGRAM, Reply, Unanswered};
-use rs_host::{DONE, WordsFault, read_arguments};
+use rs_glass_shell::{NoReply, PROGRAM, Reply, Unanswered, answer_with};
+use rs_host::{WordsFault, read_arguments};
 use rs_lists::{diff, missing, summary, table};
 use rs_page::page;
 use rs_query::{Query, read_query};
 use rs_why::{history, why};
+use std::alloc::Global;
 use std::env::Env;
 use std::fs::Files;
 use std::io::Print;
@@ -23,7 +24,7 @@ where
 {
     let query = match command_line(rt) {
         Ok(query) => query,
-        Err(no_reply) => return help(no_reply),
+        Err(no_reply) => return help(rt.alloc(), no_reply),
     };
     let of_diff = query.is_diff();
     match answer_to(rt, query) {
@@ -43,11 +44,7 @@ where
     match query {
         Query::Why(query) => why(rt, &query),
         Query::History(query) => history(rt, &query),
-        Query::Peers(query) => Ok(Reply {
-            text: peers(rt, query)?,
-            status: DONE,
-            noted: Noted::Nothing,
-        }),
+        Query::Peers(query) => Ok(answer_with(peers(rt, query)?, Vec::new(rt.alloc()))),
         Query::Check(query) => check(rt, &query),
         Query::Start(query) => start(rt, &query),
         Query::Table(query) => table(rt, &query),
@@ -59,17 +56,15 @@ where
 }
 
 // The text of help or the version, if the command line asks for it.
-fn help(no_reply: NoReply) -> Result<Reply, NoReply> {
-    match no_reply.why {
+fn help(alloc: Global, no_reply: NoReply) -> Result<Reply, NoReply> {
+    let NoReply { why, status } = no_reply;
+    match why {
         Unanswered::Words(WordsFault::Help(text)) => Ok(Reply {
             text,
-            status: no_reply.status,
-            noted: Noted::Nothing,
+            status,
+            notes: Vec::new(alloc),
         }),
-        why => Err(NoReply {
-            why,
-            status: no_reply.status,
-        }),
+        why => Err(NoReply { why, status }),
     }
 }
 

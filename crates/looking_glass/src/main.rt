@@ -10,9 +10,9 @@
 mod answering;
 
 use crate::answering::answer;
-use rs_glass_shell::{NoReply, Noted, PROGRAM, Reply, Unanswered, line};
+use rs_glass_shell::{NoReply, PROGRAM, Reply, Unanswered, line_with_cause};
 use rs_host::{DONE, end_with};
-use rs_notes::{Subject, Telling, notes_of, print_texts};
+use rs_notes::print_texts;
 use std::fs::Files;
 use std::process::ExitCode;
 
@@ -22,12 +22,12 @@ fn main(rt: HostRuntime) -> ExitCode {
             Reply {
                 text,
                 status,
-                noted,
+                notes,
             },
         ) => match print!(&rt; "{text}") {
             Ok(()) => {
                 if status == DONE {
-                    note(&rt, noted);
+                    print_texts(&rt, PROGRAM, &notes);
                 }
                 return ExitCode::from(status);
             }
@@ -38,32 +38,13 @@ fn main(rt: HostRuntime) -> ExitCode {
     end(&rt, &no_reply)
 }
 
-// Prints the notes on likely mistakes in the files that were read, or those that were made for the answer.
-fn note<R: AllocGlobal + Files + Eprint>(rt: &R, noted: Noted) {
-    match noted {
-        Noted::Nothing => {}
-        Noted::Files(setup, outlines) => {
-            let subject = Subject {
-                setup: &setup,
-                bounds: outlines.bounds(),
-                endings: None,
-                telling: Telling::Mistakes,
-                inferred: false,
-            };
-            let contents = outlines.contents(rt, &setup.files);
-            print_texts(rt, PROGRAM, &notes_of(rt, subject, &contents).texts);
-        }
-        Noted::Texts(texts) => print_texts(rt, PROGRAM, &texts),
-    }
-}
-
 // Says why there is no answer, and gives the status of that. A reader who wants no more is told nothing.
-fn end<R: AllocGlobal + Print + Eprint>(rt: &R, no_reply: &NoReply) -> ExitCode {
+fn end<R: AllocGlobal + Files + Print + Eprint>(rt: &R, no_reply: &NoReply) -> ExitCode {
     let words = match &no_reply.why {
         Unanswered::Closed => return ExitCode::from(no_reply.status),
         Unanswered::Words(fault) => Some(fault),
         _ => None,
     };
-    let text = line(rt.alloc(), &no_reply.why);
+    let text = line_with_cause(rt, &no_reply.why);
     end_with(rt, PROGRAM, words, text, no_reply.status)
 }

@@ -83,7 +83,7 @@ fn treated_of<R: AllocGlobal + Files>(
     match query.errors {
         Errors::Rfc4271 => Ok(None),
         Errors::Rfc7606 if records.faulty() == 0 => Ok(Some(0)),
-        Errors::Rfc7606 => Ok(Some(treated_at(rt, path, id_of(spec), query.bounds)?)),
+        Errors::Rfc7606 => Ok(Some(treated_at(rt, path, id_of(spec), query)?)),
     }
 }
 
@@ -106,8 +106,7 @@ fn add_close<R: AllocGlobal + Files>(
     path: &str,
     query: &CheckQuery,
 ) -> Result<Close, Unanswered> {
-    let within = (query.bounds, query.errors);
-    let Some(close) = early_close_at(rt, path, id_of(spec), within)? else {
+    let Some(close) = early_close_at(rt, path, id_of(spec), query)? else {
         return Ok(Close::AtEnd);
     };
     let reason = close_text(rt.alloc(), close.reason)?;

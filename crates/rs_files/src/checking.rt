@@ -1,7 +1,7 @@
 //! What a run over a configuration would meet: why it would be refused, which files can't be read, what files hold of
 //! each peer, where sessions close, and the notes.
 //!
-//! Our choices: each file is read once, however many peers name it, and once more for each of its sessions that may close
+//! Our choices: each file is read twice, however many peers name it, and once more for each of its sessions that may close
 //! before its end. It is read within the bounds and by the standard of the run. The notes are those of a run, made of
 //! what the first reading tells. A tail that is left out as asked for has its note, and is no reason for a status.
 
@@ -9,13 +9,14 @@ use crate::checked_peer::add_peer;
 use crate::recordings::inventory_at;
 use crate::refused::refusal_text;
 use crate::unreadable::unreadable_text;
-use rs_glass_shell::{Noted, Reply, Unanswered};
+use rs_glass_shell::{Reply, Unanswered};
 use rs_host::{DONE, FAILED, NOT_CLEAN, REFUSED, Unready, found_at, read_file};
-use rs_mrt::{Bounds, Tail};
+use rs_losses::Losses;
+use rs_mrt::Bounds;
 use rs_notes::{Close, Contents, Ending, Subject, Telling, contents_of, front_at, notes_of};
 use rs_query::CheckQuery;
 use rs_setup::{Setup, SetupFault, read_setup};
-use std::alloc::AllocError;
+use std::alloc::{AllocError, Global};
 use std::env::Env;
 use std::fs::Files;
 
@@ -39,16 +40,20 @@ pub fn check<R: AllocGlobal + Files + Env>(
     match read_setup(alloc, &octets) {
         Ok(setup) => check_files(rt, &setup, query),
         Err(SetupFault::Memory) => Err(Unanswered::Memory),
-        Err(fault) => Ok(told(refusal_text(alloc, path, &octets, &fault)?, REFUSED)),
+        Err(fault) => Ok(told(
+            rt.alloc(),
+            refusal_text(alloc, path, &octets, &fault)?,
+            REFUSED,
+        )),
     }
 }
 
 // An answer to which no note is printed.
-fn told(text: String, status: u8) -> Reply {
+fn told(alloc: Global, text: String, status: u8) -> Reply {
     Reply {
         text,
         status,
-        noted: Noted::Nothing,
+        notes: Vec::new(alloc),
     }
 }
 
@@ -60,7 +65,7 @@ fn check_files<R: AllocGlobal + Files + Env>(
 ) -> Result<Reply, Unanswered> {
     let text = unreadable_text(rt, setup)?;
     if !text.is_empty() {
-        return Ok(told(text, FAILED));
+        return Ok(told(rt.alloc(), text, FAILED));
     }
     let files = contents_in_full(rt, &setup.files, query.bounds)?;
     check_contents(rt, setup, &files, query)
@@ -76,7 +81,9 @@ fn contents_in_full<'a, R: AllocGlobal + Files>(
     for path in paths {
         if contents_of(&files, path).is_none() && is_file(rt, path)? {
             let contents = read_contents(rt, path, bounds)?;
-            files.push(contents).map_err(|_| Unanswered::Memory)?;
+            let Ok(()) = files.push(contents) else {
+                return Err(Unanswered::Memory);
+            };
         }
     }
     Ok(files)
@@ -122,45 +129,34 @@ fn check_contents<R: AllocGlobal + Files>(
         };
         endings.push(ending).map_err(|_| Unanswered::Memory)?;
     }
-    let subject = Subject {
-        setup,
-        bounds: query.bounds,
-        endings: Some(&endings),
-        telling: Telling::All,
-        inferred: false,
-    };
-    let noted = add_notes(rt, &mut text, subject, files)?;
+    let noted = add_notes(rt, &mut text, setup, query, &endings, files)?;
     let clean = endings.iter().all(|ending| ending.close == Close::AtEnd);
-    Ok(told(text, if clean && !noted { DONE } else { NOT_CLEAN }))
+    Ok(told(
+        rt.alloc(),
+        text,
+        if clean && !noted { DONE } else { NOT_CLEAN },
+    ))
 }
 
-// Adds the notes. Answers whether there is any on more than a tail that is left out as asked for.
+// Adds the notes. Answers whether there is any, but for one on tails that are left out as asked for.
 fn add_notes<R: AllocGlobal + Files>(
     rt: &R,
     text: &mut String,
-    subject: Subject<'_>,
+    setup: &Setup,
+    query: &CheckQuery,
+    endings: &[Ending],
     files: &[Contents<'_>],
 ) -> Result<bool, AllocError> {
+    let subject = Subject {
+        setup,
+        bounds: query.bounds,
+        endings: Some(endings),
+        telling: Telling::All,
+        inferred: query.losses == Losses::Inferred,
+    };
     let notes = notes_of(rt, subject, files);
     for note in &notes.texts {
         writeln!(text, "{note}")?;
     }
-    match subject.bounds.tail {
-        Tail::Strict => Ok(notes.any),
-        Tail::Lenient => Ok(notes.any && is_noted_besides_tails(rt, subject, files)),
-    }
-}
-
-// Whether there is a note on more than tails. A strict tail has one only if a session closes in it, and none does.
-fn is_noted_besides_tails<R: AllocGlobal + Files>(
-    rt: &R,
-    subject: Subject<'_>,
-    files: &[Contents<'_>],
-) -> bool {
-    let bounds = Bounds {
-        until: subject.bounds.until,
-        tail: Tail::Strict,
-    };
-    let subject = Subject { bounds, ..subject };
-    notes_of(rt, subject, files).any
+    Ok(notes.any)
 }

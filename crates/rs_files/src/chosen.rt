@@ -5,13 +5,11 @@
 
 use crate::table_faults::{by_table, none_until};
 use rs_glass_shell::Unanswered;
-use rs_host::{Unready, Utc, open_file};
+use rs_host::{Unready, Utc, found_at, open_file};
 use rs_query::StartQuery;
 use rs_start::{TableReader, Tables};
 use std::alloc::AllocError;
-use std::fs;
 use std::fs::Files;
-use std::io::ErrorKind;
 
 /// The table of a file that is taken.
 #[derive(Clone, Copy, Debug, PartialEq, Eq, Drop)]
@@ -63,10 +61,9 @@ pub(crate) fn take_table<R: AllocGlobal + Files>(
 
 // Whether a path names a file that can be read twice.
 fn is_on_disk<R: AllocGlobal + Files>(rt: &R, path: &str) -> Result<bool, AllocError> {
-    match fs::metadata(rt, path) {
-        Ok(found) => Ok(found.is_file()),
-        Err(error) if error.kind() == ErrorKind::OutOfMemory => Err(AllocError),
-        Err(_) => Ok(false),
+    match found_at(rt, path)? {
+        Some(found) => Ok(found.is_file()),
+        None => Ok(false),
     }
 }
 

@@ -5,7 +5,8 @@ ghost use Rattle.std.specs.Prelude.{◌<◌};
 
 use crate::placed_records::PlacedRecords;
 use rs_host::{Unready, open_file};
-use rs_mrt::{BoundedReader, Bounds, Read, RecordReader, Source};
+use rs_mrt::{BoundedReader, Read, RecordReader, Source};
+use rs_query::CheckQuery;
 use rs_session::{Body, PeerId, Reason, Session};
 use rs_update::Errors;
 use std::alloc::{AllocError, Global};
@@ -24,18 +25,21 @@ pub(crate) struct EarlyClose {
     pub(crate) is_cut: bool,
 }
 
-/// Where the session of a peer closes before the end of the file at a path, which is read within bounds; none where it
-/// doesn't. Faults in path attributes are handled by the standard that is named. Fails with `Unread` where the file can't
-/// be read, with `Memory` where memory is refused.
+/// Where the session of a peer closes before the end of the file at a path; none if it doesn't. The file is read within
+/// the bounds and by the standard that are asked for. Fails with `Unread` if the file can't be read, with `Memory` if
+/// memory is refused.
 pub(crate) fn early_close_at<R: AllocGlobal + Files>(
     rt: &R,
     path: &str,
     peer: PeerId,
-    (bounds, errors): (Bounds, Errors),
+    query: &CheckQuery,
 ) -> Result<Option<EarlyClose>, Unready> {
     let alloc = rt.alloc();
     let close = match open_file(rt, path) {
-        Ok(file) => close_of(alloc, BoundedReader::new(alloc, file, bounds), peer, errors)?,
+        Ok(file) => {
+            let reader = BoundedReader::new(alloc, file, query.bounds);
+            close_of(alloc, reader, peer, query.errors)?
+        }
         Err(fault) => return Err(Unready::by_file(alloc, fault, path)),
     };
     match close.reason {

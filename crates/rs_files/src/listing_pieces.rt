@@ -5,7 +5,7 @@
 //! a file that is there only while the command runs, as a shell gives it for `<(..)`.
 
 use crate::recorded_file::RecordedFile;
-use rs_host::on_one_line;
+use rs_glass_shell::add_shell_word;
 use rs_inventory::{Inventory, Peer, PeerRecords};
 use std::alloc::{AllocError, Global};
 use std::collections::BTreeMap;
@@ -31,9 +31,6 @@ struct Told {
 
 // How paths begin of files that are there only while the command runs.
 const TRANSIENT: [&str; 2] = ["/dev/fd/", "/proc/self/fd/"];
-
-// The marks that stand in a word of a shell as they are, beside letters and digits.
-const PLAIN: &str = "._-/+:,@%";
 
 impl Pieces {
     /// Those of these files, which are numbered in the order of the command line.
@@ -97,14 +94,10 @@ impl Pieces {
     ) -> Result<Option<String>, AllocError> {
         let mut words = String::new(alloc);
         let mut nameless = false;
-        for file in self
-            .order
-            .iter()
-            .filter_map(|number: &usize| files.get(*number))
-        {
-            if self.has_piece(&file.inventory) {
+        for number in &self.order {
+            if let Some(file) = self.piece(files, *number) {
                 words.push(' ')?;
-                push_word(alloc, &mut words, &file.path)?;
+                add_shell_word(alloc, &mut words, &file.path)?;
                 nameless = nameless || is_transient(&file.path);
             }
         }
@@ -115,6 +108,16 @@ impl Pieces {
             return Ok(Some(format!(in alloc; "cat .. >{joined}")?));
         }
         Ok(Some(format!(in alloc; "cat{words} >{joined}")?))
+    }
+
+    // The file of a number, if it is a piece of a recording.
+    fn piece<'a>(&self, files: &'a [RecordedFile], number: usize) -> Option<&'a RecordedFile> {
+        let file = files.get(number)?;
+        if self.has_piece(&file.inventory) {
+            Some(file)
+        } else {
+            None
+        }
     }
 
     // Whether a file is a piece of a recording: a peer has messages in it and in another file.
@@ -166,30 +169,4 @@ pub(crate) fn is_transient(path: &str) -> bool {
         }
     }
     false
-}
-
-// Appends a path as a word of a shell.
-fn push_word(alloc: Global, words: &mut String, path: &str) -> Result<(), AllocError> {
-    let path = on_one_line(alloc, path)?;
-    if is_plain(&path) {
-        return words.push_str(&path);
-    }
-    words.push('\'')?;
-    for character in path.chars() {
-        match character {
-            '\'' => words.push_str("'\\''")?,
-            character => words.push(character)?,
-        }
-    }
-    words.push('\'')
-}
-
-// Whether a text is a word of a shell as it stands.
-fn is_plain(text: &str) -> bool {
-    for character in text.chars() {
-        if !character.is_ascii_alphanumeric() && !PLAIN.contains(character) {
-            return false;
-        }
-    }
-    true
 }

@@ -2,15 +2,10 @@
 //!
 //! Our choice: what a plan doesn't say of a peer at fault is read from the text of the configuration.
 
-use rs_choice::PlanFault;
+use rs_choice::{MAX_NAME_LEN, MAX_PEERS, PlanFault};
 use rs_host::on_one_line;
 use std::alloc::{AllocError, Global};
 use toml::{Table, Value};
-
-// How many peers a plan has at most, and how many octets a name.
-const MOST_PEERS: usize = 256;
-
-const MOST_OCTETS: usize = 64;
 
 /// Adds the fault of a plan in words: what is wrong, and with the names of which peers. `octets` are the configuration.
 /// Fails if memory is refused.
@@ -40,7 +35,7 @@ pub(crate) fn add_plan_fault(
 // Adds how many peers there are, which are too many.
 fn add_too_many(text: &mut String, peers: &[Value]) -> Result<(), AllocError> {
     let count = peers.len();
-    write!(text, ": there are {count} peers; {MOST_PEERS} is the limit")
+    write!(text, ": there are {count} peers; {MAX_PEERS} is the limit")
 }
 
 // Adds what is wrong with the name of a peer.
@@ -56,10 +51,10 @@ fn add_invalid_name(
     if name.is_empty() {
         let address = on_one_line(alloc, text_of(peers, peer, "address"))?;
         write!(text, ": the name of the peer of {address} is empty")
-    } else if count > MOST_OCTETS {
+    } else if count > MAX_NAME_LEN {
         write!(
             text,
-            ": the name {shown} has {count} octets; {MOST_OCTETS} is the limit"
+            ": the name {shown} has {count} octets; {MAX_NAME_LEN} is the limit"
         )
     } else {
         write!(

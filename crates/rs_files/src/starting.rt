@@ -7,8 +7,8 @@ use crate::peer_lines::as_text;
 use crate::session_files::{SessionFile, put_in_place, remove_parts};
 use crate::sessions::{begin_sessions, counts_of};
 use crate::table_faults::{by_routes, by_table, none_until, second_table};
-use rs_glass_shell::{Noted, Reply, Unanswered};
-use rs_host::{DONE, Unready, open_file};
+use rs_glass_shell::{Reply, Unanswered, answer_with};
+use rs_host::{Unready, open_file};
 use rs_mrt::Read;
 use rs_query::StartQuery;
 use rs_start::{Counts, LeftOut, TableEnd, TableReader};
@@ -20,11 +20,7 @@ use std::net::Ipv4Addr;
 pub fn start<R: AllocGlobal + Files>(rt: &R, query: &StartQuery) -> Result<Reply, Unanswered> {
     let mut files = Vec::new(rt.alloc());
     match written(rt, query, &mut files) {
-        Ok(text) => Ok(Reply {
-            text,
-            status: DONE,
-            noted: Noted::Nothing,
-        }),
+        Ok(text) => Ok(answer_with(text, Vec::new(rt.alloc()))),
         Err(unanswered) => {
             remove_parts(rt, &files);
             Err(unanswered)

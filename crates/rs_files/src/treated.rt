@@ -5,16 +5,15 @@
 ghost use Rattle.std.specs.Prelude.{◌<◌};
 
 use rs_host::{Unready, open_file};
-use rs_mrt::{
-    BoundedReader, Bounds, Entry, Read, Record, RecordReader, Source, SourceFault, entry,
-};
+use rs_mrt::{BoundedReader, Entry, Read, Record, RecordReader, Source, SourceFault, entry};
+use rs_query::CheckQuery;
 use rs_session::PeerId;
 use rs_update::{Errors, Message, MessageFault, read_message_by};
 use std::alloc::{AllocError, Global};
 use std::fs::Files;
 
 // What a record is to the session of a peer, if its faults are handled by RFC 7606.
-#[derive(Clone, Copy, PartialEq, Eq)]
+#[derive(Clone, Copy)]
 enum Told {
     // An UPDATE that is treated as withdrawn.
     Treated,
@@ -26,17 +25,17 @@ enum Told {
     Unread,
 }
 
-/// How many UPDATEs of a peer are treated as withdrawn by RFC 7606, in the file at a path, which is read within bounds.
-/// Fails with `Unread` where the file can't be read, with `Memory` where memory is refused.
+/// How many UPDATEs of a peer are treated as withdrawn by RFC 7606, in the file at a path, which is read within the bounds
+/// that are asked for. Fails with `Unread` if the file can't be read, with `Memory` if memory is refused.
 pub(crate) fn treated_at<R: AllocGlobal + Files>(
     rt: &R,
     path: &str,
     peer: PeerId,
-    bounds: Bounds,
+    query: &CheckQuery,
 ) -> Result<u64, Unready> {
     let alloc = rt.alloc();
     let counted = match open_file(rt, path) {
-        Ok(file) => count_treated(alloc, BoundedReader::new(alloc, file, bounds), peer)?,
+        Ok(file) => count_treated(alloc, BoundedReader::new(alloc, file, query.bounds), peer)?,
         Err(fault) => return Err(Unready::by_file(alloc, fault, path)),
     };
     match counted {

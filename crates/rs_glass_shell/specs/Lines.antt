@@ -1,6 +1,5 @@
 -- The line that says why a question isn't answered (docs/LOOKING_GLASS.md, "Statuses and texts").
 use Rattle.std.specs.Prelude.{[], ◌++◌, codes, string_bytes}
-use Rattle.std.specs.Fmt.{decimal}
 use Rattle.rs_glass_shell.specs.declared.unanswered.Unanswered.{Unanswered}
 use Rattle.rs_glass_shell.specs.declared.unanswered.Unanswered.TheVariants.{Words, Setup, NoPeer, SeveralPeers, Unread}
 use Rattle.rs_glass_shell.specs.declared.unanswered.Unanswered.TheVariants.{AtFault, Unwritten, Unsettled, Closed, Output}
@@ -21,8 +20,7 @@ abbrev pub line_of : Unanswered → Text
 line_of (Words fault) = words_text program fault
 line_of (Setup fault) = setup_line program fault
 line_of (NoPeer name) = named (codes "no peer is named " ++ one_line (string_bytes name))
-line_of (SeveralPeers asn names) =
-    named (codes "AS number " ++ (decimal asn ++ (codes " is that of several peers: " ++ one_line (string_bytes names))))
+line_of (SeveralPeers whose) = named (codes "AS number " ++ one_line (string_bytes whose))
 line_of (Unread path) = unread_line program (string_bytes path)
 line_of (AtFault what) = named (one_line (string_bytes what))
 line_of (Unwritten path) = named (codes "cannot write " ++ one_line (string_bytes path))

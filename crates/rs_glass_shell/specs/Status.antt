@@ -14,7 +14,7 @@ abbrev pub status_of : Unanswered → ℕ
 status_of (Words fault) = words_status fault
 status_of (Setup fault) = setup_status fault
 status_of (NoPeer name) = refused
-status_of (SeveralPeers asn names) = refused
+status_of (SeveralPeers whose) = refused
 status_of (Unread path) = failed
 status_of (AtFault what) = failed
 status_of (Unwritten path) = failed

@@ -2,9 +2,14 @@
 
 ghost use Rattle.std.specs.Prelude.{◌≡◌};
 
+use crate::known::{Known, Whose, known_of};
+use rs_losses::Losses;
 use rs_notes::Outlines;
 use rs_serve::Served;
+use rs_setup::Setup;
 use rs_table::Tables;
+use std::alloc::AllocError;
+use std::fs::Files;
 use std::marker::Model;
 
 /// The tables that recorded files leave, with the outlines that were made of the files.
@@ -39,8 +44,19 @@ impl Built {
         self.served.tables()
     }
 
-    /// The outlines of the files. The tables are freed.
-    pub fn into_outlines(self) -> Outlines {
-        self.outlines
+    /// The outlines of the files.
+    pub fn outlines(&self) -> &Outlines {
+        &self.outlines
+    }
+
+    /// What is known of the files, as `known_of` tells it.
+    pub fn known<R: AllocGlobal + Files>(
+        &self,
+        rt: &R,
+        setup: &Setup,
+        losses: Losses,
+        whose: Whose,
+    ) -> Result<Known, AllocError> {
+        known_of(rt, setup, &self.outlines, losses, whose)
     }
 }

@@ -25,9 +25,9 @@ pub fn line(alloc: Global, unanswered: &Unanswered) -> Result<String, AllocError
             let name = on_one_line(alloc, name)?;
             format!(in alloc; "looking_glass: no peer is named {name}")
         }
-        Unanswered::SeveralPeers(asn, names) => {
-            let names = on_one_line(alloc, names)?;
-            format!(in alloc; "looking_glass: AS number {asn} is that of several peers: {names}")
+        Unanswered::SeveralPeers(whose) => {
+            let whose = on_one_line(alloc, whose)?;
+            format!(in alloc; "looking_glass: AS number {whose}")
         }
         Unanswered::Unread(path) => unread_line(alloc, PROGRAM, path),
         Unanswered::AtFault(what) => {

@@ -1,6 +1,8 @@
 //! Peers and prefixes as texts.
 
+use crate::known::{Down, PeerSession};
 use rs_choice::Exchange;
+use rs_host::Utc;
 use rs_update::Prefix;
 use std::alloc::{AllocError, Global};
 use std::fmt;
@@ -83,4 +85,59 @@ pub fn peer_name(plan: &Exchange, peer: Option<usize>) -> Option<&str> {
         Some(peer) => Some(name_at(plan, peer)),
         None => None,
     }
+}
+
+// How many peers a line names.
+const NAMED: usize = 8;
+
+/// Adds that the session of a peer is down. Fails where memory is refused.
+pub fn add_down(
+    text: &mut String,
+    plan: &Exchange,
+    peer: usize,
+    down: Down,
+) -> Result<(), AllocError> {
+    let name = name_at(plan, peer);
+    match down {
+        Down::Since(time) => {
+            let time = Utc(time);
+            write!(text, "session of {name} is down since {time} UTC")
+        }
+        Down::NotBegun => write!(text, "session of {name} has not begun"),
+    }
+}
+
+/// Which sessions are down, the first eight by name; none if no session is known to be down. Fails where memory is
+/// refused.
+pub fn downs_text(
+    alloc: Global,
+    plan: &Exchange,
+    sessions: &[PeerSession],
+) -> Result<Option<String>, AllocError> {
+    let mut text = String::new(alloc);
+    let mut count: usize = 0;
+    for (peer, session) in sessions.iter().enumerate() {
+        if let Some(down) = session.down {
+            if count < NAMED {
+                text.push_str(if count == 0 { "" } else { "; " })?;
+                add_down(&mut text, plan, peer, down)?;
+            }
+            count = count.saturating_add(1);
+        }
+    }
+    if count > NAMED {
+        let more = count - NAMED;
+        write!(text, "; and {more} more are down")?;
+    }
+    Ok(if count == 0 { None } else { Some(text) })
+}
+
+/// Adds that the session of a route's sender began again at a time, in seconds since 1970, behind the route. Fails where
+/// memory is refused.
+pub fn add_again(text: &mut String, again: u32) -> Result<(), AllocError> {
+    let again = Utc(again);
+    write!(
+        text,
+        "session began again at {again} UTC; its recorded loss is missing"
+    )
 }

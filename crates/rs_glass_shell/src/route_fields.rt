@@ -1,5 +1,6 @@
 //! Routes as fields of rows.
 
+use crate::names::add_again;
 use crate::reason_fields::hand_peer;
 use crate::reasons::origin_name;
 use crate::route_text::{attributes_text, community_texts, large_community_texts, path_text};
@@ -8,6 +9,7 @@ use rs_host::Utc;
 use rs_rows::{Form, RowWriter};
 use rs_table::Route;
 use rs_update::Attributes;
+use std::alloc::{AllocError, Global};
 use std::net::Ipv4Addr;
 
 /// Hands over a route: its sender, since when it is there, and the attributes that decide where it goes. As a text these
@@ -35,4 +37,27 @@ pub fn hand_attributes(row: &mut RowWriter<'_>, attributes: &Attributes) {
         "large_communities",
         large_community_texts(alloc, attributes),
     );
+}
+
+/// The key of the field that says that a route is from before a loss which is not recorded.
+pub const DOUBT: &str = "session_began_again";
+
+/// Hands over when the session of a route's sender began again behind the route, without a recorded loss between them. If
+/// it did not, nothing is handed over.
+pub fn hand_doubt(row: &mut RowWriter<'_>, again: Option<u32>) {
+    let Some(again) = again else {
+        return;
+    };
+    if row.form() == Form::Text {
+        row.made_words(DOUBT, doubt_text(row.alloc(), again));
+    } else {
+        row.number(DOUBT, u64::from(again));
+    }
+}
+
+// The same in words, behind other words of the line.
+fn doubt_text(alloc: Global, again: u32) -> Result<String, AllocError> {
+    let mut text = String::from_str(alloc, "; ")?;
+    add_again(&mut text, again)?;
+    Ok(text)
 }

@@ -47,7 +47,7 @@ where
     ensures { IfOk result (λ served. served.tables.plan ≡ setup.now.plan.value) }
 {
     let alloc = rt.alloc();
-    let files = open_files(rt, &setup.files, outlines.bounds(), |file| {
+    let files = open_files(rt, setup, outlines.bounds(), query.losses, |file| {
         outlines.noting(file)
     })?;
     let (shards, errors) = (query.shards, query.errors);

@@ -50,7 +50,8 @@ fn several(alloc: Global, plan: &Exchange, asn: u32) -> Result<Unanswered, Alloc
         }
     }
     let names = names_text(alloc, plan, &peers)?;
-    Ok(Unanswered::SeveralPeers(asn, names))
+    let whose = format!(in alloc; "{asn} is that of several peers: {names}")?;
+    Ok(Unanswered::SeveralPeers(whose))
 }
 
 /// The first peer of a name.

@@ -21,8 +21,8 @@ pub enum Unanswered {
     Setup(SetupFault),
     /// No peer of the configuration has this name, address or AS number.
     NoPeer(String),
-    /// Several peers of the configuration have this AS number: those of these names, with commas between them.
-    SeveralPeers(u32, String),
+    /// Several peers of the configuration have an AS number: the number, and that it is that of the peers of these names.
+    SeveralPeers(String),
     /// The file at this path can't be read.
     Unread(String),
     /// A file is at fault or can't be written, as this text says.
@@ -49,7 +49,7 @@ impl Unanswered {
             Unanswered::Words(fault) => words_status(fault),
             Unanswered::Setup(fault) => setup_status(fault),
             Unanswered::NoPeer(_) => REFUSED,
-            Unanswered::SeveralPeers(_, _) => REFUSED,
+            Unanswered::SeveralPeers(_) => REFUSED,
             Unanswered::Unread(_) => FAILED,
             Unanswered::AtFault(_) => FAILED,
             Unanswered::Unwritten(_) => FAILED,

@@ -8,7 +8,8 @@ use crate::diff_row::{
 use crate::list_answering::print_rows;
 use rs_choice::Exchange;
 use rs_glass_shell::{
-    Built, Reply, Unanswered, answer_with, name_at, name_width, peer_named, peer_of_name, served,
+    Built, Reply, Unanswered, Whose, answer_with, name_at, name_width, peer_named, peer_of_name,
+    served,
 };
 use rs_host::{DONE, configuration};
 use rs_query::DiffQuery;
@@ -47,7 +48,8 @@ where
     let old = configuration(rt, &query.old.config)?;
     let new = configuration(rt, &query.new.config)?;
     let (after, text, differs) = compared(rt, &old, &new, query)?;
-    let mut reply = answer_with(text, new, after.into_outlines());
+    let known = after.known(rt, &new, query.new.losses, Whose::Nobody)?;
+    let mut reply = answer_with(text, known.notes);
     reply.status = if differs { DIFFERS } else { DONE };
     Ok(reply)
 }

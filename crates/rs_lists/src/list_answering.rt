@@ -7,7 +7,10 @@ use crate::missing_list::list_missing;
 use crate::summary_text::summary_answer;
 use crate::table_row::{hand_table_row, table_columns};
 use crate::wanted::Wanted;
-use rs_glass_shell::{Reply, Unanswered, answer_with, name_width, peer_named, served};
+use rs_choice::Exchange;
+use rs_glass_shell::{
+    Down, Known, Reply, Unanswered, Whose, add_down, answer_with, name_width, peer_named, served,
+};
 use rs_host::configuration;
 use rs_query::{MissingQuery, SummaryQuery, TableQuery};
 use rs_rows::{Column, Form, RowWriter};
@@ -39,12 +42,13 @@ where
         longer: query.longer,
     };
     let served = served(rt, &setup, &query.tables)?;
+    let known = served.known(rt, &setup, query.tables.losses, Whose::Of(client))?;
     let text = if query.count {
         count_table(rt.alloc(), served.tables(), client, &rows, query.form)?
     } else {
-        list_table(rt, served.tables(), client, &rows, query.form)?
+        list_table(rt, served.tables(), &known, client, &rows, query.form)?
     };
-    Ok(answer_with(text, setup, served.into_outlines()))
+    Ok(answer_with(text, known.notes))
 }
 
 /// Lists the routes that a client does not get, in the same way.
@@ -59,14 +63,16 @@ where
     let client = peer_named(rt, &setup, &query.client)?;
     let from = sender(rt, &setup, &query.from)?;
     let served = served(rt, &setup, &query.tables)?;
-    let text = missing_text(rt, served.tables(), client, from, query)?;
-    Ok(answer_with(text, setup, served.into_outlines()))
+    let known = served.known(rt, &setup, query.tables.losses, Whose::Of(client))?;
+    let text = missing_text(rt, served.tables(), &known, client, from, query)?;
+    Ok(answer_with(text, known.notes))
 }
 
 // The last part of the list, or the counts. `from` is the sender that is asked for.
 fn missing_text<R: AllocGlobal + Threads + Sync + Print>(
     rt: &R,
     tables: &Tables,
+    known: &Known,
     client: usize,
     from: Option<usize>,
     query: &MissingQuery,
@@ -86,7 +92,7 @@ fn missing_text<R: AllocGlobal + Threads + Sync + Print>(
         };
         return Ok(counts_text(rt.alloc(), tables.plan(), query.form, wanted, &counts)?);
     }
-    list_missing(rt, tables, client, query.form, wanted)
+    list_missing(rt, tables, &known.sessions, client, query.form, wanted)
 }
 
 /// What becomes of the routes of all peers, in numbers.
@@ -102,8 +108,9 @@ where
     let served = served(rt, &setup, &query.tables)?;
     let tables = served.tables();
     let tally = summary_on_threads(rt, alloc, tables)?;
-    let text = summary_answer(alloc, tables.plan(), query.form, &tally)?;
-    Ok(answer_with(text, setup, served.into_outlines()))
+    let known = served.known(rt, &setup, query.tables.losses, Whose::All)?;
+    let text = summary_answer(alloc, tables.plan(), &known.sessions, query.form, &tally)?;
+    Ok(answer_with(text, known.notes))
 }
 
 // The number of the sender that is asked for, if one is.
@@ -140,20 +147,37 @@ pub(crate) fn print_rows<R: Print>(rt: &R, rows: &mut RowWriter<'_>) -> Result<(
 fn list_table<R: AllocGlobal + Print>(
     rt: &R,
     tables: &Tables,
+    known: &Known,
     client: usize,
     asked: &AskedRows,
     form: Form,
 ) -> Result<String, Unanswered> {
     let columns = table_columns(name_width(tables.plan(), "peer"));
     let mut rows = RowWriter::new(rt.alloc(), form, &columns);
+    if let Some(down) = known.session(client).down {
+        rows.sentence(down_line(rt.alloc(), tables.plan(), client, down));
+    }
     rows.titles();
     for row in tables.iter_rows(client) {
         if asked.asks_for(&row) {
-            hand_table_row(&mut rows, tables.plan(), &row);
+            let again = known.session(row.route.peer).again_after(row.route.time);
+            hand_table_row(&mut rows, tables.plan(), &row, again);
             print_rows(rt, &mut rows)?;
         }
     }
     Ok(rows.take()?)
+}
+
+// That the session of a client is down.
+fn down_line(
+    alloc: Global,
+    plan: &Exchange,
+    client: usize,
+    down: Down,
+) -> Result<String, AllocError> {
+    let mut text = String::new(alloc);
+    add_down(&mut text, plan, client, down)?;
+    Ok(text)
 }
 
 // Counts them. The text is the number alone.

@@ -11,10 +11,10 @@ use crate::list_answering::print_page;
 use crate::missing_row::{hand_missing, missing_columns};
 use crate::wanted::Wanted;
 use rs_explain::MissingReason;
-use rs_glass_shell::{Unanswered, name_width};
+use rs_glass_shell::{PeerSession, Unanswered, name_width};
 use rs_rows::{Column, Form, RowWriter};
 use rs_survey::{MissingOn, every_prefix, missing_on};
-use rs_table::{PrefixRoutes, Tables};
+use rs_table::{PrefixRoutes, Route, Tables};
 use std::alloc::{AllocError, Global};
 use std::io::Print;
 use std::thread::{Threads, map_indices};
@@ -30,6 +30,7 @@ const ROWS: usize = 16_384;
 struct Listing<'a> {
     alloc: Global,
     tables: &'a Tables,
+    sessions: &'a [PeerSession],
     client: usize,
     form: Form,
     columns: &'a [Column],
@@ -42,6 +43,7 @@ struct Listing<'a> {
 pub(crate) fn list_missing<R: AllocGlobal + Print + Threads + Sync>(
     rt: &R,
     tables: &Tables,
+    sessions: &[PeerSession],
     client: usize,
     form: Form,
     wanted: Wanted,
@@ -53,6 +55,7 @@ pub(crate) fn list_missing<R: AllocGlobal + Print + Threads + Sync>(
     let listing = Listing {
         alloc,
         tables,
+        sessions,
         client,
         form,
         columns: &columns,
@@ -144,7 +147,13 @@ fn hand_wanted(rows: &mut RowWriter<'_>, listing: &Listing<'_>, on: &MissingOn<'
         if let Some(reason) = MissingReason::of(&one.explanation)
             && listing.wanted.asks_for(reason)
         {
-            hand_missing(rows, listing.tables.plan(), listing.client, on, one);
+            let again = again_behind(listing.sessions, &one.route);
+            hand_missing(rows, listing.tables.plan(), listing.client, on, one, again);
         }
     }
+}
+
+// When the session of a route's sender began again behind the route, without a recorded loss.
+fn again_behind(sessions: &[PeerSession], route: &Route<'_>) -> Option<u32> {
+    sessions.get(route.peer)?.again_after(route.time)
 }

@@ -3,14 +3,15 @@
 use crate::layout::{ANSWER_WIDTH, AS_WIDTH, PREFIX_WIDTH};
 use rs_choice::Exchange;
 use rs_glass_shell::{
-    Because, PrefixText, answer_name, hand_attributes, hand_peer, hand_reason, peer_name,
+    Because, DOUBT, PrefixText, answer_name, hand_attributes, hand_doubt, hand_peer, hand_reason,
+    peer_name,
 };
 use rs_rows::{Column, Form, RowWriter};
 use rs_survey::{MissingOn, MissingRoute};
 use rs_table::Route;
 
 // The columns, with those of peers so wide.
-pub(crate) fn missing_columns(names: usize) -> [Column; 14] {
+pub(crate) fn missing_columns(names: usize) -> [Column; 15] {
     [
         Column::new("prefix", "prefix", PREFIX_WIDTH),
         Column::new("peer", "peer", names),
@@ -26,16 +27,19 @@ pub(crate) fn missing_columns(names: usize) -> [Column; 14] {
         Column::of_csv("med"),
         Column::of_csv("communities"),
         Column::of_csv("large_communities"),
+        Column::of_text(DOUBT, "", 0),
     ]
 }
 
-// Hands over a route that the client of a number does not get.
+// Hands over a route that the client of a number does not get. If the session of its sender began again behind it, the
+// row says so.
 pub(crate) fn hand_missing(
     rows: &mut RowWriter<'_>,
     plan: &Exchange,
     client: usize,
     on: &MissingOn,
     one: &MissingRoute,
+    again: Option<u32>,
 ) {
     let (peer, explanation) = (one.route.peer, &one.explanation);
     rows.shown("prefix", &PrefixText(on.prefix));
@@ -54,6 +58,7 @@ pub(crate) fn hand_missing(
     if rows.form() != Form::Text {
         hand_attributes(rows, one.route.attributes);
     }
+    hand_doubt(rows, again);
     rows.end_row();
 }
 

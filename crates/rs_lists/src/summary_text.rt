@@ -7,7 +7,7 @@ use crate::summary_row::{
 };
 use rs_choice::Exchange;
 use rs_explain::STEPS;
-use rs_glass_shell::{name_at, name_width, step_name};
+use rs_glass_shell::{PeerSession, downs_text, name_at, name_width, step_name};
 use rs_rows::{Form, RowWriter, add_cell, fill_cell};
 use rs_survey::{Finding, Tally};
 use std::alloc::{AllocError, Global};
@@ -15,10 +15,11 @@ use std::alloc::{AllocError, Global};
 // How wide the column of steps is.
 const STEP_WIDTH: usize = 14;
 
-// The summary, in the form that is asked for.
+// The summary, in the form that is asked for. A text begins with the sessions that are down.
 pub(crate) fn summary_answer(
     alloc: Global,
     plan: &Exchange,
+    sessions: &[PeerSession],
     form: Form,
     tally: &Tally,
 ) -> Result<String, AllocError> {
@@ -29,7 +30,11 @@ pub(crate) fn summary_answer(
         hand_sender(&mut rows, plan, tally, peer);
     }
     if form == Form::Text {
-        return tables_text(alloc, plan, tally, &rows.take()?);
+        let tables = tables_text(alloc, plan, tally, &rows.take()?)?;
+        return match downs_text(alloc, plan, sessions)? {
+            Some(downs) => format!(in alloc; "{downs}\n\n{tables}"),
+            None => Ok(tables),
+        };
     }
     for client in 0..tally.peers() {
         hand_client(&mut rows, plan, tally, client);

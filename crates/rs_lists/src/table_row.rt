@@ -2,7 +2,7 @@
 
 use crate::layout::{AS_WIDTH, PREFIX_WIDTH};
 use rs_choice::Exchange;
-use rs_glass_shell::{PrefixText, hand_route};
+use rs_glass_shell::{DOUBT, PrefixText, hand_doubt, hand_route};
 use rs_rows::{Column, RowWriter};
 use rs_table::Row;
 
@@ -10,7 +10,7 @@ use rs_table::Row;
 const TIME_WIDTH: usize = 21;
 
 // The columns, with that of peers so wide.
-pub(crate) fn table_columns(names: usize) -> [Column; 12] {
+pub(crate) fn table_columns(names: usize) -> [Column; 13] {
     [
         Column::new("prefix", "prefix", PREFIX_WIDTH),
         Column::new("peer", "peer", names),
@@ -24,12 +24,19 @@ pub(crate) fn table_columns(names: usize) -> [Column; 12] {
         Column::of_csv("communities"),
         Column::of_csv("large_communities"),
         Column::of_text("route", "route", 0),
+        Column::of_text(DOUBT, "", 0),
     ]
 }
 
-// Hands over a row of the table.
-pub(crate) fn hand_table_row(rows: &mut RowWriter<'_>, plan: &Exchange, row: &Row) {
+// Hands over a row of the table. If the session of the route's sender began again behind it, the row says so.
+pub(crate) fn hand_table_row(
+    rows: &mut RowWriter<'_>,
+    plan: &Exchange,
+    row: &Row,
+    again: Option<u32>,
+) {
     rows.shown("prefix", &PrefixText(row.prefix));
     hand_route(rows, plan, &row.route);
+    hand_doubt(rows, again);
     rows.end_row();
 }

@@ -11,8 +11,11 @@ use rs_glass::{
     History, Question, Reading, explain_all, fill_history, longest_announced, read_happenings,
     read_sessions,
 };
-use rs_glass_shell::{Reply, Unanswered, answer_with, check_place, peer_named, write_whole};
+use rs_glass_shell::{
+    Reply, Unanswered, Whose, answer_with, check_place, known_of, peer_named, write_whole,
+};
 use rs_host::{WordsFault, configuration, first_unreadable, on_one_line, open_files};
+use rs_losses::Losses;
 use rs_notes::Outlines;
 use rs_query::{Destination, HistoryQuery, Span, WhyQuery};
 use rs_setup::Setup;
@@ -31,17 +34,16 @@ where
 {
     let setup = configuration(rt, &query.config)?;
     let outlines = Outlines::new(rt.alloc(), &setup, query.span.until);
-    let text = explained(rt, query, &setup, &outlines)?;
-    Ok(answer_with(text, setup, outlines))
+    explained(rt, query, &setup, &outlines)
 }
 
-// The text of that. The outlines of the files are made too.
+// The same of a setup. The outlines of the files are made too.
 fn explained<R: AllocGlobal + Files + Threads + Sync>(
     rt: &R,
     query: &WhyQuery,
     setup: &Setup,
     outlines: &Outlines,
-) -> Result<String, Unanswered>
+) -> Result<Reply, Unanswered>
 where
     R::File: Send,
     requires { length setup.now.files.items ≡ length setup.now.plan.value.peers }
@@ -49,22 +51,25 @@ where
     let alloc = rt.alloc();
     let client = peer_named(rt, setup, &query.client)?;
     let question = asked(rt, setup, query.prefix, query.span)?;
-    let reading = read(rt, setup, &question, outlines)?;
+    let reading = read(rt, setup, &question, query.span.losses, outlines)?;
     let answers = explain_all(alloc, &reading, client, &question)?;
     let starts = starts(rt, setup, &answers, query.span.until)?;
+    let known = known_of(rt, setup, outlines, query.span.losses, Whose::Of(client))?;
     let view = WhyView {
         plan: &setup.plan,
         tables: &reading.tables,
         starts: &starts,
+        known: &known,
         until: query.span.until,
         all: query.all,
         attributes: query.attributes,
     };
-    if query.json {
-        Ok(why_json(alloc, &view, &answers)?)
+    let text = if query.json {
+        why_json(alloc, &view, &answers)?
     } else {
-        Ok(why_text(alloc, &view, &answers)?)
-    }
+        why_text(alloc, &view, &answers)?
+    };
+    Ok(answer_with(text, known.notes))
 }
 
 /// What happened on a prefix. A picture over a file that is read is refused, and nothing is written.
@@ -78,7 +83,8 @@ where
     let setup = configuration(rt, &query.config)?;
     let outlines = Outlines::new(rt.alloc(), &setup, query.span.until);
     let text = happened(rt, query, &setup, &outlines)?;
-    Ok(answer_with(text, setup, outlines))
+    let known = known_of(rt, &setup, &outlines, query.span.losses, Whose::Nobody)?;
+    Ok(answer_with(text, known.notes))
 }
 
 // The text of that. The outlines of the files are made too.
@@ -159,7 +165,8 @@ where
             refuse_read_once(rt, setup, address)?;
             let prefix = host(address);
             let outlines = Outlines::none(rt.alloc(), span.until);
-            let reading = read(rt, setup, &Question { prefix, errors }, &outlines)?;
+            let question = Question { prefix, errors };
+            let reading = read(rt, setup, &question, span.losses, &outlines)?;
             longest_announced(&reading.tables, prefix).unwrap_or(prefix)
         }
     };
@@ -205,6 +212,7 @@ fn read<R: AllocGlobal + Files + Threads + Sync>(
     rt: &R,
     setup: &Setup,
     question: &Question,
+    losses: Losses,
     outlines: &Outlines,
 ) -> Result<Reading, Unanswered>
 where
@@ -215,7 +223,7 @@ where
         length reading.said.items ≡ length setup.now.plan.value.peers) }
 {
     let alloc = rt.alloc();
-    let files = open_files(rt, &setup.files, outlines.bounds(), |file| {
+    let files = open_files(rt, setup, outlines.bounds(), losses, |file| {
         outlines.noting(file)
     })?;
     match read_sessions(rt, alloc, &setup.plan, files, question) {
@@ -239,7 +247,8 @@ where
 {
     let alloc = rt.alloc();
     let question = asked(rt, setup, query.prefix, query.span)?;
-    let files = open_files(rt, &setup.files, outlines.bounds(), |file| {
+    let losses = query.span.losses;
+    let files = open_files(rt, setup, outlines.bounds(), losses, |file| {
         outlines.noting(file)
     })?;
     match read_happenings(rt, alloc, &setup.plan, files, &question) {

@@ -6,7 +6,9 @@ use crate::treatment::{TREATED_AS_WITHDRAW, fault_text, treated_text};
 use rs_choice::Exchange;
 use rs_explain::{EndedBy, Ending, Explanation, LastSaid};
 use rs_glass::{Answer, Cause, Said};
-use rs_glass_shell::{Because, close_text, hand_reason, name_at, names_text};
+use rs_glass_shell::{
+    Because, add_again, close_text, hand_doubt, hand_reason, name_at, names_text,
+};
 use rs_rows::{Form, RowWriter};
 use rs_session::Reason;
 use serde_json::Value;
@@ -25,6 +27,8 @@ pub(crate) struct Answered<'a> {
     pub(crate) answer: &'a Answer,
     // Since when the peer's recording runs, if it never announced a route.
     pub(crate) start: Option<Start>,
+    // When the peer's session began again behind its route, without a recorded loss between them.
+    pub(crate) again: Option<u32>,
     // How times are shown.
     pub(crate) clock: Clock,
 }
@@ -34,12 +38,15 @@ pub(crate) fn hand_because(row: &mut RowWriter<'_>, it: &Answered<'_>) {
     if row.form() == Form::Json {
         return hand_values(row, it);
     }
-    match &it.answer.explanation {
-        Explanation::Own => row.words("because", "its own"),
-        Explanation::Absent => row.made_words("because", absent_text(row.alloc(), it)),
-        Explanation::Best(beaten) => {
-            row.made_words("because", beat_text(row.alloc(), it.plan, beaten));
-        }
+    row.made_words("because", because_text(row.alloc(), it));
+}
+
+// The reason in words, and behind it whether the session began again behind the route.
+fn because_text(alloc: Global, it: &Answered<'_>) -> Result<String, AllocError> {
+    let mut text = match &it.answer.explanation {
+        Explanation::Own => String::from_str(alloc, "its own")?,
+        Explanation::Absent => absent_text(alloc, it)?,
+        Explanation::Best(beaten) => beat_text(alloc, it.plan, beaten)?,
         explanation => {
             let because = Because {
                 plan: it.plan,
@@ -47,9 +54,14 @@ pub(crate) fn hand_because(row: &mut RowWriter<'_>, it: &Answered<'_>) {
                 peer: it.peer,
                 explanation,
             };
-            row.shown_words("because", &because);
+            because.to_string(alloc)?
         }
+    };
+    if let Some(again) = it.again {
+        text.push_str("; ")?;
+        add_again(&mut text, again)?;
     }
+    Ok(text)
 }
 
 // Hands over the reason of an answer and what belongs to it, in JSON.
@@ -67,6 +79,7 @@ fn hand_values(row: &mut RowWriter<'_>, it: &Answered<'_>) {
         let since = it.start.map(|start| start.time());
         row.number_or_none("recorded_since", since);
     }
+    hand_doubt(row, it.again);
 }
 
 // Which routes a route beat.

@@ -6,9 +6,11 @@ use crate::because::{Answered, fault_of, hand_because};
 use crate::clock::Clock;
 use crate::starts::Start;
 use rs_choice::Exchange;
+use rs_explain::LastSaid;
 use rs_glass::{Answer, Answers, LessSpecific};
 use rs_glass_shell::{
-    PrefixText, add_gets, answer_name, hand_peer, name_at, name_width, peer_name,
+    Down, Known, PrefixText, add_down, add_gets, answer_name, hand_peer, name_at, name_width,
+    peer_name,
 };
 use rs_host::Utc;
 use rs_rows::{Column, Form, RowWriter};
@@ -31,6 +33,8 @@ pub struct WhyView<'a> {
     pub tables: &'a Tables,
     /// Since when the recording of each peer runs that never announced a route.
     pub(crate) starts: &'a [Option<Start>],
+    /// What is known of the recorded files.
+    pub(crate) known: &'a Known,
     /// Up to when records were read, in seconds since 1970, where that was asked for.
     pub until: Option<u32>,
     /// Whether each peer that never announced the prefix has a line of its own.
@@ -88,6 +92,9 @@ pub fn why_json(
     object.shown("prefix", &PrefixText(answers.prefix));
     object.number_or_none("until", view.until);
     object.text_or("best", peer_name(plan, answers.best), "");
+    if let Some(down) = view.known.session(answers.client).down {
+        object.value("session", down_value(alloc, down));
+    }
     let mut peers = RowWriter::objects(alloc);
     for peer in 0..answers.peers.len() {
         hand_answer(&mut peers, view, answers, peer, Clock::none());
@@ -129,6 +136,7 @@ fn hand_answer(
         peer,
         answer,
         start: view.start(peer),
+        again: again_behind(view, answer, peer),
         clock,
     };
     hand_because(row, &answered);
@@ -241,7 +249,35 @@ fn head(
         }
         None => clock.add_day(&mut head)?,
     }
+    if let Some(down) = view.known.session(answers.client).down {
+        head.push_str("; ")?;
+        add_down(&mut head, view.plan, answers.client, down)?;
+    }
     Ok(head)
+}
+
+// That the session of the client is down, in JSON.
+fn down_value(alloc: Global, down: Down) -> Result<Value, AllocError> {
+    let mut object = RowWriter::object(alloc);
+    match down {
+        Down::Since(time) => {
+            object.text("state", "down");
+            object.number("since", u64::from(time));
+        }
+        Down::NotBegun => {
+            object.text("state", "not_begun");
+            object.value("since", Ok(Value::Null));
+        }
+    }
+    object.into_value()
+}
+
+// When the session of a peer began again behind its route, without a recorded loss between them.
+fn again_behind(view: &WhyView<'_>, answer: &Answer, peer: usize) -> Option<u32> {
+    match answer.said.last {
+        LastSaid::Announced(time) => view.known.session(peer).again_after(time),
+        _ => None,
+    }
 }
 
 // The line of a less specific prefix.

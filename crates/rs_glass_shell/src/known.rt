@@ -1,0 +1,223 @@
+//! What is known of the recorded files of an exchange once they were read: whether the session of each peer is up at
+//! their end (RFC 4271, section 8.2.2), and the notes.
+//!
+//! Our choices: of a session it is only told that it is down if a recorded change of state or the last record of the peer
+//! shows that. If losses are inferred, the file of a peer is read once more for its session.
+
+use rs_host::{found_at, open_file, sought};
+use rs_inventory::{Inventory, Peer, PeerRecords, read_outline};
+use rs_losses::{LossReader, Losses, Sought};
+use rs_mrt::{BoundedReader, Bounds};
+use rs_notes::{Contents, Outlines, Subject, Telling, contents_of, notes_of};
+use rs_setup::Setup;
+use std::alloc::AllocError;
+use std::fs::Files;
+
+/// That the session of a peer is not up at the end of what was read.
+#[derive(Clone, Copy, Debug, PartialEq, Eq, Drop)]
+pub enum Down {
+    /// It was lost last at this time, in seconds since 1970.
+    Since(u32),
+    /// It has not begun.
+    NotBegun,
+}
+
+/// What is known of the session of a peer at the end of what was read.
+#[derive(Clone, Copy, Debug, PartialEq, Eq, Drop)]
+pub struct PeerSession {
+    /// That it is not up; none if it is up, or if that isn't known.
+    pub down: Option<Down>,
+    /// When it began while it was up, the last time since its last loss, in seconds since 1970: the loss before that is
+    /// not recorded. None if losses are inferred.
+    pub again: Option<u32>,
+}
+
+impl PeerSession {
+    // Nothing is known of it.
+    const UNKNOWN: PeerSession = PeerSession {
+        down: None,
+        again: None,
+    };
+
+    // What the records of a peer tell of its session.
+    fn of(records: Option<&PeerRecords>) -> PeerSession {
+        match records {
+            Some(records) => PeerSession {
+                down: down_of(records),
+                again: records.course().again,
+            },
+            None => PeerSession::UNKNOWN,
+        }
+    }
+
+    /// When it began again behind a route that was announced at a time, without a recorded loss between them; none if it
+    /// did not. Both are in seconds since 1970.
+    pub fn again_after(&self, announced: u32) -> Option<u32> {
+        self.again.filter(|again| announced < *again)
+    }
+}
+
+/// Whose sessions are asked for.
+#[derive(Clone, Copy, Debug, PartialEq, Eq)]
+pub enum Whose {
+    /// Nobody's.
+    Nobody,
+    /// That of the peer of this number.
+    Of(usize),
+    /// Those of all peers.
+    All,
+}
+
+impl Whose {
+    // Whether that of a peer is.
+    fn includes(self, peer: usize) -> bool {
+        self == Whose::All || self == Whose::Of(peer)
+    }
+}
+
+/// What is known of the recorded files of an exchange.
+#[derive(Drop)]
+pub struct Known {
+    /// The session of each peer, in their order.
+    pub sessions: Vec<PeerSession>,
+    /// The notes on likely mistakes.
+    pub notes: Vec<String>,
+}
+
+impl Known {
+    /// The session of the peer of a number.
+    pub fn session(&self, peer: usize) -> PeerSession {
+        self.sessions
+            .get(peer)
+            .copied()
+            .unwrap_or(PeerSession::UNKNOWN)
+    }
+}
+
+/// What is known of the recorded files of an exchange that were read, with these losses, while these outlines were made.
+/// If losses are inferred, the file of each peer is read once more whose session is asked for, and only these are known.
+/// Fails if memory is refused.
+pub fn known_of<R: AllocGlobal + Files>(
+    rt: &R,
+    setup: &Setup,
+    outlines: &Outlines,
+    losses: Losses,
+    whose: Whose,
+) -> Result<Known, AllocError> {
+    let contents = outlines.contents(rt, &setup.files);
+    let subject = Subject {
+        setup,
+        bounds: outlines.bounds(),
+        endings: None,
+        telling: Telling::Mistakes,
+        inferred: losses == Losses::Inferred,
+    };
+    let notes = notes_of(rt, subject, &contents).texts;
+    let sessions = sessions_of(rt, setup, outlines, &contents, losses, whose)?;
+    Ok(Known { sessions, notes })
+}
+
+/// What is known of the session of each peer, in their order, where it is known what the files hold. The rest is as of
+/// `known_of`.
+pub fn sessions_of<R: AllocGlobal + Files>(
+    rt: &R,
+    setup: &Setup,
+    outlines: &Outlines,
+    contents: &[Contents<'_>],
+    losses: Losses,
+    whose: Whose,
+) -> Result<Vec<PeerSession>, AllocError> {
+    let mut sessions = Vec::with_capacity(rt.alloc(), setup.plan.count())?;
+    for peer in 0..setup.plan.count() {
+        sessions.push(match losses {
+            Losses::Recorded => recorded_session(setup, contents, peer),
+            Losses::Inferred if whose.includes(peer) => {
+                inferred_session(rt, setup, outlines, peer)
+            }
+            Losses::Inferred => PeerSession::UNKNOWN,
+        })?;
+    }
+    Ok(sessions)
+}
+
+// What is known of the session of a peer by what its file holds.
+fn recorded_session(setup: &Setup, contents: &[Contents<'_>], peer: usize) -> PeerSession {
+    let Some(path) = setup.files.get(peer) else {
+        return PeerSession::UNKNOWN;
+    };
+    match contents_of(contents, path) {
+        Some(contents) => PeerSession::of(records_of(setup, peer, &contents.held)),
+        None => PeerSession::UNKNOWN,
+    }
+}
+
+// The same with losses inferred: its file is read once more, if it gives its octets each time.
+fn inferred_session<R: AllocGlobal + Files>(
+    rt: &R,
+    setup: &Setup,
+    outlines: &Outlines,
+    peer: usize,
+) -> PeerSession {
+    let held = match setup.files.get(peer) {
+        Some(path) if peer < setup.plan.count() => {
+            inferred_at(rt, path, outlines.bounds(), sought(&setup.plan, peer))
+        }
+        _ => None,
+    };
+    match &held {
+        Some(held) => PeerSession::of(records_of(setup, peer, held)),
+        None => PeerSession::UNKNOWN,
+    }
+}
+
+// What the file at a path holds within bounds, with the losses of a peer inferred; none if it may give its octets only
+// once, or can't be read.
+fn inferred_at<R: AllocGlobal + Files>(
+    rt: &R,
+    path: &str,
+    bounds: Bounds,
+    who: Sought,
+) -> Option<Inventory> {
+    if !is_file(rt, path) {
+        return None;
+    }
+    let file = open_file(rt, path).ok()?;
+    let within = BoundedReader::new(rt.alloc(), file, bounds);
+    let reader = LossReader::new(rt.alloc(), within, Losses::Inferred, who);
+    read_outline(rt.alloc(), reader, None).ok()
+}
+
+// Whether the path names a file that gives its octets each time it is read.
+fn is_file<R: Files>(rt: &R, path: &str) -> bool {
+    match found_at(rt, path) {
+        Ok(Some(found)) => found.is_file(),
+        _ => false,
+    }
+}
+
+// What a file holds of a peer.
+fn records_of<'a>(setup: &Setup, peer: usize, held: &'a Inventory) -> Option<&'a PeerRecords> {
+    if peer >= setup.plan.count() {
+        return None;
+    }
+    let spec = setup.plan.peer(peer);
+    held.peers().get(&Peer {
+        address: spec.address,
+        asn: spec.asn,
+    })
+}
+
+// That a session is down behind these records of its peer, if they show it.
+fn down_of(records: &PeerRecords) -> Option<Down> {
+    let course = records.course();
+    if course.up {
+        return None;
+    }
+    let has_states = records.state_changes() > 0;
+    match records.sessions().last().and_then(|last| last.down) {
+        Some(time) if has_states || course.last == Some(time) => Some(Down::Since(time)),
+        Some(_) => None,
+        None if has_states && !course.inside => Some(Down::NotBegun),
+        None => None,
+    }
+}
