@@ -10,8 +10,9 @@ use crate::members::members_of;
 use crate::shown::Shown;
 use crate::style::STYLE;
 use crate::times::times_of;
-use rs_glass_shell::{Noted, Reply, Unanswered, check_place, served, write_whole};
+use rs_glass_shell::{Reply, Unanswered, Whose, check_place, served, sessions_of, write_whole};
 use rs_host::{DONE, configuration};
+use rs_losses::Losses;
 use rs_notes::{Subject, Telling, notes_of};
 use rs_picture::PALETTE;
 use rs_query::PageQuery;
@@ -35,27 +36,30 @@ where
     check_place(rt, &query.out, &query.tables.config, &setup)?;
     let served = served(rt, &setup, &query.tables)?;
     let tally = summary_on_threads(rt, alloc, served.tables())?;
-    let outlines = served.into_outlines();
+    let (outlines, losses) = (served.outlines(), query.tables.losses);
     let bounds = outlines.bounds();
     let contents = outlines.contents(rt, &setup.files);
-    let times = times_of(rt, &setup, &contents, bounds, query.tables.errors)?;
+    let sessions = sessions_of(rt, &setup, outlines, &contents, losses, Whose::All)?;
+    let times = times_of(rt, &setup, &contents, bounds, &query.tables)?;
     let members = members_of(alloc, &tally, &times)?;
     let subject = Subject {
         setup: &setup,
         bounds,
         endings: None,
         telling: Telling::All,
-        inferred: false,
+        inferred: losses == Losses::Inferred,
     };
     let notes = notes_of(rt, subject, &contents);
     let text = page_text(
         alloc,
         &Shown {
+            alloc,
             query,
             setup: &setup,
             tally: &tally,
             times: &times,
             members: &members,
+            sessions: &sessions,
             notes: &notes.texts,
         },
     )?;
@@ -63,7 +67,7 @@ where
     Ok(Reply {
         text: String::new(alloc),
         status: DONE,
-        noted: Noted::Texts(notes.texts),
+        notes: notes.texts,
     })
 }
 
@@ -82,7 +86,7 @@ fn page_text(alloc: Global, shown: &Shown<'_>) -> Result<String, AllocError> {
     text.push_str(PALETTE)?;
     text.push_str(STYLE)?;
     text.push_str("</style>\n</head>\n<body>\n")?;
-    add_head(&mut text, shown)?;
+    add_head(&mut text, alloc, shown)?;
     text.push_str("<main>\n")?;
     add_matrix(&mut text, shown)?;
     add_cards(&mut text, shown)?;

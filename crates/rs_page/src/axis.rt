@@ -30,11 +30,6 @@ pub(crate) fn add_ticks(
 
 // Adds a round time.
 fn add_tick(text: &mut String, mark: &Mark) -> Result<(), AllocError> {
-    let (whole, tenth) = (mark.place / 10, mark.place % 10);
-    write!(text, "<span style=\"left:{whole}.{tenth}%\">")?;
-    if mark.has_text {
-        let mark = *mark;
-        write!(text, "{mark}")?;
-    }
-    text.push_str("</span>")
+    let (mark, whole, tenth) = (*mark, mark.place / 10, mark.place % 10);
+    write!(text, "<span style=\"left:{whole}.{tenth}%\">{mark}</span>")
 }

@@ -2,7 +2,9 @@
 
 ghost use Rattle.std.specs.Prelude.{◌<◌};
 
-use rs_picture::{Lanes, MOST_LANES, add_rectangle, bar_length, close_picture, open_picture};
+use rs_picture::{
+    Grouped, Lanes, MOST_LANES, add_rectangle, bar_length, close_picture, open_picture,
+};
 use std::alloc::AllocError;
 
 // How wide the picture is, where bars begin in it, and how long the longest is, in pixels.
@@ -68,6 +70,6 @@ fn add_bar(text: &mut String, lanes: &Lanes, lane: u32, bar: &Bar) -> Result<(),
     text.push_str(bar.label)?;
     text.push_str("</text>")?;
     add_rectangle(text, bar.class, (BEGIN, top), (length, HEIGHT))?;
-    let number = bar.number;
+    let number = Grouped(bar.number);
     writeln!(text, "<text x=\"{behind}\" y=\"{base}\">{number}</text>")
 }

@@ -1,104 +1,122 @@
-//! A picture of the numbers of each peer.
+//! Pictures of the numbers of each peer.
+//!
+//! Our choice: a picture has one scale. So what counts a route once has pictures of its own, and so has what counts a
+//! route once for each client.
 
-use crate::bars::{Bar, add_bars};
+use crate::bars::add_bars;
 use crate::elements::{
     add_number, close_row, close_section, close_table, name_of, open_row, open_section, open_table,
 };
-use crate::members::{MEASURES, Member, NUMBERS, is_at_clients, scales_of};
+use crate::members::{Measure, Member, most_of};
 use crate::shown::Shown;
 use rs_glass_shell::asn_at;
 use rs_picture::add_text;
 use std::alloc::AllocError;
 
 const ABOUT: &str =
-    "Of each peer: how many prefixes it announced, repeated ones too, and on how many it left a route; \
-of these the routes that are not eligible, since AS_PATH has the server's AS, NEXT_HOP is the server, or NEXT_HOP is off the subnet. \
-Then what becomes of its routes at all other peers together: refused, candidates, and the best ones. \
-Last, how many routes its own table has. Bars of prefixes have one scale at all peers, bars of routes at clients another one.";
+    "The numbers of each peer, in two parts. The bars of a part have one scale at all peers.";
 
-const TITLES: [&str; 10] = [
-    "peer",
-    "announced",
-    "left",
-    "server AS",
-    "server hop",
-    "off subnet",
-    "refused",
-    "candidates",
-    "best",
-    "table",
-];
+// Pictures of one scale.
+struct Part {
+    // What they show, in the heading.
+    title: &'static str,
+    // What they show, in sentences.
+    about: &'static str,
+    // What is counted.
+    label: &'static str,
+    // The numbers.
+    measures: &'static [Measure],
+    // The titles of their columns in the table.
+    titles: &'static [&'static str],
+}
+
+const ONCE: Part = Part {
+    title: "Prefixes and routes, each counted once",
+    about: "How many prefixes the peer announced, repeated ones too, and on how many it left a route. \
+Of these routes those that are not eligible, since AS_PATH has the server's AS, NEXT_HOP is the server, or NEXT_HOP is off the subnet.",
+    label: "each counted once",
+    measures: &[
+        Measure::Announced,
+        Measure::Left,
+        Measure::OwnAs,
+        Measure::ServerAsNextHop,
+        Measure::NextHopOffSubnet,
+    ],
+    titles: &[
+        "peer",
+        "announced",
+        "left",
+        "server AS",
+        "server hop",
+        "off subnet",
+    ],
+};
+
+const FOR_EACH_CLIENT: Part = Part {
+    title: "Routes, counted once for each client",
+    about: "What becomes of the eligible routes of the peer at all other peers as clients: refused, candidates, and of these the best ones. \
+A route that two clients get counts twice.",
+    label: "counted for each client",
+    measures: &[Measure::Refused, Measure::Candidates, Measure::Best],
+    titles: &["peer", "refused", "candidates", "best"],
+};
 
 /// Adds the section.
 pub(crate) fn add_cards(text: &mut String, shown: &Shown<'_>) -> Result<(), AllocError> {
     open_section(text, "Peers", ABOUT)?;
-    text.push_str("<div class=\"cards\">\n")?;
-    let scales = scales_of(shown.members);
+    add_part(text, shown, &ONCE)?;
+    add_part(text, shown, &FOR_EACH_CLIENT)?;
+    close_section(text, shown, "summary", &[])
+}
+
+// Adds the pictures of one scale, and the table behind them.
+fn add_part(text: &mut String, shown: &Shown<'_>, part: &Part) -> Result<(), AllocError> {
+    text.push_str("<h3>")?;
+    text.push_str(part.title)?;
+    text.push_str("</h3>\n<p>")?;
+    text.push_str(part.about)?;
+    text.push_str("</p>\n<div class=\"cards\">\n")?;
+    let most = most_of(shown.members, part.measures);
     for (peer, member) in shown.members.iter().enumerate() {
-        add_card(text, shown, peer, member, &scales)?;
+        add_card(text, shown, (peer, member), part, most)?;
     }
     text.push_str("</div>\n")?;
-    add_table(text, shown)?;
-    close_section(text, shown, "summary", "")
+    add_table(text, shown, part)
 }
 
 // Adds the picture of a peer.
 fn add_card(
     text: &mut String,
     shown: &Shown<'_>,
-    peer: usize,
-    member: &Member,
-    scales: &[u64; 2],
+    (peer, member): (usize, &Member),
+    part: &Part,
+    most: u64,
 ) -> Result<(), AllocError> {
     let (name, asn) = (name_of(shown, peer), asn_at(&shown.setup.plan, peer));
     text.push_str("<figure><figcaption><b>")?;
     add_text(text, name)?;
-    writeln!(text, "</b> AS {asn}</figcaption>")?;
-    let bars = bars_of(member, scales);
-    add_bars(
-        text,
-        name,
-        "Bars of the numbers in the table of all peers.",
-        &bars,
-    )?;
+    let label = part.label;
+    writeln!(text, "</b> AS {asn}: {label}</figcaption>")?;
+    let bars = member.bars(shown.alloc, part.measures, most)?;
+    add_bars(text, name, part.title, &bars)?;
     text.push_str("</figure>\n")
 }
 
-// The bars of a peer.
-fn bars_of(member: &Member, scales: &[u64; 2]) -> [Bar; NUMBERS] {
-    let mut bars = [Bar {
-        label: "",
-        number: 0,
-        most: 0,
-        class: "",
-    }; NUMBERS];
-    for place in 0..NUMBERS {
-        let (label, class) = MEASURES[place];
-        bars[place] = Bar {
-            label,
-            number: member.numbers[place],
-            most: scales[usize::from(is_at_clients(place))],
-            class,
-        };
-    }
-    bars
-}
-
 // Adds the table behind the pictures.
-fn add_table(text: &mut String, shown: &Shown<'_>) -> Result<(), AllocError> {
-    open_table(text, &TITLES)?;
+fn add_table(text: &mut String, shown: &Shown<'_>, part: &Part) -> Result<(), AllocError> {
+    open_table(text, part.titles)?;
     for (peer, member) in shown.members.iter().enumerate() {
         open_row(text, name_of(shown, peer))?;
-        add_numbers(text, member)?;
+        add_numbers(text, member, part.measures)?;
         close_row(text)?;
     }
     close_table(text)
 }
 
 // Adds the numbers of a peer.
-fn add_numbers(text: &mut String, member: &Member) -> Result<(), AllocError> {
-    for number in &member.numbers {
-        add_number(text, *number)?;
+fn add_numbers(text: &mut String, member: &Member, measures: &[Measure]) -> Result<(), AllocError> {
+    for measure in measures {
+        add_number(text, member.number(*measure))?;
     }
     Ok(())
 }

@@ -2,98 +2,107 @@
 
 use crate::bars::{Bar, add_bars};
 use crate::elements::{
-    add_number, close_row, close_section, close_table, open_row, open_section, open_table,
+    add_number, close_row, close_section, close_table, name_of, open_row, open_section, open_table,
 };
-use crate::members::Member;
+use crate::members::{Measure, most_of, total_of};
 use crate::shown::Shown;
 use rs_explain::STEPS;
 use rs_glass_shell::step_name;
+use rs_picture::Grouped;
 use rs_survey::Finding;
 use std::alloc::AllocError;
 
 const CAUSES_ABOUT: &str =
-    "Routes that are not eligible, by the first condition that fails: a route counts once. \
-Eligible ones that are refused or lost: a route counts once for each client.";
+    "Routes that are not eligible, by the first condition that fails, and eligible ones that are refused or lost, of all peers together.";
 
 const STEPS_ABOUT: &str =
     "How many candidates each step of the decision process removed, at all clients together. \
 A route that loses at two clients counts twice.";
 
-// The causes: their names, the places of their numbers, and the classes of their bars.
-const CAUSES: [(&str, usize, &str); 4] = [
-    ("server AS", 2, "ko"),
-    ("server hop", 3, "ko"),
-    ("off subnet", 4, "ko"),
-    ("refused", 5, "kr"),
-];
+// What a picture of bars shows: its title, which says what is counted, and the titles of its two columns.
+struct Titles {
+    picture: &'static str,
+    columns: [&'static str; 2],
+}
+
+const INELIGIBLE: Titles = Titles {
+    picture: "Routes that are not eligible, each counted once",
+    columns: ["condition", "routes"],
+};
+
+const REFUSED_OR_LOST: Titles = Titles {
+    picture: "Routes refused or lost, each counted once for each client",
+    columns: ["cause", "routes, for each client"],
+};
+
+const REMOVED: Titles = Titles {
+    picture: "Routes lost, each counted once for each client",
+    columns: ["step", "routes, for each client"],
+};
 
 /// Adds the sections of the causes and of the steps.
 pub(crate) fn add_causes(text: &mut String, shown: &Shown<'_>) -> Result<(), AllocError> {
     open_section(text, "Why routes are missing", CAUSES_ABOUT)?;
-    let bars = causes_of(shown.members);
-    add_pictured(text, "Routes that are missing, by cause", "cause", &bars)?;
-    close_section(text, shown, "missing", " --client NAME --count")?;
-    open_section(text, "What decides", STEPS_ABOUT)?;
-    let bars = steps_of(shown);
-    add_pictured(
+    add_measured(
         text,
-        "Routes lost, by step of the decision process",
-        "step",
-        &bars,
+        shown,
+        &INELIGIBLE,
+        &[
+            Measure::OwnAs,
+            Measure::ServerAsNextHop,
+            Measure::NextHopOffSubnet,
+        ],
     )?;
-    let hidden = shown.tally.count(Finding::Hidden);
+    add_measured(
+        text,
+        shown,
+        &REFUSED_OR_LOST,
+        &[Measure::Refused, Measure::Lost],
+    )?;
+    let client = name_of(shown, 0);
+    close_section(text, shown, "missing", &["--client", client, "--count"])?;
+    open_section(text, "What decides", STEPS_ABOUT)?;
+    add_pictured(text, &REMOVED, &steps_of(shown))?;
+    let hidden = Grouped(shown.tally.count(Finding::Hidden));
     writeln!(
         text,
         "<p>Hidden paths: on <b>{hidden}</b> prefixes one decision for all clients would leave a client none.</p>"
     )?;
-    close_section(text, shown, "summary", "")
+    close_section(text, shown, "summary", &[])
+}
+
+// Adds a picture of some numbers of all peers together.
+fn add_measured(
+    text: &mut String,
+    shown: &Shown<'_>,
+    titles: &Titles,
+    measures: &[Measure],
+) -> Result<(), AllocError> {
+    let total = total_of(shown.members);
+    let most = most_of(&[total], measures);
+    let bars = total.bars(shown.alloc, measures, most)?;
+    add_pictured(text, titles, &bars)
 }
 
 // Adds a picture of bars, and the table behind it.
-fn add_pictured(
-    text: &mut String,
-    title: &str,
-    column: &str,
-    bars: &[Bar],
-) -> Result<(), AllocError> {
-    text.push_str("<figure>")?;
-    add_bars(text, title, "Bars of the numbers in the table below.", bars)?;
+fn add_pictured(text: &mut String, titles: &Titles, bars: &[Bar]) -> Result<(), AllocError> {
+    text.push_str("<figure><figcaption>")?;
+    text.push_str(titles.picture)?;
+    text.push_str("</figcaption>\n")?;
+    add_bars(
+        text,
+        titles.picture,
+        "Bars of the numbers in the table below.",
+        bars,
+    )?;
     text.push_str("</figure>\n")?;
-    open_table(text, &[column, "routes"])?;
+    open_table(text, &titles.columns)?;
     for bar in bars {
         open_row(text, bar.label)?;
         add_number(text, bar.number)?;
         close_row(text)?;
     }
     close_table(text)
-}
-
-// The bars of the causes.
-fn causes_of(members: &[Member]) -> [Bar; 5] {
-    let (candidates, best) = (sum_at(members, 6), sum_at(members, 7));
-    let mut numbers = [candidates.saturating_sub(best); 5];
-    for place in 0..CAUSES.len() {
-        let (_, number, _) = CAUSES[place];
-        numbers[place] = sum_at(members, number);
-    }
-    let most = greatest(&numbers);
-    let mut bars = [bar_of("lost", numbers[4], most, "kg"); 5];
-    for place in 0..CAUSES.len() {
-        let (label, _, class) = CAUSES[place];
-        bars[place] = bar_of(label, numbers[place], most, class);
-    }
-    bars
-}
-
-// The sum of the numbers at a place.
-fn sum_at(members: &[Member], place: usize) -> u64 {
-    let mut sum: u64 = 0;
-    for member in members {
-        if let Some(number) = member.numbers.get(place) {
-            sum = sum.saturating_add(*number);
-        }
-    }
-    sum
 }
 
 // The bars of the steps.

@@ -2,6 +2,8 @@
 
 ghost use Rattle.std.specs.Prelude.{◌<◌};
 
+use rs_update::Prefix;
+
 /// How many columns a histogram has.
 pub(crate) const COLUMNS: usize = 60;
 
@@ -11,12 +13,14 @@ pub(crate) const COLUMNS: usize = 60;
 pub(crate) struct Changes {
     /// The time of the first record, in seconds since 1970.
     pub(crate) first: u32,
-    /// The time of the last record.
+    /// The time at which the recordings end.
     pub(crate) last: u32,
     /// How many announcements came in each part.
     pub(crate) announced: [u64; COLUMNS],
     /// How many withdrawals.
     pub(crate) withdrawn: [u64; COLUMNS],
+    /// The prefix of the change that was counted first.
+    pub(crate) example: Option<Prefix>,
 }
 
 impl Changes {
@@ -27,17 +31,20 @@ impl Changes {
             last,
             announced: [0; COLUMNS],
             withdrawn: [0; COLUMNS],
+            example: None,
         }
     }
 
-    /// Counts an announcement.
-    pub(crate) fn announce(&mut self, time: u32) {
+    /// Counts an announcement of a prefix.
+    pub(crate) fn announce(&mut self, time: u32, prefix: Prefix) {
+        self.example = self.example.or(Some(prefix));
         let column = column_of(time, self.first, self.last);
         self.announced[column] = self.announced[column].saturating_add(1);
     }
 
     /// Counts a withdrawal.
-    pub(crate) fn withdraw(&mut self, time: u32) {
+    pub(crate) fn withdraw(&mut self, time: u32, prefix: Prefix) {
+        self.example = self.example.or(Some(prefix));
         let column = column_of(time, self.first, self.last);
         self.withdrawn[column] = self.withdrawn[column].saturating_add(1);
     }

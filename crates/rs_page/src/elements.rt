@@ -1,8 +1,9 @@
 //! What the parts of a page have in common.
 
 use crate::shown::Shown;
-use rs_glass_shell::name_at;
-use rs_picture::add_text;
+use rs_glass_shell::{add_shell_word, name_at};
+use rs_losses::Losses;
+use rs_picture::{Grouped, add_text};
 use rs_update::Errors;
 use std::alloc::AllocError;
 
@@ -15,24 +16,32 @@ pub(crate) fn open_section(text: &mut String, title: &str, about: &str) -> Resul
     text.push_str("</p>\n")
 }
 
-/// Ends a section with the command that lists what it shows.
+/// Ends a section with the command that lists what it shows, as a shell takes it: over the same configuration, time,
+/// standard and losses, with these further words.
 pub(crate) fn close_section(
     text: &mut String,
     shown: &Shown<'_>,
     command: &str,
-    behind: &str,
+    further: &[&str],
 ) -> Result<(), AllocError> {
-    text.push_str("<p class=\"command\"><code>looking_glass ")?;
-    text.push_str(command)?;
-    text.push_str(" --config ")?;
-    add_text(text, &shown.query.tables.config)?;
-    if let Some(until) = shown.query.tables.until {
-        write!(text, " --until {until}")?;
+    let tables = &shown.query.tables;
+    let mut line = format!(in shown.alloc; "looking_glass {command} --config ")?;
+    add_shell_word(shown.alloc, &mut line, &tables.config)?;
+    if let Some(until) = tables.until {
+        write!(line, " --until {until}")?;
     }
-    if let Errors::Rfc7606 = shown.query.tables.errors {
-        text.push_str(" --errors rfc7606")?;
+    if let Errors::Rfc7606 = tables.errors {
+        line.push_str(" --errors rfc7606")?;
     }
-    text.push_str(behind)?;
+    if tables.losses == Losses::Inferred {
+        line.push_str(" --losses inferred")?;
+    }
+    for word in further {
+        line.push(' ')?;
+        add_shell_word(shown.alloc, &mut line, word)?;
+    }
+    text.push_str("<p class=\"command\"><code>")?;
+    add_text(text, &line)?;
     text.push_str("</code></p>\n</section>\n")
 }
 
@@ -63,6 +72,7 @@ pub(crate) fn open_row(text: &mut String, name: &str) -> Result<(), AllocError> 
 
 /// Adds a cell with a number.
 pub(crate) fn add_number(text: &mut String, number: u64) -> Result<(), AllocError> {
+    let number = Grouped(number);
     write!(text, "<td>{number}</td>")
 }
 

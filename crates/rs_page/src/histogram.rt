@@ -6,8 +6,9 @@ use crate::axis::{PARTS, add_ticks, axis_of};
 use crate::changes::{COLUMNS, Changes};
 use crate::elements::{add_number, close_section, close_table, open_section, open_table};
 use crate::shown::Shown;
+use rs_glass_shell::PrefixText;
 use rs_host::Utc;
-use rs_picture::{add_rectangle, bar_length, close_picture, open_picture};
+use rs_picture::{Grouped, add_rectangle, bar_length, close_picture, open_picture};
 use std::alloc::{AllocError, Global};
 
 const ABOUT: &str =
@@ -29,9 +30,10 @@ pub(crate) fn add_histogram(
     if shown.times.any {
         let changes = &shown.times.changes;
         let most = changes.most();
+        let shown_most = Grouped(most);
         writeln!(
             text,
-            "<p><span class=\"key kb\">&#9650; announcements</span> <span class=\"key kr\">&#9660; withdrawals</span>: at most {most} in a part</p>"
+            "<p><span class=\"key kb\">&#9650; prefixes announced</span> <span class=\"key kr\">&#9660; prefixes withdrawn</span>: at most {shown_most} in a part</p>"
         )?;
         text.push_str("<div class=\"area\">\n")?;
         add_columns(text, changes, most)?;
@@ -41,7 +43,13 @@ pub(crate) fn add_histogram(
     } else {
         text.push_str("<p>No record of a peer was read again.</p>\n")?;
     }
-    close_section(text, shown, "history", " --prefix PREFIX")
+    match shown.times.changes.example {
+        Some(prefix) => {
+            let prefix = PrefixText(prefix).to_string(alloc)?;
+            close_section(text, shown, "history", &["--prefix", &prefix])
+        }
+        None => close_section(text, shown, "check", &[]),
+    }
 }
 
 // Adds the picture.
@@ -80,6 +88,7 @@ fn add_column(
         bar_length(withdrawn, most, HEIGHT),
     );
     let begin = Utc(changes.begin_of(column));
+    let (announced, withdrawn) = (Grouped(announced), Grouped(withdrawn));
     write!(
         text,
         "<g><title>from {begin}: announced {announced}, withdrawn {withdrawn}</title>"

@@ -17,7 +17,8 @@ use rs_picture::{
 use std::alloc::{AllocError, Global};
 
 const ABOUT: &str =
-    "When the session of each peer was up, as far as its records go. A mark at the end of a bar is a loss or a close. Times are in UTC.";
+    "When the session of each peer was up. A session that is up behind the last record of its peer is up until the end of all recordings. \
+A mark at the end of a bar is a loss or a close. Times are in UTC.";
 
 // How many peers one picture has: as many as fit on a page of A4.
 const BLOCK: usize = 40;
@@ -52,7 +53,7 @@ pub(crate) fn add_sessions(
     } else {
         text.push_str("<p>No record of a peer was read again.</p>\n")?;
     }
-    close_section(text, shown, "check", "")
+    close_section(text, shown, "check", &[])
 }
 
 // Adds the names of some peers, which begin with this one, beside the picture of their sessions.
@@ -137,7 +138,7 @@ fn add_span(
     let bar = (top.saturating_add(INDENT), BAR);
     add_stretch(text, "kb", axis, (span.from, span.to), bar)?;
     match span.end {
-        End::Up => {}
+        End::Up | End::Unrecorded => {}
         _ => add_mark(text, "km", axis, span.to, top, (MARK, HEIGHT))?,
     }
     text.push_str("</g>\n")
@@ -147,6 +148,7 @@ fn add_span(
 fn end_text(alloc: Global, end: End) -> Result<String, AllocError> {
     match end {
         End::Up => String::from_str(alloc, "up"),
+        End::Unrecorded => String::from_str(alloc, "no end recorded"),
         End::Lost(Some(loss)) => format!(in alloc; "lost: {loss}"),
         End::Lost(None) => String::from_str(alloc, "lost"),
         End::Closed(reason) => {

@@ -2,31 +2,138 @@
 
 ghost use Rattle.std.specs.Prelude.{◌<◌};
 
+use crate::bars::Bar;
 use crate::times::Times;
 use rs_survey::{ConditionKind, Finding, Tally};
 use std::alloc::{AllocError, Global};
 
-/// How many numbers a peer has.
-pub(crate) const NUMBERS: usize = 9;
+/// What a number counts.
+#[derive(Clone, Copy, Debug, PartialEq, Eq)]
+pub(crate) enum Measure {
+    /// Prefixes that the peer announced, repeated ones too.
+    Announced,
+    /// Prefixes on which it left a route.
+    Left,
+    /// Its routes whose AS_PATH has the server's AS.
+    OwnAs,
+    /// Its routes whose NEXT_HOP is the server.
+    ServerAsNextHop,
+    /// Its routes whose NEXT_HOP is off the subnet.
+    NextHopOffSubnet,
+    /// Its routes that are refused, once for each client.
+    Refused,
+    /// Its routes that are candidates, once for each client.
+    Candidates,
+    /// Its routes of these that another one beats, once for each client.
+    Lost,
+    /// Its routes that are chosen, once for each client.
+    Best,
+}
 
-/// What they count, and the class of their bars.
-pub(crate) const MEASURES: [(&str, &str); NUMBERS] = [
-    ("announced", "kb"),
-    ("left", "kb"),
-    ("server AS", "ko"),
-    ("server hop", "ko"),
-    ("off subnet", "ko"),
-    ("refused", "kr"),
-    ("candidates", "kg"),
-    ("best", "kg"),
-    ("table", "kb"),
-];
+impl Measure {
+    /// The label of its bars.
+    pub(crate) fn label(self) -> &'static str {
+        match self {
+            Measure::Announced => "announced",
+            Measure::Left => "left",
+            Measure::OwnAs => "server AS",
+            Measure::ServerAsNextHop => "server hop",
+            Measure::NextHopOffSubnet => "off subnet",
+            Measure::Refused => "refused",
+            Measure::Candidates => "candidates",
+            Measure::Lost => "lost",
+            Measure::Best => "best",
+        }
+    }
 
-/// The numbers of a peer, in the order of the measures.
-#[derive(Drop)]
+    // The class of its bars.
+    fn class(self) -> &'static str {
+        match self {
+            Measure::Announced | Measure::Left => "kb",
+            Measure::OwnAs | Measure::ServerAsNextHop | Measure::NextHopOffSubnet => "ko",
+            Measure::Refused => "kr",
+            Measure::Candidates | Measure::Lost | Measure::Best => "kg",
+        }
+    }
+}
+
+/// The numbers of a peer, or of several together.
+#[derive(Clone, Copy, Debug, PartialEq, Eq, Drop)]
 pub(crate) struct Member {
-    /// How many it has.
-    pub(crate) numbers: [u64; NUMBERS],
+    announced: u64,
+    left: u64,
+    own_as: u64,
+    server_as_next_hop: u64,
+    next_hop_off_subnet: u64,
+    refused: u64,
+    lost: u64,
+    best: u64,
+}
+
+// The numbers of nobody.
+const NOBODY: Member = Member {
+    announced: 0,
+    left: 0,
+    own_as: 0,
+    server_as_next_hop: 0,
+    next_hop_off_subnet: 0,
+    refused: 0,
+    lost: 0,
+    best: 0,
+};
+
+impl Member {
+    /// One of the numbers.
+    pub(crate) fn number(&self, measure: Measure) -> u64 {
+        match measure {
+            Measure::Announced => self.announced,
+            Measure::Left => self.left,
+            Measure::OwnAs => self.own_as,
+            Measure::ServerAsNextHop => self.server_as_next_hop,
+            Measure::NextHopOffSubnet => self.next_hop_off_subnet,
+            Measure::Refused => self.refused,
+            Measure::Candidates => self.lost.saturating_add(self.best),
+            Measure::Lost => self.lost,
+            Measure::Best => self.best,
+        }
+    }
+
+    /// Bars of some of the numbers, on the scale of this greatest one.
+    pub(crate) fn bars(
+        &self,
+        alloc: Global,
+        measures: &[Measure],
+        most: u64,
+    ) -> Result<Vec<Bar>, AllocError> {
+        let mut bars = Vec::new(alloc);
+        for measure in measures {
+            bars.push(Bar {
+                label: measure.label(),
+                number: self.number(*measure),
+                most,
+                class: measure.class(),
+            })?;
+        }
+        Ok(bars)
+    }
+
+    // The numbers of this peer and of another one together.
+    fn with(self, other: &Member) -> Member {
+        Member {
+            announced: self.announced.saturating_add(other.announced),
+            left: self.left.saturating_add(other.left),
+            own_as: self.own_as.saturating_add(other.own_as),
+            server_as_next_hop: self
+                .server_as_next_hop
+                .saturating_add(other.server_as_next_hop),
+            next_hop_off_subnet: self
+                .next_hop_off_subnet
+                .saturating_add(other.next_hop_off_subnet),
+            refused: self.refused.saturating_add(other.refused),
+            lost: self.lost.saturating_add(other.lost),
+            best: self.best.saturating_add(other.best),
+        }
+    }
 }
 
 /// The numbers of all peers, in their order.
@@ -41,63 +148,61 @@ pub(crate) fn members_of(
             Some(one) => one.announced,
             None => 0,
         };
-        let numbers = numbers_of(tally, peer, announced);
-        members.push(Member { numbers })?;
+        members.push(member_of(tally, peer, announced))?;
     }
     Ok(members)
 }
 
 // The numbers of a peer that announced so many prefixes.
-fn numbers_of(tally: &Tally, peer: usize, announced: u64) -> [u64; NUMBERS]
+fn member_of(tally: &Tally, peer: usize, announced: u64) -> Member
     requires { peer < tally.now.peers }
 {
-    let [refused, lost, best, table] = sums_of(tally, peer);
-    [
+    let mut member = Member {
         announced,
-        tally.count(Finding::Left(peer)),
-        tally.count(Finding::Ineligible(peer, ConditionKind::OwnAs)),
-        tally.count(Finding::Ineligible(peer, ConditionKind::ServerAsNextHop)),
-        tally.count(Finding::Ineligible(peer, ConditionKind::NextHopOffExchange)),
-        refused,
-        lost.saturating_add(best),
-        best,
-        table,
-    ]
-}
-
-// What becomes of a peer's routes at all clients together, and how many routes its own table has.
-fn sums_of(tally: &Tally, peer: usize) -> [u64; 4]
-    requires { peer < tally.now.peers }
-{
-    let mut sums: [u64; 4] = [0; 4];
+        left: tally.count(Finding::Left(peer)),
+        own_as: tally.count(Finding::Ineligible(peer, ConditionKind::OwnAs)),
+        server_as_next_hop: tally.count(Finding::Ineligible(peer, ConditionKind::ServerAsNextHop)),
+        next_hop_off_subnet: tally.count(Finding::Ineligible(
+            peer,
+            ConditionKind::NextHopOffExchange,
+        )),
+        ..NOBODY
+    };
     for client in 0..tally.peers() {
-        sums[0] = sums[0].saturating_add(tally.count(Finding::Refused(client, peer)));
-        sums[1] = sums[1].saturating_add(tally.count(Finding::Lost(client, peer)));
-        sums[2] = sums[2].saturating_add(tally.count(Finding::Best(client, peer)));
-        sums[3] = sums[3].saturating_add(tally.count(Finding::Best(peer, client)));
+        member = member.with(&pair_of(tally, client, peer));
     }
-    sums
+    member
 }
 
-/// The greatest number of those that count prefixes, and of those that count routes at clients: bars of each are
-/// compared among all peers.
-pub(crate) fn scales_of(members: &[Member]) -> [u64; 2] {
-    let mut scales = [0; 2];
+// What becomes of a peer's routes at a client.
+fn pair_of(tally: &Tally, client: usize, peer: usize) -> Member
+    requires client_known { client < tally.now.peers }
+    requires peer_known { peer < tally.now.peers }
+{
+    Member {
+        refused: tally.count(Finding::Refused(client, peer)),
+        lost: tally.count(Finding::Lost(client, peer)),
+        best: tally.count(Finding::Best(client, peer)),
+        ..NOBODY
+    }
+}
+
+/// The numbers of all peers together.
+pub(crate) fn total_of(members: &[Member]) -> Member {
+    let mut total = NOBODY;
     for member in members {
-        widen(&mut scales, member);
+        total = total.with(member);
     }
-    scales
+    total
 }
 
-// Takes the numbers of a peer.
-fn widen(scales: &mut [u64; 2], member: &Member) {
-    for place in 0..NUMBERS {
-        let scale = usize::from(is_at_clients(place));
-        scales[scale] = scales[scale].max(member.numbers[place]);
+/// The greatest of some numbers of all peers.
+pub(crate) fn most_of(members: &[Member], measures: &[Measure]) -> u64 {
+    let mut most = 0;
+    for member in members {
+        for measure in measures {
+            most = most.max(member.number(*measure));
+        }
     }
-}
-
-/// Whether the number at a place counts routes at clients.
-pub(crate) fn is_at_clients(place: usize) -> bool {
-    matches!(place, 5 | 6 | 7)
+    most
 }

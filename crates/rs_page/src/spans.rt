@@ -8,8 +8,10 @@ use std::alloc::{AllocError, Global};
 /// How a session ended.
 #[derive(Clone, Copy, Drop)]
 pub(crate) enum End {
-    /// It is up behind the last record.
+    /// It is up at the end of the recordings.
     Up,
+    /// No record says how.
+    Unrecorded,
     /// It was lost: in this way, where that is known.
     Lost(Option<Loss>),
     /// It closed, for this reason.
@@ -32,50 +34,94 @@ pub(crate) struct Span {
 pub(crate) struct Ends {
     /// When sessions were lost, and how.
     pub(crate) losses: Vec<(u32, Option<Loss>)>,
-    /// When the last session closed before the end of the file, and why.
+    /// When the first change behind the last loss came.
+    pub(crate) since: Option<u32>,
+    /// When the last session closed before the end of the file, and why. The time is 0 if no record has one: the file
+    /// itself ends too early.
     pub(crate) close: Option<(u32, Reason)>,
 }
 
-/// The sessions that the records of a peer show.
+/// The sessions that the records of a peer show. One that is up behind the last of them is up until this time, the end
+/// of all recordings.
 pub(crate) fn spans_of(
     alloc: Global,
     records: &PeerRecords,
     ends: &Ends,
+    until: u32,
 ) -> Result<Vec<Span>, AllocError> {
     let mut spans = Vec::new(alloc);
     let course = records.course();
     let (first, last) = (course.first.unwrap_or(0), course.last.unwrap_or(0));
-    if records.sessions().is_empty() && records.messages() > 0 {
-        add_span(&mut spans, first, last, End::Up, ends)?;
-    }
+    let close = match ends.close {
+        Some((0, reason)) => Some((last, reason)),
+        close => close,
+    };
     let mut earlier: Option<SessionTimes> = None;
     for times in records.sessions() {
         if let Some(before) = earlier {
-            add_session(&mut spans, before, first, times.up.unwrap_or(last), ends)?;
+            let end = (times.up.unwrap_or(last), End::Unrecorded);
+            add_span(&mut spans, session(before, first, end, ends), close)?;
         }
         earlier = Some(*times);
     }
     if let Some(before) = earlier {
-        add_session(&mut spans, before, first, last, ends)?;
+        add_span(
+            &mut spans,
+            session(before, first, (until, End::Up), ends),
+            close,
+        )?;
+    }
+    match session_without_beginning(records, ends.since, until) {
+        Some(span) => add_span(&mut spans, span, close)?,
+        None => {}
     }
     Ok(spans)
 }
 
-// Adds a session. Where its end isn't recorded, it is up to the last time that is known of it.
-fn add_session(
-    spans: &mut Vec<Span>,
-    times: SessionTimes,
-    first: u32,
-    last: u32,
-    ends: &Ends,
-) -> Result<(), AllocError> {
+// A session whose beginning or end is recorded. If its end is not, it has this one.
+fn session(times: SessionTimes, first: u32, (to, end): (u32, End), ends: &Ends) -> Span {
     let from = times.up.unwrap_or(first);
     match times.down {
-        Some(down) => {
-            let end = End::Lost(loss_at(&ends.losses, down));
-            add_span(spans, from, down, end, ends)
-        }
-        None => add_span(spans, from, last, End::Up, ends),
+        Some(down) => Span {
+            from,
+            to: down,
+            end: End::Lost(loss_at(&ends.losses, down)),
+        },
+        None => Span { from, to, end },
+    }
+}
+
+// The last session, if no record says when it came up and none when it went down: it has messages behind the last
+// loss. It is seen from its first change on.
+fn session_without_beginning(
+    records: &PeerRecords,
+    since: Option<u32>,
+    until: u32,
+) -> Option<Span> {
+    let course = records.course();
+    let (first, last) = (course.first?, course.last?);
+    let (to, end) = if course.up {
+        (until, End::Up)
+    } else {
+        (last, End::Unrecorded)
+    };
+    match records.sessions().last() {
+        None if records.messages() > 0 => Some(Span {
+            from: first,
+            to,
+            end,
+        }),
+        Some(
+            SessionTimes {
+                down: Some(down),
+                ..
+            },
+        ) if course.up => Some(Span {
+            from: since.unwrap_or(*down),
+            to,
+            end,
+        }),
+        _ => None,
     }
 }
 
@@ -92,19 +138,17 @@ fn loss_at(losses: &[(u32, Option<Loss>)], down: u32) -> Option<Loss> {
 // Adds a span, cut off where the session closed before it ends, and left out where it closed before it begins.
 fn add_span(
     spans: &mut Vec<Span>,
-    from: u32,
-    to: u32,
-    end: End,
-    ends: &Ends,
+    span: Span,
+    close: Option<(u32, Reason)>,
 ) -> Result<(), AllocError> {
-    let span = match ends.close {
-        Some((close, _)) if close < from => return Ok(()),
-        Some((close, reason)) if close <= to => Span {
-            from,
-            to: close,
+    let span = match close {
+        Some((time, _)) if time < span.from => return Ok(()),
+        Some((time, reason)) if time <= span.to => Span {
+            from: span.from,
+            to: time,
             end: End::Closed(reason),
         },
-        _ => Span { from, to, end },
+        _ => span,
     };
     spans.push(span)?;
     Ok(())

@@ -13,6 +13,7 @@ pub(crate) const STYLE: &str =
 body{margin:0 auto;padding:12px;max-width:1600px;background:var(--back);color:var(--ink);font:14px/1.45 system-ui,sans-serif}
 h1{font-size:24px;margin:8px 0}
 h2{font-size:18px;margin:28px 0 4px}
+h3{font-size:15px;margin:16px 0 4px}
 p{margin:4px 0;max-width:75em}
 code{font:12px ui-monospace,monospace;overflow-wrap:anywhere}
 .command{color:var(--soft)}
@@ -33,26 +34,31 @@ summary{cursor:pointer;color:var(--soft)}
 .plot{display:flex;gap:6px}
 .names{max-width:30%;overflow:hidden}
 .names div{height:20px;line-height:15px;font-size:12px;white-space:nowrap;overflow:hidden;text-overflow:ellipsis}
-.area{flex:1;min-width:0;position:relative;padding-bottom:20px}
+.area{flex:1;min-width:0;position:relative;padding-bottom:20px;margin-right:66px}
 .area svg{width:100%;background:var(--card)}
 .ticks{position:relative;height:16px;font-size:11px;color:var(--soft)}
 .ticks span{position:absolute;min-height:16px;white-space:nowrap;border-left:1px solid var(--soft);padding-left:3px}
-.heat thead th,.heat th[scope=row]{position:sticky;background:var(--back)}
-.heat thead th{top:0;vertical-align:bottom}
-.heat th[scope=row]{left:0}
+.heat thead th,.heat th[scope=row],.heat tfoot td{position:sticky;background:var(--back)}
+.heat thead th{top:0;vertical-align:bottom;z-index:1}
+.heat tfoot th,.heat tfoot td{bottom:0;z-index:1}
+.heat th[scope=row],.heat thead th:first-child{left:0}
+.heat thead th:first-child,.heat tfoot th{z-index:2}
 .heat td{min-width:2.2em}
+.heat tbody td{color:var(--soft)}.heat tbody td:last-child{color:var(--ink)}
+.own{padding:0 4px;color:var(--soft);background:repeating-linear-gradient(45deg,var(--line) 0 1px,transparent 1px 5px)}
 .heat .a{background:var(--a)}.heat .b{background:var(--b)}.heat .c{background:var(--c)}.heat .d{background:var(--d)}
 .heat .e{background:var(--e)}.heat .f{background:var(--f)}.heat .g{background:var(--g)}.heat .h{background:var(--h)}
-.heat td{color:var(--low)}.heat .f,.heat .g,.heat .h{color:var(--high)}
+.heat [title]{color:var(--low)}.heat .f,.heat .g,.heat .h{color:var(--high)}
 .tall thead th~th span{writing-mode:vertical-rl;max-height:12em;overflow:hidden}
 .small{font-size:10px}
 .small th,.small td{padding:0;border-width:0 1px 1px 0}
 .small td{min-width:9px;height:9px;line-height:9px}
 .small td:last-child{padding:0 3px}
-@media (max-width:800px){.ticks span:nth-child(even){display:none}}
+.small tfoot span{writing-mode:vertical-rl}
+@media (max-width:800px){.ticks span:nth-last-child(even){display:none}}
 @media print{@page{size:A4;margin:12mm}body{padding:0;font-size:11px}.wide{overflow:visible;max-height:none}.heat{zoom:var(--print)}
-.heat thead th,.heat th[scope=row]{position:static}summary{display:none}.notes summary{display:block}
+.heat thead th,.heat th[scope=row],.heat tfoot td{position:static}summary{display:none}.notes summary{display:block}
 .small th,.small td{border:0}
-h2,h2+p{break-after:avoid}.plot,.area{break-inside:avoid}
+h2,h2+p,h3,h3+p{break-after:avoid}.plot,.area{break-inside:avoid}
 *{-webkit-print-color-adjust:exact;print-color-adjust:exact}}
 "#;

@@ -10,10 +10,12 @@ use crate::spans::{Ends, Span, spans_of};
 use rs_choice::PeerSpec;
 use rs_glass::{Loss, loss_of};
 use rs_glass_shell::Unanswered;
-use rs_host::{Unready, open_file};
+use rs_host::{Unready, open_file, sought};
 use rs_inventory::{Peer, PeerRecords};
+use rs_losses::{LossReader, Losses, Sought};
 use rs_mrt::{BoundedReader, Bounds, Read, RecordReader};
 use rs_notes::{Contents, contents_of};
+use rs_query::TablesQuery;
 use rs_session::{Body, PeerId, Reason, Session, Word};
 use rs_setup::Setup;
 use rs_update::Errors;
@@ -48,7 +50,7 @@ pub(crate) fn times_of<R: AllocGlobal + Files>(
     setup: &Setup,
     contents: &[Contents<'_>],
     bounds: Bounds,
-    errors: Errors,
+    query: &TablesQuery,
 ) -> Result<Times, Unanswered> {
     let (first, last) = range_of(setup, contents);
     let mut times = Times {
@@ -57,21 +59,33 @@ pub(crate) fn times_of<R: AllocGlobal + Files>(
         any: first.is_some(),
     };
     for peer in 0..setup.plan.count().min(setup.files.len()) {
-        let (spec, path) = (setup.plan.peer(peer), setup.files[peer].as_str());
-        let one = match records_of(contents, path, peer_of(spec)) {
-            Some(records) => heard(
-                rt,
-                records,
-                spec,
-                path,
-                (bounds, errors),
-                &mut times.changes,
-            )?,
+        let path = setup.files[peer].as_str();
+        let of = peer_of(setup.plan.peer(peer));
+        let one = match records_of(contents, path, of) {
+            Some(records) => {
+                let manner = Manner {
+                    bounds,
+                    errors: query.errors,
+                    losses: query.losses,
+                    who: sought(&setup.plan, peer),
+                };
+                heard(rt, records, path, manner, &mut times.changes)?
+            }
             None => silent(rt.alloc()),
         };
         times.peers.push(one).map_err(|_| Unanswered::Memory)?;
     }
     Ok(times)
+}
+
+// How the file of a peer is read.
+#[derive(Clone, Copy)]
+struct Manner {
+    bounds: Bounds,
+    errors: Errors,
+    losses: Losses,
+    // Whose losses count.
+    who: Sought,
 }
 
 // What is shown of a peer without a record.
@@ -88,16 +102,17 @@ fn records_of<'b>(all: &'b [Contents<'_>], path: &str, peer: Peer) -> Option<&'b
     contents_of(all, path)?.held.peers().get(&peer)
 }
 
-// The times of the first and the last record of all peers.
+// The time of the first record of all peers, and the latest time of all records of their files, those of others too.
 fn range_of(setup: &Setup, contents: &[Contents<'_>]) -> (Option<u32>, Option<u32>) {
     let mut first: Option<u32> = None;
     let mut last: Option<u32> = None;
+    for one in contents {
+        last = later(last, one.held.last());
+    }
     for peer in 0..setup.plan.count().min(setup.files.len()) {
         let of = peer_of(setup.plan.peer(peer));
         if let Some(records) = records_of(contents, &setup.files[peer], of) {
-            let course = records.course();
-            first = earlier(first, course.first);
-            last = later(last, course.last);
+            first = earlier(first, records.course().first);
         }
     }
     (first, last)
@@ -133,9 +148,8 @@ fn peer_of(spec: &PeerSpec) -> Peer {
 fn heard<R: AllocGlobal + Files>(
     rt: &R,
     records: &PeerRecords,
-    spec: &PeerSpec,
     path: &str,
-    (bounds, errors): (Bounds, Errors),
+    manner: Manner,
     changes: &mut Changes,
 ) -> Result<PeerTimes, Unanswered> {
     let alloc = rt.alloc();
@@ -144,16 +158,17 @@ fn heard<R: AllocGlobal + Files>(
         Err(fault) => return Err(Unanswered::from(Unready::by_file(alloc, fault, path))),
     };
     let id = PeerId {
-        address: spec.address,
-        asn: spec.asn,
+        address: manner.who.address,
+        asn: manner.who.asn,
     };
-    let reader = BoundedReader::new(alloc, file, bounds);
+    let within = BoundedReader::new(alloc, file, manner.bounds);
+    let reader = LossReader::new(alloc, within, manner.losses, manner.who);
     let mut one = silent(alloc);
-    let ends = hear(alloc, reader, (id, errors), &mut one, changes)?;
+    let ends = hear(alloc, reader, (id, manner.errors), &mut one, changes)?;
     if let Some((_, Reason::Read)) = ends.close {
         return Err(Unanswered::from(Unready::by_path(alloc, path)));
     }
-    one.spans = spans_of(alloc, records, &ends)?;
+    one.spans = spans_of(alloc, records, &ends, changes.last)?;
     Ok(one)
 }
 
@@ -171,6 +186,7 @@ fn hear<R: Read + Drop>(
     let mut session = Session::over_by(alloc, RecordReader::new(reader), id, errors);
     let mut ends = Ends {
         losses: Vec::new(alloc),
+        since: None,
         close: None,
     };
     for _ in 0..u64::MAX {
@@ -199,25 +215,24 @@ fn take_word(
     word: &Word,
     loss: Option<Loss>,
 ) -> Result<(), AllocError> {
+    let time = word.time;
     match word.body {
-        Body::Announce(_, _) => {
+        Body::Announce(prefix, _) => {
             one.announced = one.announced.saturating_add(1);
-            changes.announce(word.time);
+            changes.announce(time, prefix);
+            ends.since = ends.since.or(Some(time));
         }
-        Body::Withdraw(_) => {
+        Body::Withdraw(prefix) => {
             one.withdrawn = one.withdrawn.saturating_add(1);
-            changes.withdraw(word.time);
+            changes.withdraw(time, prefix);
+            ends.since = ends.since.or(Some(time));
         }
-        Body::Down => ends.losses.push((word.time, loss))?,
+        Body::Down => {
+            ends.losses.push((time, loss))?;
+            ends.since = None;
+        }
         Body::Close(Reason::EndOfFile) => {}
-        Body::Close(reason) => {
-            let time = if word.time == 0 {
-                changes.last
-            } else {
-                word.time
-            };
-            ends.close = Some((time, reason));
-        }
+        Body::Close(reason) => ends.close = Some((time, reason)),
     }
     Ok(())
 }

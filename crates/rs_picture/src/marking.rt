@@ -19,8 +19,6 @@ pub struct Mark {
     pub time: u32,
     /// Where it lies, in pixels from the beginning of the axis.
     pub place: u32,
-    /// Whether its text fits behind it: it does not in the last eighth of the axis.
-    pub has_text: bool,
 }
 
 impl fmt::Display for Mark {
@@ -59,10 +57,8 @@ fn mark_at(axis: &TimeAxis, time: u32) -> Mark
     requires no_later { time ≤ axis.now.last }
     ensures { IsOnAxis axis.now.first axis.now.last axis.now.width result.time result.place }
 {
-    let place = axis.place(time);
     Mark {
         time,
-        place,
-        has_text: place <= axis.width - axis.width / MOST_TICKS,
+        place: axis.place(time),
     }
 }

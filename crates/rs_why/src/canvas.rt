@@ -2,7 +2,7 @@
 //!
 //! Our choices: pixels are those of a picture 800 wide, which grows and shrinks with its place. Below 600 its texts are
 //! larger, and every second time is left out. The axis goes on behind the last event for a twentieth of its time: so
-//! the route that came last is seen to stay.
+//! the route that came last is seen to stay. Behind the axis there is room for the text of its last round time.
 
 use crate::clock::Clock;
 use crate::history_answer::{HistoryView, time_of};
@@ -15,6 +15,9 @@ use std::alloc::Global;
 pub(crate) const WIDTH: u32 = 800;
 
 pub(crate) const EDGE: u32 = 10;
+
+// How wide the text of a round time is at most, with the gap before it.
+const TIME: u32 = 100;
 
 /// How high the head is.
 pub(crate) const HEAD: u32 = 44;
@@ -39,8 +42,10 @@ text{font:15px system-ui,sans-serif}
 .head{font-weight:600}
 .thin{opacity:.35}
 .edge{stroke:#fff;stroke-width:1.5px}
-@media (prefers-color-scheme:dark){:root{background:#11161b}.edge{stroke:#11161b}}
-@media (max-width:600px){text{font-size:20px}.time:nth-of-type(even) text{display:none}}
+.hollow{fill:none;stroke:#9c4f00;stroke-width:2px}
+.open{fill:#fff;stroke:#1b2126;stroke-width:2px}
+@media (prefers-color-scheme:dark){:root{background:#11161b}.edge{stroke:#11161b}.hollow{stroke:#f0a04b}.open{fill:#11161b;stroke:#e7ecf0}}
+@media (max-width:600px){text{font-size:20px}.time:nth-last-of-type(even) text{display:none}}
 @media print{svg{max-width:none;max-height:100vh}}
 ";
 
@@ -99,11 +104,14 @@ impl<'a> Canvas<'a> {
         self.view.plan.count().saturating_sub(self.peers.len())
     }
 
-    // How high the picture is: the head, the lanes, the times and the key, and the line of the other peers.
+    // How high the picture is: the head, the lanes, the times and the rows of the key, and the line of the other peers.
     pub(crate) fn height(&self) -> u32 {
         let mut height = HEAD.saturating_add(self.lanes.picture_height());
         if self.lanes.count > 0 {
             height = height.saturating_add(2 * ROW);
+        }
+        if self.lanes.count > 0 && self.history.client.is_some() {
+            height = height.saturating_add(ROW);
         }
         if self.others() > 0 {
             height = height.saturating_add(ROW);
@@ -133,7 +141,7 @@ fn axis_of(view: &HistoryView<'_>, history: &History) -> TimeAxis {
             Some(until) => last.min(until.max(event)),
             None => last,
         },
-        width: WIDTH - 2 * EDGE,
+        width: WIDTH - 2 * EDGE - TIME,
     }
 }
 

@@ -3,8 +3,8 @@
 //!
 //! Reading order: `answering` (the whole answer), `unread` (why there is none). `why_answer` and `because` (why a client
 //! has each peer's route, or not). `history_answer` (what happened). The same as a picture: `lives` (how long routes
-//! stood), `picture`, `picture_lanes` and `canvas`. Below them `starts` (since when recordings run), `treatment` (a faulty
-//! UPDATE), `clock` (times), `attribute_lines` and `attribute_fields`.
+//! stood), `fates` (what becomes of them), `picture`, `picture_lanes` and `canvas`. Below them `starts` (since when
+//! recordings run), `treatment` (a faulty UPDATE), `clock` (times), `attribute_lines` and `attribute_fields`.
 #![tactic(auto)]
 
 mod answering;
@@ -13,6 +13,7 @@ mod attribute_lines;
 mod because;
 mod canvas;
 mod clock;
+mod fates;
 mod history_answer;
 mod lives;
 mod picture;

@@ -26,7 +26,7 @@ pub(crate) struct PeerLives {
     pub(crate) peer: usize,
     /// The times in which it had a route.
     pub(crate) lives: Vec<Life>,
-    /// Which events lost or closed its session.
+    /// Which events withdrew its route, or lost or closed its session.
     pub(crate) ends: Vec<usize>,
 }
 
@@ -79,9 +79,8 @@ fn take_event(all: &mut [PeerLives], place: usize, gets: &Gets) -> Result<(), Al
                 chosen: gets.best == Some(gets.peer),
             })?;
         }
-        Event::Withdrawn | Event::Treated(_) => end_life(one, gets.time),
         Event::Closed(Reason::EndOfFile) => one.ends.push(place)?,
-        Event::Lost(_) | Event::Closed(_) => {
+        Event::Withdrawn | Event::Treated(_) | Event::Lost(_) | Event::Closed(_) => {
             end_life(one, gets.time);
             one.ends.push(place)?;
         }

@@ -9,7 +9,9 @@ use crate::lives::{PeerLives, lives_of};
 use crate::picture_lanes::{add_cross, add_lanes};
 use rs_glass::History;
 use rs_glass_shell::{PrefixText, name_at};
-use rs_picture::{Mark, PALETTE, add_rectangle, add_text, close_picture, marks, open_picture};
+use rs_picture::{
+    Grouped, Mark, PALETTE, add_rectangle, add_text, close_picture, marks, open_picture,
+};
 use std::alloc::{AllocError, Global};
 
 // How many other peers are named.
@@ -18,7 +20,8 @@ const FEW: usize = 4;
 // What the description says of the picture.
 const ABOUT: &str =
     "Time goes from left to right, in UTC. Each peer that announced the prefix has a lane with a bar for each of its routes. \
-A bar is high where the client gets the route, or where no client is asked for. The lane of the client shows whose route it gets.\n";
+A bar is high while the client gets the route, or if no client is asked for, and else low. It is hollow if the route is refused to the client or ineligible, \
+and a line if it is the client's own route. The lane of the client shows whose route it gets.\n";
 
 /// The picture of a history, which has all that happened before what is shown too. `lines` is the history as a text.
 pub(crate) fn history_picture(
@@ -82,7 +85,11 @@ fn add_lanes_and_times(text: &mut String, canvas: &Canvas<'_>) -> Result<(), All
         add_times(text, canvas, below)?;
         add_lanes(text, canvas)?;
         below = below.saturating_add(ROW);
-        add_key(text, canvas, below)?;
+        if canvas.history.client.is_some() {
+            add_key_to_bars(text, below)?;
+            below = below.saturating_add(ROW);
+        }
+        add_key_to_marks(text, below)?;
         below = below.saturating_add(ROW);
     }
     add_others(text, canvas, below)?;
@@ -104,35 +111,41 @@ fn add_time(text: &mut String, mark: &Mark, below: u32) -> Result<(), AllocError
     text.push_str("<g class=\"time\">")?;
     add_rectangle(text, "line thin", (mark.place, 0), (1, below))?;
     add_rectangle(text, "line", (mark.place, below), (1, BASE))?;
-    if mark.has_text {
-        let (mark, x, base) = (
-            *mark,
-            mark.place.saturating_add(4),
-            below.saturating_add(BASE),
-        );
-        write!(text, "<text x=\"{x}\" y=\"{base}\">{mark}</text>")?;
-    }
+    let (mark, x, base) = (
+        *mark,
+        mark.place.saturating_add(4),
+        below.saturating_add(BASE),
+    );
+    writeln!(text, "<text x=\"{x}\" y=\"{base}\">{mark}</text></g>")
+}
+
+// Adds the key to bars: what becomes of a route at the client.
+fn add_key_to_bars(text: &mut String, top: u32) -> Result<(), AllocError> {
+    let base = top.saturating_add(BASE);
+    text.push_str("<g>")?;
+    add_rectangle(text, "kb", (0, top.saturating_add(4)), (20, 20))?;
+    add_word(text, "chosen", (26, base))?;
+    add_rectangle(text, "line", (130, top.saturating_add(10)), (20, 8))?;
+    add_word(text, "not chosen", (156, base))?;
+    add_rectangle(text, "hollow", (290, top.saturating_add(11)), (20, 6))?;
+    add_word(text, "refused or ineligible", (316, base))?;
+    add_rectangle(text, "line", (560, top.saturating_add(13)), (20, 2))?;
+    add_word(text, "own route", (586, base))?;
     text.push_str("</g>\n")
 }
 
-// Adds the key to bars and marks.
-fn add_key(text: &mut String, canvas: &Canvas<'_>, top: u32) -> Result<(), AllocError> {
+// Adds the key to marks.
+fn add_key_to_marks(text: &mut String, top: u32) -> Result<(), AllocError> {
     let base = top.saturating_add(BASE);
     text.push_str("<g>")?;
-    let mut x = 0;
-    if canvas.history.client.is_some() {
-        add_rectangle(text, "kb", (0, top.saturating_add(4)), (20, 20))?;
-        add_word(text, "chosen", (26, base))?;
-        add_rectangle(text, "line", (112, top.saturating_add(10)), (20, 8))?;
-        add_word(text, "not chosen", (138, base))?;
-        x = 264;
-    }
-    add_rectangle(text, "km", (x, top.saturating_add(2)), (2, 24))?;
-    add_word(text, "announced", (x + 10, base))?;
-    add_cross(text, x + 138, top.saturating_sub(20))?;
-    add_word(text, "session lost", (x + 152, base))?;
-    add_rectangle(text, "km edge", (x + 290, top.saturating_add(8)), (12, 12))?;
-    add_word(text, "session closed", (x + 308, base))?;
+    add_rectangle(text, "km", (0, top.saturating_add(2)), (2, 24))?;
+    add_word(text, "announced", (10, base))?;
+    add_rectangle(text, "open", (130, top.saturating_add(9)), (10, 10))?;
+    add_word(text, "withdrawn", (148, base))?;
+    add_cross(text, 297, top.saturating_sub(20))?;
+    add_word(text, "session lost", (316, base))?;
+    add_rectangle(text, "km edge", (468, top.saturating_add(8)), (12, 12))?;
+    add_word(text, "session closed", (488, base))?;
     text.push_str("</g>\n")
 }
 
@@ -154,6 +167,7 @@ fn add_others(text: &mut String, canvas: &Canvas<'_>, top: u32) -> Result<(), Al
     } else if others <= FEW {
         add_names(text, canvas)?;
     } else {
+        let others = Grouped(others as u64);
         write!(text, "{others} peers")?;
     }
     text.push_str(if canvas.peers.is_empty() {

@@ -3,6 +3,7 @@
 ghost use Rattle.std.specs.Prelude.{◌<◌};
 
 use crate::canvas::{BASE, Canvas};
+use crate::fates::Fate;
 use crate::history_answer::{event_text, gets_title, time_of};
 use crate::lives::{Life, PeerLives};
 use rs_glass::{Event, Gets};
@@ -11,11 +12,15 @@ use rs_picture::{add_mark, add_stretch, add_text};
 use rs_session::Reason;
 use std::alloc::AllocError;
 
-// How far below the top of its lane a bar begins, and how high it is: one of a route that the client gets, and of
-// another one.
+// How far below the top of its lane a bar begins, and how high it is: one of a route that the client gets, of one that
+// it does not get, of one that it may not get, and of its own.
 const BAR: (u32, u32) = (24, 20);
 
 const THIN_BAR: (u32, u32) = (30, 8);
+
+const HOLLOW_BAR: (u32, u32) = (31, 6);
+
+const LINE: (u32, u32) = (33, 2);
 
 // How far below the top of its lane the mark of an announcement begins, and its size.
 const TICK_TOP: u32 = 22;
@@ -26,6 +31,11 @@ const TICK: (u32, u32) = (2, 24);
 const CLOSE_TOP: u32 = 28;
 
 const CLOSE: (u32, u32) = (12, 12);
+
+// The same of the mark of a withdrawal.
+const OPEN_TOP: u32 = 29;
+
+const OPEN: (u32, u32) = (10, 10);
 
 // Where the centre of the mark of a loss is.
 const LOSS: u32 = 34;
@@ -87,7 +97,7 @@ fn add_choices(
     for life in &peer.lives {
         if life.chosen && is_drawn(canvas, life) {
             text.push_str("<g>")?;
-            add_life_title(text, canvas, peer.peer, life)?;
+            add_life_title(text, canvas, peer.peer, life, Fate::Best)?;
             add_life(text, canvas, life, "kg", (top, BAR))?;
             add_tick(text, canvas, life.from, top)?;
             add_sender(text, canvas, peer.peer, life, top)?;
@@ -144,7 +154,7 @@ fn add_peer_lane(
     Ok(())
 }
 
-// Adds the bar of a route: a high one while the client gets it, or where no client is asked for.
+// Adds the bar of a route, by what becomes of it at the client.
 fn add_route_of(
     text: &mut String,
     canvas: &Canvas<'_>,
@@ -155,13 +165,16 @@ fn add_route_of(
     if !is_drawn(canvas, life) {
         return Ok(());
     }
+    let fate = Fate::of(canvas, peer, life);
+    let (class, bar) = match fate {
+        Fate::Unasked | Fate::Best => ("kb", BAR),
+        Fate::Lost => ("line", THIN_BAR),
+        Fate::Refused | Fate::Ineligible => ("hollow", HOLLOW_BAR),
+        Fate::Own => ("line", LINE),
+    };
     text.push_str("<g>")?;
-    add_life_title(text, canvas, peer, life)?;
-    if life.chosen || canvas.history.client.is_none() {
-        add_life(text, canvas, life, "kb", (top, BAR))?;
-    } else {
-        add_life(text, canvas, life, "line", (top, THIN_BAR))?;
-    }
+    add_life_title(text, canvas, peer, life, fate)?;
+    add_life(text, canvas, life, class, (top, bar))?;
     if life.begins {
         add_tick(text, canvas, life.from, top)?;
     }
@@ -207,6 +220,7 @@ fn add_life_title(
     canvas: &Canvas<'_>,
     peer: usize,
     life: &Life,
+    fate: Fate,
 ) -> Result<(), AllocError> {
     let alloc = canvas.alloc;
     let mut title = String::from_str(alloc, name_at(canvas.view.plan, peer))?;
@@ -223,10 +237,9 @@ fn add_life_title(
             title.push_str(&attributes_text(alloc, attributes)?)?;
         }
     }
-    if let Some(client) = canvas.history.client {
+    if let (Some(client), Some(words)) = (canvas.history.client, fate.words()) {
         let client = name_at(canvas.view.plan, client);
-        let does = if life.chosen { "gets" } else { "does not get" };
-        write!(title, "; {client} {does} it")?;
+        write!(title, "; {client} {words}")?;
     }
     add_title(text, &title)
 }
@@ -238,7 +251,7 @@ fn add_title(text: &mut String, title: &str) -> Result<(), AllocError> {
     text.push_str("</title>")
 }
 
-// Adds the mark of a loss or a close, where that is shown.
+// Adds the mark of a withdrawal, a loss or a close, if that is shown.
 fn add_end(
     text: &mut String,
     canvas: &Canvas<'_>,
@@ -262,6 +275,10 @@ fn add_end(
     add_title(text, &format!(in canvas.alloc; "{name}, {shown}: {event}")?)?;
     match gets.event {
         Event::Lost(_) => add_cross(text, canvas.axis.place(time), top)?,
+        Event::Withdrawn | Event::Treated(_) => {
+            let y = top.saturating_add(OPEN_TOP);
+            add_mark(text, "open", &canvas.axis, time, y, OPEN)?;
+        }
         Event::Closed(Reason::EndOfFile) => add_square(text, canvas, "line edge", time, top)?,
         _ => add_square(text, canvas, "km edge", time, top)?,
     }
