@@ -8,21 +8,22 @@ _looking_glass() {
     case $before in
         --config | --table | --out | --svg) compopt -o filenames; mapfile -t COMPREPLY < <(compgen -f -- "$word"); return ;;
         --errors) mapfile -t COMPREPLY < <(compgen -W "rfc4271 rfc7606" -- "$word"); return ;;
+        --losses) mapfile -t COMPREPLY < <(compgen -W "recorded inferred" -- "$word"); return ;;
         --tail) mapfile -t COMPREPLY < <(compgen -W "strict lenient" -- "$word"); return ;;
         --gets) mapfile -t COMPREPLY < <(compgen -W "none" -- "$word"); return ;;
         --because) mapfile -t COMPREPLY < <(compgen -W "ineligible server_as_in_path server_address_as_next_hop next_hop_off_exchange refused name community lost preference path_length origin med identifier address" -- "$word"); return ;;
         --client | --peer | --shards | --prefix | --from | --until | --at) COMPREPLY=(); return ;;
     esac
     case ${COMP_WORDS[1]} in
-        why) options="--config --client --prefix --until --errors --all --attributes --json --help" ;;
-        history) options="--config --prefix --client --from --until --errors --ends --attributes --json --svg --help" ;;
-        table) options="--config --client --from --prefix --longer --until --count --shards --errors --csv --json --help" ;;
-        missing) options="--config --client --from --because --gets --until --count --shards --errors --csv --json --help" ;;
-        summary) options="--config --until --shards --errors --csv --json --help" ;;
-        page) options="--config --out --until --shards --errors --help" ;;
-        diff) options="--config --client --until --errors --count --shards --csv --json --help" ;;
+        why) options="--config --client --prefix --until --errors --losses --all --attributes --json --help" ;;
+        history) options="--config --prefix --client --from --until --errors --losses --ends --attributes --json --svg --help" ;;
+        table) options="--config --client --from --prefix --longer --until --count --shards --errors --losses --csv --json --help" ;;
+        missing) options="--config --client --from --because --gets --until --count --shards --errors --losses --csv --json --help" ;;
+        summary) options="--config --until --shards --errors --losses --csv --json --help" ;;
+        page) options="--config --out --until --shards --errors --losses --help" ;;
+        diff) options="--config --client --until --errors --losses --count --shards --csv --json --help" ;;
         peers) options="--json --toml --help" ;;
-        check) options="--config --until --tail --errors --help" ;;
+        check) options="--config --until --tail --errors --losses --help" ;;
         start) options="--table --out --peer --at --toml --help" ;;
     esac
     if [ "${COMP_WORDS[1]}" = peers ] && [[ $word != -* ]]; then
