@@ -41,7 +41,11 @@ impl Findings {
         let alloc = rt.alloc();
         let notes = match endings_of(alloc, ends) {
             Ok(endings) => notes(rt, setup, options, outlines, &endings),
-            Err(_) => Notes::none(alloc),
+            // A run of which nothing is known isn't clean.
+            Err(_) => Notes {
+                texts: Vec::new(alloc),
+                any: true,
+            },
         };
         let closed = ends.iter().filter(|end| closes_early(end)).count();
         let closes = if closed == 0 {
